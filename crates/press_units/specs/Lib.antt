@@ -1,0 +1,4 @@
+pub mod Field
+pub mod Measure
+pub mod Position
+pub mod Value

@@ -1,0 +1,11 @@
+//! Values, units, positions and dots of PCL 5.
+//!
+//! A value field is read as a number in ten-thousandths, a value of so many units is a position in
+//! 1/7200 inch, and a position lies on a dot.
+#![tactic(auto)]
+
+mod position;
+mod value;
+
+pub use position::{Pos, Resolution, Unit, UnitOfMeasure, dot, to_pos};
+pub use value::{LONGEST_FIELD, Value, is_field, read_value};

@@ -1,0 +1,143 @@
+ghost use Rattle.std.specs.Prelude.{◌≡◌, ◌≤◌, ◌↔◌, ℕ, IsSome, IfSome};
+ghost use Rattle.press_units.specs.Measure.{IsMeasure, pcl_unit};
+ghost use Rattle.press_units.specs.Position.{position_of, dot_of, positions_per_dot};
+
+use crate::value::Value;
+use std::marker::Model;
+
+/// A position or a distance, in 1/7200 inch.
+#[derive(Clone, Copy, Debug, PartialEq, Eq, PartialOrd, Ord)]
+pub struct Pos(pub i64);
+
+/// What a value counts: a length of so many positions.
+#[derive(Clone, Copy, Debug, PartialEq, Eq)]
+pub struct Unit {
+    pub positions: u16,
+}
+
+impl Unit {
+    /// A tenth of a point.
+    pub const DECIPOINT: Unit = Unit { positions: 10 };
+
+    /// The unit of the horizontal motion index, 1/120 inch.
+    pub const HORIZONTAL_MOTION: Unit = Unit { positions: 60 };
+
+    /// The unit of the vertical motion index, 1/48 inch.
+    pub const VERTICAL_MOTION: Unit = Unit { positions: 150 };
+}
+
+/// The engine's resolution.
+#[derive(Clone, Copy, Debug, PartialEq, Eq)]
+pub enum Resolution {
+    Dpi300,
+}
+
+impl Resolution {
+    /// The positions of a dot.
+    pub fn positions_per_dot(self) -> u16
+        ensures { result ≡ positions_per_dot self }
+    {
+        match self {
+            Resolution::Dpi300 => 24,
+        }
+    }
+}
+
+/// How many PCL units an inch has.
+#[derive(Clone, Copy, Debug, PartialEq, Eq)]
+pub struct UnitOfMeasure {
+    units_per_inch: u16,
+}
+
+impl Model for UnitOfMeasure {
+    ghost use Rattle.std.specs.Prelude.{ℕ};
+    ghost use Rattle.press_units.specs.Measure.{IsMeasure};
+
+    ghost Value = { ℕ };
+
+    ghost view = { λ m. m.units_per_inch };
+
+    ghost invariant = { λ m. IsMeasure m.units_per_inch };
+
+    ghost inverse = { λ n. record { units_per_inch = n } };
+}
+
+impl UnitOfMeasure {
+    /// The unit of measure of so many units per inch: one of the 26 divisors of 7200 from 96 on.
+    pub fn new(units_per_inch: u16) -> Option<Self>
+        ensures legal { IsSome result ↔ IsMeasure units_per_inch }
+        ensures value { IfSome result (λ measure. measure ≡ units_per_inch) }
+    {
+        let legal = 96 <= units_per_inch && units_per_inch <= 7200 && 7200 % units_per_inch == 0;
+        if legal {
+            Some(UnitOfMeasure { units_per_inch })
+        } else {
+            None
+        }
+    }
+
+    /// A PCL unit.
+    pub fn unit(self) -> Unit
+        ensures { result.positions ≡ pcl_unit self }
+    {
+        Unit {
+            positions: 7200 / self.units_per_inch,
+        }
+    }
+}
+
+/// The position that a value of so many units stands for: the product, the rest dropped towards zero.
+pub fn to_pos(value: Value, unit: Unit) -> Pos
+    ensures { result.0 ≡ position_of value.tenthousandths unit.positions }
+{
+    Pos(value.tenthousandths * i64::from(unit.positions) / 10_000)
+}
+
+/// The dot on which a position lies.
+pub fn dot(position: Pos, resolution: Resolution) -> i64
+    ensures { result ≡ dot_of position.0 resolution }
+{
+    position
+        .0
+        .div_euclid(i64::from(resolution.positions_per_dot()))
+}
+
+#[cfg(test)]
+mod tests {
+    use super::*;
+    use crate::value::Value;
+
+    #[test]
+    fn there_are_26_units_of_measure(rt: HostRuntime) {
+        let divisors = [
+            96, 100, 120, 144, 150, 160, 180, 200, 225, 240, 288, 300, 360, 400, 450, 480, 600,
+            720, 800, 900, 1200, 1440, 1800, 2400, 3600, 7200,
+        ];
+        let mut found = 0u32;
+        for units_per_inch in 0..u16::MAX {
+            if let Some(measure) = UnitOfMeasure::new(units_per_inch) {
+                assert!(rt; divisors.contains(&units_per_inch));
+                assert_eq!(rt;
+                    u32::from(measure.unit().positions) * u32::from(units_per_inch),
+                    7200
+                );
+                found = found.saturating_add(1);
+            }
+        }
+        assert_eq!(rt; found, 26);
+    }
+
+    #[test]
+    fn a_value_of_units_lies_on_a_dot(rt: HostRuntime) {
+        let value = Value {
+            tenthousandths: -15_000,
+            signed: true,
+        };
+        assert_eq!(rt; to_pos(value, Unit::DECIPOINT), Pos(-15));
+        assert_eq!(rt; to_pos(value, Unit::HORIZONTAL_MOTION), Pos(-90));
+        assert_eq!(rt; to_pos(value, Unit { positions: 1 }), Pos(-1));
+        assert_eq!(rt; dot(Pos(-1), Resolution::Dpi300), -1);
+        assert_eq!(rt; dot(Pos(-24), Resolution::Dpi300), -1);
+        assert_eq!(rt; dot(Pos(47), Resolution::Dpi300), 1);
+    }
+}

@@ -1,0 +1,214 @@
+ghost use Rattle.std.specs.Prelude.{◌≡◌, ◌<◌, ◌+◌, ◌-◌, ◌*◌, ◌≤ℤ◌, ◌↔◌, ℕ, pos, neg_ℤ, min, position, IsTrue, if◌then◌else◌};
+ghost use Rattle.std.specs.List.{All, slice_index_or, before_first, after_first};
+ghost use Rattle.std.specs.Char.{IsAsciiDigit};
+ghost use Rattle.press_units.specs.Field.{IsField};
+ghost use Rattle.press_units.specs.Value.{is_signed, is_negative, unsigned_part, is_point, tenthousandths_of, whole_part, number_of, four_digits, lowest, highest};
+
+/// The most bytes that a value field has.
+pub const LONGEST_FIELD: usize = 32;
+
+/// One above the greatest whole number that a value keeps.
+const CEILING: u32 = 65_536;
+
+/// The greatest magnitude of a negative value, and the greatest value, in ten-thousandths.
+const LOWEST: u32 = 327_670_000;
+
+const HIGHEST: u32 = 655_350_000;
+
+/// The number of a value field, in ten-thousandths, from -32767 to 65535, and whether a sign stood in it.
+#[derive(Clone, Copy, Debug)]
+pub struct Value {
+    pub tenthousandths: i64,
+    pub signed: bool,
+    ghost at_least: { neg_ℤ (pos lowest) ≤ℤ tenthousandths },
+    ghost at_most: { tenthousandths ≤ℤ pos highest },
+}
+
+impl Value {
+    /// The whole part: the fraction is dropped, towards zero.
+    pub fn whole(self) -> i64
+        ensures { result ≡ whole_part self.tenthousandths }
+    {
+        self.tenthousandths / 10_000
+    }
+}
+
+/// Whether a sign stands at the front of a field.
+fn is_signed(field: &[u8]) -> bool
+    ensures { result ≡ is_signed field.now }
+{
+    matches!(field, [b'+' | b'-', ..])
+}
+
+/// Whether a minus stands at the front of a field.
+fn is_negative(field: &[u8]) -> bool
+    ensures { result ≡ is_negative field.now }
+{
+    matches!(field, [b'-', ..])
+}
+
+/// What follows the sign of a field, or all of it where no sign stands.
+fn unsigned_part(field: &[u8]) -> &[u8]
+    ensures { result.now ≡ unsigned_part field.now }
+{
+    match field {
+        [b'+' | b'-', rest @ ..] => rest,
+        _ => field,
+    }
+}
+
+/// Where the first point stands.
+fn point_of(unsigned: &[u8]) -> Option<usize>
+    ensures { result ≡ position is_point unsigned.now }
+{
+    unsigned.iter().position(|byte| *byte == b'.')
+}
+
+/// What stands before the point, and what after it; all and nothing where there is no point.
+fn split_point(unsigned: &[u8]) -> (&[u8], &[u8])
+    ensures whole { result.0.now ≡ before_first is_point unsigned.now }
+    ensures fraction { result.1.now ≡ after_first is_point unsigned.now }
+{
+    match point_of(unsigned) {
+        Some(point) => (&unsigned[..point], &unsigned[point + 1..]),
+        None => (unsigned, &[]),
+    }
+}
+
+/// The number that digits spell, or `CEILING` where it is not below that.
+fn number_up_to_ceiling(digits: &[u8]) -> u32
+    requires { All IsAsciiDigit digits.now }
+    ensures { result ≡ min (number_of digits.now) CEILING }
+{
+    let mut number = 0;
+    for digit in digits {
+        number = (10 * number + u32::from(*digit - b'0')).min(CEILING);
+    }
+    number
+}
+
+/// The number of a digit of a fraction, which is 0 where none stands.
+fn digit_at(digits: &[u8], place: usize) -> u32
+    requires { All IsAsciiDigit digits.now }
+    ensures { result ≡ slice_index_or digits.now place 48 - 48 }
+{
+    match digits.get(place) {
+        Some(digit) => u32::from(*digit - b'0'),
+        None => 0,
+    }
+}
+
+/// The first four digits of a fraction as a number, those that are missing taken as 0.
+fn first_four(digits: &[u8]) -> u32
+    requires { All IsAsciiDigit digits.now }
+    ensures value { result ≡ number_of (four_digits digits.now) }
+    ensures bound { result < 10000 }
+{
+    let thousands = digit_at(digits, 0);
+    let hundreds = digit_at(digits, 1);
+    let tens = digit_at(digits, 2);
+    1000 * thousands + 100 * hundreds + 10 * tens + digit_at(digits, 3)
+}
+
+/// The number with its sign, cut to the least and the greatest value.
+fn with_sign(magnitude: u32, negative: bool) -> i64
+    ensures { result ≡ (if negative then neg_ℤ (pos (min magnitude lowest)) else pos (min magnitude highest)) }
+{
+    if negative {
+        -i64::from(magnitude.min(LOWEST))
+    } else {
+        i64::from(magnitude.min(HIGHEST))
+    }
+}
+
+/// Whether all bytes are digits.
+fn are_digits(bytes: &[u8]) -> bool
+    ensures { IsTrue result ↔ All IsAsciiDigit bytes.now }
+{
+    bytes.iter().all(|byte| byte.is_ascii_digit())
+}
+
+/// Whether the bytes are a value field: an optional sign, digits, and an optional point with digits, each of
+/// which may be empty, in at most 32 bytes.
+pub fn is_field(bytes: &[u8]) -> bool
+    ensures { IsTrue result ↔ IsField bytes.now }
+{
+    if bytes.len() > LONGEST_FIELD {
+        return false;
+    }
+    let (whole, fraction) = split_point(unsigned_part(bytes));
+    if !are_digits(whole) {
+        return false;
+    }
+    are_digits(fraction)
+}
+
+/// Reads a value field: the number it stands for, in ten-thousandths, cut to -32767 and 65535, and whether a
+/// sign stood in it. Digits past the fourth of a fraction are dropped, and an empty field is 0.
+///
+/// Source: PCL 5 Printer Language Technical Reference Manual, the value field of a parameterized command;
+/// the kept digits and the limits are this profile's.
+pub fn read_value(field: &[u8]) -> Value
+    requires { IsField field.now }
+    ensures value { result.tenthousandths ≡ tenthousandths_of field.now }
+    ensures signed { result.signed ≡ is_signed field.now }
+{
+    let (whole, fraction) = split_point(unsigned_part(field));
+    let magnitude = 10_000 * number_up_to_ceiling(whole) + first_four(fraction);
+    Value {
+        tenthousandths: with_sign(magnitude, is_negative(field)),
+        signed: is_signed(field),
+    }
+}
+
+#[cfg(test)]
+mod tests {
+    use super::*;
+
+    #[test]
+    fn reads_value_fields(rt: HostRuntime) {
+        let cases: [(&[u8], i64, bool); 10] = [
+            (b"99999", 655_350_000, false),
+            (b"-40000.5", -327_670_000, true),
+            (b".12345", 1234, false),
+            (b"+", 0, true),
+            (b"", 0, false),
+            (b"-.", 0, true),
+            (b"5.", 50_000, false),
+            (b"+0300.50", 3_005_000, true),
+            (b"-0.00001", 0, true),
+            (b"00000000000000000000000000000007", 70_000, false),
+        ];
+        for (field, tenthousandths, signed) in cases {
+            assert!(rt; is_field(field));
+            let value = read_value(field);
+            assert_eq!(rt; value.tenthousandths, tenthousandths);
+            assert_eq!(rt; value.signed, signed);
+        }
+    }
+
+    #[test]
+    fn drops_the_fraction_towards_zero(rt: HostRuntime) {
+        let cases: [(&[u8], i64); 3] = [(b"-0.9", 0), (b"-1.9", -1), (b"300.9999", 300)];
+        for (field, whole) in cases {
+            assert!(rt; is_field(field));
+            assert_eq!(rt; read_value(field).whole(), whole);
+        }
+    }
+
+    #[test]
+    fn tells_value_fields_from_other_text(rt: HostRuntime) {
+        let others: [&[u8]; 7] = [
+            b"1.2.3",
+            b"+-1",
+            b"1-",
+            b"1x",
+            b" 1",
+            b"..",
+            b"000000000000000000000000000000007",
+        ];
+        for bytes in others {
+            assert!(rt; !is_field(bytes));
+        }
+    }
+}
