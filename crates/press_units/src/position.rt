@@ -1,4 +1,4 @@
-ghost use Rattle.std.specs.Prelude.{◌≡◌, ◌≤◌, ◌↔◌, ℕ, IsSome, IfSome};
+ghost use Rattle.std.specs.Prelude.{◌≡◌, ◌<◌, ◌^◌, ◌↔◌, IsSome, IfSome, unsigned_abs};
 ghost use Rattle.press_units.specs.Measure.{IsMeasure, pcl_unit};
 ghost use Rattle.press_units.specs.Position.{position_of, dot_of, positions_per_dot};
 
@@ -62,6 +62,17 @@ impl Model for UnitOfMeasure {
     ghost inverse = { λ n. record { units_per_inch = n } };
 }
 
+impl Default for UnitOfMeasure {
+    ghost is_default = { λ measure. measure ≡ 300 };
+
+    /// 300 units per inch.
+    fn default() -> Self {
+        UnitOfMeasure {
+            units_per_inch: 300,
+        }
+    }
+}
+
 impl UnitOfMeasure {
     /// The unit of measure of so many units per inch: one of the 26 divisors of 7200 from 96 on.
     pub fn new(units_per_inch: u16) -> Option<Self>
@@ -88,7 +99,8 @@ impl UnitOfMeasure {
 
 /// The position that a value of so many units stands for: the product, the rest dropped towards zero.
 pub fn to_pos(value: Value, unit: Unit) -> Pos
-    ensures { result.0 ≡ position_of value.tenthousandths unit.positions }
+    ensures position { result.0 ≡ position_of value.tenthousandths unit.positions }
+    ensures bound { unsigned_abs result.0 < 2 ^ 32 }
 {
     Pos(value.tenthousandths * i64::from(unit.positions) / 10_000)
 }
