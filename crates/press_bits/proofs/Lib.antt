@@ -1,0 +1,7 @@
+pub mod PageLemmas
+pub mod DotRowsLemmas
+pub mod ByteLemmas
+pub mod CountLemmas
+pub mod MarkLemmas
+pub mod PaintLemmas
+pub mod DotRuleLemmas

@@ -1,0 +1,6 @@
+-- The definitions of pages, of the dot rule and of marks.
+pub mod Page
+pub mod DotRule
+pub mod Mark
+pub mod DotRows
+pub mod FaultText

@@ -1,0 +1,205 @@
+//! A page of dots, kept as rows of bytes.
+#![tactic(auto)]
+
+ghost use Rattle.std.specs.Prelude.{◌≡◌, ℕ, ◌*◌, ◌<◌, ◌≤◌, ◌≢◌, ◌⊎◌, ◌↔◌, MatchOption, pos, ◌+ℤ◌, false, length, replicate, IfOk, IsErrOf};
+ghost use Rattle.press_bits.specs.Page.{HasNoDotOutside, black_at, blank, is_page_size, count_black};
+ghost use Rattle.press_bits.specs.Mark.{painted, row_mark};
+ghost use Rattle.press_bits.specs.DotRows.{bytes_per_line};
+
+use crate::dot_bytes;
+use std::alloc::{AllocError, Global};
+use std::error::Error;
+use std::fmt;
+use std::marker::Model;
+
+/// The most dots on a side of a bitmap.
+pub const MAX_SIDE: u32 = 16_384;
+
+/// Why no blank bitmap was made.
+#[derive(Debug, Drop)]
+pub enum BlankError {
+    /// A side is 0 or above [`MAX_SIDE`].
+    BadSize,
+    /// Memory ran out.
+    NoMemory,
+}
+
+impl fmt::Display for BlankError {
+    ghost use Rattle.std.specs.Prelude.{Some};
+    ghost use Rattle.press_bits.specs.FaultText.{blank_error_text};
+
+    ghost output = { λ error. Some (blank_error_text error) };
+
+    fn fmt<W: fmt::Write>(&self, f: &mut fmt::Formatter<W>) -> fmt::Result {
+        match self {
+            BlankError::BadSize => f.write_str("fault 101"),
+            BlankError::NoMemory => f.write_str("fault memory"),
+        }
+    }
+}
+
+impl Error for BlankError {}
+
+/// A page of black and white dots. Contracts see it as its width, its height and the set of its black dots.
+#[derive(Drop)]
+pub struct Bitmap {
+    width: u32,
+    height: u32,
+    /// The lines from the top, each from a new byte on.
+    rows: Vec<u8>,
+}
+
+impl Model for Bitmap {
+    ghost use Rattle.press_bits.specs.Page.{Page, page_code};
+    ghost use Rattle.press_bits.specs.DotRows.{page_of_rows, HasRows};
+
+    ghost Value = { Page };
+
+    ghost coded = { page_code };
+
+    ghost view = { λ b. page_of_rows b.width b.height b.rows.items };
+
+    ghost invariant = { λ b. HasRows b.width b.height b.rows.items };
+}
+
+/// How many bytes a line of this width takes.
+fn line_bytes(width: u32) -> usize
+    requires { width ≤ MAX_SIDE }
+    ensures { result ≡ bytes_per_line width }
+{
+    (width as usize + 7) / 8
+}
+
+/// The line of a page of this height at which `y` lies, if it lies on the page.
+fn line_within(y: i64, height: u32) -> Option<usize>
+    ensures { MatchOption result ((n : ℕ) → n < height → pos n ≢ y)
+        (λ line. (pos line ≡ y) × (line < height)) }
+{
+    if y < 0 || y >= i64::from(height) {
+        None
+    } else {
+        Some(y as usize)
+    }
+}
+
+/// For a row whose leftmost dot lies at column `x`: the first column of the page that it can reach, and how many of its dots
+/// lie left of that.
+fn first_column(x: i64) -> (usize, usize)
+    ensures place { pos result.0 ≡ x +ℤ pos result.1 }
+    ensures first { (result.0 ≡ 0) ⊎ (result.1 ≡ 0) }
+{
+    if x < 0 {
+        (0, x.unsigned_abs() as usize)
+    } else {
+        (x as usize, 0)
+    }
+}
+
+/// Bytes without a black dot.
+fn white_bytes(alloc: Global, count: usize) -> Result<Vec<u8>, AllocError>
+    ensures { IfOk result (λ v. v.items ≡ replicate count 0) }
+{
+    vec![in alloc; 0u8; count]
+}
+
+impl Bitmap {
+    /// A white page.
+    ///
+    /// # Errors
+    ///
+    /// `BadSize` exactly where a side is 0 or above [`MAX_SIDE`], and else `NoMemory` where memory ran out.
+    pub fn blank(alloc: Global, width: u32, height: u32) -> Result<Self, BlankError>
+        ensures white { IfOk result (λ page. page ≡ blank width height) }
+        ensures bad_size { IsErrOf result BlankError.BadSize ↔ (is_page_size width height ≡ false) }
+    {
+        if width == 0 || width > MAX_SIDE || height == 0 || height > MAX_SIDE {
+            return Err(BlankError::BadSize);
+        }
+        let Ok(rows) = white_bytes(alloc, height as usize * line_bytes(width)) else {
+            return Err(BlankError::NoMemory);
+        };
+        Ok(Bitmap {
+            width,
+            height,
+            rows,
+        })
+    }
+
+    /// An equal page.
+    ///
+    /// # Errors
+    ///
+    /// Where memory ran out.
+    pub fn copy(&self) -> Result<Self, AllocError>
+        ensures { IfOk result (λ page. page ≡ self.now) }
+    {
+        Ok(Bitmap {
+            width: self.width,
+            height: self.height,
+            rows: self.rows.clone()?,
+        })
+    }
+
+    /// How many dots a line has.
+    pub fn width(&self) -> u32
+        ensures width { result ≡ self.now.width }
+        ensures some { 1 ≤ result }
+        ensures most { result ≤ MAX_SIDE }
+        ensures inside { HasNoDotOutside self.now }
+    {
+        self.width
+    }
+
+    /// How many lines the page has.
+    pub fn height(&self) -> u32
+        ensures height { result ≡ self.now.height }
+        ensures some { 1 ≤ result }
+        ensures most { result ≤ MAX_SIDE }
+        ensures inside { HasNoDotOutside self.now }
+    {
+        self.height
+    }
+
+    /// Whether the dot at column `x` of line `y` is black; `false` outside the page.
+    pub fn get(&self, x: u32, y: u32) -> bool
+        ensures { result ≡ black_at self.now x y }
+    {
+        if x >= self.width || y >= self.height {
+            return false;
+        }
+        let line = y as usize * line_bytes(self.width);
+        dot_bytes::is_black(&self.rows, 8 * line + x as usize)
+    }
+
+    /// How many dots of the page are black.
+    pub fn count_black(&self) -> u32
+        ensures { result ≡ count_black self.now }
+    {
+        let bytes = line_bytes(self.width);
+        let mut black = 0;
+        for y in 0..self.height {
+            black += dot_bytes::count_black(&self.rows, 8 * (y as usize * bytes), self.width);
+        }
+        black
+    }
+
+    /// Paints the first `dots` dots of the bytes in solid black, with white dots transparent: dot 0, the most significant
+    /// bit of the first byte, at column `x` of line `y`, and the others to its right. Dots outside the page are dropped.
+    pub fn paint_row(&mut self, x: i64, y: i64, bits: &[u8], dots: usize)
+        requires { dots ≤ 8 * length bits.now }
+        ensures { self.new ≡ painted self.old (row_mark x y bits.now dots) }
+    {
+        let Some(line) = line_within(y, self.height) else {
+            return;
+        };
+        let (left, skip) = first_column(x);
+        let count = dots
+            .saturating_sub(skip)
+            .min((self.width as usize).saturating_sub(left));
+        if count == 0 {
+            return;
+        }
+        let start = 8 * (line * line_bytes(self.width));
+        dot_bytes::blacken(&mut self.rows, start + left, bits, skip, count);
+    }
+}

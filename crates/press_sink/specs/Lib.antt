@@ -1,0 +1,4 @@
+pub mod Kept
+pub mod Sending
+pub mod Told
+pub use Rattle.press_bits.specs.Page

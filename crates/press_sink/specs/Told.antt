@@ -1,0 +1,37 @@
+-- What sinks tell of themselves: what they took, where they tell it, and how many faults they had.
+use Rattle.std.specs.Prelude.{◌≡◌, ◌<◌, ◌++◌, ℕ, List, [], ◌∷◌, Option, option_map, Result, Ok, Err}
+use Rattle.press_sink.specs.declared.sheet.Delivery.{Delivery}
+use Rattle.press_sink.specs.declared.fault.SinkError.{SinkError}
+use Rattle.press_sink.specs.declared.fault.SinkError.TheVariants as sink_errors
+use Rattle.press_sink.specs.declared.fault.ReplyError.{ReplyError}
+use Rattle.press_sink.specs.declared.fault.ReplyError.TheVariants as reply_errors
+
+-- The sheets that a sink took, each with its tag, in the order of delivery, where the sink tells them; and its faults.
+pub record SheetsTold : Type 0 where
+  pub delivered : Option (List Delivery)
+  pub faults : ℕ
+
+-- The bytes that a sink took as replies, joined, where the sink tells them; and its faults.
+pub record RepliesTold : Type 0 where
+  pub replied : Option (List ℕ)
+  pub faults : ℕ
+
+-- the most faults that a sink can count
+abbrev pub most_faults : ℕ
+most_faults = 18446744073709551615
+
+-- A sheet is delivered: it is added, or the sink had a fault and nothing is added, or memory ran out and nothing changes.
+abbrev pub Delivers : SheetsTold → Delivery → Result (Unit {0}) SinkError → SheetsTold → Type 0
+Delivers old delivery (Ok _) new =
+    (new.delivered ≡ option_map (λ all. all ++ delivery ∷ []) old.delivered) × (new.faults ≡ old.faults)
+Delivers old delivery (Err sink_errors.SinkFault) new = (new.delivered ≡ old.delivered) × (old.faults < new.faults)
+Delivers old delivery (Err sink_errors.NoMemory) new = (new.delivered ≡ old.delivered) × (new.faults ≡ old.faults)
+
+-- A reply is written: its bytes are added, or the sink had a fault and a front of them is added, or memory ran out and
+-- nothing changes.
+abbrev pub Replies : RepliesTold → List ℕ → Result (Unit {0}) ReplyError → RepliesTold → Type 0
+Replies old bytes (Ok _) new = (new.replied ≡ option_map (λ all. all ++ bytes) old.replied) × (new.faults ≡ old.faults)
+Replies old bytes (Err reply_errors.ReplyFault) new =
+    (front back : List ℕ) × (bytes ≡ front ++ back) × (new.replied ≡ option_map (λ all. all ++ front) old.replied)
+    × (old.faults < new.faults)
+Replies old bytes (Err reply_errors.NoMemory) new = (new.replied ≡ old.replied) × (new.faults ≡ old.faults)

@@ -1,0 +1,14 @@
+//! Sheets of paper, and where sheets and replies go.
+#![tactic(auto)]
+
+mod fault;
+mod list_replies;
+mod list_sink;
+mod sheet;
+mod sink;
+
+pub use fault::{ReplyError, SinkError};
+pub use list_replies::ListReplies;
+pub use list_sink::ListSink;
+pub use sheet::{Delivery, Sheet};
+pub use sink::{ReplySink, SheetSink};

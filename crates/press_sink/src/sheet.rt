@@ -1,0 +1,34 @@
+ghost use Rattle.std.specs.Prelude.{◌≡◌, IfOk};
+
+use press_bits::Bitmap;
+use std::alloc::AllocError;
+
+/// A sheet of paper: its front, and its back where it has one.
+#[derive(Drop)]
+pub struct Sheet {
+    pub front: Bitmap,
+    pub back: Option<Bitmap>,
+}
+
+impl Sheet {
+    /// An equal sheet, in memory of its own.
+    pub fn copy(&self) -> Result<Sheet, AllocError>
+        ensures { IfOk result (λ sheet. sheet ≡ self.now) }
+    {
+        let back = match &self.back {
+            Some(back) => Some(back.copy()?),
+            None => None,
+        };
+        Ok(Sheet {
+            front: self.front.copy()?,
+            back,
+        })
+    }
+}
+
+/// A sheet as it was delivered, under a tag.
+#[derive(Drop)]
+pub struct Delivery {
+    pub tag: u64,
+    pub sheet: Sheet,
+}

@@ -1,0 +1,37 @@
+ghost use Rattle.std.specs.Prelude.{◌≡◌, ◌<◌, ℕ};
+ghost use Rattle.press_sink.specs.Told.{SheetsTold, RepliesTold, Delivers, Replies, most_faults};
+
+use crate::fault::{ReplyError, SinkError};
+use crate::sheet::Sheet;
+
+/// Where finished sheets go.
+pub trait SheetSink {
+    /// The sheets it took, where it tells them, and how many faults it had.
+    ghost told: { Self → SheetsTold };
+
+    /// How many faults it had.
+    fn faults(&self) -> u64
+        ensures { result ≡ (told self.now).faults };
+
+    /// Takes one sheet, under a tag. `SinkFault` (301): nothing was added, and the count of faults rose.
+    /// `NoMemory`: nothing changed.
+    fn deliver(&mut self, tag: u64, sheet: &Sheet) -> Result<(), SinkError>
+        requires { (told self.old).faults < most_faults }
+        ensures { Delivers (told self.old) (record { tag = tag; sheet = sheet.now }) result (told self.new) };
+}
+
+/// Where replies go.
+pub trait ReplySink {
+    /// The bytes it took, where it tells them, and how many faults it had.
+    ghost told: { Self → RepliesTold };
+
+    /// How many faults it had.
+    fn faults(&self) -> u64
+        ensures { result ≡ (told self.now).faults };
+
+    /// Takes the bytes of one reply. `ReplyFault` (302): a front of them was added, and the count of faults rose.
+    /// `NoMemory`: nothing changed.
+    fn reply(&mut self, bytes: &[u8]) -> Result<(), ReplyError>
+        requires { (told self.old).faults < most_faults }
+        ensures { Replies (told self.old) bytes.now result (told self.new) };
+}
