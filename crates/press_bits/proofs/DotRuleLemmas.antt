@@ -22,8 +22,8 @@ pub black_on_opaque : (source_opaque : Bool) → dot_rule (record { source_opaqu
 black_on_opaque source_opaque = refl
 
 -- solid white, a white pattern dot with opaque pattern, always whitens
-pub solid_white : (before : Bool) → dot_after (dot_rule solid_white_mode true false) before ≡ false
-solid_white before = refl
+pub solid_white : (mode : Mode) (before : Bool) → dot_after (dot_rule (solid_white_mode mode) true false) before ≡ false
+solid_white mode before = refl
 
 -- solid black with both transparent makes black under black source dots, and changes nothing elsewhere
 pub solid_black_on_black : (before : Bool) → dot_after (dot_rule both_transparent true true) before ≡ true

@@ -32,6 +32,6 @@ dot_after Unchanged before = before
 abbrev pub both_transparent : Mode
 both_transparent = record { source_opaque = false; pattern_opaque = false }
 
--- White source dots transparent and white pattern dots opaque, the mode of a solid white mark.
-abbrev pub solid_white_mode : Mode
-solid_white_mode = record { source_opaque = false; pattern_opaque = true }
+-- A mode with white pattern dots opaque, the mode of a solid white mark: white source dots go by the source's transparency.
+abbrev pub solid_white_mode : Mode → Mode
+solid_white_mode mode = record mode { pattern_opaque = true }

@@ -3,4 +3,3 @@ pub mod Page
 pub mod DotRule
 pub mod Mark
 pub mod DotRows
-pub mod FaultText

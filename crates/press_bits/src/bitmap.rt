@@ -8,37 +8,22 @@ ghost use Rattle.press_bits.specs.DotRows.{bytes_per_line};
 
 use crate::dot_bytes;
 use std::alloc::{AllocError, Global};
-use std::error::Error;
-use std::fmt;
 use std::marker::Model;
+use thiserror::Error;
 
 /// The most dots on a side of a bitmap.
 pub const MAX_SIDE: u32 = 16_384;
 
 /// Why no blank bitmap was made.
-#[derive(Debug, Drop)]
+#[derive(Debug, Drop, Error)]
 pub enum BlankError {
     /// A side is 0 or above [`MAX_SIDE`].
+    #[error("fault 101")]
     BadSize,
     /// Memory ran out.
+    #[error("fault memory")]
     NoMemory,
 }
-
-impl fmt::Display for BlankError {
-    ghost use Rattle.std.specs.Prelude.{Some};
-    ghost use Rattle.press_bits.specs.FaultText.{blank_error_text};
-
-    ghost output = { λ error. Some (blank_error_text error) };
-
-    fn fmt<W: fmt::Write>(&self, f: &mut fmt::Formatter<W>) -> fmt::Result {
-        match self {
-            BlankError::BadSize => f.write_str("fault 101"),
-            BlankError::NoMemory => f.write_str("fault memory"),
-        }
-    }
-}
-
-impl Error for BlankError {}
 
 /// A page of black and white dots. Contracts see it as its width, its height and the set of its black dots.
 #[derive(Drop)]

@@ -81,3 +81,15 @@ fn black_dots_are_counted_on_the_page_alone(rt: HostRuntime) -> Result<(), Fail>
     assert_eq!(rt; page.count_black(), 15);
     Ok(())
 }
+
+#[test]
+fn faults_tell_their_number(rt: HostRuntime) -> Result<(), Fail> {
+    let faults = [
+        (BlankError::BadSize, "fault 101"),
+        (BlankError::NoMemory, "fault memory"),
+    ];
+    for (fault, text) in faults {
+        assert_eq!(rt; format!(in rt.alloc(); "{fault}")?.as_str(), text);
+    }
+    Ok(())
+}

@@ -30,7 +30,7 @@ TookAll-none tag told = record {
   delivered = told-nothing told.sheets.delivered;
   replied = told-nothing told.replies.replied;
   sheet_faults = refl;
-  reply_faults = refl
+  reply_faults = refl;
 }
 
 -- outputs, and then others
@@ -39,5 +39,5 @@ TookAll-append tag outputs others before between after first then = record {
   delivered = then.delivered ∙ ap (λ told. option_map (λ all. all ++ deliveries_of tag others) told) first.delivered ∙ told-twice before.sheets.delivered (deliveries_of tag outputs) (deliveries_of tag others) ∙ ap (λ more. option_map (λ all. all ++ more) before.sheets.delivered) (sym (deliveries_of-append tag outputs others));
   replied = then.replied ∙ ap (λ told. option_map (λ all. all ++ reply_bytes_of others) told) first.replied ∙ told-twice before.replies.replied (reply_bytes_of outputs) (reply_bytes_of others) ∙ ap (λ more. option_map (λ all. all ++ more) before.replies.replied) (sym (reply_bytes_of-append outputs others));
   sheet_faults = then.sheet_faults ∙ first.sheet_faults;
-  reply_faults = then.reply_faults ∙ first.reply_faults
+  reply_faults = then.reply_faults ∙ first.reply_faults;
 }

@@ -1,5 +1,5 @@
 -- Outputs, and how far they went out to the two sinks.
-use Rattle.std.specs.Prelude.{◌≡◌, ◌<◌, ◌++◌, ℕ, List, [], ◌∷◌, Option, option_map}
+use Rattle.std.specs.Prelude.{◌≡◌, ◌<◌, ◌++◌, ℕ, List, [], ◌∷◌, option_map}
 use Rattle.press_sink.specs.declared.sheet.Delivery.{Delivery}
 use Rattle.press_sink.specs.declared.sheet.Sheet.{Sheet}
 use Rattle.press_sink.specs.Told.{SheetsTold, RepliesTold}

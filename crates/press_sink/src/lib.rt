@@ -1,4 +1,4 @@
-//! Sheets of paper, and where sheets and replies go.
+//! Printed sheets, and where sheets and replies go.
 #![tactic(auto)]
 
 mod fault;

@@ -3,7 +3,7 @@ ghost use Rattle.std.specs.Prelude.{◌≡◌, IfOk};
 use press_bits::Bitmap;
 use std::alloc::AllocError;
 
-/// A sheet of paper: its front, and its back where it has one.
+/// A printed sheet: its front, and its back where it has one.
 #[derive(Drop)]
 pub struct Sheet {
     pub front: Bitmap,

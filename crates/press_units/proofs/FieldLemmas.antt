@@ -1,14 +1,14 @@
 -- A value field cut at its point, and its digits.
-use Rattle.std.proofs.Common.{◌≡◌, ◌<◌, ◌≤◌, ◌+◌, ◌-◌, ◌*◌, ◌==◌, ◌||◌, ◌⊎◌, ◌∙◌, ℕ, suc, List, [], ◌∷◌, ◌++◌, length, take, drop, Bool, true, false, Option, Some, None, IfSome, option_to_list, position, cond, ltb, eqb, nat_lt, get_or, inl, inr, refl, sym, ap, subst, arith, rules}
-use Rattle.std.specs.List.{All, AllByRecursion, before_first, after_first, position_or_len, prefix_len}
+use Rattle.std.proofs.Common.{◌≡◌, ◌<◌, ◌≤◌, ◌+◌, ◌-◌, ◌*◌, ◌∙◌, ℕ, List, [], ◌∷◌, ◌++◌, length, take, drop, Bool, true, false, Option, Some, None, IfSome, option_to_list, position, cond, eqb, nat_lt, get_or, inl, inr, refl, sym, ap, subst, arith}
+use Rattle.std.specs.List.{All, AllByRecursion, before_first, after_first, position_or_len}
 use Rattle.std.specs.Char.{IsAsciiDigit}
-use Rattle.std.proofs.lemmas.Bool.{ltb-false, ltb-true, ne_eqb, eq-eqb, eqb-true, or_cases}
+use Rattle.std.proofs.lemmas.Bool.{ltb-false, ltb-true, ne_eqb, eqb-true, or_cases}
 use Rattle.std.proofs.lemmas.Bool.Decides.{nat_tests}
 use Rattle.std.proofs.lemmas.List.{take_all, drop_all, take_rest, take_at, drop_at, drop-drop, append-nil}
 use Rattle.std.proofs.lemmas.List.Elements.{recursion_from_All, All-nil}
 use Rattle.std.proofs.lemmas.List.Sums.{split_at_first, passes_at_first}
 use Rattle.press_units.specs.Field.{Parts, AreParts, IsSign, spelling, fraction_bytes, longest_field, IsField}
-use Rattle.press_units.specs.Value.{is_sign, is_point, is_signed, unsigned_part, whole_digits, fraction_digits, number_of, four_digits}
+use Rattle.press_units.specs.Value.{is_sign, is_point, unsigned_part, whole_digits, fraction_digits, number_of, four_digits}
 
 -- what stands round the first element that passes
 module _ {X : Type 0} (p : X → Bool) (xs : List X) where

@@ -1,4 +1,5 @@
--- Positions in 1/7200 inch, and dots.
+-- Positions in 1/7200 inch (this profile's internal unit), and dots
+-- (PCL 5 Printer Language Technical Reference Manual, cursor positioning and units).
 use Rattle.std.specs.Prelude.{ℕ, ℤ, pos, ◌*ℤ◌, int_div}
 use Rattle.std.specs.Int.{int_div_euclid}
 use Rattle.press_units.specs.declared.position.Resolution.{Resolution}

@@ -1,6 +1,7 @@
 -- The number that a value field stands for, in ten-thousandths
--- (PCL 5 Printer Language Technical Reference Manual, value fields; digits kept and limits are this profile's).
-use Rattle.std.specs.Prelude.{◌≡◌, ℕ, ℤ, pos, neg_ℤ, ◌+◌, ◌-◌, ◌*◌, ◌==◌, ◌||◌, Bool, true, false, min, if◌then◌else◌, List, [], ◌∷◌, ◌++◌, take, replicate, int_div}
+-- (PCL 5 Printer Language Technical Reference Manual, value fields; the digits kept, and that what is out of range is cut
+-- to it, are this profile's).
+use Rattle.std.specs.Prelude.{ℕ, ℤ, pos, neg_ℤ, ◌+◌, ◌-◌, ◌*◌, ◌==◌, ◌||◌, Bool, false, min, if◌then◌else◌, List, [], ◌∷◌, ◌++◌, take, replicate, int_div}
 use Rattle.std.specs.List.{fold, before_first, after_first}
 
 -- whether the byte is a plus or a minus

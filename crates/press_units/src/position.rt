@@ -147,6 +147,7 @@ mod tests {
         };
         assert_eq!(rt; to_pos(value, Unit::DECIPOINT), Pos(-15));
         assert_eq!(rt; to_pos(value, Unit::HORIZONTAL_MOTION), Pos(-90));
+        assert_eq!(rt; to_pos(value, Unit::VERTICAL_MOTION), Pos(-225));
         assert_eq!(rt; to_pos(value, Unit { positions: 1 }), Pos(-1));
         assert_eq!(rt; dot(Pos(-1), Resolution::Dpi300), -1);
         assert_eq!(rt; dot(Pos(-24), Resolution::Dpi300), -1);

@@ -1,4 +1,4 @@
-use Rattle.std.proofs.Common.{◌≡◌, List, ℕ, subst, sym, ap, ◌∙◌}
+use Rattle.std.proofs.Common.{List, ℕ, subst, sym, ap, ◌∙◌}
 use Rattle.std.specs.List.{All, before_first, after_first}
 use Rattle.std.specs.Char.{IsAsciiDigit}
 use Rattle.press_units.specs.Value.{is_point}

@@ -1,0 +1,13 @@
+pub mod FieldTest
+pub mod ByteTests
+pub mod ReadWhole
+pub mod ReadStep
+pub mod ReadBroken
+pub mod ReadLine
+pub mod ReadHead
+pub mod Heads
+pub mod Splits
+pub mod LineTest
+pub mod ReadBack
+pub mod StreamsOf
+pub mod WorkedStreams

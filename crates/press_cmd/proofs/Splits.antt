@@ -1,0 +1,76 @@
+-- Laws of splits.
+use Rattle.std.proofs.Common.{◌≡◌, ◌<◌, ◌≤◌, ◌∙◌, ℕ, zero, suc, List, [], ◌∷◌, ◌++◌, length, refl, sym, ap, subst, arith, append_assoc, length-append}
+use Rattle.press_cmd.specs.Token.{Token}
+use Rattle.press_cmd.specs.Mode.{Mode}
+use Rattle.press_cmd.specs.Split.{Steps, NoHead, SplitFrom}
+use Rattle.press_cmd.specs.Reading.{Reading, Short, Found, reading}
+use Rattle.press_cmd.proofs.ReadHead.{read_head}
+use Rattle.press_cmd.proofs.Heads.{one_head, short-NoHead, head-some, head-more}
+
+-- the front of the bytes moved along equations
+no_head-along : (m m' : Mode) (x x' : List ℕ) → m ≡ m' → x ≡ x' → NoHead m' x' → NoHead m x
+no_head-along m m' x x' em ex h = subst (λ (k : Mode). NoHead k x) (sym em) (subst (λ (y : List ℕ). NoHead m' y) (sym ex) h)
+
+-- At most one split.
+pub one_split : (m : Mode) (x : List ℕ) (cs cs' : List Token) (k k' : Mode) (r r' : List ℕ)
+    → SplitFrom m x cs k r → SplitFrom m x cs' k' r' → (cs ≡ cs') × (k ≡ k') × (r ≡ r')
+one_split m x [] [] k k' r r' s s' = (refl, sym s.steps.0 ∙ s'.steps.0, sym s.steps.1 ∙ s'.steps.1)
+one_split m x [] (c ∷ cs') k k' r r' s s' =
+    absurd (no_head-along m k x r s.steps.0 s.steps.1 s.short s'.steps.0 s'.steps.1 c s'.steps.2 s'.steps.3 s'.steps.4)
+one_split m x (c ∷ cs) [] k k' r r' s s' =
+    absurd (no_head-along m k' x r' s'.steps.0 s'.steps.1 s'.short s.steps.0 s.steps.1 c s.steps.2 s.steps.3 s.steps.4)
+one_split m x (c ∷ cs) (c' ∷ cs') k k' r r' s s' =
+    let h = s.steps in
+    let h' = s'.steps in
+    let same = one_head m h.0 h.1 h'.0 h'.1 c c' h.2 h'.2 h.4 h'.4 (sym h.3 ∙ h'.3) in
+    let other : Steps h.2 h.1 cs' k' r' =
+    subst (λ (y : List ℕ). Steps h.2 y cs' k' r') (sym same.1) (subst (λ (n : Mode). Steps n h'.1 cs' k' r') (sym same.3) h'.5) in
+    let rest = one_split h.2 h.1 cs cs' k k' r r' (record { steps = h.5; short = s.short }) (record { steps = other; short = s'.short }) in
+    (cc (same.2, rest.0), rest.1, rest.2)
+
+-- the steps over x, and then those over its rest followed by y, are steps over x followed by y
+pub steps-append : (m : Mode) (x y : List ℕ) (cs cs' : List Token) (k k' : Mode) (r r' : List ℕ)
+    → Steps m x cs k r → Steps k (r ++ y) cs' k' r' → Steps m (x ++ y) (cs ++ cs') k' r'
+steps-append m x y [] cs' k k' r r' s s' =
+    subst (λ (n : Mode). Steps n (x ++ y) cs' k' r') (sym s.0) (subst (λ (z : List ℕ). Steps k (z ++ y) cs' k' r') (sym s.1) s')
+steps-append m x y (c ∷ cs) cs' k k' r r' s s' =
+    (s.0, s.1 ++ y, s.2, ap (λ z. z ++ y) s.3 ∙ append_assoc s.0 s.1 y, head-more m s.0 s.1 y c s.2 s.4, steps-append s.2 s.1 y cs cs' k k' r r' s.5 s')
+
+-- The cutting law: the split of x then y is the commands of x, then the split, from x's mode, of x's rest followed by y.
+pub split-append : (m : Mode) (x y : List ℕ) (cs cs' : List Token) (k k' : Mode) (r r' : List ℕ)
+    → SplitFrom m x cs k r → SplitFrom k (r ++ y) cs' k' r' → SplitFrom m (x ++ y) (cs ++ cs') k' r'
+split-append m x y cs cs' k k' r r' s s' = record { steps = steps-append m x y cs cs' k k' r r' s.steps s'.steps; short = s'.short }
+
+-- ---- each list of bytes has a split
+
+pub record SomeSplit (m : Mode) (x : List ℕ) : Type 0 where
+  pub commands : List Token
+  pub mode : Mode
+  pub rest : List ℕ
+  pub split : SplitFrom m x commands mode rest
+
+used-length : (u : List ℕ) → (u ≡ [] → ⊥) → 1 ≤ length u
+used-length [] h = absurd (h refl)
+used-length (b ∷ u) h = omega arith
+
+some_split-at : (m : Mode) (x : List ℕ) (a : Reading) → reading m x ≡ a
+    → ((t : Token) (n : Mode) (left : List ℕ) → reading m x ≡ Found t n left → length left < length x → SomeSplit n left) → SomeSplit m x
+some_split-at m x Short e further = record { commands = []; mode = m; rest = x; split = record { steps = (refl, refl); short = short-NoHead m x e } }
+some_split-at m x (Found t n left) e further =
+    let h = read_head m x t n left e in
+    let used = used-length h.used (head-some m h.used left t n h.head) in
+    let s = further t n left e (omega (arith, ap length h.cut, length-append h.used left)) in
+    record {
+      commands = t ∷ s.commands;
+      mode = s.mode;
+      rest = s.rest;
+      split = record { steps = (h.used, left, n, h.cut, h.head, s.split.steps); short = s.split.short };
+    }
+
+some_split-below : (size : ℕ) (m : Mode) (x : List ℕ) → length x < size → SomeSplit m x
+some_split-below zero m x h = absurd (omega arith)
+some_split-below (suc size) m x h = some_split-at m x (reading m x) refl (λ t n left e below. some_split-below size n left (omega arith))
+
+-- At least one split, for every list of numbers and every mode.
+pub some_split : (m : Mode) (x : List ℕ) → SomeSplit m x
+some_split m x = some_split-below (suc (length x)) m x (omega arith)

@@ -1,0 +1,5 @@
+use Rattle.press_cmd.proofs.FieldTest.{IsField-from_test}
+use Rattle.press_cmd.proofs.payload.Param.value.Goals as goal
+
+pub read_value-requires : goal.read_value-requires
+read_value-requires c = IsField-from_test _ c.args.self.now.value_field

@@ -1,0 +1,13 @@
+use Rattle.std.proofs.Common.{[], ◌∷◌, refl, inr, lit≤}
+use Rattle.press_cmd.specs.Mode.{Pcl}
+use Rattle.press_cmd.specs.Reading.{Pair}
+use Rattle.press_cmd.proofs.ReadBroken.{reached-GoesOn}
+use Rattle.press_cmd.proofs.tests.keeps_broken_sequences.Goals as goal
+
+pub new-requires : goal.new-requires
+new-requires g c =
+    inr (inr ((λ empty. cc), reached-GoesOn (Pair 42 112 (49 ∷ 48 ∷ [])) Pcl _ (refl, ((lit≤ tt, lit≤ tt), (lit≤ tt, lit≤ tt), refl)) (λ empty. cc)))
+
+pub new-requires-3 : goal.new-requires-3
+new-requires-3 g c =
+    inr (inr ((λ empty. cc), reached-GoesOn (Pair 42 112 (50 ∷ 48 ∷ [])) Pcl _ (refl, ((lit≤ tt, lit≤ tt), (lit≤ tt, lit≤ tt), refl)) (λ empty. cc)))

@@ -1,0 +1,11 @@
+pub mod Token
+pub mod Mode
+pub mod Field
+pub mod Language
+pub mod Grammar
+pub mod Split
+pub mod Kinds
+pub mod View
+pub mod Reading
+pub mod Laws
+pub mod Streams

@@ -1,0 +1,34 @@
+//! Laws of the grammar, each the contract of a function that does nothing.
+
+ghost use Rattle.press_cmd.specs.Laws.{NoCommandBeginsAnother, AtMostOneHead, AtMostOneSplit, AtLeastOneSplit};
+ghost use Rattle.press_cmd.specs.Streams.{IsCommand};
+ghost use Rattle.press_cmd.specs.View.{token};
+
+use crate::command::Command;
+
+/// Whole commands in one mode whose bytes begin alike are the same.
+pub fn no_command_begins_another()
+    ensures { NoCommandBeginsAnother }
+{}
+
+/// At the front of a list of bytes stands at most one command.
+pub fn at_most_one_head()
+    ensures { AtMostOneHead }
+{}
+
+/// A list of bytes has at most one split.
+pub fn at_most_one_split()
+    ensures { AtMostOneSplit }
+{}
+
+/// Every list of bytes has a split.
+pub fn at_least_one_split()
+    ensures { AtLeastOneSplit }
+{}
+
+/// Every command is one of some stream: of its split, or of those that the rest stands for where the stream ends.
+pub fn comes_from_a_stream(command: &Command)
+    ensures { ∥ IsCommand (token command.now) ∥₁ }
+{
+    let _ = command;
+}

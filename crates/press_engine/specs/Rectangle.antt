@@ -1,0 +1,14 @@
+-- Sizes of a rectangle (PCL 5 Printer Language Technical Reference Manual, rectangular area fills).
+use Rattle.std.specs.Prelude.{ℕ, ℤ, pos, negsuc, Option, Some, None, unsigned_abs}
+use Rattle.std.specs.Int.{div_ceil}
+use Rattle.press_units.specs.Position.{position_of}
+use Rattle.press_engine.specs.Place.{dot_positions}
+
+-- the size that a value of so many units stands for; a negative value stands for none
+abbrev pub size_of : ℤ → ℕ → Option ℕ
+size_of (pos n) unit = Some (unsigned_abs (position_of (pos n) unit))
+size_of (negsuc n) unit = None
+
+-- how many dots a size takes, a begun one as a whole one
+abbrev pub dots_up : ℕ → ℕ
+dots_up size = div_ceil size dot_positions

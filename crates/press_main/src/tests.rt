@@ -1,0 +1,156 @@
+//! Streams that are printed whole, with the pages that they must give.
+use crate::listing::print_list;
+use crate::printing::{RunError, run};
+use press_bits::Bitmap;
+use press_sink::{ListReplies, ListSink, Sheet, SheetSink, SinkError};
+use std::io::{self, ErrorKind, Read};
+use std::test::Fail;
+
+/// A reader that is interrupted once, gives its bytes one at a time, and then fails or ends.
+#[derive(Drop)]
+struct Reluctant<'a> {
+    bytes: &'a [u8],
+    interrupted: bool,
+    fails: bool,
+}
+
+impl Read for Reluctant<'_> {
+    fn read(&mut self, buf: &mut [u8]) -> io::Result<usize> {
+        if !self.interrupted {
+            self.interrupted = true;
+            return Err(io::Error::from(ErrorKind::Interrupted));
+        }
+        match (self.bytes.split_first(), buf.first_mut()) {
+            (Some((first, rest)), Some(place)) => {
+                *place = *first;
+                self.bytes = rest;
+                Ok(1)
+            }
+            _ if self.fails => Err(io::Error::from(ErrorKind::Other)),
+            _ => Ok(0),
+        }
+    }
+}
+
+/// Whether a page's black dots are those of the box, which lies on the page.
+fn is_box(page: &Bitmap, x: u32, y: u32, width: u32, height: u32) -> bool {
+    let mut all = page.count_black() == width.saturating_mul(height);
+    for line in y..y.saturating_add(height) {
+        for column in x..x.saturating_add(width) {
+            all = all && page.get(column, line);
+        }
+    }
+    all
+}
+
+/// What the program writes for a stream, and its status.
+fn listed(rt: &HostRuntime, stream: &[u8], fails: bool) -> Result<(String, String, u8), Fail> {
+    let mut reader = Reluctant {
+        bytes: stream,
+        interrupted: false,
+        fails,
+    };
+    let mut out = Vec::new(rt.alloc());
+    let mut err = Vec::new(rt.alloc());
+    let status = print_list(rt.alloc(), &mut reader, &mut out, &mut err);
+    let out = String::from_utf8(out).ok().ok_or("text")?;
+    let err = String::from_utf8(err).ok().ok_or("text")?;
+    Ok((out, err, status))
+}
+
+#[test]
+fn streams_give_their_pages(rt: HostRuntime) -> Result<(), Fail> {
+    // stream, then sheets, and the box on each front
+    let cases: [(&[u8], usize, (u32, u32, u32, u32)); 7] = [
+        (b"", 0, (0, 0, 0, 0)),
+        (b"\x1BE\x0C\x1BE", 1, (0, 0, 0, 0)),
+        (b"\x1BE\x1B*p0x0Y\x1B*c3a2b0P\x1BE", 1, (75, 150, 3, 2)),
+        (b"\x1B*p10x20Y\x1B*c3a2b0P\x0C", 1, (85, 170, 3, 2)),
+        (b"\x1B*p10\x0D\x0C", 1, (0, 0, 0, 0)),
+        // the fill is cut off at the edge of the physical page
+        (
+            b"\x1B*p2400x3149Y\x1B*c1000a1000b0P\x1B%-12345X",
+            1,
+            (2475, 3299, 75, 1),
+        ),
+        // relative moves, a value that is not 0, and a negative size
+        (
+            b"\x1B*p+6x-5Y\x1B*c2a2b-2a1P\x1B*c0P\x0C\x0C",
+            2,
+            (81, 182, 2, 2),
+        ),
+    ];
+    for (stream, sheets, (x, y, width, height)) in cases {
+        let mut reader = stream;
+        let mut sink = ListSink::new(rt.alloc());
+        let mut replies = ListReplies::new(rt.alloc());
+        let engine = run(rt.alloc(), &mut reader, 7, &mut sink, &mut replies)?;
+        assert_eq!(rt; sink.deliveries().len(), sheets);
+        if let Some(first) = sink.deliveries().first() {
+            assert_eq!(rt; first.tag, 7);
+            assert!(rt; first.sheet.back.is_none());
+            assert!(rt; is_box(&first.sheet.front, x, y, width, height));
+            assert_eq!(rt; first.sheet.front.width(), 2550);
+            assert_eq!(rt; first.sheet.front.height(), 3300);
+        }
+        assert!(rt; replies.bytes().is_empty());
+        assert_eq!(rt; engine.view().x.0, 0);
+        assert_eq!(rt; engine.view().y.0, 900);
+        assert!(rt; !engine.view().marked);
+    }
+    Ok(())
+}
+
+#[test]
+fn the_listing_tells_each_side(rt: HostRuntime) -> Result<(), Fail> {
+    let stream = b"\x1BE\x1B*p0x0Y\x1B*c3a2b0P\x1BE\x0C";
+    let (out, err, status) = listed(&rt, stream, false)?;
+    let wanted = "sheet 1 front 2550x3300 black 6\nsheet 2 front 2550x3300 black 0\n";
+    assert_eq!(rt; out.as_str(), wanted);
+    assert_eq!(rt; err.as_str(), "");
+    assert_eq!(rt; status, 0);
+    Ok(())
+}
+
+#[test]
+fn a_failed_read_is_told_after_what_came_before_it(rt: HostRuntime) -> Result<(), Fail> {
+    let (out, err, status) = listed(&rt, b"\x0C\x1B*c3a2b0P", true)?;
+    assert_eq!(rt; out.as_str(), "sheet 1 front 2550x3300 black 0\n");
+    assert_eq!(rt; err.as_str(), "fault 304\n");
+    assert_eq!(rt; status, 1);
+    Ok(())
+}
+
+/// A sink that has a fault at each sheet.
+#[derive(Drop)]
+struct Refusing {
+    faults: u64,
+}
+
+impl SheetSink for Refusing {
+    ghost use Rattle.std.specs.Prelude.{None};
+
+    ghost told = { λ sink. record { delivered = None; faults = sink.faults } };
+
+    fn faults(&self) -> u64 {
+        self.faults
+    }
+
+    fn deliver(&mut self, _tag: u64, _sheet: &Sheet) -> Result<(), SinkError> {
+        self.faults += 1;
+        Err(SinkError::SinkFault)
+    }
+}
+
+#[test]
+fn a_sink_with_a_fault_ends_the_run(rt: HostRuntime) -> Result<(), Fail> {
+    let mut reader: &[u8] = b"\x0C\x0C";
+    let mut sink = Refusing { faults: 0 };
+    let mut replies = ListReplies::new(rt.alloc());
+    match run(rt.alloc(), &mut reader, 0, &mut sink, &mut replies) {
+        Err(RunError::SinkFault) => {}
+        _ => assert!(rt; false, "the fault is answered"),
+    }
+    assert_eq!(rt; sink.faults(), 1);
+    Ok(())
+}

@@ -1,0 +1,12 @@
+pub mod RowLemmas
+pub mod FrontLemmas
+pub mod RestLemmas
+pub mod RunLengthLemmas
+pub mod PackBitsLemmas
+pub mod DeltaRowLemmas
+pub mod OverlayLemmas
+pub mod ChangesLemmas
+pub mod EncodingLemmas
+pub mod DeltaEncodingLemmas
+pub mod LawLemmas
+pub mod WorkedRows

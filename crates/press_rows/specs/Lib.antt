@@ -1,0 +1,5 @@
+pub mod RunLength
+pub mod PackBits
+pub mod DeltaRow
+pub mod Row
+pub mod Encoding

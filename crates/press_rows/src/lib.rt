@@ -1,0 +1,20 @@
+//! The rows of PCL 5 raster graphics: what the data of a transfer stands for under the compression
+//! methods 0 to 3, and short data for a row.
+//!
+//! A row is a slice of bytes, one bit a dot, the most significant bit leftmost, 1 black. The seed row
+//! is the row before it, zero at first.
+#![tactic(auto)]
+
+mod changes;
+mod compression;
+mod decoder;
+mod encoder;
+mod packing;
+mod run_pairs;
+mod runs;
+#[cfg(test)]
+mod tests;
+
+pub use compression::Method;
+pub use decoder::decode;
+pub use encoder::encode;

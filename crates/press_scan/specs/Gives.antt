@@ -1,0 +1,36 @@
+-- What the scanner answers.
+use Rattle.std.specs.Prelude.{◌≡◌, ◌≤◌, ◌<◌, ℕ, List, [], ◌∷◌, ◌++◌, length, true, false, Option, Some, None, Result, Ok, Err}
+use Rattle.std.specs.declared.alloc.AllocError.{AllocError}
+use Rattle.press_cmd.specs.Token.{Token}
+use Rattle.press_cmd.specs.Grammar.{Head}
+use Rattle.press_cmd.specs.Split.{NoHead, ClosedFrom}
+use Rattle.press_cmd.specs.View.{token}
+use Rattle.press_cmd.specs.declared.command.Command.{Command}
+use Rattle.press_scan.specs.Held.{Held}
+use Rattle.press_scan.specs.Sequences.{longest_rest}
+
+-- A command was given. Before the end of input, what was held is the command's bytes and what is held now. After it,
+-- the command and then those of what is held now close what was held.
+pub record Passes (old : Held) (command : Token) (new : Held) : Type 0 where
+  pub ended : new.ended ≡ old.ended
+  pub used : length new.bytes < length old.bytes
+  pub head : old.ended ≡ false → (used : List ℕ) × (old.bytes ≡ used ++ new.bytes) × Head old.mode used new.bytes command new.mode
+  pub closes : old.ended ≡ true → (commands : List Token) → ClosedFrom new.mode new.bytes commands → ClosedFrom old.mode old.bytes (command ∷ commands)
+
+-- Nothing is left to give: before the end of input no command stands at the front, and after it nothing is held, and
+-- no command closes it.
+pub record IsDone (held : Held) : Type 0 where
+  pub short : held.ended ≡ false → NoHead held.mode held.bytes
+  pub nothing : held.ended ≡ true → held.bytes ≡ []
+  pub closed : held.ended ≡ true → ClosedFrom held.mode held.bytes []
+  pub few : length held.bytes ≤ longest_rest
+
+-- The command is the first of what is held.
+abbrev pub IsNext : Held → Token → Type 0
+IsNext held command = (new : Held) × Passes held command new
+
+-- What is held once the command that was lent is let go.
+abbrev pub Leaves : Held → Result (Option Command) AllocError → Held → Type 0
+Leaves old (Ok (Some command)) new = Passes old (token command) new
+Leaves old (Ok None) new = new ≡ old
+Leaves old (Err _) new = new ≡ old

@@ -1,0 +1,10 @@
+pub mod FieldParts
+pub mod Modes
+pub mod Sequences
+pub mod Stands
+pub mod Lines
+pub mod Held
+pub mod Gives
+pub mod Lending
+pub mod Peeks
+pub mod Closings

@@ -1,0 +1,157 @@
+ghost use Rattle.std.specs.Prelude.{◌≡◌, ◌≤◌, [], ◌++◌, true, false, length, drop, vec_len, IsOk, OnOk, OnErr, IfOk, IfSome, IfNone};
+ghost use Rattle.std.specs.Borrow.{sem};
+ghost use Rattle.press_cmd.specs.Split.{NoHead};
+ghost use Rattle.press_cmd.specs.Mode.{Mode as GrammarMode, Exit};
+ghost use Rattle.press_cmd.specs.Grammar.{scanned_in};
+ghost use Rattle.press_cmd.specs.View.{token};
+ghost use Rattle.press_scan.specs.Modes.{mode_of};
+ghost use Rattle.press_scan.specs.Lines.{IsKnownPlain, IsPlainFront};
+ghost use Rattle.press_scan.specs.Peeks.{Peeks};
+ghost use Rattle.press_scan.specs.Gives.{IsNext, IsDone};
+ghost use Rattle.press_scan.specs.Sequences.{longest_rest};
+
+use crate::buffer::drop_consumed;
+use crate::closing::close;
+use crate::head::{head, scanned_in};
+use crate::line::plain_front;
+use crate::mode::Mode;
+use crate::reading::Found;
+use press_cmd::Command;
+use std::alloc::{AllocError, Global};
+use std::marker::Model;
+
+/// A scanner: it is fed the bytes of a stream in pieces, and gives the commands of the stream one after another.
+///
+/// Contracts see the mode, the bytes fed that stand in no command given, and whether the end of input was given.
+#[derive(Drop)]
+pub struct Scanner {
+    buffer: Vec<u8>,
+    /// Where the bytes begin that stand in no command given.
+    start: usize,
+    mode: Mode,
+    ended: bool,
+    /// How many bytes behind `@PJL` are known to be part of a line.
+    searched: usize,
+}
+
+impl Model for Scanner {
+    ghost use Rattle.std.specs.Prelude.{◌≤◌, vec_len, drop};
+    ghost use Rattle.press_scan.specs.Held.{Held};
+
+    ghost Value = { Held };
+
+    ghost use Rattle.press_scan.specs.Modes.{mode_of};
+    ghost use Rattle.press_scan.specs.Lines.{IsKnownPlain};
+
+    ghost view = { λ s. record { mode = mode_of s.mode; bytes = drop s.start s.buffer.items; ended = s.ended } };
+
+    ghost invariant = { λ s. (s.start ≤ vec_len s.buffer) × IsKnownPlain (drop s.start s.buffer.items) s.searched };
+}
+
+/// The next command of what is held, if there is one, and how many bytes behind `@PJL` are then known to be part of
+/// a line.
+fn peek(mode: Mode, bytes: &[u8], searched: usize, ended: bool) -> (Option<Found<'_>>, usize)
+    requires { IsKnownPlain bytes.now searched }
+    ensures known { IsKnownPlain bytes.now result.1 }
+    ensures found { Peeks (mode_of mode) bytes.now ended result.0 }
+{
+    let scanned = scanned_in(mode, bytes);
+    let plain = plain_front(scanned, bytes, searched);
+    (first_command(scanned, bytes, plain, ended), plain)
+}
+
+/// The first command of bytes that are scanned in the mode, and, where they end, the first that they stand for.
+fn first_command(scanned: Mode, bytes: &[u8], plain: usize, ended: bool) -> Option<Found<'_>>
+    requires settled { scanned_in (mode_of scanned) bytes.now ≡ mode_of scanned }
+    requires line { mode_of scanned ≡ Exit → IsPlainFront bytes.now plain }
+    ensures { (mode : GrammarMode) → scanned_in mode bytes.now ≡ mode_of scanned → Peeks mode bytes.now ended result }
+{
+    match head(scanned, bytes, plain) {
+        Some(found) => Some(found),
+        None if ended => close(scanned, bytes),
+        None => None,
+    }
+}
+
+impl Scanner {
+    ghost use Rattle.press_scan.specs.Lending.{EndsAs};
+
+    /// A scanner at the beginning of a stream, as after a universal exit. It takes no memory.
+    pub fn new(alloc: Global) -> Scanner
+        ensures mode { result.mode ≡ Exit }
+        ensures bytes { result.bytes ≡ [] }
+        ensures ended { result.ended ≡ false }
+    {
+        Scanner {
+            buffer: Vec::new(alloc),
+            start: 0,
+            mode: Mode::Exit,
+            ended: false,
+            searched: 0,
+        }
+    }
+
+    /// Takes the next piece of the stream. An error leaves what is held as it was.
+    pub fn feed(&mut self, piece: &[u8]) -> Result<(), AllocError>
+        requires { self.old.ended ≡ false }
+        ensures mode { self.new.mode ≡ self.old.mode }
+        ensures ended { self.new.ended ≡ false }
+        ensures ok { OnOk result (self.new.bytes ≡ self.old.bytes ++ piece.now) }
+        ensures err { OnErr result (self.new ≡ self.old) }
+    {
+        self.start = drop_consumed(&mut self.buffer, self.start);
+        self.buffer.extend_from_slice(piece)?;
+        Ok(())
+    }
+
+    /// Gives the next command, with its data lent from the buffer; none where what is held begins no whole command,
+    /// and after the end of input where nothing is held. It takes no memory in this representation: the error is
+    /// never answered.
+    pub fn next(&mut self) -> Result<Option<Command<'_>>, AllocError>
+        ensures ok { IsOk result }
+        ensures some { IfOk result (λ answer. IfSome answer (λ command. IsNext self.old (token command))) }
+        ensures none { IfOk result (λ answer. IfNone answer (IsDone self.old)) }
+        ensures* after { sem 𝓛 (EndsAs self.entry result) }
+    {
+        let (found, plain) = peek(
+            self.mode,
+            &self.buffer[self.start..],
+            self.searched,
+            self.ended,
+        );
+        match found {
+            Some(found) => {
+                self.start += found.length;
+                self.mode = found.mode;
+                self.searched = 0;
+                Ok(Some(found.command))
+            }
+            None => {
+                self.searched = plain;
+                Ok(None)
+            }
+        }
+    }
+
+    /// Gives the end of input: from now on the rest is closed.
+    pub fn end_input(&mut self)
+        ensures { self.new ≡ record self.old { ended = true } }
+    {
+        self.ended = true;
+    }
+
+    /// Whether the end of input was given.
+    pub fn ended(&self) -> bool
+        ensures { result ≡ self.now.ended }
+    {
+        self.ended
+    }
+
+    /// How many bytes fed stand in no command given: at most 65,570 where `next` has nothing to give.
+    pub fn rest_len(&self) -> usize
+        ensures length { result ≡ length self.now.bytes }
+        ensures short { IsDone self.now → result ≤ longest_rest }
+    {
+        self.buffer.len() - self.start
+    }
+}
