@@ -1,8 +1,10 @@
-ghost use Rattle.std.specs.Prelude.{◌≤◌};
+ghost use Rattle.std.specs.Prelude.{◌≡◌, ◌≤◌, ◌++◌, IfSome, OnOk};
+ghost use Rattle.std.specs.Io.KnownBytes.{Appends};
+ghost use Rattle.press_main.specs.Listing.{side_line, sheet_lines, lines_from, Lists};
 
 use crate::printing::run;
 use press_bits::Bitmap;
-use press_sink::{Delivery, ListReplies, ListSink};
+use press_sink::{Delivery, ListReplies, ListSink, Sheet};
 use std::alloc::Global;
 use std::io::{self, Read, Write};
 
@@ -16,7 +18,8 @@ pub fn print_list<R: Read, W: Write, E: Write>(
     out: &mut W,
     err: &mut E,
 ) -> u8
-    ensures { result ≤ 1 }
+    ensures status { result ≤ 1 }
+    ensures lists { result ≡ 0 → IfSome (R.remaining reader.old) (λ bytes. Lists bytes (W.contents out.old) (W.contents out.new)) }
 {
     let mut sheets = ListSink::new(alloc);
     let mut replies = ListReplies::new(alloc);
@@ -27,25 +30,49 @@ pub fn print_list<R: Read, W: Write, E: Write>(
     }
     if listed.is_err() {
         let _ = writeln!(err, "fault output");
+        return 1;
     }
-    u8::from(printed.is_err() || listed.is_err())
+    if printed.is_err() {
+        return 1;
+    }
+    0
 }
 
 /// Lists the sides of the sheets, and then the replies.
-fn list<W: Write>(out: &mut W, deliveries: &[Delivery], replies: &[u8]) -> io::Result<()> {
-    for (index, delivery) in deliveries.iter().enumerate() {
-        list_side(out, index, "front", &delivery.sheet.front)?;
-        if let Some(back) = &delivery.sheet.back {
-            list_side(out, index, "back", back)?;
-        }
-    }
+fn list<W: Write>(out: &mut W, deliveries: &[Delivery], replies: &[u8]) -> io::Result<()>
+    ensures { OnOk result (Appends (W.contents out.old) (W.contents out.new) (lines_from 1 deliveries.now ++ replies.now)) }
+{
+    list_sheets(out, deliveries)?;
     out.write_all(replies)?;
     out.flush()
 }
 
+/// Lists the sides of the sheets, which are numbered from 1.
+fn list_sheets<W: Write>(out: &mut W, deliveries: &[Delivery]) -> io::Result<()>
+    ensures { OnOk result (Appends (W.contents out.old) (W.contents out.new) (lines_from 1 deliveries.now)) }
+{
+    for (index, delivery) in deliveries.iter().enumerate() {
+        list_sheet(out, index + 1, &delivery.sheet)?;
+    }
+    Ok(())
+}
+
+/// Lists the sides of one sheet.
+fn list_sheet<W: Write>(out: &mut W, number: usize, sheet: &Sheet) -> io::Result<()>
+    ensures { OnOk result (Appends (W.contents out.old) (W.contents out.new) (sheet_lines number sheet.now)) }
+{
+    list_side(out, number, "front", &sheet.front)?;
+    match &sheet.back {
+        Some(back) => list_side(out, number, "back", back),
+        None => Ok(()),
+    }
+}
+
 /// Writes the line of one side.
-fn list_side<W: Write>(out: &mut W, index: usize, side: &str, page: &Bitmap) -> io::Result<()> {
-    let number = index.saturating_add(1);
+#[tactic(auto, unfolding(crate::specs::Listing::side_line))]
+fn list_side<W: Write>(out: &mut W, number: usize, side: &str, page: &Bitmap) -> io::Result<()>
+    ensures { OnOk result (Appends (W.contents out.old) (W.contents out.new) (side_line number side.now page.now)) }
+{
     let width = page.width();
     let height = page.height();
     let black = page.count_black();

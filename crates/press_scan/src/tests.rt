@@ -272,19 +272,23 @@ fn breaks_a_long_line(rt: HostRuntime) -> Result<(), Fail> {
         broken.as_slice()
     );
 
-    let mut escape = Vec::from_slice(rt.alloc(), line.as_slice())?;
-    escape.extend_from_slice(b"A\x1BE@")?;
-    let mut tail = Vec::from_slice(rt.alloc(), b"B")?;
-    tail.extend_from_slice(line.as_slice())?;
-    tail.extend_from_slice(b"BAE\x1BET@")?;
-    assert_eq!(rt;
-        closed(rt.alloc(), escape.as_slice(), b"")?.as_slice(),
-        tail.as_slice()
-    );
-    assert_eq!(rt;
-        closed_by_bytes(rt.alloc(), escape.as_slice())?.as_slice(),
-        tail.as_slice()
-    );
+    // an escape character right behind the 4,096 bytes, and one behind a byte of what is left of the line
+    let cases: [(&[u8], &[u8]); 2] = [(b"\x1BE@", b"E\x1BET@"), (b"A\x1BE@", b"BAE\x1BET@")];
+    for (after, commands) in cases {
+        let mut escape = Vec::from_slice(rt.alloc(), line.as_slice())?;
+        escape.extend_from_slice(after)?;
+        let mut tail = Vec::from_slice(rt.alloc(), b"B")?;
+        tail.extend_from_slice(line.as_slice())?;
+        tail.extend_from_slice(commands)?;
+        assert_eq!(rt;
+            closed(rt.alloc(), escape.as_slice(), b"")?.as_slice(),
+            tail.as_slice()
+        );
+        assert_eq!(rt;
+            closed_by_bytes(rt.alloc(), escape.as_slice())?.as_slice(),
+            tail.as_slice()
+        );
+    }
     Ok(())
 }
 
