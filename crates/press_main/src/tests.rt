@@ -2,6 +2,8 @@
 use crate::listing::print_list;
 use crate::printing::{RunError, run};
 use press_bits::Bitmap;
+use press_cmd::{Command, ControlByte};
+use press_engine::{Engine, EngineError};
 use press_sink::{ListReplies, ListSink, Sheet, SheetSink, SinkError};
 use std::io::{self, ErrorKind, Read};
 use std::test::Fail;
@@ -152,5 +154,21 @@ fn a_sink_with_a_fault_ends_the_run(rt: HostRuntime) -> Result<(), Fail> {
         _ => assert!(rt; false, "the fault is answered"),
     }
     assert_eq!(rt; sink.faults(), 1);
+    Ok(())
+}
+
+#[test]
+fn an_engine_that_had_a_fault_answers_so(rt: HostRuntime) -> Result<(), Fail> {
+    let form_feed = Command::Control(ControlByte::new(0x0C));
+    let mut sink = Refusing { faults: 0 };
+    let mut replies = ListReplies::new(rt.alloc());
+    let mut engine = Engine::power_on(rt.alloc())?;
+    let first = engine.run_command(form_feed, 0, &mut sink, &mut replies);
+    assert!(rt; matches!(first, Err(EngineError::SinkFault)));
+    assert_eq!(rt; sink.faults(), 1);
+    let mut list = ListSink::new(rt.alloc());
+    let second = engine.run_command(form_feed, 0, &mut list, &mut replies);
+    assert!(rt; matches!(second, Err(EngineError::Failed)));
+    assert!(rt; list.deliveries().is_empty());
     Ok(())
 }
