@@ -1,14 +1,16 @@
--- A value field cut at its point, and its digits.
+-- A value field cut at its sign and its point, and its digits.
 use Rattle.std.proofs.Common.{◌≡◌, ◌<◌, ◌≤◌, ◌+◌, ◌-◌, ◌*◌, ◌∙◌, ℕ, List, [], ◌∷◌, ◌++◌, length, take, drop, Bool, true, false, Option, Some, None, IfSome, option_to_list, position, cond, eqb, nat_lt, get_or, inl, inr, refl, sym, ap, subst, arith}
+use Rattle.std.specs.Prelude.{unwrap_or, is_some, ℤ}
+use Rattle.std.specs.Option.{option_map}
 use Rattle.std.specs.List.{All, AllByRecursion, before_first, after_first, position_or_len}
 use Rattle.std.specs.Char.{IsAsciiDigit}
-use Rattle.std.proofs.lemmas.Bool.{ltb-false, ltb-true, ne_eqb, eqb-true, or_cases}
+use Rattle.std.proofs.lemmas.Bool.{ltb-false, ltb-true, lt-ltb, le-ltb, ne_eqb, eqb-true, or_cases}
 use Rattle.std.proofs.lemmas.Bool.Decides.{nat_tests}
 use Rattle.std.proofs.lemmas.List.{take_all, drop_all, take_rest, take_at, drop_at, drop-drop, append-nil}
 use Rattle.std.proofs.lemmas.List.Elements.{recursion_from_All, All-nil}
 use Rattle.std.proofs.lemmas.List.Sums.{split_at_first, passes_at_first}
-use Rattle.press_units.specs.Field.{Parts, AreParts, IsSign, spelling, fraction_bytes, longest_field, IsField}
-use Rattle.press_units.specs.Value.{is_sign, is_point, unsigned_part, whole_digits, fraction_digits, number_of, four_digits}
+use Rattle.press_units.specs.Field.{Parts, AreParts, IsSign, spelling, fraction_bytes, longest_field, IsField, is_sign, is_point}
+use Rattle.press_units.specs.Value.{sign_of, unsigned_part, fraction_of, parts_of, number_of_parts, tenthousandths_of, is_signed, StandsFor, number_of, four_digits}
 
 -- what stands round the first element that passes
 module _ {X : Type 0} (p : X → Bool) (xs : List X) where
@@ -41,7 +43,7 @@ module _ {X : Type 0} (p : X → Bool) (xs : List X) where
       sym (drop_all _ xs past)
 
 -- digits stand before the point
-pub point-after_digits : (digits : List ℕ) (fraction : Option (List ℕ)) → AllByRecursion IsAsciiDigit digits → position_or_len is_point (digits ++ fraction_bytes fraction) ≡ length digits
+point-after_digits : (digits : List ℕ) (fraction : Option (List ℕ)) → AllByRecursion IsAsciiDigit digits → position_or_len is_point (digits ++ fraction_bytes fraction) ≡ length digits
 point-after_digits [] None h = refl
 point-after_digits [] (Some fraction) h = refl
 point-after_digits (digit ∷ digits) fraction h =
@@ -73,7 +75,47 @@ number_of-four_digits (a ∷ b ∷ []) = omega arith
 number_of-four_digits (a ∷ b ∷ c ∷ []) = omega arith
 number_of-four_digits (a ∷ b ∷ c ∷ d ∷ digits) = omega arith
 
--- a value field in its parts
+-- the sign at the front
+no_sign_of : (whole : List ℕ) (fraction : Option (List ℕ)) → AllByRecursion IsAsciiDigit whole → sign_of (whole ++ fraction_bytes fraction) ≡ None
+no_sign_of [] None h = refl
+no_sign_of [] (Some fraction) h = refl
+no_sign_of (digit ∷ digits) fraction h =
+    let no_plus : eqb digit 43 ≡ false = ne_eqb digit 43 (λ e. omega (arith, h.0)) in
+    let no_minus : eqb digit 45 ≡ false = ne_eqb digit 45 (λ e. omega (arith, h.0)) in
+    rw (no_plus, no_minus) refl
+
+is_sign-true : (byte : ℕ) → IsSign byte → is_sign byte ≡ true
+is_sign-true byte h = grind (arith, nat_tests)
+
+sign_of-spelling : (sign : Option ℕ) (whole : List ℕ) (fraction : Option (List ℕ)) → IfSome sign IsSign → AllByRecursion IsAsciiDigit whole → sign_of (option_to_list sign ++ (whole ++ fraction_bytes fraction)) ≡ sign
+sign_of-spelling None whole fraction is_one digits = no_sign_of whole fraction digits
+sign_of-spelling (Some sign) whole fraction is_one digits = ap (λ b. cond b (Some sign) None) (is_sign-true sign is_one)
+
+-- what follows the point
+drop_point : (whole fraction : List ℕ) → drop (length whole + 1) (whole ++ (46 ∷ fraction)) ≡ fraction
+drop_point whole fraction =
+    sym (drop-drop 1 (length whole) (whole ++ (46 ∷ fraction)))
+    ∙ ap (drop 1) (drop_at whole (46 ∷ fraction) (length whole) refl)
+
+length-with_point : (whole fraction : List ℕ) → length whole < length (whole ++ (46 ∷ fraction))
+length-with_point [] fraction = omega arith
+length-with_point (digit ∷ whole) fraction = let rest = length-with_point whole fraction in omega arith
+
+fraction_of-spelling : (whole : List ℕ) (fraction : Option (List ℕ)) → AllByRecursion IsAsciiDigit whole → fraction_of (whole ++ fraction_bytes fraction) ≡ fraction
+fraction_of-spelling whole None digits =
+    let unsigned = whole ++ [] in
+    let place = point-after_digits whole None digits in
+    let past : nat_lt (position_or_len is_point unsigned) (length unsigned) ≡ false = le-ltb _ _ (omega (arith, place, ap length (append-nil whole))) in
+    ap (λ b. option_map (λ point. drop (point + 1) unsigned) (cond b (Some (position_or_len is_point unsigned)) None)) past
+fraction_of-spelling whole (Some fraction) digits =
+    let unsigned = whole ++ (46 ∷ fraction) in
+    let place = point-after_digits whole (Some fraction) digits in
+    let inside : nat_lt (position_or_len is_point unsigned) (length unsigned) ≡ true = lt-ltb _ _ (omega (arith, place, length-with_point whole fraction)) in
+    ap (λ b. option_map (λ point. drop (point + 1) unsigned) (cond b (Some (position_or_len is_point unsigned)) None)) inside
+    ∙ ap (λ n. Some (drop (n + 1) unsigned)) place
+    ∙ ap Some (drop_point whole fraction)
+
+-- The parts of a text that spells parts are these.
 module _ (parts : Parts) (are : AreParts parts) where
   whole_is_digits : AllByRecursion IsAsciiDigit parts.whole
   whole_is_digits = recursion_from_All _ _ are.whole
@@ -81,56 +123,45 @@ module _ (parts : Parts) (are : AreParts parts) where
   unsigned : unsigned_part (spelling parts) ≡ parts.whole ++ fraction_bytes parts.fraction
   unsigned = unsigned-spelling parts.sign parts.whole parts.fraction are.sign whole_is_digits
 
-  pub whole_digits-spelling : whole_digits (spelling parts) ≡ parts.whole
-  whole_digits-spelling =
+  sign_is : (parts_of (spelling parts)).sign ≡ parts.sign
+  sign_is = sign_of-spelling parts.sign parts.whole parts.fraction are.sign whole_is_digits
+
+  whole_is : (parts_of (spelling parts)).whole ≡ parts.whole
+  whole_is =
       ap (before_first is_point) unsigned
       ∙ ap (λ n. take n (parts.whole ++ fraction_bytes parts.fraction)) (point-after_digits parts.whole parts.fraction whole_is_digits)
       ∙ take_at parts.whole (fraction_bytes parts.fraction) (length parts.whole) refl
 
-after_point : Option (List ℕ) → List ℕ
-after_point None = []
-after_point (Some digits) = digits
+  fraction_is : (parts_of (spelling parts)).fraction ≡ parts.fraction
+  fraction_is = ap fraction_of unsigned ∙ fraction_of-spelling parts.whole parts.fraction whole_is_digits
 
-drop_one : (fraction : Option (List ℕ)) → drop 1 (fraction_bytes fraction) ≡ after_point fraction
-unfolding after_point
-drop_one None = refl
-drop_one (Some digits) = refl
+  pub parts_of-spelling : parts_of (spelling parts) ≡ parts
+  parts_of-spelling =
+      ap (λ (sign : Option ℕ). record (parts_of (spelling parts)) { sign = sign }) sign_is
+      ∙ ap (λ (whole : List ℕ). record parts { whole = whole; fraction = (parts_of (spelling parts)).fraction }) whole_is
+      ∙ ap (λ (fraction : Option (List ℕ)). record parts { fraction = fraction }) fraction_is
 
-drop_point : (whole : List ℕ) (fraction : Option (List ℕ)) → drop (length whole + 1) (whole ++ fraction_bytes fraction) ≡ after_point fraction
-drop_point whole fraction =
-    sym (drop-drop 1 (length whole) (whole ++ fraction_bytes fraction))
-    ∙ ap (drop 1) (drop_at whole (fraction_bytes fraction) (length whole) refl)
-    ∙ drop_one fraction
+pub stands_for : (field : List ℕ) (number : ℤ) (signed : Bool) → number ≡ tenthousandths_of field → signed ≡ is_signed field → StandsFor field number signed
+stands_for field number signed is_number is_flag = λ parts are spelled.
+    let same : parts_of field ≡ parts = ap parts_of spelled ∙ parts_of-spelling parts are in
+    (is_number ∙ ap number_of_parts same, is_flag ∙ ap (λ (p : Parts). is_some p.sign) same)
 
--- the digits of a field are digits
-after_point-digits : (fraction : Option (List ℕ)) → IfSome fraction (All IsAsciiDigit) → All IsAsciiDigit (after_point fraction)
-unfolding after_point
-after_point-digits None h = All-nil IsAsciiDigit
-after_point-digits (Some digits) h = h
+-- Before the point of a value field stand digits, and after it.
+pub whole-All : (field : List ℕ) → IsField field → All IsAsciiDigit (parts_of field).whole
+whole-All field is =
+    let P : Parts → Type 0 = λ p. All IsAsciiDigit p.whole in
+    subst P (sym (ap parts_of is.2 ∙ parts_of-spelling is.0 is.1)) is.1.whole
 
-module _ (parts : Parts) (are : AreParts parts) where
-  fraction_digits-spelling : fraction_digits (spelling parts) ≡ after_point parts.fraction
-  fraction_digits-spelling =
-      ap (after_first is_point) (unsigned parts are)
-      ∙ ap (λ n. drop (n + 1) (parts.whole ++ fraction_bytes parts.fraction)) (point-after_digits parts.whole parts.fraction (whole_is_digits parts are))
-      ∙ drop_point parts.whole parts.fraction
+fraction_digits : (fraction : Option (List ℕ)) → IfSome fraction (All IsAsciiDigit) → All IsAsciiDigit (unwrap_or fraction [])
+fraction_digits None h = All-nil IsAsciiDigit
+fraction_digits (Some digits) h = h
 
--- before and after the point of a value field stand digits
-pub whole_digits-All : (field : List ℕ) → IsField field → All IsAsciiDigit (whole_digits field)
-whole_digits-All field is =
-    let P : List ℕ → Type 0 = All IsAsciiDigit in
-    subst P (sym (ap whole_digits is.2 ∙ whole_digits-spelling is.0 is.1)) is.1.whole
+pub fraction-All : (field : List ℕ) → IsField field → All IsAsciiDigit (unwrap_or (parts_of field).fraction [])
+fraction-All field is =
+    let P : Parts → Type 0 = λ p. All IsAsciiDigit (unwrap_or p.fraction []) in
+    subst P (sym (ap parts_of is.2 ∙ parts_of-spelling is.0 is.1)) (fraction_digits is.0.fraction is.1.fraction)
 
-pub fraction_digits-All : (field : List ℕ) → IsField field → All IsAsciiDigit (fraction_digits field)
-fraction_digits-All field is =
-    let P : List ℕ → Type 0 = All IsAsciiDigit in
-    subst P (sym (ap fraction_digits is.2 ∙ fraction_digits-spelling is.0 is.1)) (after_point-digits is.0.fraction is.1.fraction)
-
--- a list of digits round a point, or without one, after a sign or none
-sign_of : List ℕ → Option ℕ
-sign_of [] = None
-sign_of (byte ∷ bytes) = cond (is_sign byte) (Some byte) None
-
+-- Every text is spelled by its parts.
 one_or_other : (byte : ℕ) → is_sign byte ≡ true → IsSign byte
 one_or_other byte h = elim (or_cases (eqb byte 43) (eqb byte 45) h) [ inl e ↦ inl (eqb-true byte 43 e) | inr e ↦ inr (eqb-true byte 45 e) ]
 
@@ -142,24 +173,19 @@ at_sign-IsSign : (byte : ℕ) (b : Bool) → is_sign byte ≡ b → IfSome (cond
 at_sign-IsSign byte true h = one_or_other byte h
 at_sign-IsSign byte false h = tt
 
-sign-unsigned_part : (bytes : List ℕ) → bytes ≡ option_to_list (sign_of bytes) ++ unsigned_part bytes
-unfolding sign_of
+sign-unsigned_part : (text : List ℕ) → text ≡ option_to_list (sign_of text) ++ unsigned_part text
 sign-unsigned_part [] = refl
 sign-unsigned_part (byte ∷ bytes) = at_sign byte bytes (is_sign byte) refl
 
-sign_of-IsSign : (bytes : List ℕ) → IfSome (sign_of bytes) IsSign
-unfolding sign_of
+sign_of-IsSign : (text : List ℕ) → IfSome (sign_of text) IsSign
 sign_of-IsSign [] = tt
 sign_of-IsSign (byte ∷ bytes) = at_sign-IsSign byte (is_sign byte) refl
-
--- the fraction of what follows the sign
-fraction_of : List ℕ → Option (List ℕ)
-fraction_of unsigned = cond (nat_lt (position_or_len is_point unsigned) (length unsigned)) (Some (after_first is_point unsigned)) None
 
 point_is : (unsigned : List ℕ) → position_or_len is_point unsigned < length unsigned → get_or unsigned (position_or_len is_point unsigned) 0 ≡ 46
 point_is unsigned h = eqb-true _ 46 (passes_at_first is_point unsigned 0 h)
 
-cut_at_point : (unsigned : List ℕ) (b : Bool) → nat_lt (position_or_len is_point unsigned) (length unsigned) ≡ b → unsigned ≡ before_first is_point unsigned ++ fraction_bytes (cond b (Some (after_first is_point unsigned)) None)
+cut_at_point : (unsigned : List ℕ) (b : Bool) → nat_lt (position_or_len is_point unsigned) (length unsigned) ≡ b
+    → unsigned ≡ before_first is_point unsigned ++ fraction_bytes (option_map (λ point. drop (point + 1) unsigned) (cond b (Some (position_or_len is_point unsigned)) None))
 cut_at_point unsigned true h =
     let inside = ltb-true _ _ h in
     split_at_first is_point unsigned 0 inside
@@ -167,15 +193,12 @@ cut_at_point unsigned true h =
 cut_at_point unsigned false h =
     sym (append-nil (before_first is_point unsigned) ∙ take_all _ unsigned (ltb-false _ _ h))
 
-fraction-IsDigits : (digits : List ℕ) (b : Bool) → All IsAsciiDigit digits → IfSome (cond b (Some digits) None) (All IsAsciiDigit)
-fraction-IsDigits digits true h = h
-fraction-IsDigits digits false h = tt
+fraction-IsDigits : (fraction : Option (List ℕ)) → All IsAsciiDigit (unwrap_or fraction []) → IfSome fraction (All IsAsciiDigit)
+fraction-IsDigits None h = tt
+fraction-IsDigits (Some digits) h = h
 
--- what has only digits before and after its point is a value field
-pub IsField-from_digits : (bytes : List ℕ) → length bytes ≤ longest_field → All IsAsciiDigit (whole_digits bytes) → All IsAsciiDigit (fraction_digits bytes) → IsField bytes
-unfolding fraction_of
-IsField-from_digits bytes short whole fraction =
-    let unsigned = unsigned_part bytes in
-    let parts : Parts = record { sign = sign_of bytes; whole = whole_digits bytes; fraction = fraction_of unsigned } in
-    let are : AreParts parts = record { sign = sign_of-IsSign bytes; whole = whole; fraction = fraction-IsDigits _ _ fraction } in
-    (parts, are, sign-unsigned_part bytes ∙ ap (λ rest. option_to_list (sign_of bytes) ++ rest) (cut_at_point unsigned _ refl), short)
+-- A text that has only digits before and after its point is a value field.
+pub IsField-from_digits : (text : List ℕ) → length text ≤ longest_field → All IsAsciiDigit (parts_of text).whole → All IsAsciiDigit (unwrap_or (parts_of text).fraction []) → IsField text
+IsField-from_digits text short whole fraction =
+    let are : AreParts (parts_of text) = record { sign = sign_of-IsSign text; whole = whole; fraction = fraction-IsDigits _ fraction } in
+    (parts_of text, are, sign-unsigned_part text ∙ ap (λ rest. option_to_list (sign_of text) ++ rest) (cut_at_point (unsigned_part text) _ refl), short)

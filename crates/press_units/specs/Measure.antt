@@ -1,13 +1,30 @@
--- Units of measure, and the PCL unit.
-use Rattle.std.specs.Prelude.{◌≡◌, ◌≤◌, ◌%◌, ◌/◌, ℕ}
+-- Units: how many positions, of which an inch has 7200, a unit has
+-- (PCL 5 Printer Language Technical Reference Manual, units of movement within the PCL coordinate system).
+use Rattle.std.specs.Prelude.{◌≡◌, ◌≤◌, ◌%◌, ◌/◌, ◌*◌, ℕ}
 
--- a unit of measure: 7200 is a whole multiple of it, and it is from 96 to 7200 units per inch
+-- positions of an inch (this profile's internal unit)
+abbrev pub positions_per_inch : ℕ
+positions_per_inch = 7200
+
+-- a decipoint: a tenth of a point, of which an inch has 72
+abbrev pub decipoint : ℕ
+decipoint = positions_per_inch / (10 * 72)
+
+-- the unit of the horizontal motion index, 1/120 inch
+abbrev pub horizontal_motion_unit : ℕ
+horizontal_motion_unit = positions_per_inch / 120
+
+-- the unit of the vertical motion index, 1/48 inch
+abbrev pub vertical_motion_unit : ℕ
+vertical_motion_unit = positions_per_inch / 48
+
+-- a unit of measure: an inch has a whole number of positions for each of its units, of which it has 96 to 7200
 -- (PCL 5 Printer Language Technical Reference Manual, Unit of Measure command)
 pub record IsMeasure (units_per_inch : ℕ) : Type 0 where
   pub least : 96 ≤ units_per_inch
-  pub most : units_per_inch ≤ 7200
-  pub divides : 7200 % units_per_inch ≡ 0
+  pub most : units_per_inch ≤ positions_per_inch
+  pub divides : positions_per_inch % units_per_inch ≡ 0
 
--- positions of a PCL unit under a unit of measure
+-- a PCL unit under a unit of measure
 abbrev pub pcl_unit : ℕ → ℕ
-pcl_unit units_per_inch = 7200 / units_per_inch
+pcl_unit units_per_inch = positions_per_inch / units_per_inch

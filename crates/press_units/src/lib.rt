@@ -4,8 +4,12 @@
 //! 1/7200 inch, and a position lies on a dot.
 #![tactic(auto)]
 
+mod fault;
 mod position;
 mod value;
 
-pub use position::{Pos, Resolution, Unit, UnitOfMeasure, dot, to_pos};
+pub use fault::NO_MEMORY;
+pub use position::{
+    POSITIONS_PER_DOT, Pos, Resolution, Unit, UnitOfMeasure, dot, position_of, to_pos,
+};
 pub use value::{LONGEST_FIELD, Value, is_field, read_value};

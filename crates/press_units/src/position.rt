@@ -1,5 +1,5 @@
-ghost use Rattle.std.specs.Prelude.{◌≡◌, ◌<◌, ◌^◌, ◌↔◌, IsSome, IfSome, unsigned_abs};
-ghost use Rattle.press_units.specs.Measure.{IsMeasure, pcl_unit};
+ghost use Rattle.std.specs.Prelude.{◌≡◌, ◌<◌, ◌≤◌, ◌*◌, ◌^◌, ◌↔◌, IsSome, IfSome, unsigned_abs};
+ghost use Rattle.press_units.specs.Measure.{IsMeasure, decipoint, horizontal_motion_unit, vertical_motion_unit, pcl_unit};
 ghost use Rattle.press_units.specs.Position.{position_of, dot_of, positions_per_dot};
 
 use crate::value::Value;
@@ -15,15 +15,39 @@ pub struct Unit {
     pub positions: u16,
 }
 
+/// The positions of an inch.
+const POSITIONS_PER_INCH: u16 = 7200;
+
+/// The positions of a dot at 300 dots per inch.
+pub const POSITIONS_PER_DOT: u16 = POSITIONS_PER_INCH / 300;
+
 impl Unit {
-    /// A tenth of a point.
-    pub const DECIPOINT: Unit = Unit { positions: 10 };
+    /// A decipoint: a tenth of a point, 1/720 inch.
+    pub fn decipoint() -> Unit
+        ensures { result.positions ≡ decipoint }
+    {
+        Unit {
+            positions: POSITIONS_PER_INCH / 720,
+        }
+    }
 
     /// The unit of the horizontal motion index, 1/120 inch.
-    pub const HORIZONTAL_MOTION: Unit = Unit { positions: 60 };
+    pub fn horizontal_motion() -> Unit
+        ensures { result.positions ≡ horizontal_motion_unit }
+    {
+        Unit {
+            positions: POSITIONS_PER_INCH / 120,
+        }
+    }
 
     /// The unit of the vertical motion index, 1/48 inch.
-    pub const VERTICAL_MOTION: Unit = Unit { positions: 150 };
+    pub fn vertical_motion() -> Unit
+        ensures { result.positions ≡ vertical_motion_unit }
+    {
+        Unit {
+            positions: POSITIONS_PER_INCH / 48,
+        }
+    }
 }
 
 /// The engine's resolution.
@@ -38,7 +62,7 @@ impl Resolution {
         ensures { result ≡ positions_per_dot self }
     {
         match self {
-            Resolution::Dpi300 => 24,
+            Resolution::Dpi300 => POSITIONS_PER_DOT,
         }
     }
 }
@@ -79,8 +103,10 @@ impl UnitOfMeasure {
         ensures legal { IsSome result ↔ IsMeasure units_per_inch }
         ensures value { IfSome result (λ measure. measure ≡ units_per_inch) }
     {
-        let legal = 96 <= units_per_inch && units_per_inch <= 7200 && 7200 % units_per_inch == 0;
-        if legal {
+        if 96 <= units_per_inch
+            && units_per_inch <= POSITIONS_PER_INCH
+            && POSITIONS_PER_INCH % units_per_inch == 0
+        {
             Some(UnitOfMeasure { units_per_inch })
         } else {
             None
@@ -92,17 +118,27 @@ impl UnitOfMeasure {
         ensures { result.positions ≡ pcl_unit self }
     {
         Unit {
-            positions: 7200 / self.units_per_inch,
+            positions: POSITIONS_PER_INCH / self.units_per_inch,
         }
     }
 }
 
-/// The position that a value of so many units stands for: the product, the rest dropped towards zero.
+/// The position that so many ten-thousandths of a distance make: the product, the rest dropped towards zero.
+/// The distance is a unit, a motion index or a length on a page, in positions.
+pub fn position_of(tenthousandths: i64, distance: u32) -> Pos
+    requires { unsigned_abs tenthousandths < 2 ^ 31 }
+    ensures position { result.0 ≡ position_of tenthousandths distance }
+    ensures bound { 10000 * unsigned_abs result.0 ≤ unsigned_abs tenthousandths * distance }
+{
+    Pos(tenthousandths * i64::from(distance) / 10_000)
+}
+
+/// The position that a value of so many units stands for.
 pub fn to_pos(value: Value, unit: Unit) -> Pos
     ensures position { result.0 ≡ position_of value.tenthousandths unit.positions }
     ensures bound { unsigned_abs result.0 < 2 ^ 32 }
 {
-    Pos(value.tenthousandths * i64::from(unit.positions) / 10_000)
+    position_of(value.tenthousandths, u32::from(unit.positions))
 }
 
 /// The dot on which a position lies.
@@ -145,10 +181,12 @@ mod tests {
             tenthousandths: -15_000,
             signed: true,
         };
-        assert_eq!(rt; to_pos(value, Unit::DECIPOINT), Pos(-15));
-        assert_eq!(rt; to_pos(value, Unit::HORIZONTAL_MOTION), Pos(-90));
-        assert_eq!(rt; to_pos(value, Unit::VERTICAL_MOTION), Pos(-225));
+        assert_eq!(rt; to_pos(value, Unit::decipoint()), Pos(-15));
+        assert_eq!(rt; to_pos(value, Unit::horizontal_motion()), Pos(-90));
+        assert_eq!(rt; to_pos(value, Unit::vertical_motion()), Pos(-225));
         assert_eq!(rt; to_pos(value, Unit { positions: 1 }), Pos(-1));
+        // One more than the greatest value, at a motion index of one unit.
+        assert_eq!(rt; position_of(655_360_000, 60), Pos(3_932_160));
         assert_eq!(rt; dot(Pos(-1), Resolution::Dpi300), -1);
         assert_eq!(rt; dot(Pos(-24), Resolution::Dpi300), -1);
         assert_eq!(rt; dot(Pos(47), Resolution::Dpi300), 1);

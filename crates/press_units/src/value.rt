@@ -1,19 +1,19 @@
-ghost use Rattle.std.specs.Prelude.{◌≡◌, ◌<◌, ◌+◌, ◌-◌, ◌*◌, ◌≤ℤ◌, ◌↔◌, ℕ, pos, neg_ℤ, min, position, IsTrue, if◌then◌else◌};
-ghost use Rattle.std.specs.List.{All, slice_index_or, before_first, after_first};
+ghost use Rattle.std.specs.Prelude.{◌≡◌, ◌<◌, ◌+◌, ◌-◌, ◌*◌, ◌≤ℤ◌, ◌↔◌, ℕ, [], pos, neg_ℤ, min, position, unwrap_or, IsTrue};
+ghost use Rattle.std.specs.List.{All, slice_index_or, before_first};
 ghost use Rattle.std.specs.Char.{IsAsciiDigit};
-ghost use Rattle.press_units.specs.Field.{IsField};
-ghost use Rattle.press_units.specs.Value.{is_signed, is_negative, unsigned_part, is_point, tenthousandths_of, whole_part, number_of, four_digits, lowest, highest};
+ghost use Rattle.press_units.specs.Field.{IsField, is_value_field, is_point};
+ghost use Rattle.press_units.specs.Value.{StandsFor, is_signed, sign_of, unsigned_part, fraction_of, with_sign, tenthousandths_of, whole_part, number_of, four_digits, lowest, highest};
 
 /// The most bytes that a value field has.
 pub const LONGEST_FIELD: usize = 32;
 
+/// The least value, -32767, by its magnitude, and the greatest.
+const LEAST: u32 = 32_767;
+
+const GREATEST: u32 = 65_535;
+
 /// One above the greatest whole number that a value keeps.
-const CEILING: u32 = 65_536;
-
-/// The greatest magnitude of a negative value, and the greatest value, in ten-thousandths.
-const LOWEST: u32 = 327_670_000;
-
-const HIGHEST: u32 = 655_350_000;
+const CEILING: u32 = GREATEST + 1;
 
 /// The number of a value field, in ten-thousandths, from -32767 to 65535, and whether a sign stood in it.
 #[derive(Clone, Copy, Debug)]
@@ -33,27 +33,14 @@ impl Value {
     }
 }
 
-/// Whether a sign stands at the front of a field.
-fn is_signed(field: &[u8]) -> bool
-    ensures { result ≡ is_signed field.now }
-{
-    matches!(field, [b'+' | b'-', ..])
-}
-
-/// Whether a minus stands at the front of a field.
-fn is_negative(field: &[u8]) -> bool
-    ensures { result ≡ is_negative field.now }
-{
-    matches!(field, [b'-', ..])
-}
-
-/// What follows the sign of a field, or all of it where no sign stands.
-fn unsigned_part(field: &[u8]) -> &[u8]
-    ensures { result.now ≡ unsigned_part field.now }
+/// The sign at the front of a field, if one stands there, and what follows it.
+fn split_sign(field: &[u8]) -> (Option<u8>, &[u8])
+    ensures sign { result.0 ≡ sign_of field.now }
+    ensures unsigned { result.1.now ≡ unsigned_part field.now }
 {
     match field {
-        [b'+' | b'-', rest @ ..] => rest,
-        _ => field,
+        [sign @ (b'+' | b'-'), unsigned @ ..] => (Some(*sign), unsigned),
+        _ => (None, field),
     }
 }
 
@@ -67,7 +54,7 @@ fn point_of(unsigned: &[u8]) -> Option<usize>
 /// What stands before the point, and what after it; all and nothing where there is no point.
 fn split_point(unsigned: &[u8]) -> (&[u8], &[u8])
     ensures whole { result.0.now ≡ before_first is_point unsigned.now }
-    ensures fraction { result.1.now ≡ after_first is_point unsigned.now }
+    ensures fraction { result.1.now ≡ unwrap_or (fraction_of unsigned.now) [] }
 {
     match point_of(unsigned) {
         Some(point) => (&unsigned[..point], &unsigned[point + 1..]),
@@ -111,13 +98,13 @@ fn first_four(digits: &[u8]) -> u32
 }
 
 /// The number with its sign, cut to the least and the greatest value.
-fn with_sign(magnitude: u32, negative: bool) -> i64
-    ensures { result ≡ (if negative then neg_ℤ (pos (min magnitude lowest)) else pos (min magnitude highest)) }
+fn with_sign(sign: Option<u8>, magnitude: u32) -> i64
+    ensures { result ≡ with_sign sign magnitude }
 {
-    if negative {
-        -i64::from(magnitude.min(LOWEST))
+    if sign == Some(b'-') {
+        -i64::from(magnitude.min(10_000 * LEAST))
     } else {
-        i64::from(magnitude.min(HIGHEST))
+        i64::from(magnitude.min(10_000 * GREATEST))
     }
 }
 
@@ -131,16 +118,15 @@ fn are_digits(bytes: &[u8]) -> bool
 /// Whether the bytes are a value field: an optional sign, digits, and an optional point with digits, each of
 /// which may be empty, in at most 32 bytes.
 pub fn is_field(bytes: &[u8]) -> bool
-    ensures { IsTrue result ↔ IsField bytes.now }
+    ensures field { IsTrue result ↔ IsField bytes.now }
+    ensures test { result ≡ is_value_field bytes.now }
 {
-    if bytes.len() > LONGEST_FIELD {
+    if LONGEST_FIELD < bytes.len() {
         return false;
     }
-    let (whole, fraction) = split_point(unsigned_part(bytes));
-    if !are_digits(whole) {
-        return false;
-    }
-    are_digits(fraction)
+    let (_, unsigned) = split_sign(bytes);
+    let (whole, fraction) = split_point(unsigned);
+    are_digits(whole) && are_digits(fraction)
 }
 
 /// Reads a value field: the number it stands for, in ten-thousandths, cut to -32767 and 65535, and whether a
@@ -152,12 +138,14 @@ pub fn read_value(field: &[u8]) -> Value
     requires { IsField field.now }
     ensures value { result.tenthousandths ≡ tenthousandths_of field.now }
     ensures signed { result.signed ≡ is_signed field.now }
+    ensures parts { StandsFor field.now result.tenthousandths result.signed }
 {
-    let (whole, fraction) = split_point(unsigned_part(field));
+    let (sign, unsigned) = split_sign(field);
+    let (whole, fraction) = split_point(unsigned);
     let magnitude = 10_000 * number_up_to_ceiling(whole) + first_four(fraction);
     Value {
-        tenthousandths: with_sign(magnitude, is_negative(field)),
-        signed: is_signed(field),
+        tenthousandths: with_sign(sign, magnitude),
+        signed: sign.is_some(),
     }
 }
 

@@ -1,0 +1,2 @@
+/// What is told where memory ran out.
+pub const NO_MEMORY: &str = "fault memory";
