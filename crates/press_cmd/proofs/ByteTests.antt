@@ -1,13 +1,14 @@
 -- The tests of reading, as facts.
-use Rattle.std.proofs.Common.{◌≡◌, ◌<◌, ◌≤◌, ◌||◌, ℕ, List, [], ◌∷◌, ◌++◌, true, false, refl, arith, eqb}
+use Rattle.std.proofs.Common.{◌≡◌, ◌<◌, ◌≤◌, ℕ, List, [], ◌∷◌, ◌++◌, true, false, refl, arith, eqb}
 use Rattle.std.specs.Prelude.{Option, Some, None}
 use Rattle.std.specs.Int.{IsInRange, is_in_range}
-use Rattle.std.proofs.lemmas.Bool.{and_right, eqb-true, eq-eqb, ne_eqb, eqb-false, false_from_ne_true, or_left}
+use Rattle.std.proofs.lemmas.Bool.{and_right, eqb-true, eq-eqb, ne_eqb, eqb-false, false_from_ne_true}
 use Rattle.std.proofs.lemmas.Bool.Decides.{nat_tests}
-use Rattle.press_cmd.specs.Field.{is_field_byte, is_value_field, data_count}
-use Rattle.press_cmd.specs.Grammar.{IsEnd, IsEarlierEnd, IsEscapeEnd, IsCharacter, IsText, begins_pair}
-use Rattle.press_cmd.specs.Reading.{extends, is_end, is_earlier_end, is_escape_end, is_character, is_control, is_text, is_escape, is_feed}
-use Rattle.press_cmd.proofs.FieldTest.{test-byte}
+use Rattle.press_cmd.specs.Carried.{data_count}
+use Rattle.press_units.specs.Field.{is_field_byte, is_value_field}
+use Rattle.press_cmd.specs.Grammar.{IsEnd, IsEarlierEnd, IsEscapeEnd, IsCharacter, IsText}
+use Rattle.press_cmd.proofs.Reading.{extends, is_end, is_earlier_end, is_escape_end, is_character, is_control, is_text, is_escape, is_feed}
+use Rattle.press_units.proofs.FieldTest.{test-byte}
 
 pub range-true : (low high b : ℕ) → is_in_range low high b ≡ true → IsInRange low high b
 range-true low high b h = grind (arith, nat_tests)
@@ -101,14 +102,6 @@ pub is_feed-true : (b : ℕ) → is_feed b ≡ true → b ≡ 10
 unfolding is_feed
 is_feed-true b h = eqb-true b 10 h
 
-pub is_feed-false : (b : ℕ) → is_feed b ≡ false → b ≡ 10 → ⊥
-unfolding is_feed
-is_feed-false b h = eqb-false b 10 h
-
-pub is_feed-other : (b : ℕ) → (b ≡ 10 → ⊥) → is_feed b ≡ false
-unfolding is_feed
-is_feed-other b h = ne_eqb b 10 h
-
 pub extends-true : (f : List ℕ) (b : ℕ) → extends f b ≡ true → is_value_field (f ++ (b ∷ [])) ≡ true
 unfolding extends
 extends-true f b h = h
@@ -124,11 +117,6 @@ field_byte-below b h = grind (arith, nat_tests)
 pub extends-past : (f : List ℕ) (b : ℕ) → 64 ≤ b → extends f b ≡ false
 unfolding extends
 extends-past f b h = false_from_ne_true _ (λ t. absurd (omega (arith, field_byte-below b (test-byte f b [] t))))
-
--- what extends a field is a byte that begins a pair
-pub extends-begins_pair : (f : List ℕ) (b : ℕ) → extends f b ≡ true → begins_pair b ≡ true
-unfolding extends
-extends-begins_pair f b h = or_left (is_field_byte b) (is_in_range 64 94 b || is_in_range 96 126 b) (test-byte f b [] h)
 
 -- an `@` carries no data
 pub no_data_at : (c : ℕ) (g : Option ℕ) (f : List ℕ) → data_count c g f 64 ≡ 0

@@ -5,7 +5,7 @@ use Rattle.press_cmd.specs.Token.{Token, Escape, Grouped, Ungrouped, Control, Te
 use Rattle.press_cmd.specs.Mode.{Mode, Exit, Tail, Foreign, Pcl, Open}
 use Rattle.press_cmd.specs.Grammar.{Whole, Breaks, BeginsLine, differs, scanned_in, Stands, Head, pjl_mark}
 use Rattle.press_cmd.specs.Split.{NoHead}
-use Rattle.press_cmd.specs.Reading.{Short, Found, reading, read_on}
+use Rattle.press_cmd.proofs.Reading.{Short, Found, reading, read_on}
 use Rattle.press_cmd.proofs.ReadWhole.{start, whole_reads}
 use Rattle.press_cmd.proofs.ReadHead.{head_reads, differs-more}
 

@@ -1,4 +1,4 @@
-pub mod FieldTest
+pub mod Reading
 pub mod ByteTests
 pub mod ReadWhole
 pub mod ReadStep
@@ -11,3 +11,4 @@ pub mod LineTest
 pub mod ReadBack
 pub mod StreamsOf
 pub mod WorkedStreams
+pub mod ExitTest

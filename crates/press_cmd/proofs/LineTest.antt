@@ -1,11 +1,12 @@
 -- A test for a PJL line, by which a line that is known to be one can be used as one.
-use Rattle.std.proofs.Common.{◌≡◌, ◌≤◌, ◌∙◌, ◌&&◌, ℕ, List, [], ◌∷◌, ◌++◌, length, Bool, true, false, Option, Some, None, refl, ap, eqb, leb}
+use Rattle.std.proofs.Common.{◌≡◌, ◌≤◌, ◌∙◌, ◌&&◌, ℕ, List, [], ◌∷◌, ◌++◌, length, take, drop, Bool, true, false, cond, Option, Some, None, refl, sym, ap, eqb, leb, arith}
+use Rattle.std.proofs.lemmas.List.{take-append-drop}
 use Rattle.std.specs.List.{list_all}
 use Rattle.std.proofs.lemmas.Bool.{and_parts, and_from, eqb-true, leb-true, le-leb}
 use Rattle.std.proofs.Math.Bool.{Bool-set}
 use mathlib.Core.Logic.{∥∥₁_elim}
-use Rattle.press_cmd.specs.Grammar.{pjl_mark, longest_line, is_line_byte, IsLine}
-use Rattle.press_cmd.specs.Reading.{stripped}
+use Rattle.press_cmd.specs.Grammar.{pjl_mark, longest_line, is_line_byte, differs, BeginsLine, IsLine}
+use Rattle.press_cmd.proofs.Reading.{stripped}
 use Rattle.press_cmd.proofs.ReadHead.{stripped-true}
 
 -- plain bytes and a line feed
@@ -68,3 +69,29 @@ is_line-true u h = let p = and_parts (ends_after_mark (stripped pjl_mark u)) _ h
 -- what is known to be a line is one
 pub IsLine-known : (u : List ℕ) → ∥ IsLine u ∥₁ → IsLine u
 IsLine-known u h = is_line-true u (∥∥₁_elim h (Bool-set (is_line u) true) (is_line-from u))
+
+-- ---- what the code tests
+
+-- bytes that do not differ from a text, and are as long, begin with it
+pub equal_and : (b c : Bool) → cond b c true ≡ false → (b ≡ true) × (c ≡ false)
+equal_and true c h = (refl, h)
+equal_and false c h = absurd (cc)
+
+pub take-not_differs : (text bytes : List ℕ) → differs text bytes ≡ false → length text ≤ length bytes → take (length text) bytes ≡ text
+take-not_differs [] bytes same enough = refl
+take-not_differs (byte ∷ text) [] same enough = absurd (omega arith)
+take-not_differs (byte ∷ text) (other ∷ bytes) same enough =
+    let both = equal_and (eqb byte other) (differs text bytes) same in
+    let heads : other ≡ byte = sym (eqb-true byte other both.0) in
+    let tails : take (length text) bytes ≡ text = take-not_differs text bytes both.1 (omega arith) in
+    cc
+
+pub BeginsLine-from_tests : (bytes : List ℕ) → differs pjl_mark bytes ≡ false → 4 ≤ length bytes → list_all is_line_byte (drop 4 bytes) ≡ true → BeginsLine bytes
+BeginsLine-from_tests bytes same enough plain = record {
+  text = drop 4 bytes;
+  mark = sym (take-append-drop 4 bytes) ∙ ap (λ front. front ++ drop 4 bytes) (take-not_differs pjl_mark bytes same enough);
+  plain = plain;
+}
+
+pub BeginsLine-plain : (bytes : List ℕ) → BeginsLine bytes → list_all is_line_byte (drop 4 bytes) ≡ true
+BeginsLine-plain bytes is = ap (λ b. list_all is_line_byte (drop 4 b)) is.mark ∙ is.plain

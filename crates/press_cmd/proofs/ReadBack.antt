@@ -4,24 +4,28 @@ use Rattle.press_cmd.specs.Token.{Token, Escape, Grouped, Ungrouped, Control, Te
 use Rattle.press_cmd.specs.Mode.{Mode, Exit, Pcl}
 use Rattle.press_cmd.specs.Grammar.{Whole, Head, Stands, IsCharacter, IsGroup, IsEnd, IsLine, differs, pjl_mark}
 use Rattle.std.specs.Option.{ForSome}
-use Rattle.press_cmd.specs.Field.{is_value_field, data_count}
+use Rattle.press_cmd.specs.Carried.{data_count}
+use Rattle.press_units.specs.Field.{is_value_field}
 use Rattle.press_cmd.specs.Language.{mode_after}
-use Rattle.press_cmd.specs.Split.{BeginsSplit, IsReadBack}
+use Rattle.press_cmd.specs.Split.{BeginsSplit, ReadsBack, IsReadBack}
 use Rattle.press_cmd.specs.View.{token}
 use Rattle.press_cmd.specs.declared.command.Command.{Command}
 use Rattle.press_cmd.specs.declared.command.Command.TheVariants as commands
-use Rattle.press_cmd.proofs.FieldTest.{IsField-from_test}
+use Rattle.press_units.proofs.FieldTest.{IsField-from_test}
 use Rattle.press_cmd.proofs.Heads.{one_head}
 use Rattle.press_cmd.proofs.LineTest.{IsLine-known}
 
 -- where a command is a Head whatever follows, the split begins with it
-pub begins_split : (from : Mode) (t : Token) (n : Mode) → ((v : List ℕ) → Head from (bytes_of t) v t n) → BeginsSplit from t
+begins_split : (from : Mode) (t : Token) (n : Mode) → ((v : List ℕ) → Head from (bytes_of t) v t n) → BeginsSplit from t
 begins_split from t n head v [] mode rest s =
     absurd (s.short (bytes_of t) v t n (sym s.steps.1) (subst (λ (k : Mode). Head k (bytes_of t) v t n) s.steps.0 (head v)))
 begins_split from t n head v (c ∷ others) mode rest s =
     let h = s.steps in
     let same = one_head from h.0 h.1 (bytes_of t) v c t h.2 n h.4 (head v) (sym h.3) in
     (others, ap (λ x. x ∷ others) same.2)
+
+reads_back : (from : Mode) (t : Token) (n : Mode) → ((v : List ℕ) → Head from (bytes_of t) v t n) → ReadsBack from t n
+reads_back from t n head = record { head = head; split = begins_split from t n head }
 
 -- a parameter by itself is a whole command of PCL
 pub param-Whole : (c : ℕ) (g : Option ℕ) (f : List ℕ) (e : ℕ) (d : List ℕ) → IsCharacter c → ForSome g IsGroup → IsTrue (is_value_field f) → IsEnd e
@@ -38,8 +42,8 @@ param-Whole c (Some g) f e d is group field end count differs =
     }
 
 param-read_back : (c : ℕ) (g : Option ℕ) (f : List ℕ) (e : ℕ) (d : List ℕ) → Whole Pcl (bytes_of (param_of c g f e d)) (param_of c g f e d) Pcl → IsReadBack (param_of c g f e d)
-param-read_back c None f e d w = begins_split Pcl (Ungrouped c f e d) Pcl (λ v. w)
-param-read_back c (Some g) f e d w = begins_split Pcl (Grouped c g f e d) Pcl (λ v. w)
+param-read_back c None f e d w = reads_back Pcl (Ungrouped c f e d) Pcl (λ v. w)
+param-read_back c (Some g) f e d w = reads_back Pcl (Grouped c g f e d) Pcl (λ v. w)
 
 broken-read_back : (sequence : Option (ℕ × ℕ)) (bytes : List ℕ) → IsReadBack (broken_of sequence bytes)
 broken-read_back None bytes = tt
@@ -52,17 +56,17 @@ at_mark u v is = ap (λ w. differs pjl_mark (w ++ v)) (is.spelled ∙ ap (λ w. 
 pub line-Head : (u : List ℕ) → IsLine u → (v : List ℕ) → Head Exit u v (PjlLine u) (mode_after u)
 line-Head u is v = subst (λ (k : Mode). Stands k u v (PjlLine u) (mode_after u)) (ap (λ d. cond d Pcl Exit) (sym (at_mark u v is))) (refl, is, refl)
 
-line-read_back : (u : List ℕ) → IsLine u → BeginsSplit Exit (PjlLine u)
-line-read_back u is = begins_split Exit (PjlLine u) (mode_after u) (line-Head u is)
+line-read_back : (u : List ℕ) → IsLine u → ReadsBack Exit (PjlLine u) (mode_after u)
+line-read_back u is = reads_back Exit (PjlLine u) (mode_after u) (line-Head u is)
 
 pub read_back : (command : Command) → IsReadBack (token command)
-read_back (commands.Escape b) = begins_split Pcl (Escape b.byte) Pcl (λ v. (b.class, refl, refl))
+read_back (commands.Escape b) = reads_back Pcl (Escape b.byte) Pcl (λ v. (b.class, refl, refl))
 read_back (commands.Param p) =
     param-read_back p.character p.group p.field.now p.end p.payload.now
     (param-Whole p.character p.group p.field.now p.end p.payload.now p.character_class p.group_class p.value_field p.end_class p.count p.no_exit)
-read_back (commands.Control b) = begins_split Pcl (Control b.byte) Pcl (λ v. (b.class, refl, refl))
-read_back (commands.Text b) = begins_split Pcl (Text b.byte) Pcl (λ v. (b.class, refl, refl))
+read_back (commands.Control b) = reads_back Pcl (Control b.byte) Pcl (λ v. (b.class, refl, refl))
+read_back (commands.Text b) = reads_back Pcl (Text b.byte) Pcl (λ v. (b.class, refl, refl))
 read_back (commands.Broken broken) = broken-read_back broken.sequence broken.bytes.now
-read_back commands.Uel = begins_split Pcl Uel Exit (λ v. (refl, refl))
+read_back commands.Uel = reads_back Pcl Uel Exit (λ v. (refl, refl))
 read_back (commands.PjlLine line) = line-read_back line.bytes.now (IsLine-known line.bytes.now line.line)
 read_back (commands.Foreign byte) = tt

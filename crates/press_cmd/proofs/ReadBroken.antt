@@ -3,10 +3,10 @@ use Rattle.std.proofs.Common.{◌≡◌, ◌<◌, ◌+◌, ◌∙◌, ◌⊎◌,
 use Rattle.std.proofs.lemmas.List.{append-nil, length-replicate}
 use Rattle.press_cmd.specs.Token.{Token, Escape, Grouped, Ungrouped, escape_byte}
 use Rattle.press_cmd.specs.Mode.{Mode, Exit, Tail, Foreign, Pcl, Open}
-use Rattle.press_cmd.specs.Field.{is_value_field}
+use Rattle.press_units.specs.Field.{is_value_field}
 use Rattle.press_cmd.specs.Grammar.{Whole, GoesOn, Breaks, IsCharacter}
-use Rattle.press_cmd.specs.Reading.{State, Start, Escaped, Single, Pair, SingleData, PairData, Step, Goes, Gives, Stops, Nothing, Found, step, after_step, read_on}
-use Rattle.press_cmd.proofs.FieldTest.{IsField-from_test}
+use Rattle.press_cmd.proofs.Reading.{State, Start, Escaped, Single, Pair, SingleData, PairData, Step, Goes, Gives, Stops, Nothing, Found, step, after_step, read_on}
+use Rattle.press_units.proofs.FieldTest.{IsField-from_test}
 use Rattle.press_cmd.proofs.ByteTests.{no_data_at}
 use Rattle.press_cmd.proofs.ReadWhole.{start, whole_reads}
 use Rattle.press_cmd.proofs.ReadStep.{Wraps, PairDataRead, SingleDataRead, Reached, broken_in, EndsOpen, Sound, step_sound, no_exit-data, whole-pair, wraps-more, pair-data-more}
@@ -194,13 +194,6 @@ pub record Gave (m : Mode) (u : List ℕ) (x : List ℕ) (t : Token) (n : Mode) 
   pub used : List ℕ
   pub cut : x ≡ used ++ left
   pub what : Whole m (u ++ used) t n ⊎ ((t ≡ broken_in m (u ++ used)) × (n ≡ Pcl) × Breaks m (u ++ used) left)
-
-broken-Whole : (m : Mode) (u w : List ℕ) (n : Mode) → Whole m w (broken_in m u) n → ⊥
-broken-Whole Pcl u w n h = h
-broken-Whole (Open c g) u w n h = h
-broken-Whole Exit u w n h = h
-broken-Whole Tail u w n h = h
-broken-Whole Foreign u w n h = h
 
 stops-Breaks : (m : Mode) (u : List ℕ) (s : State) (b : ℕ) (later : List ℕ) (t : Token) → (u ≡ [] → ⊥) → Walked m u s → step s b ≡ Stops t → Breaks m u (b ∷ later)
 stops-Breaks m u s b later t some_ w e =

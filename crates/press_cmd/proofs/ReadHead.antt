@@ -1,20 +1,16 @@
 -- Reading finds exactly the Head that stands.
 use Rattle.std.proofs.Common.{◌≡◌, ◌∙◌, ◌==◌, ℕ, List, [], ◌∷◌, ◌++◌, Bool, true, false, cond, Option, Some, None, refl, sym, ap, subst, inl, inr, arith, append_assoc, eqb}
-use Rattle.std.proofs.lemmas.Bool.{eqb-true, eq-eqb, true≢false}
+use Rattle.std.proofs.lemmas.Bool.{eqb-true, true≢false}
 use Rattle.press_cmd.specs.Token.{Token, Escape, Grouped, Ungrouped, Control, Text, Broken, Uel, PjlLine, ForeignByte, uel, escape_byte}
 use Rattle.press_cmd.specs.Mode.{Mode, Exit, Tail, Foreign, Pcl, Open}
 use Rattle.press_cmd.specs.Grammar.{Whole, Breaks, BeginsLine, IsLine, differs, begins_pair, scanned_in, Stands, Head, pjl_mark}
-use Rattle.press_cmd.specs.Reading.{Short, Found, stripped, read_line, read_after_mark, read_foreign, read_on, reading_in, reading}
+use Rattle.press_cmd.proofs.Reading.{Short, Found, stripped, read_line, read_after_mark, read_foreign, read_on, reading_in, reading}
 use Rattle.press_cmd.proofs.ReadWhole.{start, whole_reads}
 use Rattle.press_cmd.proofs.ReadStep.{broken_in, EndsOpen}
 use Rattle.press_cmd.proofs.ReadBroken.{OfPcl, walked_none, breaks_reads, gave}
 use Rattle.press_cmd.proofs.ReadLine.{line_reads, cut_reads, full_reads, gave-line}
 
 -- ---- beginning with a text
-
-stripped-append : (text z : List ℕ) → stripped text (text ++ z) ≡ Some z
-stripped-append [] z = refl
-stripped-append (b ∷ text) z = rw (eq-eqb b b refl) (stripped-append text z)
 
 stripped-at : (b o : ℕ) (text bytes rest : List ℕ) (t : Bool) → eqb b o ≡ t → cond t (stripped text bytes) None ≡ Some rest
     → (stripped text bytes ≡ Some rest → bytes ≡ text ++ rest) → o ∷ bytes ≡ b ∷ (text ++ rest)
@@ -46,16 +42,7 @@ differs-more [] bytes more h = h
 differs-more (b ∷ text) [] more h = cc
 differs-more (b ∷ text) (o ∷ bytes) more h = differs_more-at text bytes more (eqb b o) h (differs-more text bytes more)
 
-pub differs-append : (text z : List ℕ) → differs text (text ++ z) ≡ false
-differs-append [] z = refl
-differs-append (b ∷ text) z = rw (eq-eqb b b refl) (differs-append text z)
-
 -- ---- what stands is read
-
-exit-line : (u v : List ℕ) (t : Token) (n : Mode) (o : Option (List ℕ)) → stripped pjl_mark (u ++ v) ≡ o → ((rest : List ℕ) → o ≡ Some rest → read_line pjl_mark rest ≡ Found t n v)
-    → (rest : List ℕ) → o ≡ Some rest → read_after_mark o ≡ Found t n v
-exit-line u v t n None e reads rest h = cc
-exit-line u v t n (Some x) e reads rest h = reads x refl
 
 begins-stripped : (u v : List ℕ) (is : BeginsLine u) → stripped pjl_mark (u ++ v) ≡ Some (is.text ++ v)
 begins-stripped u v is = ap (λ w. stripped pjl_mark (w ++ v)) is.mark

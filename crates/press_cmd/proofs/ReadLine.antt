@@ -7,7 +7,7 @@ use Rattle.press_cmd.specs.Token.{Token, Broken, PjlLine, escape_byte}
 use Rattle.press_cmd.specs.Mode.{Mode, Exit, Tail}
 use Rattle.press_cmd.specs.Language.{mode_after}
 use Rattle.press_cmd.specs.Grammar.{pjl_mark, longest_line, is_line_byte, BeginsLine, IsLine, Stands}
-use Rattle.press_cmd.specs.Reading.{Found, is_feed, is_escape, is_full, read_line, stripped}
+use Rattle.press_cmd.proofs.Reading.{Found, is_feed, is_escape, is_full, read_line, stripped}
 use Rattle.press_cmd.proofs.ByteTests.{is_feed-true, is_escape-true, is_escape-from}
 
 is_full-below : (front : List ℕ) → length front + 1 < longest_line → is_full front ≡ false

@@ -3,14 +3,15 @@ use Rattle.std.proofs.Common.{◌≡◌, ◌≤◌, ◌+◌, ◌-◌, ◌∙◌,
 use Rattle.std.specs.List.{list_any}
 use Rattle.std.proofs.lemmas.Bool.{or_from, or_right, eqb-true, true≢false}
 use Rattle.std.proofs.lemmas.Slice.Eq.{bytes_eq-Decides}
-use Rattle.press_units.specs.Value.{whole_part, tenthousandths_of, is_sign, is_point}
+use Rattle.press_units.specs.Value.{whole_part, tenthousandths_of}
+use Rattle.press_units.specs.Field.{is_sign, is_point, is_value_field, is_field_byte}
 use Rattle.std.specs.Char.{is_ascii_digit}
 use Rattle.press_cmd.specs.Token.{Token, Grouped, Broken, uel, escape_byte}
 use Rattle.press_cmd.specs.Mode.{Mode, Exit, Tail, Foreign, Pcl, Open}
-use Rattle.press_cmd.specs.Field.{is_value_field, data_count, count_of, is_field_byte}
+use Rattle.press_cmd.specs.Carried.{data_count, count_of}
 use Rattle.press_cmd.specs.Grammar.{Whole, IsPair, Ends, IsEnd, IsGroup, IsCharacter, begins_pair}
-use Rattle.press_cmd.specs.Reading.{State, Start, Escaped, Single, Pair, SingleData, PairData, Step, Goes, Gives, Stops, Nothing, extends, is_end, is_earlier_end, is_escape_end, is_character, is_control, is_text, is_escape, is_exit, single_with, pair_with, group_or_break, step}
-use Rattle.press_cmd.proofs.FieldTest.{IsField-from_test}
+use Rattle.press_cmd.proofs.Reading.{State, Start, Escaped, Single, Pair, SingleData, PairData, Step, Goes, Gives, Stops, Nothing, extends, is_end, is_earlier_end, is_escape_end, is_character, is_control, is_text, is_escape, is_exit, single_with, pair_with, group_or_break, step}
+use Rattle.press_units.proofs.FieldTest.{IsField-from_test}
 use Rattle.press_cmd.proofs.ByteTests.{is_end-true, is_earlier_end-true, is_escape_end-true, is_character-true, is_text-true, is_escape-true, is_escape-false, is_control-true, extends-true}
 
 -- these bytes are a pair so far, in mode Pcl after the escape character, character and group, in an open sequence by itself

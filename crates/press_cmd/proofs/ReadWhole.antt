@@ -5,10 +5,11 @@ use Rattle.std.proofs.lemmas.Bool.{false_from_ne_true}
 use Rattle.std.proofs.lemmas.Slice.Eq.{bytes_eq-Decides}
 use Rattle.press_cmd.specs.Token.{Token, Escape, Grouped, Ungrouped, Control, Text, Broken, Uel, PjlLine, ForeignByte, uel, escape_byte}
 use Rattle.press_cmd.specs.Mode.{Mode, Exit, Tail, Foreign, Pcl, Open}
-use Rattle.press_cmd.specs.Field.{is_value_field, data_count}
+use Rattle.press_cmd.specs.Carried.{data_count}
+use Rattle.press_units.specs.Field.{is_value_field}
 use Rattle.press_cmd.specs.Grammar.{Whole, IsPair, IsGrouped, IsUngrouped, Ends, IsEnd, IsEarlierEnd}
-use Rattle.press_cmd.specs.Reading.{State, Start, Single, Pair, SingleData, PairData, Step, Goes, Gives, Stops, Nothing, Found, extends, is_end, is_escape_end, is_character, is_escape, is_exit, single_with, pair_with, step, after_step, read_on}
-use Rattle.press_cmd.proofs.FieldTest.{test-from_IsField, test-front}
+use Rattle.press_cmd.proofs.Reading.{State, Start, Single, Pair, SingleData, PairData, Step, Goes, Gives, Stops, Nothing, Found, extends, is_end, is_escape_end, is_character, is_escape, is_exit, single_with, pair_with, step, after_step, read_on}
+use Rattle.press_units.proofs.FieldTest.{test-from_IsField, test-front}
 use Rattle.press_cmd.proofs.ByteTests.{is_end-from, is_end-above, is_earlier_end-from, is_escape_end-from, is_escape_end-below, is_character-from, is_text-from, is_escape-from, is_escape-other, is_control-from, is_control-above, extends-from, extends-past}
 
 -- more bytes after what was found change nothing but what is left

@@ -1,9 +1,9 @@
 -- Laws of splits.
 use Rattle.std.proofs.Common.{◌≡◌, ◌<◌, ◌≤◌, ◌∙◌, ℕ, zero, suc, List, [], ◌∷◌, ◌++◌, length, refl, sym, ap, subst, arith, append_assoc, length-append}
 use Rattle.press_cmd.specs.Token.{Token}
-use Rattle.press_cmd.specs.Mode.{Mode}
-use Rattle.press_cmd.specs.Split.{Steps, NoHead, SplitFrom}
-use Rattle.press_cmd.specs.Reading.{Reading, Short, Found, reading}
+use Rattle.press_cmd.specs.Mode.{Mode, Exit, Tail, Foreign, Pcl, Open}
+use Rattle.press_cmd.specs.Split.{Steps, NoHead, SplitFrom, ClosedFrom, closing}
+use Rattle.press_cmd.proofs.Reading.{Reading, Short, Found, reading}
 use Rattle.press_cmd.proofs.ReadHead.{read_head}
 use Rattle.press_cmd.proofs.Heads.{one_head, short-NoHead, head-some, head-more}
 
@@ -28,18 +28,24 @@ one_split m x (c ∷ cs) (c' ∷ cs') k k' r r' s s' =
     let rest = one_split h.2 h.1 cs cs' k k' r r' (record { steps = h.5; short = s.short }) (record { steps = other; short = s'.short }) in
     (cc (same.2, rest.0), rest.1, rest.2)
 
--- the steps over x, and then those over its rest followed by y, are steps over x followed by y
-pub steps-append : (m : Mode) (x y : List ℕ) (cs cs' : List Token) (k k' : Mode) (r r' : List ℕ)
-    → Steps m x cs k r → Steps k (r ++ y) cs' k' r' → Steps m (x ++ y) (cs ++ cs') k' r'
-steps-append m x y [] cs' k k' r r' s s' =
-    subst (λ (n : Mode). Steps n (x ++ y) cs' k' r') (sym s.0) (subst (λ (z : List ℕ). Steps k (z ++ y) cs' k' r') (sym s.1) s')
-steps-append m x y (c ∷ cs) cs' k k' r r' s s' =
-    (s.0, s.1 ++ y, s.2, ap (λ z. z ++ y) s.3 ∙ append_assoc s.0 s.1 y, head-more m s.0 s.1 y c s.2 s.4, steps-append s.2 s.1 y cs cs' k k' r r' s.5 s')
+-- steps stay steps, whatever is put after the bytes
+pub steps-more : (m : Mode) (x y : List ℕ) (cs : List Token) (k : Mode) (r : List ℕ) → Steps m x cs k r → Steps m (x ++ y) cs k (r ++ y)
+steps-more m x y [] k r s = (s.0, ap (λ z. z ++ y) s.1)
+steps-more m x y (c ∷ cs) k r s =
+    (s.0, s.1 ++ y, s.2, ap (λ z. z ++ y) s.3 ∙ append_assoc s.0 s.1 y, head-more m s.0 s.1 y c s.2 s.4, steps-more s.2 s.1 y cs k r s.5)
+
+-- steps, and then steps over what they leave
+pub steps-then : (m : Mode) (x : List ℕ) (cs cs' : List Token) (k k' : Mode) (r r' : List ℕ)
+    → Steps m x cs k r → Steps k r cs' k' r' → Steps m x (cs ++ cs') k' r'
+steps-then m x [] cs' k k' r r' s s' =
+    subst (λ (n : Mode). Steps n x cs' k' r') (sym s.0) (subst (λ (z : List ℕ). Steps k z cs' k' r') (sym s.1) s')
+steps-then m x (c ∷ cs) cs' k k' r r' s s' = (s.0, s.1, s.2, s.3, s.4, steps-then s.2 s.1 cs cs' k k' r r' s.5 s')
 
 -- The cutting law: the split of x then y is the commands of x, then the split, from x's mode, of x's rest followed by y.
 pub split-append : (m : Mode) (x y : List ℕ) (cs cs' : List Token) (k k' : Mode) (r r' : List ℕ)
     → SplitFrom m x cs k r → SplitFrom k (r ++ y) cs' k' r' → SplitFrom m (x ++ y) (cs ++ cs') k' r'
-split-append m x y cs cs' k k' r r' s s' = record { steps = steps-append m x y cs cs' k k' r r' s.steps s'.steps; short = s'.short }
+split-append m x y cs cs' k k' r r' s s' =
+    record { steps = steps-then m (x ++ y) cs cs' k k' (r ++ y) r' (steps-more m x y cs k r s.steps) s'.steps; short = s'.short }
 
 -- ---- each list of bytes has a split
 
@@ -74,3 +80,20 @@ some_split-below (suc size) m x h = some_split-at m x (reading m x) refl (λ t n
 -- At least one split, for every list of numbers and every mode.
 pub some_split : (m : Mode) (x : List ℕ) → SomeSplit m x
 some_split m x = some_split-below (suc (length x)) m x (omega arith)
+
+-- ---- nothing
+
+-- Nothing closes nothing.
+pub closing-nothing : (mode : Mode) → closing mode [] ≡ []
+closing-nothing Exit = refl
+closing-nothing Tail = refl
+closing-nothing Foreign = refl
+closing-nothing Pcl = refl
+closing-nothing (Open character group) = refl
+
+pub no_head_of_nothing : (mode : Mode) → NoHead mode []
+no_head_of_nothing mode [] left command next e head = head-some mode [] left command next head refl
+no_head_of_nothing mode (byte ∷ used) left command next e head = absurd (cc)
+
+pub nothing_closed : (mode : Mode) → ClosedFrom mode [] []
+nothing_closed mode = ([], mode, [], record { steps = (refl, refl); short = no_head_of_nothing mode }, sym (closing-nothing mode))

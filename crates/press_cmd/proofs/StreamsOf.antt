@@ -10,7 +10,7 @@ use Rattle.press_cmd.specs.Mode.{Mode, Exit, Tail, Foreign, Pcl, Open}
 use Rattle.press_cmd.specs.Grammar.{Whole, Head, Stands, GoesOn, IsLine, BeginsLine, IsBroken, is_line_byte, differs, pjl_mark, longest_line, scanned_in}
 use Rattle.press_cmd.specs.Language.{mode_after}
 use Rattle.press_cmd.specs.Split.{NoHead, closing}
-use Rattle.press_cmd.specs.Reading.{Reading, Short, Found, reading, read_on, read_line, Start, is_escape}
+use Rattle.press_cmd.proofs.Reading.{Reading, Short, Found, reading, read_on, read_line, Start, is_escape}
 use Rattle.press_cmd.specs.Streams.{IsCommand}
 use Rattle.press_cmd.specs.View.{token}
 use Rattle.press_cmd.specs.declared.command.Command.{Command}

@@ -4,7 +4,7 @@ use Rattle.std.specs.Prelude.{codes}
 use Rattle.press_cmd.specs.Token.{Token, Grouped, Control, Text, Broken, Uel, PjlLine, ForeignByte, uel}
 use Rattle.press_cmd.specs.Mode.{Mode, Exit}
 use Rattle.press_cmd.specs.Split.{closing}
-use Rattle.press_cmd.specs.Reading.{Reading, Short, Found, reading, extends, is_end, is_earlier_end, is_escape_end, is_character, is_control, is_text, is_escape, is_exit, is_feed, is_full}
+use Rattle.press_cmd.proofs.Reading.{Reading, Short, Found, reading, extends, is_end, is_earlier_end, is_escape_end, is_character, is_control, is_text, is_escape, is_exit, is_feed, is_full}
 
 -- the command that was read, and then those of what is left; or those that the rest stands for
 closed_after : (Mode → List ℕ → List Token) → Mode → List ℕ → Reading → List Token

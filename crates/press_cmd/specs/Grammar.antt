@@ -2,10 +2,10 @@
 use Rattle.std.specs.Prelude.{◌≡◌, ◌≤◌, ◌<◌, ◌+◌, ◌⊎◌, ℕ, Bool, true, false, ◌==◌, ◌&&◌, ◌||◌, not, if◌then◌else◌, List, [], ◌∷◌, ◌++◌, length, Some, None, IsTrue}
 use Rattle.std.specs.Int.{IsInRange, is_in_range}
 use Rattle.std.specs.List.{list_all}
-use Rattle.press_units.specs.Field.{IsField}
+use Rattle.press_units.specs.Field.{IsField, is_field_byte}
 use Rattle.press_cmd.specs.Token.{Token, Escape, Grouped, Ungrouped, Control, Text, Broken, Uel, PjlLine, ForeignByte, uel, escape_byte}
 use Rattle.press_cmd.specs.Mode.{Mode, Exit, Tail, Foreign, Pcl, Open}
-use Rattle.press_cmd.specs.Field.{is_field_byte, data_count}
+use Rattle.press_cmd.specs.Carried.{data_count}
 use Rattle.press_cmd.specs.Language.{mode_after}
 
 -- the text that a PJL line begins with, `@PJL`, and the most bytes that a line has (this profile)
@@ -15,7 +15,9 @@ pjl_mark = 64 ∷ 80 ∷ 74 ∷ 76 ∷ []
 abbrev pub longest_line : ℕ
 longest_line = 4096
 
--- the classes of bytes in a sequence: its character, its group, its last ending character, and one before that
+-- The classes of bytes in a parameterized escape sequence, in HP's words: the parameterized character, the group
+-- character, the termination character, and a parameter character
+-- (PCL 5 Printer Language Technical Reference Manual, the syntax of escape sequences).
 abbrev pub IsCharacter : ℕ → Type 0
 IsCharacter byte = IsInRange 33 47 byte
 
@@ -28,7 +30,8 @@ IsEnd byte = IsInRange 64 94 byte
 abbrev pub IsEarlierEnd : ℕ → Type 0
 IsEarlierEnd byte = IsInRange 96 126 byte
 
--- control bytes are 0 to 31 without the escape character; text bytes 32 to 255; an escape character goes with 48 to 126
+-- control bytes are 0 to 31 without the escape character; text bytes 32 to 255; the second byte of a two-character
+-- escape sequence is 48 to 126
 abbrev pub IsControl : ℕ → Type 0
 IsControl byte = (byte < 32) × (byte ≡ escape_byte → ⊥)
 
@@ -38,8 +41,8 @@ IsText byte = IsInRange 32 255 byte
 abbrev pub IsEscapeEnd : ℕ → Type 0
 IsEscapeEnd byte = IsInRange 48 126 byte
 
--- the ending byte of a pair, the end that it stands for, and the mode after it: the sequence ends at an upper-case
--- one, and goes on after a lower-case one, which stands for the one 32 below it
+-- the byte that ends a pair, the end that it stands for, and the mode after it: the sequence ends at a termination
+-- character, and goes on after a parameter character, which stands for the one 32 below it
 abbrev pub Ends : ℕ → ℕ → ℕ → ℕ → Mode → Type 0
 Ends character group byte end next =
     (IsEnd byte × (end ≡ byte) × (next ≡ Pcl)) ⊎ (IsEarlierEnd byte × (end + 32 ≡ byte) × (next ≡ Open character group))

@@ -1,11 +1,10 @@
 pub mod Token
 pub mod Mode
-pub mod Field
+pub mod Carried
 pub mod Language
 pub mod Grammar
 pub mod Split
 pub mod Kinds
 pub mod View
-pub mod Reading
 pub mod Laws
 pub mod Streams

@@ -1,7 +1,8 @@
 -- The split of a list of bytes into commands and a rest.
 use Rattle.std.specs.Prelude.{◌≡◌, ℕ, if◌then◌else◌, List, [], ◌∷◌, ◌++◌, map, length, nat_lt, ⊤}
-use Rattle.press_cmd.specs.Token.{Token, Text, Broken, PjlLine, ForeignByte, escape_byte, bytes_of}
+use Rattle.press_cmd.specs.Token.{Token, Text, Broken, Uel, PjlLine, ForeignByte, escape_byte, bytes_of}
 use Rattle.press_cmd.specs.Mode.{Mode, Exit, Foreign, Pcl, Open}
+use Rattle.press_cmd.specs.Language.{mode_after}
 use Rattle.press_cmd.specs.Grammar.{Head, scanned_in}
 
 -- From a mode, the front of the bytes is these commands one after another, and leaves this mode and what is left.
@@ -54,10 +55,18 @@ BeginsSplit from command =
     → SplitFrom from (bytes_of command ++ following) commands mode rest
     → (others : List Token) × (commands ≡ command ∷ others)
 
--- The split of the command's bytes, whatever follows them, begins with the command: from mode Pcl, and for a PJL line
--- from mode Exit. Of bytes that broke, and of a foreign byte, nothing is said.
+-- The command's bytes, whatever follows them, are the command, which uses all of them and leaves the next mode. So the
+-- split of these bytes, whatever follows them, begins with the command.
+pub record ReadsBack (from : Mode) (command : Token) (next : Mode) : Type 0 where
+  pub head : (following : List ℕ) → Head from (bytes_of command) following command next
+  pub split : BeginsSplit from command
+
+-- The command's bytes are read back as the command: from mode Pcl, and for a PJL line from mode Exit. After a universal
+-- exit the mode is Exit, after a line what its language says, and else Pcl. Of bytes that broke, and of a foreign byte,
+-- nothing is said.
 abbrev pub IsReadBack : Token → Type 0
 IsReadBack (Broken bytes) = ⊤
 IsReadBack (ForeignByte byte) = ⊤
-IsReadBack (PjlLine line) = BeginsSplit Exit (PjlLine line)
-IsReadBack command = BeginsSplit Pcl command
+IsReadBack (PjlLine line) = ReadsBack Exit (PjlLine line) (mode_after line)
+IsReadBack Uel = ReadsBack Pcl Uel Exit
+IsReadBack command = ReadsBack Pcl command Pcl

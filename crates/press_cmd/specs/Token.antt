@@ -4,8 +4,8 @@ use Rattle.std.specs.Prelude.{ℕ, List, [], ◌∷◌, ◌++◌, Option, Some, 
 -- The commands of a PCL 5 and PJL stream (PCL 5 Printer Language Technical Reference Manual, the syntax of
 -- escape sequences; PJL Technical Reference Manual, the universal exit and PJL commands; Broken and Foreign
 -- are this profile's):
--- an escape character with one byte; a parameter of a sequence with a group, and of one without, each with
--- its character, value field, ending character in upper case and data; a control byte; a text byte; bytes
+-- a two-character escape sequence; a parameter of a parameterized one with a group character, and of one without,
+-- each with its parameterized character, value field, parameter or termination character in upper case, and data; a control byte; a text byte; bytes
 -- that begin a sequence or line which does not go on; the universal exit; a PJL line with its line feed; and
 -- a byte of another language.
 pub data Token : Type 0 where

@@ -5,6 +5,7 @@ ghost use Rattle.press_cmd.specs.Split.{IsReadBack};
 ghost use Rattle.press_cmd.specs.Kinds.{kind_of};
 ghost use Rattle.press_cmd.specs.View.{token, param_token, broken_token};
 
+use crate::marks::{ESCAPE, UEL};
 use crate::payload::{Broken, ControlByte, EscapeByte, Param, PjlLine, TextByte};
 use crate::variant::Kind;
 use press_units::{Value, read_value};
@@ -16,7 +17,7 @@ use std::alloc::AllocError;
 /// Manual, the universal exit and the syntax of PJL commands. Broken and foreign bytes are this profile's.
 #[derive(Clone, Copy, Debug)]
 pub enum Command<'a> {
-    /// An escape character and one byte.
+    /// A two-character escape sequence.
     Escape(EscapeByte),
     /// A parameter of an escape sequence, with its data.
     Param(Param<'a>),
@@ -39,14 +40,14 @@ pub fn kind(command: &Command) -> Kind
     ensures { result ≡ kind_of (token command.now) }
 {
     match command {
-        Command::Escape(escape) => Kind::Escape(escape.byte()),
+        Command::Escape(escape) => Kind::Escape(escape.byte),
         Command::Param(param) => Kind::Param {
             character: param.character(),
             group: param.group(),
             end: param.end(),
         },
-        Command::Control(control) => Kind::Control(control.byte()),
-        Command::Text(text) => Kind::Text(text.byte()),
+        Command::Control(control) => Kind::Control(control.byte),
+        Command::Text(text) => Kind::Text(text.byte),
         Command::Broken(_) => Kind::Broken,
         Command::Uel => Kind::Uel,
         Command::PjlLine(_) => Kind::PjlLine,
@@ -58,7 +59,7 @@ pub fn kind(command: &Command) -> Kind
 pub fn write_command(command: &Command, out: &mut Vec<u8>) -> Result<(), AllocError>
     ensures ok { OnOk result (out.new.items ≡ out.old.items ++ bytes_of (token command.now)) }
     ensures err { OnErr result (out.new.items ≡ out.old.items) }
-    // The split of these bytes, whatever follows them, begins with the command.
+    // These bytes, whatever follows them, are read as the command, with all of them used.
     ensures read_back { IsReadBack (token command.now) }
 {
     let start = out.len();
@@ -69,25 +70,19 @@ pub fn write_command(command: &Command, out: &mut Vec<u8>) -> Result<(), AllocEr
     written
 }
 
-/// The escape character.
-const ESCAPE: u8 = 0x1B;
-
-/// The universal exit.
-const UEL: [u8; 9] = *b"\x1B%-12345X";
-
 /// Appends the command's bytes. An error leaves the vector longer, with its old front.
 fn append(command: &Command, out: &mut Vec<u8>) -> Result<(), AllocError>
     ensures ok { OnOk result (out.new.items ≡ out.old.items ++ bytes_of (token command.now)) }
     ensures front { take (length out.old.items) out.new.items ≡ out.old.items }
 {
     match command {
-        Command::Escape(escape) => out.extend_from_slice(&[ESCAPE, escape.byte()]),
+        Command::Escape(escape) => out.extend_from_slice(&[ESCAPE, escape.byte]),
         Command::Param(param) => append_param(param, out),
-        Command::Control(control) => out.extend_from_slice(&[control.byte()]),
-        Command::Text(text) => out.extend_from_slice(&[text.byte()]),
+        Command::Control(control) => out.extend_from_slice(&[control.byte]),
+        Command::Text(text) => out.extend_from_slice(&[text.byte]),
         Command::Broken(broken) => append_broken(broken, out),
         Command::Uel => out.extend_from_slice(&UEL),
-        Command::PjlLine(line) => out.extend_from_slice(line.bytes()),
+        Command::PjlLine(line) => out.extend_from_slice(line.bytes),
         Command::Foreign(byte) => out.extend_from_slice(&[*byte]),
     }
 }

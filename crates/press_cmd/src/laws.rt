@@ -1,10 +1,11 @@
 //! Laws of the grammar, each the contract of a function that does nothing.
 
-ghost use Rattle.press_cmd.specs.Laws.{NoCommandBeginsAnother, AtMostOneHead, AtMostOneSplit, AtLeastOneSplit};
+ghost use Rattle.press_cmd.specs.Laws.{NoCommandBeginsAnother, AtMostOneHead, AtMostOneSplit, AtLeastOneSplit, CuttingLaw};
 ghost use Rattle.press_cmd.specs.Streams.{IsCommand};
 ghost use Rattle.press_cmd.specs.View.{token};
 
 use crate::command::Command;
+use crate::owned::Owned;
 
 /// Whole commands in one mode whose bytes begin alike are the same.
 pub fn no_command_begins_another()
@@ -26,9 +27,22 @@ pub fn at_least_one_split()
     ensures { AtLeastOneSplit }
 {}
 
+/// The split of a list of bytes followed by another is the commands of the first, and then the split, from the mode
+/// that these leave, of the first one's rest followed by the other. So it doesn't matter in which pieces a stream comes.
+pub fn cutting()
+    ensures { CuttingLaw }
+{}
+
 /// Every command is one of some stream: of its split, or of those that the rest stands for where the stream ends.
 pub fn comes_from_a_stream(command: &Command)
     ensures { ∥ IsCommand (token command.now) ∥₁ }
 {
     let _ = command;
+}
+
+/// So is every command that owns its bytes.
+pub fn owned_comes_from_a_stream(owned: &Owned)
+    ensures { ∥ IsCommand owned.now ∥₁ }
+{
+    comes_from_a_stream(&owned.command());
 }

@@ -1,14 +1,22 @@
 //! The commands of a PCL 5 and PJL stream: which bytes are which command, and commands as values.
 #![tactic(auto)]
 
+mod carried;
 mod command;
 pub mod laws;
+mod marks;
 mod owned;
 mod payload;
+pub mod pjl;
 mod stored;
 mod variant;
 
+pub use carried::{carries_data, data_count, spells_exit};
 pub use command::{Command, kind, write_command};
+pub use marks::{
+    ESCAPE, LINE_FEED, LONGEST_LINE, PJL_MARK, UEL, differs, is_character, is_control, is_end,
+    is_escape_end, is_group, is_text,
+};
 pub use owned::Owned;
 pub use payload::{Broken, ControlByte, EscapeByte, Param, PjlLine, TextByte};
 pub use variant::Kind;

@@ -2,11 +2,13 @@ ghost use Rattle.std.specs.Prelude.{◌≡◌, ◌<◌, ◌≤◌, ◌++◌, len
 ghost use Rattle.std.specs.Option.{ForSome};
 ghost use Rattle.press_units.specs.Value.{tenthousandths_of, is_signed};
 ghost use Rattle.press_cmd.specs.Token.{uel, bytes_of, param_of, broken_of};
-ghost use Rattle.press_cmd.specs.Field.{is_value_field, data_count};
+ghost use Rattle.press_cmd.specs.Carried.{data_count};
+ghost use Rattle.press_units.specs.Field.{is_value_field};
 ghost use Rattle.press_cmd.specs.Grammar.{IsEscapeEnd, IsControl, IsText, IsCharacter, IsGroup, IsEnd, IsLine, IsBroken};
 
 use press_units::{Value, read_value};
-/// The byte after an escape character, 48 to 126.
+
+/// The second byte of a two-character escape sequence, 48 to 126.
 #[derive(Clone, Copy, Debug)]
 pub struct EscapeByte {
     pub byte: u8,
@@ -27,8 +29,8 @@ pub struct TextByte {
     ghost class: { IsText byte },
 }
 
-/// A parameter of an escape sequence: its character, its group if it has one, its value field as it stands, its
-/// ending character in upper case, and its data.
+/// A parameter of an escape sequence: its parameterized character, its group character if it has one, its value field
+/// as it stands, its parameter or termination character in upper case, and its data.
 #[derive(Clone, Copy, Debug)]
 pub struct Param<'a> {
     pub(crate) character: u8,
@@ -61,56 +63,32 @@ pub struct PjlLine<'a> {
 }
 
 impl EscapeByte {
-    /// The byte 48 to 126 after an escape character.
+    /// The second byte of a two-character escape sequence. `is_escape_end` is the test.
     pub fn new(byte: u8) -> Self
         requires { IsEscapeEnd byte }
         ensures { result.byte ≡ byte }
     {
         EscapeByte { byte }
     }
-
-    /// The byte after the escape character.
-    pub fn byte(self) -> u8
-        ensures { result ≡ self.byte }
-    {
-        let EscapeByte { byte: code } = self;
-        code
-    }
 }
 
 impl ControlByte {
-    /// A control byte.
+    /// A control byte. `is_control` is the test.
     pub fn new(byte: u8) -> Self
         requires { IsControl byte }
         ensures { result.byte ≡ byte }
     {
         ControlByte { byte }
     }
-
-    /// The byte itself.
-    pub fn byte(self) -> u8
-        ensures { result ≡ self.byte }
-    {
-        let Self { byte } = self;
-        byte
-    }
 }
 
 impl TextByte {
-    /// A text byte.
+    /// A text byte. `is_text` is the test.
     pub fn new(byte: u8) -> Self
         requires { IsText byte }
         ensures { result.byte ≡ byte }
     {
         TextByte { byte }
-    }
-
-    /// The byte itself.
-    pub fn byte(self) -> u8
-        ensures { result ≡ self.byte }
-    {
-        let Self { byte: text } = self;
-        text
     }
 }
 
@@ -118,7 +96,8 @@ impl<'a> Param<'a> {
     ghost use Rattle.press_cmd.specs.View.{param_token};
     ghost use Rattle.press_cmd.specs.Token.{field_of, data_of, character_of, group_of, end_of};
 
-    /// A parameter of these parts.
+    /// A parameter of these parts. `is_character`, `is_group`, `is_end`, `data_count`, `spells_exit` and `is_field` of
+    /// press_units are the tests.
     pub fn new(
         character: u8,
         group: Option<u8>,
@@ -143,14 +122,14 @@ impl<'a> Param<'a> {
         }
     }
 
-    /// The character after the escape character, 33 to 47.
+    /// The parameterized character, 33 to 47.
     pub fn character(&self) -> u8
         ensures { result ≡ character_of (param_token self.now) }
     {
         self.character
     }
 
-    /// The group, 96 to 126, if there is one.
+    /// The group character, 96 to 126, if there is one.
     pub fn group(&self) -> Option<u8>
         ensures { result ≡ group_of (param_token self.now) }
     {
@@ -166,14 +145,14 @@ impl<'a> Param<'a> {
 
     /// The number that the value field stands for.
     pub fn value(&self) -> Value
-        ensures value { result.tenthousandths ≡ tenthousandths_of (field_of (param_token self.now)) }
+        ensures value { result.tenthousandths
+            ≡ tenthousandths_of (field_of (param_token self.now)) }
         ensures signed { result.signed ≡ is_signed (field_of (param_token self.now)) }
     {
-        let Param { field, .. } = self;
-        read_value(field)
+        read_value(self.field)
     }
 
-    /// The ending character in upper case, 64 to 94.
+    /// The parameter or termination character in upper case, 64 to 94.
     pub fn end(&self) -> u8
         ensures { result ≡ end_of (param_token self.now) }
     {
@@ -198,21 +177,22 @@ impl<'a> Broken<'a> {
     {
         Broken { sequence, bytes }
     }
+
+    /// The character and the group of the sequence, where a command of it stood before, and the bytes that follow
+    /// them; without a sequence all bytes.
+    pub fn parts(&self) -> (Option<(u8, u8)>, &'a [u8])
+        ensures { broken_of result.0 result.1.now ≡ broken_token self.now }
+    {
+        (self.sequence, self.bytes)
+    }
 }
 
 impl<'a> PjlLine<'a> {
-    /// A PJL line with its line feed.
+    /// A PJL line with its line feed. `is_line` is the test.
     pub fn new(bytes: &'a [u8]) -> Self
         requires { IsLine bytes.now }
         ensures { result.bytes.now ≡ bytes.now }
     {
         PjlLine { bytes }
-    }
-
-    /// The bytes of the line, with its line feed.
-    pub fn bytes(&self) -> &'a [u8]
-        ensures { result.now ≡ self.now.bytes.now }
-    {
-        self.bytes
     }
 }

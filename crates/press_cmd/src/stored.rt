@@ -1,7 +1,8 @@
 ghost use Rattle.std.specs.Prelude.{◌≡◌, ◌<◌, ◌≤◌, length, IsTrue, IfOk};
 ghost use Rattle.std.specs.Option.{ForSome};
 ghost use Rattle.press_cmd.specs.Token.{uel, bytes_of, param_of};
-ghost use Rattle.press_cmd.specs.Field.{is_value_field, data_count};
+ghost use Rattle.press_cmd.specs.Carried.{data_count};
+ghost use Rattle.press_units.specs.Field.{is_value_field};
 ghost use Rattle.press_cmd.specs.Grammar.{IsCharacter, IsGroup, IsEnd, IsLine, IsBroken};
 
 use crate::command::append_broken;

@@ -1,6 +1,6 @@
 use crate::{
-    Broken, Command, ControlByte, EscapeByte, Kind, Owned, Param, PjlLine, TextByte, kind,
-    write_command,
+    Broken, Command, ControlByte, EscapeByte, Kind, Owned, Param, PjlLine, TextByte, kind, pjl,
+    spells_exit, write_command,
 };
 use std::process::Abort;
 use std::test::Fail;
@@ -68,4 +68,50 @@ fn keeps_the_other_kinds(rt: HostRuntime) -> Result<(), Fail> {
     kept(&rt, &Command::Escape(EscapeByte::new(b'E')), b"\x1BE")?;
     kept(&rt, &Command::PjlLine(PjlLine::new(b"@PJL\n")), b"@PJL\n")?;
     kept(&rt, &Command::Foreign(0x1B), b"\x1B")
+}
+
+/// Lines, each with its command word, its name and its value, and whether it enters a language.
+#[test]
+fn reads_the_words_of_lines(rt: HostRuntime) {
+    let lines: [(&[u8], &[u8], &[u8], &[u8], bool); 5] = [
+        (
+            b"@PJL ENTER LANGUAGE=PCL\n",
+            b"ENTER",
+            b"LANGUAGE",
+            b"PCL",
+            true,
+        ),
+        (
+            b"@PJL enter language = pcl \r\n",
+            b"enter",
+            b"language",
+            b"pcl",
+            true,
+        ),
+        (
+            b"@PJL ENTER LANGUAGE= \n",
+            b"ENTER",
+            b"LANGUAGE",
+            b"",
+            false,
+        ),
+        (b"@PJL SET COPIES\t= 3\n", b"SET", b"COPIES", b"3", false),
+        (b"@PJL\n", b"", b"", b"", false),
+    ];
+    for (line, word, name, value, enters) in lines {
+        assert!(rt; pjl::is_line(line));
+        assert_eq!(rt; pjl::command_of(line).0, word);
+        assert_eq!(rt; pjl::assignment_of(line).0, name);
+        assert_eq!(rt; pjl::assignment_of(line).1, value);
+        assert_eq!(rt; pjl::language(line).is_some(), enters);
+    }
+}
+
+#[test]
+fn tells_the_parts_of_commands(rt: HostRuntime) {
+    let (sequence, bytes) = Broken::new(Some((b'*', b'p')), b"20").parts();
+    assert_eq!(rt; sequence, Some((b'*', b'p')));
+    assert_eq!(rt; bytes, b"20".as_slice());
+    assert!(rt; spells_exit(b'%', None, b"-12345", b'X', &[]));
+    assert!(rt; !spells_exit(b'%', None, b"-1234", b'X', &[]));
 }

@@ -1,6 +1,6 @@
 use Rattle.std.proofs.Common.{[], ◌∷◌, refl, inr, lit≤}
 use Rattle.press_cmd.specs.Mode.{Pcl}
-use Rattle.press_cmd.specs.Reading.{Pair}
+use Rattle.press_cmd.proofs.Reading.{Pair}
 use Rattle.press_cmd.proofs.ReadBroken.{reached-GoesOn}
 use Rattle.press_cmd.proofs.tests.keeps_broken_sequences.Goals as goal
 

@@ -1,4 +1,4 @@
-use Rattle.press_cmd.proofs.FieldTest.{IsField-from_test}
+use Rattle.press_units.proofs.FieldTest.{IsField-from_test}
 use Rattle.press_cmd.proofs.payload.Param.value.Goals as goal
 
 pub read_value-requires : goal.read_value-requires

@@ -3,7 +3,8 @@ use Rattle.std.specs.Prelude.{ℕ, zero, suc, ◌+◌, ◌-◌, Bool, true, ◌=
 use Rattle.std.specs.Int.{is_in_range}
 use Rattle.press_cmd.specs.Token.{Token, Escape, Grouped, Ungrouped, Control, Text, Broken, Uel, PjlLine, ForeignByte, uel, escape_byte}
 use Rattle.press_cmd.specs.Mode.{Mode, Exit, Tail, Foreign, Pcl, Open}
-use Rattle.press_cmd.specs.Field.{is_value_field, data_count}
+use Rattle.press_cmd.specs.Carried.{data_count}
+use Rattle.press_units.specs.Field.{is_value_field}
 use Rattle.press_cmd.specs.Language.{mode_after}
 use Rattle.press_cmd.specs.Grammar.{differs, scanned_in, pjl_mark, longest_line}
 

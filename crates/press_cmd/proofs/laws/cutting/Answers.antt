@@ -1,0 +1,5 @@
+use Rattle.press_cmd.proofs.Splits.{split-append}
+use Rattle.press_cmd.proofs.laws.cutting.Goals as goal
+
+pub returns : goal.returns
+returns c = split-append
