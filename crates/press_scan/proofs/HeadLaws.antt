@@ -4,17 +4,17 @@ use Rattle.std.specs.Prelude.{◌&&◌, ◌||◌, nat_le}
 use Rattle.std.specs.Int.{is_in_range}
 use Rattle.std.specs.Char.{is_ascii_digit}
 use Rattle.std.proofs.lemmas.Bool.{leb-true}
-use Rattle.press_units.specs.Value.{is_sign, is_point}
+use Rattle.press_units.specs.Field.{is_sign, is_point, is_value_field, is_field_byte}
 use Rattle.press_cmd.specs.Token.{Token, Escape, Grouped, Ungrouped, Control, Text, Broken, Uel, PjlLine, ForeignByte, escape_byte}
 use Rattle.press_cmd.specs.Mode.{Mode, Pcl, Open}
 use Rattle.press_cmd.specs.View.{token}
-use Rattle.press_cmd.specs.Field.{is_value_field, is_field_byte, data_count}
+use Rattle.press_cmd.specs.Carried.{data_count}
 use Rattle.press_cmd.specs.Grammar.{Whole, GoesOn, Breaks, IsPair, IsCharacter, IsGroup, Stands, IsBroken, scanned_in, begins_pair}
 use Rattle.press_scan.specs.declared.reading.Found.{Found}
 use Rattle.press_scan.specs.Modes.{mode_of}
 use Rattle.press_scan.specs.Sequences.{longest_rest, IsBegun, IsWholePair, IsBegunPair, BreaksPair}
 use Rattle.press_scan.specs.Stands.{IsFound, IsShort}
-use Rattle.press_cmd.proofs.FieldTest.{IsField-from_test}
+use Rattle.press_units.proofs.FieldTest.{IsField-from_test}
 use Rattle.press_cmd.proofs.Heads.{one_whole}
 use Rattle.press_scan.proofs.PairLaws.{begun_field}
 use Rattle.press_scan.proofs.PclLaws.{grouped_goes_on}

@@ -4,4 +4,6 @@ pub mod PclLaws
 pub mod HeadLaws
 pub mod LineLaws
 pub mod ScannerLaws
-pub mod Moved
+pub mod ReachedLaws
+pub mod RestLaws
+pub mod BrokenLaws

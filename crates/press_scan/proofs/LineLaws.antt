@@ -1,6 +1,6 @@
 -- PJL lines at the front of the bytes.
-use Rattle.std.proofs.Common.{◌≡◌, ◌≤◌, ◌<◌, ◌+◌, ◌∙◌, inl, inr, ℕ, suc, List, [], ◌∷◌, ◌++◌, length, take, drop, get_or, Bool, true, false, not, cond, refl, sym, ap, arith, append_assoc, length-append, length-take, get_or-drop, drop-cons, add-one}
-use Rattle.std.specs.Prelude.{◌==◌, ◌&&◌}
+use Rattle.std.proofs.Common.{◌≡◌, ◌≤◌, ◌<◌, ◌+◌, ◌∙◌, inl, inr, ℕ, suc, List, [], ◌∷◌, ◌++◌, length, take, drop, get_or, Bool, true, false, not, refl, sym, ap, arith, append_assoc, length-append, length-take, get_or-drop, drop-cons, add-one}
+use Rattle.std.specs.Prelude.{◌&&◌}
 use Rattle.std.specs.List.{list_all}
 use Rattle.std.proofs.lemmas.List.{take-append-drop, take_all}
 use Rattle.std.proofs.lemmas.List.Folds.{list_all-append}
@@ -15,21 +15,8 @@ use Rattle.press_scan.specs.declared.reading.Found.{Found}
 use Rattle.press_scan.specs.Modes.{mode_of}
 use Rattle.press_scan.specs.Stands.{IsFound, IsShort}
 use Rattle.press_scan.specs.Lines.{IsPlainFront, longest_text}
+use Rattle.press_cmd.proofs.LineTest.{take-not_differs}
 use Rattle.press_scan.proofs.PclLaws.{absent}
-
--- bytes that do not differ from a text, and are as long, begin with it
-pub equal_and : (b c : Bool) → cond b c true ≡ false → (b ≡ true) × (c ≡ false)
-equal_and true c h = (refl, h)
-equal_and false c h = absurd (cc)
-
-pub take-not_differs : (text bytes : List ℕ) → differs text bytes ≡ false → length text ≤ length bytes → take (length text) bytes ≡ text
-take-not_differs [] bytes same enough = refl
-take-not_differs (byte ∷ text) [] same enough = absurd (omega arith)
-take-not_differs (byte ∷ text) (other ∷ bytes) same enough =
-    let both = equal_and (byte == other) (differs text bytes) same in
-    let heads : other ≡ byte = sym (eqb-true byte other both.0) in
-    let tails : take (length text) bytes ≡ text = take-not_differs text bytes both.1 (omega arith) in
-    cc
 
 none_short : (bytes : List ℕ) → length bytes < 4 → (used left : List ℕ) (command : Token) (next : Mode) → bytes ≡ used ++ left → Stands Exit used left command next → ⊥
 none_short bytes few used left (Escape b) next e stands = stands

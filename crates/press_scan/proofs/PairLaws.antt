@@ -5,10 +5,11 @@ use Rattle.std.proofs.lemmas.Bool.{leb-true}
 use Rattle.std.proofs.lemmas.Bool.Decides.{nat_tests}
 use Rattle.std.specs.Prelude.{◌==◌, ◌&&◌}
 use Rattle.press_cmd.specs.Mode.{Mode, Pcl}
-use Rattle.press_cmd.specs.Field.{is_value_field, is_field_byte, data_count, carries_data}
+use Rattle.press_cmd.specs.Carried.{data_count, carries_data, longest_data}
+use Rattle.press_units.specs.Field.{is_value_field, is_field_byte}
 use Rattle.press_cmd.specs.Grammar.{IsPair, Ends}
 use Rattle.press_scan.specs.Sequences.{IsBegunPair, BreaksPair, IsEndingByte, longest_rest}
-use Rattle.press_cmd.proofs.FieldTest.{IsField-from_test, test-from_IsField, test-front, test-byte}
+use Rattle.press_units.proofs.FieldTest.{IsField-from_test, test-from_IsField, test-front, test-byte}
 use Rattle.press_scan.proofs.ListLaws.{compare_cuts, split-at_byte, take-through_byte, take-next_byte}
 
 -- what ends a field is no byte of one
@@ -116,7 +117,7 @@ module _ (character group : ℕ) (bytes : List ℕ) (place : ℕ) (within : plac
         (within, rw back (breaks_pair character group (take place bytes) ahead byte field_is (rw next at longer) other))
 
     module _ (end : ℕ) (next : Mode) (ends : Ends character group byte end next) (count : ℕ) (count_is : count ≡ data_count character (Some group) (take place bytes) end) where
-      pub begun_in_data : count < 65536 → length ahead < count → IsBegunPair character group bytes × (length bytes + 3 ≤ longest_rest)
+      pub begun_in_data : count ≤ longest_data → length ahead < count → IsBegunPair character group bytes × (length bytes + 3 ≤ longest_rest)
       begun_in_data bound few =
           (begun_data character group bytes (take place bytes) ahead byte end next spelled_at field_is ends (omega arith), omega (arith, length_at, place_bound))
 

@@ -8,12 +8,13 @@ use Rattle.std.proofs.lemmas.Bool.{eqb-true}
 use Rattle.press_cmd.specs.Token.{Token, Escape, Grouped, Ungrouped, Control, Text, Broken, Uel, PjlLine, ForeignByte, escape_byte, uel}
 use Rattle.press_cmd.specs.Mode.{Mode, Pcl}
 use Rattle.press_cmd.specs.View.{token}
-use Rattle.press_cmd.specs.Field.{is_value_field, data_count}
+use Rattle.press_cmd.specs.Carried.{data_count, longest_data}
+use Rattle.press_units.specs.Field.{is_value_field}
 use Rattle.press_cmd.specs.Grammar.{Whole, GoesOn, Breaks, IsPair, IsCharacter, IsGroup, IsEnd}
 use Rattle.press_scan.specs.declared.reading.Found.{Found}
 use Rattle.press_scan.specs.Modes.{mode_of}
 use Rattle.press_scan.specs.Sequences.{longest_rest, IsWhole, IsBegun, IsWholePair, IsBegunPair, BreaksPair, BeginsNoGroup}
-use Rattle.press_cmd.proofs.FieldTest.{IsField-from_test, test-from_IsField, test-byte}
+use Rattle.press_units.proofs.FieldTest.{IsField-from_test, test-from_IsField, test-byte}
 use Rattle.press_scan.proofs.PairLaws.{no_end-after, ending_is_no_field_byte, data_count-A, length-value_field}
 use Rattle.press_scan.proofs.ListLaws.{split-at_byte, take-through_byte, take-next_byte}
 
@@ -239,7 +240,7 @@ module _ (character : ℕ) (character_class : IsCharacter character) where
           (omega (arith, within), rw (take-two escape_byte character bytes place (place + 2) refl, drop-two escape_byte character bytes place (place + 2) refl, back) breaks)
 
       module _ (count : ℕ) (count_is : count ≡ data_count character None (take place bytes) byte) where
-        pub ungrouped_in_data : count < 65536 → length ahead < count → IsBegun Pcl (escape_byte ∷ character ∷ bytes)
+        pub ungrouped_in_data : count ≤ longest_data → length ahead < count → IsBegun Pcl (escape_byte ∷ character ∷ bytes)
         ungrouped_in_data bound few = record {
           goes_on = ungrouped_data bytes (take place bytes) ahead byte spelled_at field_is (omega arith);
           short = omega (arith, length_at, place_bound);

@@ -1,23 +1,24 @@
 -- What is held, from what is found at its front.
-use Rattle.std.proofs.Common.{◌≡◌, ◌≤◌, ◌<◌, ◌∙◌, inl, inr, ℕ, List, [], ◌∷◌, ◌++◌, length, take, drop, map, Bool, true, false, cond, Option, Some, None, MatchOption, refl, sym, ap, arith, append-nil, length-drop}
+use Rattle.std.proofs.Common.{◌≡◌, ◌≤◌, ◌<◌, ◌∙◌, inl, inr, ℕ, List, [], ◌∷◌, ◌++◌, length, take, drop, map, Bool, true, false, cond, Option, Some, None, MatchOption, refl, sym, ap, subst, arith, append-nil, length-drop}
 use Rattle.std.specs.Prelude.{◌==◌, nat_lt}
 use Rattle.std.specs.List.{AllByRecursion}
-use Rattle.std.proofs.lemmas.List.{take-append-drop, drop_all}
-use Rattle.std.proofs.lemmas.Bool.{eqb-true, ne_eqb, lt-ltb}
-use Rattle.press_cmd.specs.Token.{Token, Text, ForeignByte, escape_byte, uel}
+use Rattle.std.proofs.lemmas.List.{take-append-drop, take_all, drop_all}
+use Rattle.std.proofs.lemmas.Bool.{eqb-true, ne_eqb, lt-ltb, ltb-false}
+use Rattle.press_cmd.specs.Token.{Token, Text, Broken, ForeignByte, escape_byte, uel}
 use Rattle.press_cmd.specs.Mode.{Mode, Exit, Tail, Foreign, Pcl, Open}
+use Rattle.press_cmd.specs.Kinds.{kind_of}
+use Rattle.press_cmd.specs.declared.variant.Kind.TheVariants as kinds
 use Rattle.press_cmd.specs.View.{token}
 use Rattle.press_cmd.specs.Grammar.{Head, IsText, scanned_in, differs, pjl_mark}
-use Rattle.press_cmd.specs.Split.{Steps, NoHead, ClosedFrom, closing, closing_in}
-use Rattle.press_cmd.proofs.Heads.{head-some}
-use Rattle.press_cmd.proofs.Splits.{one_split}
+use Rattle.press_cmd.specs.Split.{Steps, NoHead, ClosedFrom, closing_in}
+use Rattle.press_cmd.proofs.Splits.{one_split, closing-nothing, no_head_of_nothing, nothing_closed}
 use Rattle.press_scan.specs.declared.reading.Found.{Found}
 use Rattle.press_scan.specs.Modes.{mode_of}
-use Rattle.press_scan.specs.Stands.{IsFound, IsShort}
+use Rattle.press_scan.specs.Stands.{IsFound, IsShort, IsRest}
 use Rattle.press_scan.specs.Closings.{IsClosing}
-use Rattle.press_scan.specs.Gives.{IsDone}
+use Rattle.press_scan.specs.Gives.{Closes, IsDone}
 use Rattle.press_scan.specs.Peeks.{held, IsNextFound, Peeks}
-use Rattle.press_scan.proofs.LineLaws.{equal_and}
+use Rattle.press_cmd.proofs.LineTest.{equal_and}
 
 -- a command in front of what closes the rest
 pub closed-cons : (from : Mode) (used left : List ℕ) (command : Token) (next : Mode) (commands : List Token) → Head from used left command next → ClosedFrom next left commands → ClosedFrom from (used ++ left) (command ∷ commands)
@@ -35,6 +36,7 @@ found_passes mode scanned bytes ended found lands at =
         ended = refl;
         used = omega (arith, length-drop found.length bytes, at.within, at.used);
         head = λ _. (take found.length bytes, sym whole, head);
+        front = λ _. (take found.length bytes, sym whole, inl head);
         closes = λ _ commands closed. rw whole at (closed-cons mode (take found.length bytes) (drop found.length bytes) (token found.command) (mode_of found.mode) commands head closed);
       };
     }
@@ -43,24 +45,6 @@ found_passes mode scanned bytes ended found lands at =
 pub none_at : (mode scanned : Mode) (bytes : List ℕ) → scanned_in mode bytes ≡ scanned → IsShort scanned bytes → NoHead mode bytes
 none_at mode scanned bytes lands short used left command next e head =
     short.none used left command next e (rw (sym e, lands) at head)
-
-pub none_done : (mode scanned : Mode) (bytes : List ℕ) → scanned_in mode bytes ≡ scanned → IsShort scanned bytes → IsDone (held mode bytes false)
-none_done mode scanned bytes lands short = record { short = λ _. none_at mode scanned bytes lands short; nothing = λ e. absurd (cc); closed = λ e. absurd (cc); few = short.short }
-
--- Nothing closes nothing.
-pub closing-nothing : (mode : Mode) → closing mode [] ≡ []
-closing-nothing Exit = refl
-closing-nothing Tail = refl
-closing-nothing Foreign = refl
-closing-nothing Pcl = refl
-closing-nothing (Open character group) = refl
-
-no_head_of_nothing : (mode : Mode) → NoHead mode []
-no_head_of_nothing mode [] left command next e head = head-some mode [] left command next head refl
-no_head_of_nothing mode (byte ∷ used) left command next e head = absurd (cc)
-
-nothing_closed : (mode : Mode) → ClosedFrom mode [] []
-nothing_closed mode = ([], mode, [], record { steps = (refl, refl); short = no_head_of_nothing mode }, sym (closing-nothing mode))
 
 nothing_done : (mode : Mode) (bytes : List ℕ) → bytes ≡ [] → IsDone (held mode bytes true)
 nothing_done mode bytes e = record {
@@ -120,6 +104,36 @@ stays_exit : (b : Bool) → cond b Pcl Exit ≡ Exit → b ≡ false
 stays_exit true h = absurd (cc)
 stays_exit false h = refl
 
+-- a rest that is one broken command
+whole_text : (byte : ℕ) (rest : List ℕ) (command : Token) (next : Mode) (few : Bool) → nat_lt (length (byte ∷ rest)) 4 ≡ few
+    → cond few (map Text (byte ∷ rest)) (Broken (byte ∷ rest) ∷ []) ≡ command ∷ [] → kind_of command ≡ kinds.Broken → next ≡ Pcl → Closes Exit (byte ∷ rest) [] command next
+whole_text byte rest command next true few closes broken then =
+    let is_text : Text byte ≡ command = cc in
+    let same : kinds.Text byte ≡ kinds.Broken = ap kind_of is_text ∙ broken in
+    cc
+whole_text byte rest command next false few closes broken then =
+    let is_broken : Broken (byte ∷ rest) ≡ command = cc in
+    subst (λ (c : Token). Closes Exit (byte ∷ rest) [] c next) is_broken (ltb-false (length (byte ∷ rest)) 4 few, refl, refl, then)
+
+whole_rest : (scanned : Mode) (bytes : List ℕ) (command : Token) (next : Mode) → (bytes ≡ [] → ⊥) → IsRest scanned bytes
+    → closing_in scanned bytes ≡ command ∷ [] → kind_of command ≡ kinds.Broken → next ≡ Pcl → Closes scanned bytes [] command next
+whole_rest scanned [] command next some rest closes broken then = absurd (some refl)
+whole_rest Exit (byte ∷ bytes) command next some rest closes broken then = whole_text byte bytes command next (nat_lt (length (byte ∷ bytes)) 4) refl closes broken then
+whole_rest Tail (byte ∷ bytes) command next some rest closes broken then = absurd (some rest)
+whole_rest Foreign (byte ∷ bytes) command next some rest closes broken then =
+    let is_foreign : ForeignByte byte ≡ command = cc in
+    let same : kinds.Foreign byte ≡ kinds.Broken = ap kind_of is_foreign ∙ broken in
+    cc
+whole_rest Pcl (byte ∷ bytes) command next some rest closes broken then =
+    let is_broken : Broken (byte ∷ bytes) ≡ command = cc in
+    subst (λ (c : Token). Closes Pcl (byte ∷ bytes) [] c next) is_broken (refl, refl, then)
+whole_rest (Open character group) (byte ∷ bytes) command next some rest closes broken then =
+    let is_broken : Broken (escape_byte ∷ character ∷ group ∷ byte ∷ bytes) ≡ command = cc in
+    subst (λ (c : Token). Closes (Open character group) (byte ∷ bytes) [] c next) is_broken (refl, refl, then)
+
+some_bytes : (bytes : List ℕ) (used : ℕ) → 0 < used → used ≤ length bytes → bytes ≡ [] → ⊥
+some_bytes bytes used some within e = omega (arith, ap length e)
+
 module _ (mode scanned : Mode) (bytes : List ℕ) (found : Found) (lands : scanned_in mode bytes ≡ scanned) (settled : scanned_in scanned bytes ≡ scanned) (short : IsShort scanned bytes) (at : IsClosing scanned bytes found) where
   -- what closes what is held then, behind the command
   behind : (commands : List Token) → ClosedFrom (mode_of found.mode) (drop found.length bytes) commands → closing_in scanned bytes ≡ token found.command ∷ commands
@@ -148,6 +162,25 @@ module _ (mode scanned : Mode) (bytes : List ℕ) (found : Found) (lands : scann
             ap (λ m. closing_in m bytes) foreign.0 ∙ ap (closing_in Foreign) spelled ∙ ap (λ more. ForeignByte foreign.1 ∷ more) (sym others) ∙ ap (λ command. command ∷ commands) (sym foreign.4)
       ]
 
+  -- and by name what the command closes
+  closes_front : Closes scanned (take found.length bytes) (drop found.length bytes) (token found.command) (mode_of found.mode)
+  closes_front =
+      elim at.closes [
+        | inl alone ↦
+            let all : take found.length bytes ≡ bytes = take_all found.length bytes (omega (arith, alone.0)) in
+            let nothing : drop found.length bytes ≡ [] = drop_all found.length bytes (omega (arith, alone.0)) in
+            rw (all, nothing) (whole_rest scanned bytes (token found.command) (mode_of found.mode) (some_bytes bytes found.length at.used at.within) short.rest alone.1 alone.2 alone.3)
+        | inr (inl text) ↦
+            let few : length (take found.length bytes ++ drop found.length bytes) < 4 = rw (take-append-drop found.length bytes) text.1 in
+            let one : take found.length bytes ≡ text.2 ∷ [] = ap (λ n. take n bytes) text.4 ∙ ap (take 1) text.3 in
+            let closed : Closes Exit (take found.length bytes) (drop found.length bytes) (Text text.2) (mode_of found.mode) = (few, one, text.6) in
+            rw (text.0, text.5) closed
+        | inr (inr foreign) ↦
+            let one : take found.length bytes ≡ foreign.1 ∷ [] = ap (λ n. take n bytes) foreign.3 ∙ ap (take 1) foreign.2 in
+            let closed : Closes Foreign (take found.length bytes) (drop found.length bytes) (ForeignByte foreign.1) (mode_of found.mode) = (one, foreign.5) in
+            rw (foreign.0, foreign.4) closed
+      ]
+
   pub closing_passes : IsNextFound mode bytes true found
   closing_passes = record {
     within = at.within;
@@ -155,6 +188,7 @@ module _ (mode scanned : Mode) (bytes : List ℕ) (found : Found) (lands : scann
       ended = refl;
       used = omega (arith, length-drop found.length bytes, at.within, at.used);
       head = λ e. absurd (cc);
+      front = λ _. (take found.length bytes, sym (take-append-drop found.length bytes), inr (none_at mode scanned bytes lands short, rw lands closes_front));
       closes = λ _ commands closed.
           ([], mode, bytes, record { steps = (refl, refl); short = none_at mode scanned bytes lands short }, sym (ap (λ m. closing_in m bytes) lands ∙ behind commands closed));
     };

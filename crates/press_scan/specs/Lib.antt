@@ -5,6 +5,8 @@ pub mod Stands
 pub mod Lines
 pub mod Held
 pub mod Gives
+pub mod Rest
+pub mod Reached
 pub mod Lending
 pub mod Peeks
 pub mod Closings

@@ -1,11 +1,11 @@
 -- PJL lines, as far as they were searched.
-use Rattle.std.specs.Prelude.{◌≡◌, ◌≤◌, ◌<◌, ℕ, List, length, take, drop, true, false, slice_index}
+use Rattle.std.specs.Prelude.{◌≡◌, ◌≤◌, ◌<◌, ◌-◌, ℕ, List, length, take, drop, true, false, slice_index}
 use Rattle.std.specs.List.{list_all}
-use Rattle.press_cmd.specs.Grammar.{is_line_byte}
+use Rattle.press_cmd.specs.Grammar.{pjl_mark, longest_line, is_line_byte}
 
 -- the most bytes of a line behind `@PJL`
 abbrev pub longest_text : ℕ
-longest_text = 4092
+longest_text = longest_line - length pjl_mark
 
 -- behind `@PJL` so many bytes were searched, and neither a line feed nor an escape character stands in them
 pub record IsKnownPlain (bytes : List ℕ) (searched : ℕ) : Type 0 where

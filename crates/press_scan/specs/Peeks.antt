@@ -1,6 +1,7 @@
 -- What is found in a scanner's buffer.
-use Rattle.std.specs.Prelude.{◌≤◌, ℕ, List, Bool, length, drop, Option, MatchOption}
+use Rattle.std.specs.Prelude.{◌≡◌, ◌≤◌, ℕ, List, Bool, length, drop, Option, MatchOption}
 use Rattle.press_cmd.specs.Mode.{Mode}
+use Rattle.press_cmd.specs.Grammar.{scanned_in}
 use Rattle.press_cmd.specs.View.{token}
 use Rattle.press_scan.specs.declared.reading.Found.{Found}
 use Rattle.press_scan.specs.Modes.{mode_of}
@@ -19,3 +20,7 @@ pub record IsNextFound (mode : Mode) (bytes : List ℕ) (ended : Bool) (found : 
 -- what is found in what is held
 abbrev pub Peeks : Mode → List ℕ → Bool → Option Found → Type 0
 Peeks mode bytes ended found = MatchOption found (IsDone (held mode bytes ended)) (IsNextFound mode bytes ended)
+
+-- the same from whatever mode in which the bytes are scanned so
+abbrev pub PeeksWhereScanned : Mode → List ℕ → Bool → Option Found → Type 0
+PeeksWhereScanned scanned bytes ended found = (mode : Mode) → scanned_in mode bytes ≡ scanned → Peeks mode bytes ended found

@@ -1,5 +1,7 @@
 -- What the front of the bytes is read as, where a sequence of PCL may stand.
-use Rattle.std.specs.Prelude.{◌≡◌, ◌≤◌, ◌<◌, ◌+◌, ◌⊎◌, ℕ, List, [], ◌∷◌, ◌++◌, length, take, drop, ⊤}
+use Rattle.std.specs.Prelude.{◌≡◌, ◌≤◌, ◌<◌, ◌+◌, ◌-◌, ◌⊎◌, ℕ, List, [], ◌∷◌, ◌++◌, length, take, drop, ⊤}
+use Rattle.press_units.specs.Field.{longest_field}
+use Rattle.press_cmd.specs.Carried.{longest_data}
 use Rattle.press_cmd.specs.Token.{Token, Grouped, Control, Text}
 use Rattle.press_cmd.specs.Mode.{Mode}
 use Rattle.press_cmd.specs.View.{token}
@@ -9,9 +11,10 @@ use Rattle.press_scan.specs.declared.reading.Reading.{Reading}
 use Rattle.press_scan.specs.declared.reading.Reading.TheVariants as readings
 use Rattle.press_scan.specs.Modes.{mode_of}
 
--- the most bytes of a rest: a sequence with a group and a field of 32 bytes, and all but one byte of its data
+-- the most bytes of a rest: the escape character, a character, a group and the longest field, its ending byte, and all
+-- but one byte of the longest data
 abbrev pub longest_rest : ℕ
-longest_rest = 65570
+longest_rest = 3 + longest_field + 1 + (longest_data - 1)
 
 -- the byte ends a value field of a sequence with a group
 abbrev pub IsEndingByte : ℕ → Type 0

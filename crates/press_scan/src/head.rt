@@ -1,16 +1,16 @@
 ghost use Rattle.std.specs.Prelude.{◌≡◌, false};
 ghost use Rattle.press_cmd.specs.Mode.{Exit, Tail, Foreign, Pcl, Open};
 ghost use Rattle.press_cmd.specs.Grammar.{scanned_in, begins_pair};
-ghost use Rattle.press_scan.specs.Modes.{mode_of};
+ghost use Rattle.press_scan.specs.Modes.{mode_of, IsSettled};
 ghost use Rattle.press_scan.specs.Stands.{Finds};
 ghost use Rattle.press_scan.specs.Lines.{IsPlainFront};
 
-use crate::line::{LINE_FEED, PJL_MARK, read_line};
+use crate::line::read_line;
 use crate::mode::{Mode, Sequence};
 use crate::pair::read_pair;
-use crate::pcl::{ESCAPE, UEL, differs, read_pcl};
+use crate::pcl::read_pcl;
 use crate::reading::{Found, Reading};
-use press_cmd::{Broken, Command};
+use press_cmd::{Broken, Command, ESCAPE, LINE_FEED, PJL_MARK, UEL, differs};
 
 /// Whether a pair of a sequence can begin with the byte.
 fn begins_pair(byte: u8) -> bool
@@ -22,7 +22,7 @@ fn begins_pair(byte: u8) -> bool
 /// The mode in which the bytes ahead are scanned.
 pub fn scanned_in(mode: Mode, ahead: &[u8]) -> Mode
     ensures mode { mode_of result ≡ scanned_in (mode_of mode) ahead.now }
-    ensures settled { scanned_in (mode_of result) ahead.now ≡ mode_of result }
+    ensures settled { IsSettled (mode_of result) ahead.now }
 {
     match mode {
         Mode::Exit if differs(&PJL_MARK, ahead) => Mode::Pcl,
@@ -93,7 +93,7 @@ fn find_pcl(bytes: &[u8]) -> Option<Found<'_>>
 
 /// Finds a further pair of a sequence, or what breaks one.
 fn find_pair(sequence: Sequence, bytes: &[u8]) -> Option<Found<'_>>
-    requires { scanned_in (Open sequence.character sequence.group) bytes.now ≡ Open sequence.character sequence.group }
+    requires { IsSettled (Open sequence.character sequence.group) bytes.now }
     ensures { Finds (Open sequence.character sequence.group) bytes.now result }
 {
     match read_pair(sequence, bytes) {
@@ -113,7 +113,7 @@ fn find_pair(sequence: Sequence, bytes: &[u8]) -> Option<Found<'_>>
 /// Finds the command at the front of bytes that are scanned in the mode. Where that is Exit, `plain` bytes behind
 /// `@PJL` are part of a line, and no more.
 pub fn head(scanned: Mode, bytes: &[u8], plain: usize) -> Option<Found<'_>>
-    requires settled { scanned_in (mode_of scanned) bytes.now ≡ mode_of scanned }
+    requires settled { IsSettled (mode_of scanned) bytes.now }
     requires line { mode_of scanned ≡ Exit → IsPlainFront bytes.now plain }
     ensures { Finds (mode_of scanned) bytes.now result }
 {

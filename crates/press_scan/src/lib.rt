@@ -1,11 +1,11 @@
 //! The scanner: from the bytes of a stream to its commands.
 #![tactic(auto)]
 
+mod broken;
 mod buffer;
 mod closing;
 mod field;
 mod head;
-mod language;
 pub mod laws;
 mod line;
 mod mode;
@@ -14,6 +14,7 @@ mod pcl;
 mod reading;
 mod scanner;
 
+pub use broken::is_broken;
 pub use scanner::Scanner;
 
 #[cfg(test)]

@@ -1,25 +1,19 @@
 ghost use Rattle.std.specs.Prelude.{◌≡◌, ◌≤◌, ◌<◌, length, take, true, false, slice_index};
 ghost use Rattle.std.specs.List.{list_all};
 ghost use Rattle.press_cmd.specs.Mode.{Exit};
+ghost use Rattle.press_cmd.specs.Language.{mode_after};
 ghost use Rattle.press_cmd.specs.Grammar.{is_line_byte, differs, pjl_mark};
 ghost use Rattle.press_scan.specs.Modes.{mode_of};
 ghost use Rattle.press_scan.specs.Stands.{Finds};
 ghost use Rattle.press_scan.specs.Lines.{IsKnownPlain, IsPlainFront, longest_text};
 
-use crate::language::mode_after;
 use crate::mode::Mode;
-use crate::pcl::ESCAPE;
 use crate::reading::Found;
-use press_cmd::{Broken, Command, PjlLine};
-
-/// The text that a PJL line begins with.
-pub const PJL_MARK: [u8; 4] = *b"@PJL";
-
-/// The line feed, which ends a line.
-pub const LINE_FEED: u8 = 0x0A;
+use press_cmd::pjl::{is_word, language};
+use press_cmd::{Broken, Command, ESCAPE, LINE_FEED, LONGEST_LINE, PJL_MARK, PjlLine};
 
 /// The most bytes of a line behind `@PJL`.
-const LONGEST_TEXT: usize = 4092;
+const LONGEST_TEXT: usize = LONGEST_LINE - PJL_MARK.len();
 
 /// How many bytes at the front of the text stand before the first line feed or escape character, of as many as a
 /// line has behind `@PJL`. The first `searched` of them are known, and not read again.
@@ -90,4 +84,15 @@ pub fn read_line(bytes: &[u8], plain: usize) -> Option<Found<'_>>
         length: end,
         mode: Mode::Exit,
     })
+}
+
+/// The mode after a whole PJL line: PCL or another language where it enters one.
+fn mode_after(line: &[u8]) -> Mode
+    ensures { mode_of result ≡ mode_after line.now }
+{
+    match language(line) {
+        Some(language) if is_word(language, b"PCL") => Mode::Pcl,
+        Some(_) => Mode::Foreign,
+        None => Mode::Exit,
+    }
 }

@@ -3,10 +3,10 @@ ghost use Rattle.press_cmd.specs.Grammar.{Ends};
 ghost use Rattle.press_scan.specs.Modes.{mode_of};
 ghost use Rattle.press_scan.specs.Sequences.{IsEndingByte, ReadsPair};
 
-use crate::field::{data_count, field_length};
+use crate::field::field_length;
 use crate::mode::{Mode, Sequence};
 use crate::reading::{Found, Reading};
-use press_cmd::{Command, Param};
+use press_cmd::{Command, Param, data_count};
 
 /// What the byte that ends a value field stands for: the end in upper case, and the mode after it. The sequence ends
 /// at an upper-case one.

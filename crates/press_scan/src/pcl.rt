@@ -1,35 +1,17 @@
 ghost use Rattle.std.specs.Prelude.{◌≡◌, ◌<◌, ◌∷◌, ◌++◌, ℕ, List, false, MatchOption};
 ghost use Rattle.press_cmd.specs.Token.{escape_byte, uel};
 ghost use Rattle.press_cmd.specs.Mode.{Pcl};
-ghost use Rattle.press_cmd.specs.Grammar.{IsCharacter, IsGroup, differs};
+ghost use Rattle.press_cmd.specs.Grammar.{IsCharacter};
 ghost use Rattle.press_scan.specs.Sequences.{Reads, BeginsNoGroup, IsPlainCommand};
 ghost use Rattle.press_cmd.specs.View.{token};
 
-use crate::field::{data_count, field_length};
+use crate::field::field_length;
 use crate::mode::{Mode, Sequence};
 use crate::pair::read_pair;
 use crate::reading::{Found, Reading};
-use press_cmd::{Command, ControlByte, EscapeByte, Param, TextByte};
-
-/// The escape character.
-pub const ESCAPE: u8 = 0x1B;
-
-/// The universal exit.
-pub const UEL: [u8; 9] = *b"\x1B%-12345X";
-
-/// Whether the bytes differ from the text at a place that both have.
-pub fn differs(text: &[u8], bytes: &[u8]) -> bool
-    ensures { result ≡ differs text.now bytes.now }
-{
-    for (place, byte) in text.iter().enumerate() {
-        match bytes.get(place) {
-            None => return false,
-            Some(other) if byte != other => return true,
-            Some(_) => {}
-        }
-    }
-    false
-}
+use press_cmd::{
+    Command, ControlByte, ESCAPE, EscapeByte, Param, TextByte, UEL, data_count, differs,
+};
 
 /// Reads a sequence with a group, from the byte after the group on; its length counts from the escape character.
 fn grouped<'a>(sequence: Sequence, bytes: &'a [u8]) -> Reading<'a>

@@ -1,13 +1,13 @@
 ghost use Rattle.std.specs.Prelude.{◌≡◌, ◌≤◌, [], ◌++◌, true, false, length, drop, vec_len, IsOk, OnOk, OnErr, IfOk, IfSome, IfNone};
 ghost use Rattle.std.specs.Borrow.{sem};
 ghost use Rattle.press_cmd.specs.Split.{NoHead};
-ghost use Rattle.press_cmd.specs.Mode.{Mode as GrammarMode, Exit};
-ghost use Rattle.press_cmd.specs.Grammar.{scanned_in};
+ghost use Rattle.press_cmd.specs.Mode.{Exit};
 ghost use Rattle.press_cmd.specs.View.{token};
-ghost use Rattle.press_scan.specs.Modes.{mode_of};
+ghost use Rattle.press_scan.specs.Modes.{mode_of, IsSettled};
 ghost use Rattle.press_scan.specs.Lines.{IsKnownPlain, IsPlainFront};
-ghost use Rattle.press_scan.specs.Peeks.{Peeks};
+ghost use Rattle.press_scan.specs.Peeks.{Peeks, PeeksWhereScanned};
 ghost use Rattle.press_scan.specs.Gives.{IsNext, IsDone};
+ghost use Rattle.press_scan.specs.Rest.{IsRestLength};
 ghost use Rattle.press_scan.specs.Sequences.{longest_rest};
 
 use crate::buffer::drop_consumed;
@@ -62,15 +62,30 @@ fn peek(mode: Mode, bytes: &[u8], searched: usize, ended: bool) -> (Option<Found
 
 /// The first command of bytes that are scanned in the mode, and, where they end, the first that they stand for.
 fn first_command(scanned: Mode, bytes: &[u8], plain: usize, ended: bool) -> Option<Found<'_>>
-    requires settled { scanned_in (mode_of scanned) bytes.now ≡ mode_of scanned }
+    requires settled { IsSettled (mode_of scanned) bytes.now }
     requires line { mode_of scanned ≡ Exit → IsPlainFront bytes.now plain }
-    ensures { (mode : GrammarMode) → scanned_in mode bytes.now ≡ mode_of scanned → Peeks mode bytes.now ended result }
+    ensures { PeeksWhereScanned (mode_of scanned) bytes.now ended result }
 {
     match head(scanned, bytes, plain) {
         Some(found) => Some(found),
         None if ended => close(scanned, bytes),
         None => None,
     }
+}
+
+/// The length of the rest of bytes, where `searched` ones behind `@PJL` are known to be part of a line.
+fn rest_length(mut mode: Mode, bytes: &[u8], mut searched: usize) -> usize
+    requires { IsKnownPlain bytes.now searched }
+    ensures rest { IsRestLength (mode_of mode) bytes.now result }
+    ensures few { result ≤ longest_rest }
+{
+    let mut rest = bytes;
+    while let (Some(found), _) = peek(mode, rest, searched, false) {
+        mode = found.mode;
+        rest = &rest[found.length..];
+        searched = 0;
+    }
+    rest.len()
 }
 
 impl Scanner {
@@ -109,7 +124,8 @@ impl Scanner {
     /// never answered.
     pub fn next(&mut self) -> Result<Option<Command<'_>>, AllocError>
         ensures ok { IsOk result }
-        ensures some { IfOk result (λ answer. IfSome answer (λ command. IsNext self.old (token command))) }
+        ensures some { IfOk result (λ answer. IfSome answer
+            (λ command. IsNext self.old (token command))) }
         ensures none { IfOk result (λ answer. IfNone answer (IsDone self.old)) }
         ensures* after { sem 𝓛 (EndsAs self.entry result) }
     {
@@ -147,11 +163,13 @@ impl Scanner {
         self.ended
     }
 
-    /// How many bytes fed stand in no command given: at most 65,570 where `next` has nothing to give.
+    /// How many bytes fed stand in no whole command, also while whole commands wait to be given: at most 65,570, and 0
+    /// after the end of input where nothing is left to give. It reads through what is held.
     pub fn rest_len(&self) -> usize
-        ensures length { result ≡ length self.now.bytes }
-        ensures short { IsDone self.now → result ≤ longest_rest }
+        ensures rest { IsRestLength self.now.mode self.now.bytes result }
+        ensures few { result ≤ longest_rest }
+        ensures done { IsDone self.now → self.now.ended ≡ true → result ≡ 0 }
     {
-        self.buffer.len() - self.start
+        rest_length(self.mode, &self.buffer[self.start..], self.searched)
     }
 }

@@ -1,6 +1,6 @@
 ghost use Rattle.std.specs.Prelude.{◌≡◌, ◌<◌, false, OnOk};
 
-use crate::Scanner;
+use crate::{Scanner, is_broken};
 use press_cmd::{Command, write_command};
 use std::alloc::Global;
 use std::test::Fail;
@@ -116,6 +116,40 @@ fn waits_in_the_mark_of_a_line(rt: HostRuntime) -> Result<(), Fail> {
     Ok(())
 }
 
+/// Streams that are fed while their commands wait, each with the length of its rest.
+#[test]
+fn counts_no_command_that_waits(rt: HostRuntime) -> Result<(), Fail> {
+    let streams: [(&[u8], usize); 4] = [
+        (b"AB", 0),
+        (b"\x1B*p10X\x1B", 1),
+        (b"@PJL\n@PJ", 3),
+        (b"\x1B*p10x2", 1),
+    ];
+    for (bytes, rest) in streams {
+        let mut scanner = Scanner::new(rt.alloc());
+        scanner.feed(bytes)?;
+        assert_eq!(rt; scanner.rest_len(), rest);
+        scanner.end_input();
+        assert_eq!(rt; scanner.rest_len(), rest);
+    }
+    Ok(())
+}
+
+#[test]
+fn tells_broken_bytes(rt: HostRuntime) {
+    let texts: [(&[u8], bool); 6] = [
+        (b"\x1B*p10", true),
+        (b"\x1B*p10X", false),
+        (b"\x1B*p10\r", false),
+        (b"@PJL x", true),
+        (b"@PJL x\n", false),
+        (b"", false),
+    ];
+    for (bytes, broken) in texts {
+        assert_eq!(rt; is_broken(bytes), broken);
+    }
+}
+
 /// Streams that end, each with its commands.
 fn case(number: u32) -> (&'static [u8], &'static [u8]) {
     match number {
@@ -200,7 +234,7 @@ fn case(number: u32) -> (&'static [u8], &'static [u8]) {
             b"\x1B*p000000000000000000000000000000012X",
             b"B\x1B*p00000000000000000000000000000001T2TX",
         ),
-        _ => (b"", b""),
+        _ => (b"", b"no such stream"),
     }
 }
 

@@ -1,6 +1,6 @@
 use Rattle.std.proofs.Common.{◌≡◌, ◌≤◌, ◌++◌, ◌∙◌, ℕ, List, [], length, take, true, nat_le, refl, sym, ap, arith, length-take, append-nil}
 use Rattle.std.proofs.lemmas.Bool.{le-leb}
-use Rattle.press_cmd.specs.Field.{is_field_text, is_value_field}
+use Rattle.press_units.specs.Field.{is_field_text, is_value_field}
 use Rattle.press_scan.specs.declared.field.FieldPart.{FieldPart}
 use Rattle.press_scan.specs.declared.field.FieldPart.TheVariants.{Sign, Whole, Fraction}
 use Rattle.press_scan.specs.FieldParts.{completes}

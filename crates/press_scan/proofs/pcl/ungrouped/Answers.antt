@@ -1,5 +1,5 @@
 use Rattle.std.proofs.Common.{◌≡◌, ◌<◌, ◌∙◌, ◌∷◌, None, length, take, drop, refl, sym, ap, arith, length-drop}
-use Rattle.press_cmd.specs.Field.{data_count}
+use Rattle.press_cmd.specs.Carried.{data_count}
 use Rattle.press_cmd.specs.Token.{Ungrouped}
 use Rattle.press_scan.proofs.PclLaws.{ungrouped_at_end, ungrouped_breaks_at, ungrouped_in_data, ungrouped_no_exit, ungrouped_whole}
 use Rattle.press_scan.proofs.pcl.ungrouped.Goals as goal

@@ -1,5 +1,0 @@
-use Rattle.press_cmd.proofs.FieldTest.{IsField-from_test}
-use Rattle.press_scan.proofs.field.data_count.Goals as goal
-
-pub read_value-requires : goal.read_value-requires
-read_value-requires c = IsField-from_test _ c.requires

@@ -1,5 +1,0 @@
-use Rattle.press_cmd.proofs.Splits.{split-append}
-use Rattle.press_scan.proofs.laws.cutting.Goals as goal
-
-pub returns : goal.returns
-returns c = split-append
