@@ -4,8 +4,10 @@ use Rattle.std.specs.List.{flat_map}
 use Rattle.std.proofs.lemmas.Bool.{eqb-false, lt-ltb, le-ltb}
 use Rattle.std.proofs.lemmas.Bool.Decides.{eqb_tells}
 use Rattle.std.proofs.lemmas.List.{append-nil, take-append-drop, take_at, drop_at, length-take-le}
-use Rattle.press_rows.specs.RunLength.{leading, run_length, run_pairs}
-use Rattle.press_rows.specs.PackBits.{before_triple, starts_triple, patterns, packed_codes, packed_more}
+use Rattle.press_rows.specs.RunLengthEncoding.{leading, run_pairs}
+use Rattle.press_rows.specs.RunLength.{run_length}
+use Rattle.press_rows.specs.PackBitsEncoding.{before_triple, starts_triple, packed_codes, packed_more}
+use Rattle.press_rows.specs.PackBits.{patterns}
 use Rattle.press_rows.proofs.PackBitsLemmas.{patterns_skip}
 
 -- a front of equal bytes

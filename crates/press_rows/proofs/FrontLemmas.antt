@@ -4,8 +4,8 @@ use Rattle.std.proofs.lemmas.List.{take_rest, length-drop, drop-drop}
 use Rattle.std.proofs.lemmas.List.Sums.{prefix_len-le-length}
 use Rattle.std.proofs.lemmas.Bool.{cases_lt}
 use Rattle.std.proofs.lemmas.Bool.Decides.{eqb_tells}
-use Rattle.press_rows.specs.RunLength.{leading}
-use Rattle.press_rows.specs.PackBits.{before_triple, starts_triple}
+use Rattle.press_rows.specs.RunLengthEncoding.{leading}
+use Rattle.press_rows.specs.PackBitsEncoding.{before_triple, starts_triple}
 
 pub leading-take : (byte n : ℕ) (bytes : List ℕ) → leading byte (take n bytes) ≡ min n (leading byte bytes)
 leading-take byte zero bytes = omega arith

@@ -9,9 +9,10 @@ use Rattle.std.proofs.lemmas.Grind.{same_number_lists}
 use Rattle.press_rows.specs.declared.compression.Method.{Method}
 use Rattle.press_rows.specs.declared.compression.Method.TheVariants.{Unencoded, RunLength, PackBits, DeltaRow}
 use Rattle.press_rows.specs.declared.encoder.Plan.{Plan}
-use Rattle.press_rows.specs.RunLength.{run_pairs}
-use Rattle.press_rows.specs.PackBits.{packed_codes}
-use Rattle.press_rows.specs.DeltaRow.{changes, delta_bytes, equal_len, replacements, laid_over}
+use Rattle.press_rows.specs.RunLengthEncoding.{run_pairs}
+use Rattle.press_rows.specs.PackBitsEncoding.{packed_codes}
+use Rattle.press_rows.specs.DeltaRowEncoding.{changes, delta_bytes, equal_len}
+use Rattle.press_rows.specs.DeltaRow.{replacements, laid_over}
 use Rattle.press_rows.specs.Row.{fitted, raster_row}
 use Rattle.press_rows.specs.Encoding.{trimmed, encoding, shorter, best_method}
 use Rattle.press_rows.proofs.RowLemmas.{fitted_whole}
@@ -100,7 +101,7 @@ size_plain row seed = omega (arith, length-take (length row - suffix_len (λ b. 
 pub best_within : (row seed : List ℕ) → length (encoding (best_method row seed) row seed) ≤ length row
 best_within row seed = omega (arith, best_is_shortest Unencoded row seed, size_plain row seed)
 
-zeros_trimmed : (row seed : List ℕ) → All (λ byte. byte ≡ 0) row → length (encoding Unencoded row seed) ≤ 0
+pub zeros_trimmed : (row seed : List ℕ) → All (λ byte. byte ≡ 0) row → length (encoding Unencoded row seed) ≤ 0
 unfolding encoding
 zeros_trimmed row seed h =
     let all : suffix_len (λ b. eqb b 0) row ≡ length row - 0
@@ -117,7 +118,7 @@ equal_whole [] = refl
 equal_whole (byte ∷ row) =
     ap (λ b. cond b (1 + equal_len row row) 0) (eq-eqb byte byte refl) ∙ (let known = equal_whole row in omega arith)
 
-same_size : (row : List ℕ) → length (encoding DeltaRow row row) ≤ 0
+pub same_size : (row : List ℕ) → length (encoding DeltaRow row row) ≤ 0
 unfolding encoding
 same_size row = omega (arith, ap (λ ds. length (flat_map delta_bytes ds)) (changes_end 0 row row refl (equal_whole row)))
 

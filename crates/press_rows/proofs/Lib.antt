@@ -6,7 +6,9 @@ pub mod PackBitsLemmas
 pub mod DeltaRowLemmas
 pub mod OverlayLemmas
 pub mod ChangesLemmas
+pub mod EarlyLemmas
 pub mod EncodingLemmas
 pub mod DeltaEncodingLemmas
 pub mod LawLemmas
+pub mod NoData
 pub mod WorkedRows

@@ -4,9 +4,9 @@ use Rattle.std.specs.Prelude.{ℕ, ◌-◌, List, length, take, ◌==◌, nat_lt
 use Rattle.std.specs.List.{suffix_len, flat_map}
 use Rattle.press_rows.specs.declared.compression.Method.{Method}
 use Rattle.press_rows.specs.declared.compression.Method.TheVariants.{Unencoded, RunLength, PackBits, DeltaRow}
-use Rattle.press_rows.specs.RunLength.{run_pairs}
-use Rattle.press_rows.specs.PackBits.{packed_codes}
-use Rattle.press_rows.specs.DeltaRow.{changes, delta_bytes}
+use Rattle.press_rows.specs.RunLengthEncoding.{run_pairs}
+use Rattle.press_rows.specs.PackBitsEncoding.{packed_codes}
+use Rattle.press_rows.specs.DeltaRowEncoding.{changes, delta_bytes}
 
 -- The row without the zeros at its end.
 abbrev pub trimmed : List ℕ → List ℕ

@@ -1,5 +1,9 @@
 pub mod RunLength
+pub mod RunLengthEncoding
 pub mod PackBits
+pub mod PackBitsEncoding
 pub mod DeltaRow
+pub mod DeltaRowEncoding
+pub mod Methods
 pub mod Row
 pub mod Encoding

@@ -23,3 +23,10 @@ raster_row Unencoded «data» seed width = fitted width «data»
 raster_row RunLength «data» seed width = fitted width (run_length «data»)
 raster_row PackBits «data» seed width = fitted width (packbits «data»)
 raster_row DeltaRow «data» seed width = laid_over (replacements 0 (deltas 0 «data»)) (fitted width seed)
+
+-- The row that no data stands for: by delta rows the seed row again, and else a white one.
+abbrev pub row_of_no_data : Method → List ℕ → List ℕ
+row_of_no_data DeltaRow seed = seed
+row_of_no_data Unencoded seed = replicate (length seed) 0
+row_of_no_data RunLength seed = replicate (length seed) 0
+row_of_no_data PackBits seed = replicate (length seed) 0

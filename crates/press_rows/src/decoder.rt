@@ -1,19 +1,27 @@
 //! Decoding: the row that the data of a transfer stands for.
 
-ghost use Rattle.std.specs.Prelude.{◌≡◌, ◌≤◌, ◌+◌, ◌^◌, ◌-◌, length, min, take, replicate};
+ghost use Rattle.std.specs.Prelude.{◌≡◌, [], ◌≤◌, ◌+◌, ◌^◌, ◌-◌, length, min, take, replicate};
 ghost use Rattle.press_rows.specs.RunLength.{run_length};
 ghost use Rattle.press_rows.specs.PackBits.{packbits, pattern, pattern_len};
 ghost use Rattle.press_rows.specs.DeltaRow.{delta, deltas, laid_over, offset_len, replacements};
-ghost use Rattle.press_rows.specs.Row.{fitted, overwritten, raster_row};
+ghost use Rattle.press_rows.specs.Row.{fitted, overwritten, raster_row, row_of_no_data};
 
 use crate::compression::Method;
 use crate::runs::count_leading;
 
 /// Decodes the data of a transfer into a row as wide as `out`; `seed` is the row before it. Every byte
 /// string is data: a code that is cut stands for the bytes of it that are there, and what is past the
-/// width is dropped.
-#[tactic(auto, using(crate::proofs::RowLemmas::fitted_whole), unfolding(crate::specs::Row::raster_row))]
+/// width is dropped. No data is the seed row again by delta rows, and else a white row.
 pub fn decode(method: Method, data: &[u8], seed: &[u8], out: &mut [u8])
+    requires { length seed.now ≡ length out.old }
+    ensures row { out.new ≡ raster_row method «data».now seed.now (length out.old) }
+    ensures no_data { «data».now ≡ [] → out.new ≡ row_of_no_data method seed.now }
+{
+    decode_by(method, data, seed, out);
+}
+
+#[tactic(auto, using(crate::proofs::RowLemmas::fitted_whole), unfolding(crate::specs::Row::raster_row))]
+fn decode_by(method: Method, data: &[u8], seed: &[u8], out: &mut [u8])
     requires { length seed.now ≡ length out.old }
     ensures { out.new ≡ raster_row method «data».now seed.now (length out.old) }
 {

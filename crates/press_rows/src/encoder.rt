@@ -4,15 +4,15 @@ ghost use Rattle.std.specs.Prelude.{◌≡◌, ◌≤◌, ◌<◌, ◌+◌, ◌+
 ghost use Rattle.press_rows.specs.Row.{raster_row};
 ghost use Rattle.press_rows.specs.Encoding.{best_method, encoded, encoding, trimmed};
 
-use crate::changes::{changes_len, write_changes};
 use crate::compression::Method;
-use crate::packing::{packed_len, write_packed};
-use crate::run_pairs::{run_pairs_len, write_run_pairs};
+use crate::delta_row::{changes_len, write_changes};
+use crate::pack_bits::{packed_len, write_packed};
+use crate::run_length::{run_pairs_len, write_run_pairs};
 use std::alloc::AllocError;
 
 /// Gives the data of a transfer that stands for a row, and its compression method; `seed` is the row
-/// before it. Of the four methods it takes the one with the shortest data, of several the one with the
-/// lowest number. What was in `data` goes; where memory is refused it stays.
+/// before it. It makes one coding of the row by each of the four methods, and takes the shortest, of several the one
+/// with the lowest number. What was in `data` goes; where memory is refused it stays.
 pub fn encode(row: &[u8], seed: &[u8], data: &mut Vec<u8>) -> Result<Method, AllocError>
     requires { length seed.now ≡ length row.now }
     ensures exact { IfOk result (λ method. (method, «data».new.items) ≡ encoded row.now seed.now) }
@@ -21,7 +21,7 @@ pub fn encode(row: &[u8], seed: &[u8], data: &mut Vec<u8>) -> Result<Method, All
     ensures decodes { IfOk result
         (λ method. raster_row method «data».new.items seed.now (length row.now) ≡ row.now) }
 
-    // The data is short, and no method has shorter data.
+    // The data is short, and none of the encoder's four codings is shorter.
     ensures within { OnOk result (vec_len «data».new ≤ length row.now) }
     ensures zero { All (λ byte. byte ≡ 0) row.now → OnOk result («data».new.items ≡ []) }
     ensures same { row.now ≡ seed.now → OnOk result («data».new.items ≡ []) }
@@ -46,7 +46,8 @@ struct Plan {
     len: usize,
 }
 
-/// The method with the shortest data.
+/// The method with the shortest data. A white row, and one that equals its seed row, are answered before anything is
+/// measured.
 fn best_plan(row: &[u8], seed: &[u8]) -> Plan
     requires { length seed.now ≡ length row.now }
     ensures method { result.method ≡ best_method row.now seed.now }
@@ -57,6 +58,15 @@ fn best_plan(row: &[u8], seed: &[u8]) -> Plan
         method: Method::Unencoded,
         len: inked.len(),
     };
+    if inked.is_empty() {
+        return plain;
+    }
+    if row == seed {
+        return Plan {
+            method: Method::DeltaRow,
+            len: 0,
+        };
+    }
     let pairs = Plan {
         method: Method::RunLength,
         len: run_pairs_len(inked),

@@ -5,12 +5,12 @@
 //! is the row before it, zero at first.
 #![tactic(auto)]
 
-mod changes;
 mod compression;
 mod decoder;
+mod delta_row;
 mod encoder;
-mod packing;
-mod run_pairs;
+mod pack_bits;
+mod run_length;
 mod runs;
 #[cfg(test)]
 mod tests;

@@ -1,9 +1,9 @@
 //! Equal and differing bytes at the front.
 
 ghost use Rattle.std.specs.Prelude.{◌≡◌, ◌≤◌, length, min};
-ghost use Rattle.press_rows.specs.RunLength.{leading};
-ghost use Rattle.press_rows.specs.PackBits.{before_triple, starts_triple};
-ghost use Rattle.press_rows.specs.DeltaRow.{differing_len, equal_len};
+ghost use Rattle.press_rows.specs.RunLengthEncoding.{leading};
+ghost use Rattle.press_rows.specs.PackBitsEncoding.{before_triple, starts_triple};
+ghost use Rattle.press_rows.specs.DeltaRowEncoding.{differing_len, equal_len};
 
 /// How many bytes at the front equal this one.
 pub(crate) fn count_leading(byte: u8, bytes: &[u8]) -> usize
