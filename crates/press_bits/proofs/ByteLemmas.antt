@@ -18,10 +18,6 @@ bit_at-shr n t i = ap (λ m. m % 2) (div-div-eq-div-mul n (2 ^ t) (2 ^ i) ∙ ap
 bit_at-low_byte : (n i : ℕ) → i < 8 → bit_at (bit_and n 255) i ≡ bit_at n i
 bit_at-low_byte n i within = bit_at_and n 255 i ∙ omega (arith, bit_at_ones 8 i within, bit_at-lt n i)
 
-byte_dot_at : (b i j : ℕ) → i ≡ 7 - j → byte_dot b j ≡ nat_eq (bit_at b i) 1
-unfolding byte_dot
-byte_dot_at b i j e = ap (λ k. nat_eq (bit_at b k) 1) (sym e)
-
 -- ---- eight dots out of two bytes
 
 pub pair_left : (left right s j : ℕ) → right < 256 → s + j < 8 →
@@ -193,12 +189,6 @@ blackened bits at skip count p = (nat_le at p && nat_lt p (at + count)) && laid_
 abbrev pub BlackenedBelow : (old rows bits : List ℕ) (at skip count index : ℕ) → Type 0
 BlackenedBelow old rows bits at skip count index = (p : ℕ) → row_dot rows p ≡ (row_dot old p || (nat_lt p (8 * index) && blackened bits at skip count p))
 
-test_none : (old black : Bool) (at count p : ℕ) → old ≡ (old || (nat_lt p (8 * (at / 8)) && ((nat_le at p && nat_lt p (at + count)) && black)))
-test_none old black at count p = grind (arith, nat_tests)
-
-pub blackened_none : (rows bits : List ℕ) (at skip count : ℕ) → BlackenedBelow rows rows bits at skip count (at / 8)
-blackened_none rows bits at skip count = λ p. test_none (row_dot rows p) (laid_dot bits at skip p) at count p
-
 test_here : (old black : Bool) (p index : ℕ) → p / 8 ≡ index → ((old || (nat_lt p (8 * index) && black)) || black) ≡ (old || (nat_lt p (8 * (index + 1)) && black))
 test_here old black p index here = grind (arith, nat_tests)
 
@@ -224,12 +214,3 @@ blackened_more old rows bits at skip count index b within dots so_far = λ p.
           ∙ so_far p
           ∙ test_there (row_dot old p) (blackened bits at skip count p) p index there
     ]
-
-test_all : (old black : Bool) (at count p : ℕ) → 0 < count →
-    (old || (nat_lt p (8 * ((at + count - 1) / 8 + 1)) && ((nat_le at p && nat_lt p (at + count)) && black))) ≡ (old || ((nat_le at p && nat_lt p (at + count)) && black))
-test_all old black at count p some = grind (arith, nat_tests)
-
-pub blackened_all : (old rows bits : List ℕ) (at skip count index : ℕ) → 0 < count → index ≡ (at + count - 1) / 8 + 1 → BlackenedBelow old rows bits at skip count index →
-    (p : ℕ) → row_dot rows p ≡ (row_dot old p || blackened bits at skip count p)
-blackened_all old rows bits at skip count index some last done p =
-    done p ∙ ap (λ i. row_dot old p || (nat_lt p (8 * i) && blackened bits at skip count p)) last ∙ test_all (row_dot old p) (laid_dot bits at skip p) at count p some

@@ -9,7 +9,8 @@ use Rattle.std.proofs.lemmas.List.{get_or-replicate, get_or_past, length-replica
 use Rattle.std.proofs.lemmas.Nat.Bits.{bit_at-zero}
 use Rattle.press_bits.specs.Page.{black_at, blank, count_black, HasNoDotOutside}
 use Rattle.press_bits.specs.Mark.{row_dot, byte_dot}
-use Rattle.press_bits.specs.DotRows.{bytes_per_line, page_of_rows}
+use Rattle.press_bits.specs.DotRows.{page_of_rows}
+use Rattle.press_bits.specs.Lines.{bytes_per_line}
 use Rattle.press_bits.proofs.PageLemmas.{width-page_where, height-page_where, page_where-HasNoDotOutside, black_at-page_where, black_at-page_where_all, page_where_alike, blank_is, count_black-page_where}
 
 pub width-page_of_rows : (w h : ℕ) (rows : List ℕ) → (page_of_rows w h rows).width ≡ w
@@ -48,7 +49,7 @@ zero_everywhere n i =
     ]
 
 -- bytes that are all 0 are a white page
-row_dot-replicate_zero : (n i : ℕ) → row_dot (replicate n 0) i ≡ false
+pub row_dot-replicate_zero : (n i : ℕ) → row_dot (replicate n 0) i ≡ false
 unfolding row_dot byte_dot
 row_dot-replicate_zero n i = ap (λ b. nat_eq (bit_at b (7 - i % 8)) 1) (zero_everywhere n (i / 8)) ∙ ap (λ b. nat_eq b 1) (bit_at-zero (7 - i % 8))
 

@@ -6,7 +6,8 @@ use Rattle.std.proofs.lemmas.Bool.{cases_order}
 use Rattle.std.proofs.lemmas.Bool.Decides.{nat_tests}
 use Rattle.press_bits.specs.Page.{Page, black_at}
 use Rattle.press_bits.specs.Mark.{painted, marked_dot, row_dot, row_source, row_mark}
-use Rattle.press_bits.specs.DotRows.{bytes_per_line, page_of_rows}
+use Rattle.press_bits.specs.DotRows.{page_of_rows}
+use Rattle.press_bits.specs.Lines.{bytes_per_line}
 use Rattle.press_bits.proofs.ByteLemmas.{blackened}
 use Rattle.press_bits.proofs.DotRowsLemmas.{width-page_of_rows, height-page_of_rows, page_of_rows-HasNoDotOutside, black_at-page_of_rows}
 use Rattle.press_bits.proofs.MarkLemmas.{painted_by, solid_black_dot, row_lands, and_when}

@@ -3,3 +3,4 @@ pub mod Page
 pub mod DotRule
 pub mod Mark
 pub mod DotRows
+pub mod Lines

@@ -4,9 +4,10 @@
 ghost use Rattle.std.specs.Prelude.{◌≡◌, ℕ, ◌*◌, ◌<◌, ◌≤◌, ◌≢◌, ◌⊎◌, ◌↔◌, MatchOption, pos, ◌+ℤ◌, false, length, replicate, IfOk, IsErrOf};
 ghost use Rattle.press_bits.specs.Page.{HasNoDotOutside, black_at, blank, is_page_size, count_black};
 ghost use Rattle.press_bits.specs.Mark.{painted, row_mark};
-ghost use Rattle.press_bits.specs.DotRows.{bytes_per_line};
+ghost use Rattle.press_bits.specs.Lines.{bytes_per_line, IsLine};
 
 use crate::dot_bytes;
+use press_units::NO_MEMORY;
 use std::alloc::{AllocError, Global};
 use std::marker::Model;
 use thiserror::Error;
@@ -21,7 +22,7 @@ pub enum BlankError {
     #[error("fault 101")]
     BadSize,
     /// Memory ran out.
-    #[error("fault memory")]
+    #[error("{text}", text = NO_MEMORY)]
     NoMemory,
 }
 
@@ -147,13 +148,26 @@ impl Bitmap {
 
     /// Whether the dot at column `x` of line `y` is black; `false` outside the page.
     pub fn get(&self, x: u32, y: u32) -> bool
-        ensures { result ≡ black_at self.now x y }
+        ensures dot { result ≡ black_at self.now x y }
+        ensures right { self.now.width ≤ x → result ≡ false }
+        ensures below { self.now.height ≤ y → result ≡ false }
     {
         if x >= self.width || y >= self.height {
             return false;
         }
         let line = y as usize * line_bytes(self.width);
         dot_bytes::is_black(&self.rows, 8 * line + x as usize)
+    }
+
+    /// The bytes of a line: the most significant bit of the first byte is the leftmost dot, and 1 is black; the bits past the
+    /// last dot are 0.
+    pub fn line(&self, y: u32) -> &[u8]
+        requires { y < self.now.height }
+        ensures { IsLine self.now y result.now }
+    {
+        let bytes = line_bytes(self.width);
+        let start = y as usize * bytes;
+        &self.rows[start..start + bytes]
     }
 
     /// How many dots of the page are black.

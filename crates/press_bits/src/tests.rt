@@ -93,3 +93,13 @@ fn faults_tell_their_number(rt: HostRuntime) -> Result<(), Fail> {
     }
     Ok(())
 }
+
+#[test]
+fn a_line_is_its_bytes(rt: HostRuntime) -> Result<(), Fail> {
+    let mut page = Bitmap::blank(rt.alloc(), 10, 2)?;
+    page.paint_row(-1, 1, &[0xFF, 0xFF], 16);
+    assert!(rt; page.height() > 1);
+    assert_eq!(rt; page.line(0), [0, 0].as_slice());
+    assert_eq!(rt; page.line(1), [0xFF, 0xC0].as_slice());
+    Ok(())
+}

@@ -1,4 +1,4 @@
-use Rattle.std.proofs.Common.{◌≡◌, ◌+◌, ◌-◌, ◌*◌, ◌<◌, ◌||◌, min, sym, ap, ◌∙◌, subst, arith, pos, ◌+ℤ◌, w64}
+use Rattle.std.proofs.Common.{◌≡◌, ℕ, false, length, ◌+◌, ◌-◌, ◌*◌, ◌<◌, ◌≤◌, ◌||◌, min, sym, ap, ◌∙◌, subst, arith, pos, ◌+ℤ◌, w64}
 use Rattle.std.proofs.lemmas.Int.{to_z-of_z}
 use Rattle.std.proofs.lemmas.List.{with_items_is}
 use Rattle.press_bits.specs.Page.{Page, HasNoDotOutside}
@@ -7,6 +7,8 @@ use Rattle.press_bits.specs.DotRows.{page_of_rows}
 use Rattle.press_bits.proofs.ByteLemmas.{blackened}
 use Rattle.press_bits.proofs.DotRowsLemmas.{width-page_of_rows, height-page_of_rows, page_of_rows-HasNoDotOutside}
 use Rattle.press_bits.proofs.MarkLemmas.{unmarked, row_off_line, row_off_columns}
+use Rattle.press_bits.specs.Lines.{bytes_per_line}
+use Rattle.press_bits.proofs.LineLemmas.{padding-laid}
 use Rattle.press_bits.proofs.PaintLemmas.{painted_rows}
 use Rattle.press_bits.proofs.bitmap.Bitmap.paint_row.Goals as goal
 
@@ -47,3 +49,20 @@ returns c =
     ∙ (λ i. row_dot (c.deref_mut.ensures.value i) p
     || blackened c.args.bits.now (8 * (c.in-Some.line * c.line_bytes.ensures i) + c.first_column-left.result.0) c.first_column-left.result.1 c.min-count.result p))
     ∙ ap (λ (p : Page). painted p (row_mark c.args.x c.args.y c.args.bits.now c.args.dots)) c.self.view_is
+
+pub invariant_of-self : goal.invariant_of-self
+invariant_of-self c =
+    let is_new = with_items_is c.self.inside.rows c.blacken.new.rows (c.blacken.auto.rows ∙ c.deref_mut.ensures.len) in
+    let within : c.first_column-left.result.0 + c.min-count.result ≤ c.self.inside.width = omega arith in
+    record {
+      some_width = c.self.invariant.some_width;
+      most_width = c.self.invariant.most_width;
+      some_height = c.self.invariant.some_height;
+      most_height = c.self.invariant.most_height;
+      bytes = ap length is_new ∙ c.blacken.auto.rows ∙ ap length c.deref_mut.ensures.value ∙ c.self.invariant.bytes;
+      padding = subst (λ rows. (y x : ℕ) → y < c.self.inside.height → c.self.inside.width ≤ x → x < 8 * bytes_per_line c.self.inside.width → row_dot rows (8 * (y * bytes_per_line c.self.inside.width) + x) ≡ false) (sym is_new) (padding-laid c.self.inside.width c.self.inside.height c.in-Some.line c.first_column-left.result.0 c.min-count.result c.first_column-left.result.1 c.self.inside.rows.items c.blacken.new.rows c.args.bits.now within
+          (λ p. c.blacken.ensures p
+          ∙ (λ i. row_dot (c.deref_mut.ensures.value i) p
+          || blackened c.args.bits.now (8 * (c.in-Some.line * c.line_bytes.ensures i) + c.first_column-left.result.0) c.first_column-left.result.1 c.min-count.result p))
+          c.self.invariant.padding);
+    }

@@ -1,4 +1,4 @@
--- The dot rule, case by case.
+-- The dot rule, case by case, computed.
 use Rattle.std.proofs.Common.{◌≡◌, Bool, true, false, refl}
 use Rattle.press_bits.specs.DotRule.{Mode, dot_rule, dot_after, both_transparent, solid_white_mode}
 use Rattle.press_bits.specs.DotRule.DotEffect.{MadeBlack, MadeWhite, Unchanged}
