@@ -1,4 +1,5 @@
 pub mod Kept
 pub mod Sending
+pub mod Sides
 pub mod Told
 pub use Rattle.press_bits.specs.Page

@@ -1,24 +1,20 @@
 -- Outputs, and how far they went out to the two sinks.
-use Rattle.std.specs.Prelude.{◌≡◌, ◌<◌, ◌++◌, ℕ, List, [], ◌∷◌, option_map}
+use Rattle.std.specs.Prelude.{◌≡◌, ◌<◌, ◌++◌, ℕ, List, [], ◌∷◌, map, option_map}
+use Rattle.std.specs.Io.KnownBytes.{Appends}
+use Rattle.press_sink.specs.Sides.{Sides}
 use Rattle.press_sink.specs.declared.sheet.Delivery.{Delivery}
-use Rattle.press_sink.specs.declared.sheet.Sheet.{Sheet}
-use Rattle.press_sink.specs.Told.{SheetsTold, RepliesTold}
+use Rattle.press_sink.specs.Told.{Told}
 
 -- An output: a sheet to deliver, or the bytes of a reply.
 pub data Output : Type 0 where
-  Deliver : Sheet → Output
+  Deliver : Sides → Output
   Reply : List ℕ → Output
 
--- what both sinks tell
-pub record Told : Type 0 where
-  pub sheets : SheetsTold
-  pub replies : RepliesTold
-
--- the sheets among the outputs, in order, under a tag
-abbrev pub deliveries_of : ℕ → List Output → List Delivery
-deliveries_of tag [] = []
-deliveries_of tag (Deliver sheet ∷ outputs) = record { tag = tag; sheet = sheet } ∷ deliveries_of tag outputs
-deliveries_of tag (Reply bytes ∷ outputs) = deliveries_of tag outputs
+-- the sheets among the outputs, in order
+abbrev pub sheets_of : List Output → List Sides
+sheets_of [] = []
+sheets_of (Deliver sheet ∷ outputs) = sheet ∷ sheets_of outputs
+sheets_of (Reply bytes ∷ outputs) = sheets_of outputs
 
 -- the bytes of the replies among the outputs, joined
 abbrev pub reply_bytes_of : List Output → List ℕ
@@ -26,21 +22,37 @@ reply_bytes_of [] = []
 reply_bytes_of (Deliver sheet ∷ outputs) = reply_bytes_of outputs
 reply_bytes_of (Reply bytes ∷ outputs) = bytes ++ reply_bytes_of outputs
 
+-- sheets as they are delivered, under a tag
+abbrev pub under_tag : ℕ → List Sides → List Delivery
+under_tag tag sheets = map (λ (sheet : Sides). record { tag = tag; sheet = sheet }) sheets
+
+-- the sheets of deliveries, whatever their tags
+abbrev pub sheets_in : List Delivery → List Sides
+sheets_in deliveries = map (λ (delivery : Delivery). delivery.sheet) deliveries
+
+-- How outputs went out: all of them; up to a sheet at which the sheet sink had a fault; up to a reply in which the reply
+-- sink had one; up to where memory ran out.
+pub data Ending : Type 0 where
+  Whole : Ending
+  AtSheet : Ending
+  AtReply : Ending
+  ForMemory : Ending
+
 -- What the sinks tell after they took all these outputs: they are added in order, and no fault is.
 pub record TookAll (tag : ℕ) (outputs : List Output) (before after : Told) : Type 0 where
-  pub delivered : after.sheets.delivered ≡ option_map (λ all. all ++ deliveries_of tag outputs) before.sheets.delivered
-  pub replied : after.replies.replied ≡ option_map (λ all. all ++ reply_bytes_of outputs) before.replies.replied
+  pub delivered : after.sheets.delivered ≡ option_map (λ all. all ++ under_tag tag (sheets_of outputs)) before.sheets.delivered
+  pub replied : Appends before.replies.replied after.replies.replied (reply_bytes_of outputs)
   pub sheet_faults : after.sheets.faults ≡ before.sheets.faults
   pub reply_faults : after.replies.faults ≡ before.replies.faults
 
 -- They took the outputs before a sheet, and at that sheet the sheet sink had a fault.
 pub record StoppedAtSheet (tag : ℕ) (outputs : List Output) (before after : Told) : Type 0 where
   pub taken : List Output
-  pub sheet : Sheet
+  pub sheet : Sides
   pub others : List Output
   pub outputs_are : outputs ≡ taken ++ (Deliver sheet ∷ others)
-  pub delivered : after.sheets.delivered ≡ option_map (λ all. all ++ deliveries_of tag taken) before.sheets.delivered
-  pub replied : after.replies.replied ≡ option_map (λ all. all ++ reply_bytes_of taken) before.replies.replied
+  pub delivered : after.sheets.delivered ≡ option_map (λ all. all ++ under_tag tag (sheets_of taken)) before.sheets.delivered
+  pub replied : Appends before.replies.replied after.replies.replied (reply_bytes_of taken)
   pub fault : before.sheets.faults < after.sheets.faults
   pub reply_faults : after.replies.faults ≡ before.replies.faults
 
@@ -51,8 +63,8 @@ pub record StoppedAtReply (tag : ℕ) (outputs : List Output) (before after : To
   pub back : List ℕ
   pub others : List Output
   pub outputs_are : outputs ≡ taken ++ (Reply (front ++ back) ∷ others)
-  pub delivered : after.sheets.delivered ≡ option_map (λ all. all ++ deliveries_of tag taken) before.sheets.delivered
-  pub replied : after.replies.replied ≡ option_map (λ all. all ++ (reply_bytes_of taken ++ front)) before.replies.replied
+  pub delivered : after.sheets.delivered ≡ option_map (λ all. all ++ under_tag tag (sheets_of taken)) before.sheets.delivered
+  pub replied : Appends before.replies.replied after.replies.replied (reply_bytes_of taken ++ front)
   pub sheet_faults : after.sheets.faults ≡ before.sheets.faults
   pub fault : before.replies.faults < after.replies.faults
 
@@ -62,3 +74,10 @@ pub record StoppedForMemory (tag : ℕ) (outputs : List Output) (before after : 
   pub others : List Output
   pub outputs_are : outputs ≡ taken ++ others
   pub took : TookAll tag taken before after
+
+-- How far these outputs went out, by how they ended.
+abbrev pub WentOut : ℕ → List Output → Ending → Told → Told → Type 0
+WentOut tag outputs Whole before after = TookAll tag outputs before after
+WentOut tag outputs AtSheet before after = StoppedAtSheet tag outputs before after
+WentOut tag outputs AtReply before after = StoppedAtReply tag outputs before after
+WentOut tag outputs ForMemory before after = StoppedForMemory tag outputs before after

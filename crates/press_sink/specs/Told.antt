@@ -1,5 +1,6 @@
 -- What sinks tell of themselves: what they took, where they tell it, and how many faults they had.
 use Rattle.std.specs.Prelude.{◌≡◌, ◌<◌, ◌++◌, ℕ, List, [], ◌∷◌, Option, option_map, Result, Ok, Err}
+use Rattle.std.specs.Io.KnownBytes.{Appends, Keeps}
 use Rattle.press_sink.specs.declared.sheet.Delivery.{Delivery}
 use Rattle.press_sink.specs.declared.fault.SinkError.{SinkError}
 use Rattle.press_sink.specs.declared.fault.SinkError.TheVariants as sink_errors
@@ -16,9 +17,22 @@ pub record RepliesTold : Type 0 where
   pub replied : Option (List ℕ)
   pub faults : ℕ
 
+-- what both sinks tell
+pub record Told : Type 0 where
+  pub sheets : SheetsTold
+  pub replies : RepliesTold
+
+abbrev pub both : SheetsTold → RepliesTold → Told
+both sheets replies = record { sheets = sheets; replies = replies }
+
 -- the most faults that a sink can count
 abbrev pub most_faults : ℕ
 most_faults = 18446744073709551615
+
+-- Both sinks can count one more fault.
+pub record CanCount (told : Told) : Type 0 where
+  pub sheets : told.sheets.faults < most_faults
+  pub replies : told.replies.faults < most_faults
 
 -- A sheet is delivered: it is added, or the sink had a fault and nothing is added, or memory ran out and nothing changes.
 abbrev pub Delivers : SheetsTold → Delivery → Result (Unit {0}) SinkError → SheetsTold → Type 0
@@ -27,11 +41,10 @@ Delivers old delivery (Ok _) new =
 Delivers old delivery (Err sink_errors.SinkFault) new = (new.delivered ≡ old.delivered) × (old.faults < new.faults)
 Delivers old delivery (Err sink_errors.NoMemory) new = (new.delivered ≡ old.delivered) × (new.faults ≡ old.faults)
 
--- A reply is written: its bytes are added, or the sink had a fault and a front of them is added, or memory ran out and
--- nothing changes.
+-- A reply is written: known bytes grow by it, or the sink had a fault and they grow by a front of it, or memory ran out
+-- and they stay as they were.
 abbrev pub Replies : RepliesTold → List ℕ → Result (Unit {0}) ReplyError → RepliesTold → Type 0
-Replies old bytes (Ok _) new = (new.replied ≡ option_map (λ all. all ++ bytes) old.replied) × (new.faults ≡ old.faults)
+Replies old bytes (Ok _) new = Appends old.replied new.replied bytes × (new.faults ≡ old.faults)
 Replies old bytes (Err reply_errors.ReplyFault) new =
-    (front back : List ℕ) × (bytes ≡ front ++ back) × (new.replied ≡ option_map (λ all. all ++ front) old.replied)
-    × (old.faults < new.faults)
-Replies old bytes (Err reply_errors.NoMemory) new = (new.replied ≡ old.replied) × (new.faults ≡ old.faults)
+    (front back : List ℕ) × (bytes ≡ front ++ back) × Appends old.replied new.replied front × (old.faults < new.faults)
+Replies old bytes (Err reply_errors.NoMemory) new = Keeps old.replied new.replied × (new.faults ≡ old.faults)

@@ -7,7 +7,7 @@ mod list_sink;
 mod sheet;
 mod sink;
 
-pub use fault::{ReplyError, SinkError};
+pub use fault::{REPLY_FAULT, ReplyError, SINK_FAULT, SinkError};
 pub use list_replies::ListReplies;
 pub use list_sink::ListSink;
 pub use sheet::{Delivery, Sheet};

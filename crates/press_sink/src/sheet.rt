@@ -2,16 +2,31 @@ ghost use Rattle.std.specs.Prelude.{◌≡◌, IfOk};
 
 use press_bits::Bitmap;
 use std::alloc::AllocError;
+use std::marker::Model;
 
-/// A printed sheet: its front, and its back where it has one.
+/// A printed sheet: its front, and its back where it has one. Contracts see its pages alone.
 #[derive(Drop)]
 pub struct Sheet {
     pub front: Bitmap,
     pub back: Option<Bitmap>,
 }
 
+impl Model for Sheet {
+    ghost use Rattle.press_sink.specs.Sides.{Sides, sides_code};
+
+    ghost Value = { Sides };
+
+    ghost coded = { sides_code };
+
+    ghost view = { λ sheet. record { front = sheet.front; back = sheet.back } };
+}
+
 impl Sheet {
     /// An equal sheet, in memory of its own.
+    ///
+    /// # Errors
+    ///
+    /// Where memory ran out.
     pub fn copy(&self) -> Result<Sheet, AllocError>
         ensures { IfOk result (λ sheet. sheet ≡ self.now) }
     {
