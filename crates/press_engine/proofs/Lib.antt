@@ -1,3 +1,3 @@
-pub mod Folds
-pub mod Steps
+pub mod Runs
+pub mod SendsLemmas
 pub mod WorkedStreams

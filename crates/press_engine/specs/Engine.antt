@@ -1,35 +1,65 @@
 -- The engine as callers see it.
-use Rattle.std.specs.Prelude.{◌≡◌, ℕ, pos, ◌-ℤ◌, Option, Some, None, Result, MatchResult, if◌then◌else◌}
+use Rattle.std.specs.Prelude.{◌≡◌, ◌≢◌, ℕ, pos, Option, Some, None, List, [], Result, Ok, Err, OnOk, MatchResult, if◌then◌else◌}
 use Rattle.press_cmd.specs.Token.{Token}
-use Rattle.press_sink.specs.Sending.{Told}
+use Rattle.press_sink.specs.Told.{Told}
+use Rattle.press_sink.specs.Sending.{Output, Whole, AtSheet, AtReply, ForMemory, WentOut}
 use Rattle.press_engine.specs.declared.engine.Engine.{Engine}
 use Rattle.press_engine.specs.declared.fault.EngineError.{EngineError}
-use Rattle.press_engine.specs.declared.state.State.{State}
+use Rattle.press_engine.specs.declared.fault.EngineError.TheVariants as engine_errors
+use Rattle.press_engine.specs.declared.machine.Machine.{Machine}
 use Rattle.press_engine.specs.declared.view.View.{View}
-use Rattle.press_engine.specs.Sends.{Sends}
-use Rattle.press_engine.specs.Table.{run}
+use Rattle.press_engine.specs.Table.{Effect, Done, Closes, effect_on}
+use Rattle.press_engine.specs.Machine.{run}
 
--- the engine's state, and none where an earlier command had a fault
-abbrev pub live : Engine → Option State
-live engine = if engine.failed then None else Some engine.state
+-- the engine's machine, and none where an earlier command had a fault
+abbrev pub live : Engine → Option Machine
+live engine = if engine.failed then None else Some engine.machine
 
--- A command was handed to an engine in this state. Where all went well, the new state is the command's, and its outputs
--- went out; else the engine has failed, and the outputs went out as far as the answer says.
-pub record Carries (state : State) (command : Token) (tag : ℕ) (result : Result (Unit {0}) EngineError) (new : Option State) (before after : Told) : Type 0 where
-  pub left : MatchResult result (λ _. new ≡ Some (run command state).state) (λ _. new ≡ None)
-  pub sends : Sends tag (run command state).outputs result before after
+-- How far outputs went out, by what was answered.
+abbrev pub Sends : ℕ → List Output → Result (Unit {0}) EngineError → Told → Told → Type 0
+Sends tag outputs (Ok _) before after = WentOut tag outputs Whole before after
+Sends tag outputs (Err engine_errors.SinkFault) before after = WentOut tag outputs AtSheet before after
+Sends tag outputs (Err engine_errors.ReplyFault) before after = WentOut tag outputs AtReply before after
+Sends tag outputs (Err engine_errors.NoMemory) before after = WentOut tag outputs ForMemory before after
+Sends tag outputs (Err engine_errors.Failed) before after = ⊥
+
+-- A command was carried out. Where all went well, the new machine is the command's; and its outputs went out as far as the
+-- answer says.
+pub record Performs (machine : Machine) (command : Token) (tag : ℕ) (result : Result (Unit {0}) EngineError) (new : Machine) (before after : Told) : Type 0 where
+  pub left : OnOk result (new ≡ (run command machine).machine)
+  pub sends : Sends tag (run command machine).outputs result before after
+
+-- A command was handed to an engine with this machine. Where all went well, the new machine is the command's, and its
+-- outputs went out; else the engine has failed, and the outputs went out as far as the answer says.
+pub record Carries (machine : Machine) (command : Token) (tag : ℕ) (result : Result (Unit {0}) EngineError) (new : Option Machine) (before after : Told) : Type 0 where
+  pub left : MatchResult result (λ _. new ≡ Some (run command machine).machine) (λ _. new ≡ None)
+  pub sends : Sends tag (run command machine).outputs result before after
 
 -- the same for any engine: one that has failed changes nothing, and nothing goes out
-abbrev pub Runs : Option State → Token → ℕ → Result (Unit {0}) EngineError → Option State → Told → Told → Type 0
-Runs (Some state) command tag result new before after = Carries state command tag result new before after
+abbrev pub Runs : Option Machine → Token → ℕ → Result (Unit {0}) EngineError → Option Machine → Told → Told → Type 0
+Runs (Some machine) command tag result new before after = Carries machine command tag result new before after
 Runs None command tag result new before after = (new ≡ None) × (after ≡ before)
 
--- what can be seen of a state; y counts from the top margin
-abbrev pub view_of : State → View
-view_of state = record {
-  x = record { 0 = pos state.cursor.x };
-  y = record { 0 = pos state.cursor.down -ℤ pos state.environment.top_margin };
-  environment = state.environment;
-  rectangle = state.rectangle;
-  marked = state.marked;
+-- memory may be taken where the page closes or something goes out, and nowhere else
+abbrev pub TakesMemory : Effect → Type 0
+TakesMemory (Done outcome) = outcome.outputs ≢ []
+TakesMemory (Closes closer state) = Unit {0}
+
+-- the same for the command of an engine with this machine
+abbrev pub NeedsMemory : Option Machine → Token → Type 0
+NeedsMemory None command = ⊥
+NeedsMemory (Some machine) command = TakesMemory (effect_on command machine.state)
+
+-- What can be seen of a machine.
+abbrev pub view_of : Machine → View
+view_of machine = record {
+  step = machine.step;
+  depth = machine.depth;
+  last = machine.last;
+  x = record { 0 = pos machine.state.cursor.x };
+  y = record { 0 = machine.state.cursor.y };
+  sheets = machine.state.sheets;
+  environment = machine.state.environment;
+  margins = machine.state.margins;
+  marked = machine.state.marked;
 }

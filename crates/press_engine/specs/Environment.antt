@@ -1,17 +1,18 @@
--- The page environment.
-use Rattle.std.specs.Prelude.{ℕ, ◌+◌, ◌*◌, ◌/◌, min}
+-- The print environment.
 use Rattle.press_engine.specs.declared.environment.Environment.{Environment}
-use Rattle.press_engine.specs.Place.{logical_width, logical_length}
+use Rattle.press_engine.specs.declared.environment.Margins.{Margins}
+use Rattle.press_engine.specs.declared.rectangle.Rectangle.{Rectangle}
 
--- After power on, ESC E and a universal exit: 300 PCL units per inch, six lines per inch, the left margin at the left
--- edge of the logical page, the top margin half an inch below its upper edge
--- (PCL 5 Printer Language Technical Reference Manual, user default environment; this profile's factory values).
-abbrev pub power_on_environment : Environment
-power_on_environment = record { unit_of_measure = 300; vertical_motion = 1200; left_margin = 0; top_margin = 3600 }
+-- no rectangle
+abbrev pub no_rectangle : Rectangle
+no_rectangle = record { width = 0; height = 0 }
 
--- Home: at the left margin, three quarters of a line below the top margin, within the logical page.
-abbrev pub home_x : Environment → ℕ
-home_x environment = min environment.left_margin logical_width
+-- What a macro call restores, after power on, ESC E and a universal exit: 300 PCL units per inch, six lines per inch, one
+-- copy, no rectangle (PCL 5 Printer Language Technical Reference Manual, user default environment; this profile's
+-- factory values).
+abbrev pub default_environment : Environment
+default_environment = record { unit_of_measure = 300; vertical_motion = 1200; copies = 1; rectangle = no_rectangle }
 
-abbrev pub home_down : Environment → ℕ
-home_down environment = min (environment.top_margin + 3 * environment.vertical_motion / 4) logical_length
+-- The margins then: the left one at the left edge of the logical page, the top one half an inch below its upper edge.
+abbrev pub default_margins : Margins
+default_margins = record { left = 0; top = 3600 }

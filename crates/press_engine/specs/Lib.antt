@@ -1,11 +1,13 @@
-pub mod Answer
 pub mod Cursor
+pub mod CursorPosition
+pub mod Effects
 pub mod Engine
 pub mod Environment
+pub mod Machine
 pub mod Operation
+pub mod Outputs
 pub mod Place
 pub mod Rectangle
-pub mod Sends
 pub mod Table
 pub use Rattle.press_bits.specs.Mark
 pub use Rattle.press_bits.specs.Page

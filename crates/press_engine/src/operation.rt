@@ -1,5 +1,5 @@
 ghost use Rattle.std.specs.Prelude.{◌≡◌};
-ghost use Rattle.press_engine.specs.Operation.{operation_of, cursor_operation, rectangle_operation};
+ghost use Rattle.press_engine.specs.Operation.{operation_of, grouped_operation, row_at, star_p_rows, star_c_rows};
 
 use press_cmd::Kind;
 
@@ -32,22 +32,28 @@ pub fn operation_of(kind: Kind) -> Operation
         Kind::Escape(b'E') | Kind::Uel => Operation::Reset,
         Kind::Control(0x0C) => Operation::FormFeed,
         Kind::Param {
-            character: b'*',
-            group: Some(b'p'),
+            character,
+            group: Some(group),
             end,
-        } => cursor_operation(end),
-        Kind::Param {
-            character: b'*',
-            group: Some(b'c'),
-            end,
-        } => rectangle_operation(end),
+        } => grouped_operation(character, group, end),
         _ => Operation::Nothing,
     }
 }
 
-/// The rows of the sequences that begin `ESC*p`.
-fn cursor_operation(end: u8) -> Operation
-    ensures { result ≡ cursor_operation end }
+/// The rows of the sequences of a parameterized character, a group character and a termination character.
+fn grouped_operation(character: u8, group: u8, end: u8) -> Operation
+    ensures { result ≡ grouped_operation character group end }
+{
+    match (character, group) {
+        (b'*', b'p') => star_p_operation(end),
+        (b'*', b'c') => star_c_operation(end),
+        _ => Operation::Nothing,
+    }
+}
+
+/// `ESC*p#`.
+fn star_p_operation(end: u8) -> Operation
+    ensures { result ≡ row_at end star_p_rows }
 {
     match end {
         b'X' => Operation::MoveX,
@@ -56,9 +62,9 @@ fn cursor_operation(end: u8) -> Operation
     }
 }
 
-/// The rows of the sequences that begin `ESC*c`.
-fn rectangle_operation(end: u8) -> Operation
-    ensures { result ≡ rectangle_operation end }
+/// `ESC*c#`.
+fn star_c_operation(end: u8) -> Operation
+    ensures { result ≡ row_at end star_c_rows }
 {
     match end {
         b'A' => Operation::RectangleWidth,

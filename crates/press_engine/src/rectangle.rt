@@ -1,7 +1,7 @@
 ghost use Rattle.std.specs.Prelude.{◌≡◌};
 ghost use Rattle.press_engine.specs.Rectangle.{size_of, dots_up};
 
-use crate::place::POSITIONS_PER_DOT;
+use crate::place::DOT;
 use press_units::{Unit, Value, to_pos};
 
 /// The size of the rectangle that a fill paints, in positions (1/7200 inch).
@@ -26,5 +26,5 @@ pub fn size_of(value: Value, unit: Unit) -> Option<u32>
 pub fn dots_up(size: u32) -> u32
     ensures { result ≡ dots_up size }
 {
-    size.div_ceil(POSITIONS_PER_DOT)
+    size.div_ceil(DOT)
 }

@@ -1,23 +1,13 @@
-ghost use Rattle.std.specs.Prelude.{◌≡◌, ◌<◌, IfOk, [], ◌∷◌};
-ghost use Rattle.press_bits.specs.Page.{blank};
-ghost use Rattle.press_sink.specs.Told.{most_faults};
-ghost use Rattle.press_sink.specs.Sending.{Deliver};
-ghost use Rattle.press_engine.specs.Environment.{home_x, home_down};
-ghost use Rattle.press_engine.specs.Place.{page_width, page_height};
-ghost use Rattle.press_engine.specs.Sends.{SendsSheets};
-
-use crate::cursor::{Cursor, moved};
-use crate::environment::Environment;
-use crate::fault::EngineError;
+use crate::canvas::Canvas;
+use crate::cursor::{Cursor, LogicalPage};
+use crate::effect::{Closer, Effect, Finished, Sent};
+use crate::environment::{Environment, Margins};
 use crate::fill::fill_box;
 use crate::operation::{Operation, operation_of};
-use crate::place::{
-    LOGICAL_LENGTH, LOGICAL_WIDTH, PAGE_HEIGHT, PAGE_OFFSET, PAGE_WIDTH, POSITIONS_PER_DOT,
-};
-use crate::rectangle::{Rectangle, dots_up, size_of};
-use press_bits::{Bitmap, BlankError};
+use crate::place::{frame_column, frame_line, logical_page};
+use crate::rectangle::{dots_up, size_of};
 use press_cmd::{Command, kind};
-use press_sink::{Sheet, SheetSink, SinkError};
+use press_sink::Sheet;
 use press_units::{Value, to_pos};
 use std::alloc::{AllocError, Global};
 use std::mem;
@@ -26,36 +16,50 @@ use std::mem;
 #[derive(Drop)]
 pub struct State {
     pub environment: Environment,
+    pub margins: Margins,
     pub cursor: Cursor,
-    pub rectangle: Rectangle,
-    /// The page that is being printed.
-    pub page: Bitmap,
     /// Whether a mark was made on the page.
     pub marked: bool,
+    /// How many sheets went out, each copy counted; the greatest number stays.
+    pub sheets: u64,
+    /// The page that is being printed.
+    pub page: Canvas,
 }
 
 impl State {
-    ghost use Rattle.std.specs.Prelude.{◌≡◌, ◌<◌, IfOk};
-    ghost use Rattle.press_sink.specs.Told.{most_faults};
+    ghost use Rattle.std.specs.Prelude.{◌≡◌, IfOk, IsErr};
     ghost use Rattle.press_cmd.specs.View.{token};
-    ghost use Rattle.press_engine.specs.Table.{power_on_state, move_x, move_y, set_rectangle_width, set_rectangle_height, fill, close, close_if_marked, form_feed, reset, reset_fields, move_home_down, run};
-    ghost use Rattle.press_engine.specs.Answer.{PerformsSheets};
+    ghost use Rattle.press_engine.specs.Effects.{effect_of};
+    ghost use Rattle.press_engine.specs.Outputs.{outputs_of, finished_of};
+    ghost use Rattle.press_engine.specs.Place.{logical_page};
+    ghost use Rattle.press_engine.specs.Table.{power_on_state, move_x, move_y, set_rectangle_width, set_rectangle_height, fill, close, reset, reset_fields, to_first_line, ended, settle, effect_on, after_outputs, counted};
+    ghost use Rattle.press_engine.specs.Engine.{TakesMemory};
 
     /// The state after power on.
     pub fn power_on(alloc: Global) -> Result<Self, AllocError>
         ensures { IfOk result (λ state. state ≡ power_on_state) }
     {
-        let environment = Environment::power_on();
+        let environment = Environment::defaults();
+        let margins = Margins::defaults();
         Ok(State {
             environment,
-            cursor: home(&environment),
-            rectangle: Rectangle {
-                width: 0,
-                height: 0,
-            },
-            page: blank_page(alloc)?,
+            margins,
+            cursor: Cursor::at_home(
+                margins.left,
+                environment.vertical_motion,
+                logical_page(margins),
+            ),
             marked: false,
+            sheets: 0,
+            page: Canvas::blank(alloc)?,
         })
+    }
+
+    /// The logical page, with the top margin.
+    fn logical_page(&self) -> LogicalPage
+        ensures { result ≡ logical_page self.now.margins }
+    {
+        logical_page(self.margins)
     }
 
     /// `*p#X`: moves the cursor along the line.
@@ -63,7 +67,8 @@ impl State {
         ensures { self.new ≡ move_x value.tenthousandths value.signed self.old }
     {
         let distance = to_pos(value, self.environment.pcl_unit());
-        self.cursor.x = moved(self.cursor.x, 0, distance, value.signed, LOGICAL_WIDTH);
+        let page = self.logical_page();
+        self.cursor.move_x(distance, value.signed, page);
     }
 
     /// `*p#Y`: moves the cursor down or up.
@@ -71,14 +76,8 @@ impl State {
         ensures { self.new ≡ move_y value.tenthousandths value.signed self.old }
     {
         let distance = to_pos(value, self.environment.pcl_unit());
-        let top = self.environment.top_margin;
-        self.cursor.down = moved(
-            self.cursor.down,
-            top,
-            distance,
-            value.signed,
-            LOGICAL_LENGTH,
-        );
+        let page = self.logical_page();
+        self.cursor.move_y(distance, value.signed, page);
     }
 
     /// `*c#A`: the width of the rectangle.
@@ -86,7 +85,7 @@ impl State {
         ensures { self.new ≡ set_rectangle_width value.tenthousandths self.old }
     {
         if let Some(width) = size_of(value, self.environment.pcl_unit()) {
-            self.rectangle.width = width;
+            self.environment.rectangle.width = width;
         }
     }
 
@@ -95,7 +94,7 @@ impl State {
         ensures { self.new ≡ set_rectangle_height value.tenthousandths self.old }
     {
         if let Some(height) = size_of(value, self.environment.pcl_unit()) {
-            self.rectangle.height = height;
+            self.environment.rectangle.height = height;
         }
     }
 
@@ -106,159 +105,121 @@ impl State {
         if value.whole() != 0 {
             return;
         }
-        let width = dots_up(self.rectangle.width);
-        let height = dots_up(self.rectangle.height);
-        let x = PAGE_OFFSET + self.cursor.x / POSITIONS_PER_DOT;
-        let y = self.cursor.down / POSITIONS_PER_DOT;
-        fill_box(&mut self.page, x, y, width, height);
-        self.marked = self.marked || (width > 0 && height > 0);
+        let columns = dots_up(self.environment.rectangle.width);
+        let lines = dots_up(self.environment.rectangle.height);
+        let x = frame_column(&self.cursor);
+        let y = frame_line(&self.cursor, self.margins);
+        self.page.fill_box(x, y, columns, lines);
+        self.marked = self.marked || (columns > 0 && lines > 0);
     }
 
-    /// Closes the page: it is delivered as a sheet without back, and the next page is blank.
-    fn close<S: SheetSink>(
-        &mut self,
-        alloc: Global,
-        tag: u64,
-        sheets: &mut S,
-    ) -> Result<(), EngineError>
-        requires { (S.told sheets.old).faults < most_faults }
-        ensures { PerformsSheets result (close self.old) self.new tag (S.told sheets.old) (S.told sheets.new) }
+    /// Finishes a sheet: it goes out in the copies of now, and is counted in each.
+    fn finish(&mut self, sheet: Sheet) -> Finished
+        ensures state { self.new
+            ≡ record self.old { sheets = counted self.old.sheets self.old.environment.copies } }
+        ensures sheet { result.sheet ≡ sheet }
+        ensures copies { result.copies ≡ self.old.environment.copies }
     {
-        let blank = blank_page(alloc).map_err(|_| EngineError::NoMemory)?;
-        let sheet = Sheet {
-            front: mem::replace(&mut self.page, blank),
-            back: None,
-        };
+        let copies = self.environment.copies;
+        self.sheets = self.sheets.saturating_add(u64::from(copies));
+        Finished { sheet, copies }
+    }
+
+    /// Closes the page: it is a sheet without back, and the next page is blank.
+    fn close(&mut self, alloc: Global) -> Result<Option<Finished>, AllocError>
+        ensures { IfOk result (λ finished.
+            record { state = self.new; outputs = finished_of finished } ≡ close self.old) }
+    {
+        let blank = Canvas::blank(alloc)?;
+        let page = mem::replace(&mut self.page, blank);
         self.marked = false;
-        deliver(sheets, tag, &sheet)
+        Ok(Some(self.finish(Sheet {
+            front: page.bitmap,
+            back: None,
+        })))
     }
 
-    /// Closes the page if it is marked.
-    fn close_if_marked<S: SheetSink>(
-        &mut self,
-        alloc: Global,
-        tag: u64,
-        sheets: &mut S,
-    ) -> Result<(), EngineError>
-        requires { (S.told sheets.old).faults < most_faults }
-        ensures { PerformsSheets result (close_if_marked self.old) self.new tag (S.told sheets.old) (S.told sheets.new) }
+    /// Moves the cursor to the line of home.
+    fn move_to_first_line(&mut self)
+        ensures { self.new ≡ to_first_line self.old }
     {
-        if self.marked {
-            self.close(alloc, tag, sheets)
-        } else {
-            Ok(())
-        }
+        let page = self.logical_page();
+        self.cursor
+            .move_to_first_line(self.environment.vertical_motion, page);
     }
 
-    /// FF: closes the page, and moves the cursor to the first line.
-    fn form_feed<S: SheetSink>(
-        &mut self,
-        alloc: Global,
-        tag: u64,
-        sheets: &mut S,
-    ) -> Result<(), EngineError>
-        requires { (S.told sheets.old).faults < most_faults }
-        ensures { PerformsSheets result (form_feed self.old) self.new tag (S.told sheets.old) (S.told sheets.new) }
-    {
-        self.close(alloc, tag, sheets)?;
-        self.move_home_down();
-        Ok(())
-    }
-
-    /// Moves the cursor to the first line.
-    fn move_home_down(&mut self)
-        ensures { self.new ≡ move_home_down self.old }
-    {
-        let home = home(&self.environment);
-        self.cursor.down = home.down;
-    }
-
-    /// `ESC E` and the universal exit: closes a marked page, and then environment, cursor and rectangle are as after
-    /// power on.
-    fn reset<S: SheetSink>(
-        &mut self,
-        alloc: Global,
-        tag: u64,
-        sheets: &mut S,
-    ) -> Result<(), EngineError>
-        requires { (S.told sheets.old).faults < most_faults }
-        ensures { PerformsSheets result (reset self.old) self.new tag (S.told sheets.old) (S.told sheets.new) }
-    {
-        self.close_if_marked(alloc, tag, sheets)?;
-        self.reset_fields();
-        Ok(())
-    }
-
-    /// Environment, cursor and rectangle as after power on.
+    /// Environment, margins and cursor as after power on.
     fn reset_fields(&mut self)
         ensures { self.new ≡ reset_fields self.old }
     {
-        self.environment = Environment::power_on();
-        let home = home(&self.environment);
-        self.cursor = home;
-        self.rectangle = Rectangle {
-            width: 0,
-            height: 0,
-        };
+        self.environment = Environment::defaults();
+        self.margins = Margins::defaults();
+        self.cursor = Cursor::at_home(
+            self.margins.left,
+            self.environment.vertical_motion,
+            self.logical_page(),
+        );
     }
 
-    /// Carries one command out, as its row of the command table says.
-    pub fn run<S: SheetSink>(
-        &mut self,
-        alloc: Global,
-        command: Command<'_>,
-        tag: u64,
-        sheets: &mut S,
-    ) -> Result<(), EngineError>
-        requires { (S.told sheets.old).faults < most_faults }
-        ensures { PerformsSheets result (run (token command.entry) self.old) self.new tag (S.told sheets.old) (S.told sheets.new) }
+    /// What a command that closes the page does after the close that finished a sheet.
+    fn end(&mut self, closer: Closer, closed: Option<Finished>) -> Sent
+        ensures { record { state = self.new; outputs = outputs_of result }
+            ≡ after_outputs (finished_of closed) (ended closer self.old) }
+    {
+        match closer {
+            Closer::FormFeed => self.move_to_first_line(),
+            Closer::Reset => self.reset_fields(),
+        }
+        Sent::Sheets {
+            closed,
+            alone: None,
+        }
+    }
+
+    /// `ESC E` and the universal exit: a page without a mark does not close.
+    fn reset(&mut self) -> Effect
+        ensures { effect_of self.new result ≡ reset self.old }
+    {
+        if self.marked {
+            Effect::Closes(Closer::Reset)
+        } else {
+            Effect::Done(self.end(Closer::Reset, None))
+        }
+    }
+
+    /// The row of a command.
+    pub fn row(&mut self, command: Command<'_>) -> Effect
+        ensures { effect_of self.new result ≡ effect_on (token command.entry) self.old }
     {
         let value = command.value();
         match operation_of(kind(&command)) {
             Operation::Nothing => {}
-            Operation::Reset => return self.reset(alloc, tag, sheets),
-            Operation::FormFeed => return self.form_feed(alloc, tag, sheets),
+            Operation::Reset => return self.reset(),
+            Operation::FormFeed => return Effect::Closes(Closer::FormFeed),
             Operation::MoveX => self.move_x(value),
             Operation::MoveY => self.move_y(value),
             Operation::RectangleWidth => self.set_rectangle_width(value),
             Operation::RectangleHeight => self.set_rectangle_height(value),
             Operation::Fill => self.fill(value),
         }
-        Ok(())
+        Effect::Done(Sent::Sheets {
+            closed: None,
+            alone: None,
+        })
     }
-}
 
-/// The cursor at home: at the left margin, on the first line.
-fn home(environment: &Environment) -> Cursor
-    ensures x { result.x ≡ home_x environment.now }
-    ensures down { result.down ≡ home_down environment.now }
-{
-    let down = u64::from(environment.top_margin) + u64::from(environment.vertical_motion) * 3 / 4;
-    Cursor {
-        x: environment.left_margin.min(LOGICAL_WIDTH),
-        down: down.min(u64::from(LOGICAL_LENGTH)) as u32,
-    }
-}
-
-/// A blank page of the physical page's size.
-fn blank_page(alloc: Global) -> Result<Bitmap, AllocError>
-    ensures { IfOk result (λ page. page ≡ blank page_width page_height) }
-{
-    match Bitmap::blank(alloc, PAGE_WIDTH, PAGE_HEIGHT) {
-        Ok(page) => Ok(page),
-        Err(BlankError::NoMemory) => Err(AllocError),
-        Err(BlankError::BadSize) => unreachable!(),
-    }
-}
-
-/// Delivers a sheet.
-fn deliver<S: SheetSink>(sheets: &mut S, tag: u64, sheet: &Sheet) -> Result<(), EngineError>
-    requires { (S.told sheets.old).faults < most_faults }
-    ensures { SendsSheets tag (Deliver sheet.now ∷ []) result (S.told sheets.old) (S.told sheets.new) }
-{
-    match sheets.deliver(tag, sheet) {
-        Ok(()) => Ok(()),
-        Err(SinkError::SinkFault) => Err(EngineError::SinkFault),
-        Err(SinkError::NoMemory) => Err(EngineError::NoMemory),
+    /// What a row leaves: where it closes the page, the close and then what the closing command does after it.
+    pub fn settle(&mut self, alloc: Global, effect: Effect) -> Result<Sent, AllocError>
+        ensures settled { IfOk result (λ sent. record { state = self.new; outputs = outputs_of sent }
+            ≡ settle (effect_of self.old effect)) }
+        ensures memory { IsErr result → TakesMemory (effect_of self.old effect) }
+    {
+        match effect {
+            Effect::Done(sent) => Ok(sent),
+            Effect::Closes(closer) => {
+                let closed = self.close(alloc)?;
+                Ok(self.end(closer, closed))
+            }
+        }
     }
 }

@@ -1,0 +1,114 @@
+-- How far outputs go out, put together.
+use Rattle.std.proofs.Common.{◌≡◌, ◌≢◌, ◌∙◌, ◌<◌, ◌+◌, ◌-◌, ◌≤◌, suc, arith, ℕ, List, [], ◌∷◌, ◌++◌, Result, Ok, Err, refl, sym, ap, subst}
+use Rattle.std.proofs.KnownBytes.{Appends-nil}
+use Rattle.press_sink.specs.Sides.{Sides}
+use Rattle.press_sink.specs.declared.fault.SinkError.{SinkError}
+use Rattle.press_sink.specs.declared.fault.SinkError.TheVariants as sink_errors
+use Rattle.press_sink.specs.declared.fault.ReplyError.{ReplyError}
+use Rattle.press_sink.specs.declared.fault.ReplyError.TheVariants as reply_errors
+use Rattle.press_sink.specs.Told.{SheetsTold, RepliesTold, Told, both, most_faults, CanCount, Delivers, Replies}
+use Rattle.press_sink.specs.Sending.{Output, Deliver, Reply, AtSheet, AtReply, ForMemory, Whole, TookAll, StoppedAtSheet, StoppedAtReply}
+use Rattle.press_sink.proofs.SendingLemmas.{told-nothing, TookAll-none, WentOut-then, WentOut-stopped}
+use Rattle.press_engine.specs.declared.fault.EngineError.{EngineError}
+use Rattle.press_engine.specs.declared.fault.EngineError.TheVariants as engine_errors
+use Rattle.press_engine.specs.Engine.{Sends}
+use Rattle.press_engine.specs.Outputs.{copies_of}
+
+-- all of the outputs went out, and then others so far
+pub Sends-then : (tag : ℕ) (outputs others : List Output) (result : Result (Unit {0}) EngineError) (before between after : Told) → TookAll tag outputs before between → Sends tag others result between after → Sends tag (outputs ++ others) result before after
+Sends-then tag outputs others (Ok done) before between after first then = WentOut-then tag outputs others Whole before between after first then
+Sends-then tag outputs others (Err engine_errors.SinkFault) before between after first then = WentOut-then tag outputs others AtSheet before between after first then
+Sends-then tag outputs others (Err engine_errors.ReplyFault) before between after first then = WentOut-then tag outputs others AtReply before between after first then
+Sends-then tag outputs others (Err engine_errors.NoMemory) before between after first then = WentOut-then tag outputs others ForMemory before between after first then
+Sends-then tag outputs others (Err engine_errors.Failed) before between after first then = then
+
+-- outputs that did not all go out, and others behind them
+Sends-stopped : (tag : ℕ) (outputs others : List Output) (error : EngineError) (before after : Told) → Sends tag outputs (Err error) before after → Sends tag (outputs ++ others) (Err error) before after
+Sends-stopped tag outputs others engine_errors.SinkFault before after stopped = WentOut-stopped tag outputs others AtSheet before after (λ e. cc) stopped
+Sends-stopped tag outputs others engine_errors.ReplyFault before after stopped = WentOut-stopped tag outputs others AtReply before after (λ e. cc) stopped
+Sends-stopped tag outputs others engine_errors.NoMemory before after stopped = WentOut-stopped tag outputs others ForMemory before after (λ e. cc) stopped
+Sends-stopped tag outputs others engine_errors.Failed before after stopped = stopped
+
+-- a first part that stopped, and the exit that hands its error on
+pub Sends-exit : (tag : ℕ) (outputs others : List Output) (first result : Result (Unit {0}) EngineError) (error : EngineError) (before after : Told) → Sends tag outputs first before after → first ≡ Err error → result ≡ Err error → Sends tag (outputs ++ others) result before after
+Sends-exit tag outputs others first result error before after sends stops exits =
+    let P : Result (Unit {0}) EngineError → Type 0 = λ one. Sends tag outputs one before after in
+    let Q : Result (Unit {0}) EngineError → Type 0 = λ one. Sends tag (outputs ++ others) one before after in
+    subst Q (sym exits) (Sends-stopped tag outputs others error before after (subst P stops sends))
+
+-- a sheet sink that had a fault
+pub deliver-fault : (old new : SheetsTold) (tag : ℕ) (sheet : Sides) (result : Result (Unit {0}) SinkError) → Delivers old (record { tag = tag; sheet = sheet }) result new → result ≡ Err sink_errors.SinkFault → (replies : RepliesTold) → StoppedAtSheet tag (Deliver sheet ∷ []) (both old replies) (both new replies)
+deliver-fault old new tag sheet result delivers e replies =
+    let P : Result (Unit {0}) SinkError → Type 0 = λ answer. Delivers old (record { tag = tag; sheet = sheet }) answer new in
+    let stopped : (new.delivered ≡ old.delivered) × (old.faults < new.faults) = subst P e delivers in
+    record {
+      taken = [];
+      sheet = sheet;
+      others = [];
+      outputs_are = refl;
+      delivered = stopped.0 ∙ told-nothing old.delivered;
+      replied = Appends-nil replies.replied;
+      fault = stopped.1;
+      reply_faults = refl;
+    }
+
+-- a reply sink that had a fault
+pub reply-fault : (old new : RepliesTold) (tag : ℕ) (bytes : List ℕ) (result : Result (Unit {0}) ReplyError) → Replies old bytes result new → result ≡ Err reply_errors.ReplyFault → (sheets : SheetsTold) → StoppedAtReply tag (Reply bytes ∷ []) (both sheets old) (both sheets new)
+reply-fault old new tag bytes result replied e sheets =
+    let P : Result (Unit {0}) ReplyError → Type 0 = λ answer. Replies old bytes answer new in
+    let (front, back, parts, tells, fault) = subst P e replied in
+    record {
+      taken = [];
+      front = front;
+      back = back;
+      others = [];
+      outputs_are = ap (λ (all : List ℕ). Reply all ∷ []) parts;
+      delivered = told-nothing sheets.delivered;
+      replied = tells;
+      sheet_faults = refl;
+      fault = fault;
+    }
+
+-- after outputs that all went out, the sinks can count as before
+pub can_count-then : (tag : ℕ) (outputs : List Output) (before after : Told) → TookAll tag outputs before after → CanCount before → CanCount after
+can_count-then tag outputs before after took can = record {
+  sheets = subst (λ (n : ℕ). n < most_faults) (sym took.sheet_faults) can.sheets;
+  replies = subst (λ (n : ℕ). n < most_faults) (sym took.reply_faults) can.replies;
+}
+
+-- a copy went out, and then of the others so much
+pub Sends-copy : (sheet : Sides) (tag done copies : ℕ) (result : Result (Unit {0}) EngineError) (before between after : Told) → done < copies → TookAll tag (Deliver sheet ∷ []) before between → Sends tag (copies_of sheet (copies - (done + 1))) result between after → Sends tag (copies_of sheet (copies - done)) result before after
+Sends-copy sheet tag done copies result before between after below first then =
+    let e : copies - done ≡ suc (copies - (done + 1)) = omega arith in
+    let P : ℕ → Type 0 = λ n. Sends tag (copies_of sheet n) result before after in
+    subst P (sym e) (Sends-then tag (Deliver sheet ∷ []) (copies_of sheet (copies - (done + 1))) result before between after first then)
+
+-- a copy that did not go out
+pub Sends-stopped_copy : (sheet : Sides) (tag done copies : ℕ) (first result : Result (Unit {0}) EngineError) (error : EngineError) (before after : Told) → done < copies → Sends tag (Deliver sheet ∷ []) first before after → first ≡ Err error → result ≡ Err error → Sends tag (copies_of sheet (copies - done)) result before after
+Sends-stopped_copy sheet tag done copies first result error before after below sends stops exits =
+    let e : copies - done ≡ suc (copies - (done + 1)) = omega arith in
+    let P : ℕ → Type 0 = λ n. Sends tag (copies_of sheet n) result before after in
+    subst P (sym e) (Sends-exit tag (Deliver sheet ∷ []) (copies_of sheet (copies - (done + 1))) first result error before after sends stops exits)
+
+-- no copy is left
+pub Sends-no_copy : (sheet : Sides) (tag done copies : ℕ) (told : Told) → copies ≤ done → Sends tag (copies_of sheet (copies - done)) (Ok tt) told told
+Sends-no_copy sheet tag done copies told past =
+    let e : copies - done ≡ 0 = omega arith in
+    let P : ℕ → Type 0 = λ n. Sends tag (copies_of sheet n) (Ok tt) told told in
+    subst P (sym e) (TookAll-none tag told)
+
+-- where there is a copy, something goes out
+pub copies_of-some : (sheet : Sides) (done copies : ℕ) → done < copies → copies_of sheet copies ≢ []
+copies_of-some sheet done copies below =
+    let e : copies ≡ suc (copies - 1) = omega arith in
+    let P : ℕ → Type 0 = λ n. copies_of sheet n ≢ [] in
+    subst P (sym e) (λ (nothing : copies_of sheet (suc (copies - 1)) ≡ []). cc)
+
+-- where a part of the outputs is not empty, they are not
+pub some-before : (outputs others : List Output) → outputs ≢ [] → outputs ++ others ≢ []
+some-before [] others some nothing = some refl
+some-before (output ∷ outputs) others some nothing = cc
+
+pub some-behind : (outputs others : List Output) → others ≢ [] → outputs ++ others ≢ []
+some-behind [] others some nothing = some nothing
+some-behind (output ∷ outputs) others some nothing = cc
