@@ -1,114 +1,157 @@
 -- Commands that an engine carried out one after another.
-use Rattle.std.proofs.Common.{◌≡◌, ◌∙◌, ℕ, List, [], ◌∷◌, ◌++◌, Option, Some, None, true, Result, Ok, Err, IsSome, is_some, IfOk, OnOk, IfNone, refl, sym, ap, subst}
+use Rattle.std.proofs.Common.{◌≡◌, ◌∙◌, ◌<◌, ℕ, List, [], ◌∷◌, ◌++◌, Bool, true, false, Option, Some, None, Result, Ok, Err, IsSome, IfSome, IfOk, IfNone, OnOk, MatchBool, refl, sym, ap, subst}
+use Rattle.std.specs.declared.alloc.AllocError.{AllocError}
 use Rattle.std.proofs.lemmas.Bool.{false≢true}
-use Rattle.std.proofs.lemmas.List.{append_assoc, append-nil}
-use Rattle.press_cmd.specs.Mode.{Mode, Exit, Tail, Foreign, Pcl, Open}
-use Rattle.press_cmd.specs.Grammar.{scanned_in}
-use Rattle.press_cmd.specs.Split.{NoHead, ClosedFrom, closing_in}
-use Rattle.press_cmd.proofs.Heads.{head-some}
+use Rattle.press_cmd.specs.Split.{ClosedFrom, closing}
+use Rattle.press_cmd.specs.Token.{Token, Uel}
+use Rattle.press_cmd.proofs.Splits.{some_split}
+use Rattle.press_cmd.specs.View.{token}
+use Rattle.press_cmd.specs.declared.command.Command.{Command}
 use Rattle.press_scan.specs.Gives.{Passes, IsDone, Leaves}
 use Rattle.press_scan.specs.Held.{Held}
-use Rattle.press_cmd.specs.Token.{Token, Uel}
-use Rattle.press_cmd.specs.declared.command.Command.{Command}
-use Rattle.press_cmd.specs.View.{token}
-use Rattle.std.specs.declared.alloc.AllocError.{AllocError}
-use Rattle.press_sink.specs.Sending.{Told, TookAll}
-use Rattle.press_sink.proofs.SendingLemmas.{TookAll-none, TookAll-append}
+use Rattle.press_sink.specs.Told.{Told, CanCount, most_faults}
+use Rattle.press_sink.specs.Sending.{Ending, Whole, AtSheet, AtReply, ForMemory, WentOut}
+use Rattle.press_sink.proofs.SendingLemmas.{TookAll-none, WentOut-then, WentOut-stopped}
 use Rattle.press_engine.specs.declared.fault.EngineError.{EngineError}
-use Rattle.press_engine.specs.declared.state.State.{State}
+use Rattle.press_engine.specs.declared.fault.EngineError.TheVariants as engine_errors
+use Rattle.press_engine.specs.declared.machine.Machine.{Machine}
 use Rattle.press_engine.specs.Engine.{Runs}
-use Rattle.press_engine.specs.Table.{Outcome, run, run_all, after_outputs, power_on_state}
-use Rattle.press_engine.proofs.Folds.{run_all-none, run_all-append, run_all-push}
-use Rattle.press_main.specs.Printing.{Prints, Carried, CarriedOut}
+use Rattle.press_engine.specs.Machine.{Run, run, run_all}
+use Rattle.press_engine.proofs.Runs.{run_all-none, run_all-one, run_all-append}
+use Rattle.press_main.specs.declared.printing.RunError.{RunError}
+use Rattle.press_main.specs.Printing.{SplitsInto, StandsFor, Carried, CarriedOut, Finished, ended_by, ending_of}
 
 -- no command changes nothing
-pub Carried-none : (engine : Option State) (tag : ℕ) (told : Told) → IsSome engine → Carried [] tag engine engine told told
-Carried-none (Some state) tag told running = record {
-  from = state;
-  was = refl;
-  state = ap Some (ap (λ (outcome : Outcome). outcome.state) (sym (run_all-none state)));
-  took = rw (run_all-none state) (TookAll-none tag told);
-}
-Carried-none None tag told running = absurd (false≢true running)
-
--- one command
-run_all-one : (command : Token) (state : State) → run_all (command ∷ []) state ≡ run command state
-run_all-one command state = run_all-push [] command state ∙ ap (λ (outcome : Outcome). after_outputs outcome.outputs (run command outcome.state)) (run_all-none state)
-
-pub Carried-one : (command : Token) (old new : Option State) (tag : ℕ) (result : Result (Unit {0}) EngineError) (before after : Told) → IsSome old → Runs old command tag result new before after → result ≡ Ok tt → Carried (command ∷ []) tag old new before after
-Carried-one command (Some state) new tag (Ok done) before after running runs e = record {
-  from = state;
-  was = refl;
-  state = runs.left ∙ ap (λ (outcome : Outcome). Some outcome.state) (sym (run_all-one command state));
-  took = rw (run_all-one command state) runs.sends;
-}
-Carried-one command (Some state) new tag (Err error) before after running runs e = cc
-Carried-one command None new tag result before after running runs e = absurd (false≢true running)
-
--- an engine has one state
-same_state : (one other : State) (engine : Option State) → engine ≡ Some one → engine ≡ Some other → one ≡ other
-same_state one other engine p q = cc
-
--- commands, and then others
-pub Carried-append : (commands others : List Token) (old between new : Option State) (tag : ℕ) (before middle after : Told) → Carried commands tag old between before middle → Carried others tag between new middle after → Carried (commands ++ others) tag old new before after
-Carried-append commands others old between new tag before middle after first then =
-    let same : then.from ≡ (run_all commands first.from).state = same_state then.from (run_all commands first.from).state between then.was first.state in
-    let P : State → Type 0 = λ state. TookAll tag (run_all others state).outputs middle after in
+pub Carried-none : (machine : Machine) (engine : Option Machine) (tag : ℕ) (told : Told) → engine ≡ Some machine → Carried [] machine tag Whole engine told told
+Carried-none machine engine tag told is =
+    let P : Run → Type 0 = λ run. WentOut tag run.outputs Whole told told in
     record {
-      from = first.from;
-      was = first.was;
-      state = then.state ∙ ap (λ (state : State). Some (run_all others state).state) same ∙ ap (λ (outcome : Outcome). Some outcome.state) (sym (run_all-append commands others first.from));
-      took = rw (run_all-append commands others first.from) (TookAll-append tag (run_all commands first.from).outputs (run_all others (run_all commands first.from).state).outputs before middle after first.took (subst P same then.took));
+      left = λ e. is ∙ ap (λ (run : Run). Some run.machine) (sym (run_all-none machine));
+      went = subst P (sym (run_all-none machine)) (TookAll-none tag told);
     }
 
--- the front of no bytes is no bytes
-nil_front : (used left : List ℕ) → [] ≡ used ++ left → used ≡ []
-nil_front [] left e = refl
-nil_front (byte ∷ used) left e = cc
-
--- nothing stands for no command
-NoHead-none : (mode : Mode) → NoHead mode []
-NoHead-none mode used left command next e head = head-some mode used left command next head (nil_front used left e)
-
-closing_in-none : (mode : Mode) → closing_in mode [] ≡ []
-closing_in-none Exit = refl
-closing_in-none Tail = refl
-closing_in-none Foreign = refl
-closing_in-none Pcl = refl
-closing_in-none (Open character group) = refl
-
-pub nothing_left : (mode : Mode) → ClosedFrom mode [] []
-nothing_left mode = ([], mode, [], record { steps = (refl, refl); short = NoHead-none mode }, sym (closing_in-none (scanned_in mode [])))
-
--- how far a scanner's commands were carried out
-pub record Progress (initial now : Held) (tag : ℕ) (old new : Option State) (before after : Told) : Type 0 where
-  pub commands : List Token
-  pub ended : now.ended ≡ initial.ended
-  pub closes : initial.ended ≡ true → (more : List Token) → ClosedFrom now.mode now.bytes more → ClosedFrom initial.mode initial.bytes (commands ++ more)
-  pub carried : Carried commands tag old new before after
-
-pub Progress-start : (held : Held) (tag : ℕ) (engine : Option State) (told : Told) → IsSome engine → Progress held held tag engine engine told told
-Progress-start held tag engine told running = record { commands = []; ended = refl; closes = λ e more closed. closed; carried = Carried-none engine tag told running }
-
-pub Progress-more : (initial now next : Held) (tag : ℕ) (command : Token) (old between new : Option State) (before middle after : Told) → Progress initial now tag old between before middle → Passes now command next → Carried (command ∷ []) tag between new middle after → Progress initial next tag old new before after
-Progress-more initial now next tag command old between new before middle after far passes carried =
-    let P : List Token → Type 0 = λ all. ClosedFrom initial.mode initial.bytes all in
+-- commands that went out whole, and then others
+pub Carried-then : (commands others : List Token) (from : Machine) (tag : ℕ) (ending : Ending) (between new : Option Machine) (before middle after : Told) → Carried commands from tag Whole between before middle → Carried others (run_all commands from).machine tag ending new middle after → Carried (commands ++ others) from tag ending new before after
+Carried-then commands others from tag ending between new before middle after first then =
+    let joined = run_all-append commands others from in
+    let P : Run → Type 0 = λ run. WentOut tag run.outputs ending before after in
     record {
-      commands = far.commands ++ command ∷ [];
-      ended = passes.ended ∙ far.ended;
-      closes = λ e more closed. subst P (sym (append_assoc far.commands (command ∷ []) more)) (far.closes e (command ∷ more) (passes.closes (far.ended ∙ e) more closed));
-      carried = Carried-append far.commands (command ∷ []) old between new tag before middle after far.carried carried;
+      left = λ e. then.left e ∙ ap (λ (run : Run). Some run.machine) (sym joined);
+      went = subst P (sym joined) (WentOut-then tag (run_all commands from).outputs (run_all others (run_all commands from).machine).outputs ending before middle after first.went then.went);
     }
 
-pub Progress-end : (initial now : Held) (tag : ℕ) (old new : Option State) (before after : Told) → Progress initial now tag old new before after → IsDone now → CarriedOut initial tag old new before after
-Progress-end initial now tag old new before after far done = λ e.
-    let P : List ℕ → Type 0 = λ bytes. ClosedFrom now.mode bytes [] in
-    let Q : List Token → Type 0 = λ all. ClosedFrom initial.mode initial.bytes all in
-    (far.commands, subst Q (append-nil far.commands) (far.closes e [] (subst P (sym (done.nothing (far.ended ∙ e))) (nothing_left now.mode))), far.carried)
+-- commands of which not all went out, and others behind them
+pub Carried-stopped : (commands others : List Token) (from : Machine) (tag : ℕ) (ending : Ending) (new : Option Machine) (before after : Told) → (ending ≡ Whole → ⊥) → Carried commands from tag ending new before after → Carried (commands ++ others) from tag ending new before after
+Carried-stopped commands others from tag ending new before after stops stopped =
+    let joined = run_all-append commands others from in
+    let P : Run → Type 0 = λ run. WentOut tag run.outputs ending before after in
+    record {
+      left = λ e. absurd (stops e);
+      went = subst P (sym joined) (WentOut-stopped tag (run_all commands from).outputs (run_all others (run_all commands from).machine).outputs ending before after stops stopped.went);
+    }
 
--- an engine that carried commands out has not failed
-pub Progress-running : (initial now : Held) (tag : ℕ) (old new : Option State) (before after : Told) → Progress initial now tag old new before after → IsSome new
-Progress-running initial now tag old new before after far = ap is_some far.carried.state
+-- a scanner that is done holds no command
+pub StandsFor-none : (held : Held) → IsDone held → StandsFor held []
+StandsFor-none held done = stands held.ended refl where
+  stands : (ended : Bool) → held.ended ≡ ended → MatchBool ended (ClosedFrom held.mode held.bytes []) (SplitsInto held.mode held.bytes [])
+  stands true e = done.closed e
+  stands false e = (held.mode, held.bytes, record { steps = (refl, refl); short = done.short e })
+
+-- a command was given, and what is held now stands for others
+pub StandsFor-next : (held next : Held) (command : Token) (commands : List Token) → Passes held command next → StandsFor next commands → StandsFor held (command ∷ commands)
+StandsFor-next held next command commands passes stood =
+    let P : Bool → Type 0 = λ ended. MatchBool ended (ClosedFrom next.mode next.bytes commands) (SplitsInto next.mode next.bytes commands) in
+    stands held.ended refl (subst P passes.ended stood) where
+      stands : (ended : Bool) → held.ended ≡ ended → MatchBool ended (ClosedFrom next.mode next.bytes commands) (SplitsInto next.mode next.bytes commands) → MatchBool ended (ClosedFrom held.mode held.bytes (command ∷ commands)) (SplitsInto held.mode held.bytes (command ∷ commands))
+      stands true e closed = passes.closes e commands closed
+      stands false e split =
+          let (used, bytes_are, head) = passes.head e in
+          (split.0, split.1, record { steps = (used, next.bytes, next.mode, bytes_are, head, split.2.steps); short = split.2.short })
+
+-- what is held stands for some commands
+pub StandsFor-some : (held : Held) → (commands : List Token) × StandsFor held commands
+StandsFor-some held = stands held.ended where
+  stands : (ended : Bool) → (commands : List Token) × MatchBool ended (ClosedFrom held.mode held.bytes commands) (SplitsInto held.mode held.bytes commands)
+  stands true = let found = some_split held.mode held.bytes in (found.commands ++ closing found.mode found.rest, (found.commands, found.mode, found.rest, found.split, refl))
+  stands false = let found = some_split held.mode held.bytes in (found.commands, (found.mode, found.rest, found.split))
+
+-- how outputs ended, by what the engine answered
+abbrev pub engine_ending : Result (Unit {0}) EngineError → Ending
+engine_ending (Ok _) = Whole
+engine_ending (Err engine_errors.SinkFault) = AtSheet
+engine_ending (Err engine_errors.ReplyFault) = AtReply
+engine_ending (Err engine_errors.NoMemory) = ForMemory
+engine_ending (Err engine_errors.Failed) = Whole
+
+-- one command that was handed to an engine
+carried_by : (command : Token) (machine : Machine) (tag : ℕ) (ending : Ending) (new : Option Machine) (before after : Told) → (ending ≡ Whole → new ≡ Some (run command machine).machine) → WentOut tag (run command machine).outputs ending before after → Carried (command ∷ []) machine tag ending new before after
+carried_by command machine tag ending new before after left went =
+    let same = run_all-one command machine in
+    let P : Run → Type 0 = λ run. WentOut tag run.outputs ending before after in
+    record { left = λ e. left e ∙ ap (λ (run : Run). Some run.machine) (sym same); went = subst P (sym same) went }
+
+pub Carried-one : (command : Token) (old new : Option Machine) (tag : ℕ) (result answer : Result (Unit {0}) EngineError) (before after : Told) → result ≡ answer → Runs old command tag result new before after → IfSome old (λ machine. Carried (command ∷ []) machine tag (engine_ending answer) new before after)
+Carried-one command old new tag result answer before after e runs =
+    subst (λ (one : Result (Unit {0}) EngineError). IfSome old (λ machine. Carried (command ∷ []) machine tag (engine_ending one) new before after)) e (carried old result runs) where
+      carried : (old : Option Machine) (result : Result (Unit {0}) EngineError) → Runs old command tag result new before after → IfSome old (λ machine. Carried (command ∷ []) machine tag (engine_ending result) new before after)
+      carried None result runs = tt
+      carried (Some machine) (Ok done) runs = carried_by command machine tag Whole new before after (λ _. runs.left) runs.sends
+      carried (Some machine) (Err engine_errors.SinkFault) runs = carried_by command machine tag AtSheet new before after (λ e. cc) runs.sends
+      carried (Some machine) (Err engine_errors.ReplyFault) runs = carried_by command machine tag AtReply new before after (λ e. cc) runs.sends
+      carried (Some machine) (Err engine_errors.NoMemory) runs = carried_by command machine tag ForMemory new before after (λ e. cc) runs.sends
+      carried (Some machine) (Err engine_errors.Failed) runs = absurd runs.sends
+
+-- the machine of an engine that has one
+pub at_some : {X : Type 0} (engine : Option X) (P : X → Type 0) (value : X) → engine ≡ Some value → IfSome engine P → P value
+at_some engine P value e h = subst (λ one. IfSome one P) e h
+
+pub if_some : {X : Type 0} (engine : Option X) (P : X → Type 0) → ((value : X) → engine ≡ Some value → P value) → IfSome engine P
+if_some (Some value) P h = h value refl
+if_some None P h = tt
+
+-- an engine that runs has a machine
+pub some_of : {X : Type 0} (engine : Option X) → IsSome engine → (value : X) × (engine ≡ Some value)
+some_of (Some value) some = (value, refl)
+some_of None some = absurd (false≢true some)
+
+-- what is left of a run: from this machine, whatever is carried out of what a scanner holds now is carried out of what it
+-- held at first
+abbrev pub GoesOn : (first now : Held) (from machine : Machine) (tag : ℕ) (before told : Told) → Type 0
+GoesOn first now from machine tag before told =
+    (ending : Ending) (new : Option Machine) (after : Told) → CarriedOut now machine tag ending new told after → CarriedOut first from tag ending new before after
+
+-- the first command of what a scanner holds, and then the others
+pub CarriedOut-next : (held next : Held) (command : Token) (from : Machine) (tag : ℕ) (between : Option Machine) (before middle : Told) → Passes held command next → Carried (command ∷ []) from tag Whole between before middle → GoesOn held next from (run_all (command ∷ []) from).machine tag before middle
+CarriedOut-next held next command from tag between before middle passes first ending new after out = record {
+  commands = command ∷ out.commands;
+  stands = StandsFor-next held next command out.commands passes out.stands;
+  carried = Carried-then (command ∷ []) out.commands from tag ending between new before middle after first out.carried;
+}
+
+-- the first command of what a scanner holds, where it stopped
+pub CarriedOut-stopped : (held next : Held) (command : Token) (from : Machine) (tag : ℕ) (ending : Ending) (new : Option Machine) (before after : Told) → Passes held command next → (ending ≡ Whole → ⊥) → Carried (command ∷ []) from tag ending new before after → CarriedOut held from tag ending new before after
+CarriedOut-stopped held next command from tag ending new before after passes stops carried =
+    let others = StandsFor-some next in
+    record {
+      commands = command ∷ others.0;
+      stands = StandsFor-next held next command others.0 passes others.1;
+      carried = Carried-stopped (command ∷ []) others.0 from tag ending new before after stops carried;
+    }
+
+-- nothing is left
+pub CarriedOut-none : (held : Held) (from : Machine) (tag : ℕ) (engine : Option Machine) (told : Told) → IsDone held → engine ≡ Some from → CarriedOut held from tag Whole engine told told
+CarriedOut-none held from tag engine told done is = record {
+  commands = [];
+  stands = StandsFor-none held done;
+  carried = Carried-none from engine tag told is;
+}
+
+-- where all went out, the sinks can count as before
+pub can_count-then : (commands : List Token) (from : Machine) (tag : ℕ) (new : Option Machine) (before after : Told) → Carried commands from tag Whole new before after → CanCount before → CanCount after
+can_count-then commands from tag new before after carried can = record {
+  sheets = subst (λ (n : ℕ). n < most_faults) (sym carried.went.sheet_faults) can.sheets;
+  replies = subst (λ (n : ℕ). n < most_faults) (sym carried.went.reply_faults) can.replies;
+}
 
 -- what a scanner's answers say
 pub leaves_some : (old new : Held) (result : Result (Option Command) AllocError) (answer : Option Command) (command : Command) → Leaves old result new → result ≡ Ok answer → answer ≡ Some command → Passes old (token command) new
@@ -126,21 +169,32 @@ at_ok {X} {E} P result value h p =
     let Q : Result X E → Type 0 = λ one. OnOk one P in
     subst Q p h
 
--- a stream that was carried out, and one more universal exit, was printed
-pub Prints-from : (held : Held) (tag : ℕ) (old between new : Option State) (before middle after : Told) → held.mode ≡ Exit → held.ended ≡ true → old ≡ Some power_on_state → CarriedOut held tag old between before middle → Carried (Uel ∷ []) tag between new middle after → Prints held.bytes tag new before after
-Prints-from held tag old between new before middle after from_exit ended power_on out exit =
-    let done = out ended in
-    let all : Carried (done.0 ++ Uel ∷ []) tag old new before after = Carried-append done.0 (Uel ∷ []) old between new tag before middle after done.2 exit in
-    let same : all.from ≡ power_on_state = same_state all.from power_on_state old all.was power_on in
-    let P : Mode → Type 0 = λ mode. ClosedFrom mode held.bytes done.0 in
-    let Q : State → Type 0 = λ state. TookAll tag (run_all (done.0 ++ Uel ∷ []) state).outputs before after in
-    record {
-      commands = done.0;
-      closed = subst P from_exit done.1;
-      state = all.state ∙ ap (λ (state : State). Some (run_all (done.0 ++ Uel ∷ []) state).state) same;
-      took = subst Q same all.took;
-    }
+-- an engine has one machine
+pub same_machine : {X : Type 0} (engine : Option X) (one other : X) → engine ≡ Some one → engine ≡ Some other → one ≡ other
+same_machine engine one other p q = cc
 
-pub on_ok-then : {X E : Type 0} (P Q : Type 0) (result : Result X E) → (P → Q) → OnOk result P → OnOk result Q
-on_ok-then P Q (Ok value) then h = then h
-on_ok-then P Q (Err error) then h = h
+-- nothing was carried out yet
+pub GoesOn-start : (held : Held) (engine : Option Machine) (machine : Machine) (tag : ℕ) (told : Told) → engine ≡ Some machine → (from : Machine) → engine ≡ Some from → GoesOn held held from machine tag told told
+GoesOn-start held engine machine tag told is from e = λ ending new after out.
+    subst (λ one. CarriedOut held one tag ending new told after) (same_machine engine machine from is e) out
+
+-- an exit hands an error on
+pub same_ending : {X Y : Type 0} (first : Result X RunError) (result : Result Y RunError) (error one : RunError) → first ≡ Err one → result ≡ Err error → error ≡ one → ended_by first ≡ ended_by result
+same_ending {X} {Y} first result error one p q e =
+    ap (λ (answer : Result X RunError). ended_by answer) p ∙ ap ending_of (sym e) ∙ sym (ap (λ (answer : Result Y RunError). ended_by answer) q)
+
+-- what a scanner held was carried out after the end of input, and then one more universal exit
+pub Finished-then : (held : Held) (from : Machine) (tag : ℕ) (ending : Ending) (between new : Option Machine) (before middle after : Told) → CarriedOut (record held { ended = true }) from tag Whole between before middle → ((machine : Machine) → between ≡ Some machine → Carried (Uel ∷ []) machine tag ending new middle after) → Finished held.mode held.bytes from tag ending new before after
+Finished-then held from tag ending between new before middle after out exit = record {
+  commands = out.commands;
+  closed = out.stands;
+  carried = Carried-then out.commands (Uel ∷ []) from tag ending between new before middle after out.carried (exit (run_all out.commands from).machine (out.carried.left refl));
+}
+
+-- what a scanner held was not all carried out
+pub Finished-stopped : (held : Held) (from : Machine) (tag : ℕ) (ending : Ending) (new : Option Machine) (before after : Told) → (ending ≡ Whole → ⊥) → CarriedOut (record held { ended = true }) from tag ending new before after → Finished held.mode held.bytes from tag ending new before after
+Finished-stopped held from tag ending new before after stops out = record {
+  commands = out.commands;
+  closed = out.stands;
+  carried = Carried-stopped out.commands (Uel ∷ []) from tag ending new before after stops out.carried;
+}

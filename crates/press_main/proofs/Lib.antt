@@ -1,3 +1,3 @@
 pub mod Carrying
-pub mod Known
 pub mod Lines
+pub mod PrintedLemmas

@@ -1,55 +1,72 @@
 -- Lines of sheets, one sheet after another.
-use Rattle.std.proofs.Common.{◌≡◌, ◌∙◌, ◌<◌, ℕ, ◌+◌, List, [], ◌∷◌, ◌++◌, length, take, get_or, Option, Some, None, option_map, Result, Ok, Err, is_err, IfOk, IfSome, OnOk, false, sym, ap, subst, arith, suc}
+use Rattle.std.proofs.Common.{◌≡◌, ◌∙◌, ◌<◌, ℕ, ◌+◌, List, [], ◌∷◌, ◌++◌, length, take, get_or, Option, Some, None, option_map, Result, Ok, Err, is_err, IfSome, OnOk, false, refl, sym, ap, subst, arith, suc}
 use Rattle.std.specs.Io.KnownBytes.{Appends}
-use Rattle.std.proofs.lemmas.List.{append_assoc, append-nil, take_more, length-take}
-use Rattle.press_sink.specs.declared.sheet.Delivery.{Delivery}
-use Rattle.press_main.specs.Listing.{sheet_lines, lines_from, Lists}
-use Rattle.press_main.specs.Printing.{Prints, meaning_of}
-use Rattle.press_main.specs.declared.printing.RunError.{RunError}
-use Rattle.press_sink.specs.Sending.{Told, deliveries_of, reply_bytes_of}
-use Rattle.press_engine.specs.declared.engine.Engine.{Engine}
-use Rattle.press_engine.specs.Engine.{live}
+use Rattle.std.proofs.lemmas.List.{append_assoc, append-nil, take_more, length-take, map-append}
 use Rattle.std.proofs.lemmas.Bool.{true≢false}
+use Rattle.press_cmd.specs.Split.{Closed}
+use Rattle.press_sink.specs.Sides.{Sides}
+use Rattle.press_sink.specs.declared.sheet.Delivery.{Delivery}
+use Rattle.press_sink.specs.Told.{Told}
+use Rattle.press_sink.specs.Sending.{sheets_of, sheets_in, under_tag, reply_bytes_of}
+use Rattle.press_engine.specs.declared.engine.Engine.{Engine}
+use Rattle.press_main.specs.declared.printing.RunError.{RunError}
+use Rattle.press_main.specs.Listing.{sheet_lines, lines_from, Lists}
+use Rattle.press_main.specs.Printing.{Reads, Printed, machine_of, fault_of, meaning_of, at_end}
 
 -- one sheet more
-lines_from-push : (number : ℕ) (deliveries : List Delivery) (delivery : Delivery) → lines_from number (deliveries ++ delivery ∷ []) ≡ lines_from number deliveries ++ sheet_lines (number + length deliveries) delivery.sheet
-lines_from-push number [] delivery =
+lines_from-push : (number : ℕ) (sheets : List Sides) (sheet : Sides) → lines_from number (sheets ++ sheet ∷ []) ≡ lines_from number sheets ++ sheet_lines (number + length sheets) sheet
+lines_from-push number [] sheet =
     let same : number ≡ number + 0 = omega arith in
-    append-nil (sheet_lines number delivery.sheet) ∙ ap (λ (n : ℕ). sheet_lines n delivery.sheet) same
-lines_from-push number (first ∷ deliveries) delivery =
-    let same : number + 1 + length deliveries ≡ number + suc (length deliveries) = omega arith in
-    ap (λ rest. sheet_lines number first.sheet ++ rest) (lines_from-push (number + 1) deliveries delivery ∙ ap (λ (n : ℕ). lines_from (number + 1) deliveries ++ sheet_lines n delivery.sheet) same)
-    ∙ sym (append_assoc (sheet_lines number first.sheet) (lines_from (number + 1) deliveries) (sheet_lines (number + suc (length deliveries)) delivery.sheet))
+    append-nil (sheet_lines number sheet) ∙ ap (λ (n : ℕ). sheet_lines n sheet) same
+lines_from-push number (first ∷ sheets) sheet =
+    let same : number + 1 + length sheets ≡ number + suc (length sheets) = omega arith in
+    ap (λ rest. sheet_lines number first ++ rest) (lines_from-push (number + 1) sheets sheet ∙ ap (λ (n : ℕ). lines_from (number + 1) sheets ++ sheet_lines n sheet) same)
+    ∙ sym (append_assoc (sheet_lines number first) (lines_from (number + 1) sheets) (sheet_lines (number + suc (length sheets)) sheet))
 
--- the front of a list of sheets, one sheet longer
-pub lines_from-more : (deliveries : List Delivery) (i : ℕ) (delivery : Delivery) → i < length deliveries → delivery ≡ get_or deliveries i delivery → lines_from 1 (take (i + 1) deliveries) ≡ lines_from 1 (take i deliveries) ++ sheet_lines (i + 1) delivery.sheet
+length-sheets_in : (deliveries : List Delivery) → length (sheets_in deliveries) ≡ length deliveries
+length-sheets_in [] = refl
+length-sheets_in (delivery ∷ deliveries) = ap suc (length-sheets_in deliveries)
+
+-- the front of a list of deliveries, one longer
+pub lines_from-more : (deliveries : List Delivery) (i : ℕ) (delivery : Delivery) → i < length deliveries → delivery ≡ get_or deliveries i delivery → lines_from 1 (sheets_in (take (i + 1) deliveries)) ≡ lines_from 1 (sheets_in (take i deliveries)) ++ sheet_lines (i + 1) delivery.sheet
 lines_from-more deliveries i delivery inside is =
-    let place : 1 + length (take i deliveries) ≡ i + 1 = simp length-take (omega arith) in
-    ap (lines_from 1) (take_more deliveries i delivery inside ∙ ap (λ (one : Delivery). take i deliveries ++ one ∷ []) (sym is))
-    ∙ lines_from-push 1 (take i deliveries) delivery
-    ∙ ap (λ (n : ℕ). lines_from 1 (take i deliveries) ++ sheet_lines n delivery.sheet) place
+    let front = take i deliveries in
+    let place : 1 + length (sheets_in front) ≡ i + 1 = rw (length-sheets_in front) (simp length-take (omega arith)) in
+    ap (λ (all : List Delivery). lines_from 1 (sheets_in all)) (take_more deliveries i delivery inside ∙ ap (λ (one : Delivery). front ++ one ∷ []) (sym is))
+    ∙ ap (lines_from 1) (map-append (λ (one : Delivery). one.sheet) front (delivery ∷ []))
+    ∙ lines_from-push 1 (sheets_in front) delivery.sheet
+    ∙ ap (λ (n : ℕ). lines_from 1 (sheets_in front) ++ sheet_lines n delivery.sheet) place
 
--- bytes that are appended twice
-pub Appends-append : (old between new : Option (List ℕ)) (bytes more : List ℕ) → Appends old between bytes → Appends between new more → Appends old new (bytes ++ more)
-Appends-append None between new bytes more p q = tt
-Appends-append (Some xs) (Some ys) (Some zs) bytes more p q = q ∙ ap (λ front. front ++ more) p ∙ append_assoc xs bytes more
-Appends-append (Some xs) (Some ys) None bytes more p q = q
-Appends-append (Some xs) None new bytes more p q = absurd p
+sheets_in-tagged : (tag : ℕ) (sheets : List Sides) → sheets_in (under_tag tag sheets) ≡ sheets
+sheets_in-tagged tag [] = refl
+sheets_in-tagged tag (sheet ∷ sheets) = ap (λ (all : List Sides). sheet ∷ all) (sheets_in-tagged tag sheets)
 
 -- the list that was told
 same_list : {X : Type 0} (one other : List X) → Some one ≡ Some other → one ≡ other
 same_list one other e = cc
 
+-- a reader that had no fault was read to its end
+read_all : (bytes : List ℕ) (left : Option (List ℕ)) (read : List ℕ) → Reads (Some bytes) left None read → read ≡ bytes
+read_all bytes None read reads = absurd reads.lost
+read_all bytes (Some rest) read reads = sym (reads.lost ∙ ap (λ last. (read ++ reads.more) ++ last) reads.behind.1 ∙ append-nil (read ++ reads.more) ∙ ap (λ more. read ++ more) reads.behind.0 ∙ append-nil read)
+
 -- what list sinks took of a stream that was printed is listed
-pub lists-printed : (printed : Result Engine RunError) (known old new : Option (List ℕ)) (before after : Told) (sheets : List Delivery) (replies : List ℕ) → before.sheets.delivered ≡ Some [] → before.replies.replied ≡ Some [] → after.sheets.delivered ≡ Some sheets → after.replies.replied ≡ Some replies → IfOk printed (λ engine. IfSome known (λ bytes. Prints bytes 0 (live engine) before after)) → is_err printed ≡ false → Appends old new (lines_from 1 sheets ++ replies) → IfSome known (λ bytes. Lists bytes old new)
-lists-printed (Ok engine) None old new before after sheets replies p q r s prints no_fault appends = tt
-lists-printed (Ok engine) (Some bytes) old new before after sheets replies p q r s prints no_fault appends =
-    let outputs = (meaning_of prints.commands).outputs in
-    let all_sheets : sheets ≡ deliveries_of 0 outputs = same_list sheets (deliveries_of 0 outputs) (sym r ∙ prints.took.delivered ∙ ap (λ told. option_map (λ all. all ++ deliveries_of 0 outputs) told) p) in
-    let all_replies : replies ≡ reply_bytes_of outputs = same_list replies (reply_bytes_of outputs) (sym s ∙ prints.took.replied ∙ ap (λ told. option_map (λ all. all ++ reply_bytes_of outputs) told) q) in
-    let P : List ℕ → Type 0 = λ lines. Appends old new lines in
-    (prints.commands, prints.closed, subst P (ap (λ (all : List Delivery). lines_from 1 all ++ replies) all_sheets ∙ ap (λ (all : List ℕ). lines_from 1 (deliveries_of 0 outputs) ++ all) all_replies) appends)
-lists-printed (Err error) known old new before after sheets replies p q r s prints no_fault appends = absurd (true≢false no_fault)
+pub lists-printed : (printed : Result Engine RunError) (known left old new : Option (List ℕ)) (tag : ℕ) (before after : Told) (deliveries : List Delivery) (replies : List ℕ) → before.sheets.delivered ≡ Some [] → before.replies.replied ≡ Some [] → after.sheets.delivered ≡ Some deliveries → after.replies.replied ≡ Some replies → Printed known left tag (fault_of printed) (machine_of printed) before after → is_err printed ≡ false → Appends old new (lines_from 1 (sheets_in deliveries) ++ replies) → IfSome known (λ bytes. Lists bytes old new)
+lists-printed (Ok engine) None left old new tag before after deliveries replies p q r s prints no_fault appends = tt
+lists-printed (Ok engine) (Some bytes) left old new tag before after deliveries replies p q r s prints no_fault appends =
+    let commands = prints.printed.commands in
+    let went = prints.printed.carried.went in
+    let outputs = (meaning_of (at_end commands)).outputs in
+    let sheets = sheets_of outputs in
+    let told : deliveries ≡ under_tag tag sheets = same_list deliveries (under_tag tag sheets) (sym r ∙ went.delivered ∙ ap (λ one. option_map (λ all. all ++ under_tag tag sheets) one) p) in
+    let all_sheets : sheets_in deliveries ≡ sheets = ap sheets_in told ∙ sheets_in-tagged tag sheets in
+    let P : Option (List ℕ) → Type 0 = λ one. Appends one (Some replies) (reply_bytes_of outputs) in
+    let Q : Option (List ℕ) → Type 0 = λ one. Appends before.replies.replied one (reply_bytes_of outputs) in
+    let all_replies : replies ≡ reply_bytes_of outputs = subst P q (subst Q s went.replied) in
+    let R : List ℕ → Type 0 = λ lines. Appends old new lines in
+    let S : List ℕ → Type 0 = λ all. Closed all commands in
+    (commands, subst S (read_all bytes left prints.bytes prints.read) prints.printed.closed, subst R (ap (λ (all : List Sides). lines_from 1 all ++ replies) all_sheets ∙ ap (λ (all : List ℕ). lines_from 1 sheets ++ all) all_replies) appends)
+lists-printed (Err error) known left old new tag before after deliveries replies p q r s prints no_fault appends = absurd (true≢false no_fault)
 
 -- a listing that had no fault
 pub at_no_fault : {X E : Type 0} (P : Type 0) (result : Result X E) → OnOk result P → is_err result ≡ false → P

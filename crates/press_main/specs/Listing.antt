@@ -5,10 +5,9 @@ use Rattle.std.specs.Io.KnownBytes.{Appends}
 use Rattle.press_bits.specs.Page.{Page, count_black}
 use Rattle.press_cmd.specs.Token.{Token}
 use Rattle.press_cmd.specs.Split.{Closed}
-use Rattle.press_sink.specs.declared.sheet.Delivery.{Delivery}
-use Rattle.press_sink.specs.declared.sheet.Sheet.{Sheet}
-use Rattle.press_sink.specs.Sending.{Output, deliveries_of, reply_bytes_of}
-use Rattle.press_main.specs.Printing.{meaning_of}
+use Rattle.press_sink.specs.Sides.{Sides}
+use Rattle.press_sink.specs.Sending.{Output, sheets_of, reply_bytes_of}
+use Rattle.press_main.specs.Printing.{meaning_of, at_end}
 
 -- The line of a side: the number of its sheet, which side it is, width and height in dots, and how many dots are black.
 unfoldable pub side_line : ℕ → List ℕ → Page → List ℕ
@@ -22,18 +21,18 @@ back_line number None = []
 back_line number (Some back) = side_line number (codes "back") back
 
 -- the lines of a sheet: its front, and its back where it has one
-abbrev pub sheet_lines : ℕ → Sheet → List ℕ
+abbrev pub sheet_lines : ℕ → Sides → List ℕ
 sheet_lines number sheet = side_line number (codes "front") sheet.front ++ back_line number sheet.back
 
 -- the lines of sheets in their order, the first of which has this number
-abbrev pub lines_from : ℕ → List Delivery → List ℕ
+abbrev pub lines_from : ℕ → List Sides → List ℕ
 lines_from number [] = []
-lines_from number (delivery ∷ deliveries) = sheet_lines number delivery.sheet ++ lines_from (number + 1) deliveries
+lines_from number (sheet ∷ sheets) = sheet_lines number sheet ++ lines_from (number + 1) sheets
 
 -- The listing of outputs: the lines of their sheets, numbered from 1, and then the bytes of their replies.
 abbrev pub listing_of : List Output → List ℕ
-listing_of outputs = lines_from 1 (deliveries_of 0 outputs) ++ reply_bytes_of outputs
+listing_of outputs = lines_from 1 (sheets_of outputs) ++ reply_bytes_of outputs
 
 -- Where a writer's bytes are known: it wrote the listing of the meaning of a stream of these bytes, and nothing else.
 abbrev pub Lists : List ℕ → Option (List ℕ) → Option (List ℕ) → Type 0
-Lists bytes old new = (commands : List Token) × Closed bytes commands × Appends old new (listing_of (meaning_of commands).outputs)
+Lists bytes old new = (commands : List Token) × Closed bytes commands × Appends old new (listing_of (meaning_of (at_end commands)).outputs)

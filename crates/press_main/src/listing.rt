@@ -1,6 +1,7 @@
 ghost use Rattle.std.specs.Prelude.{◌≡◌, ◌≤◌, ◌++◌, IfSome, OnOk};
 ghost use Rattle.std.specs.Io.KnownBytes.{Appends};
 ghost use Rattle.press_main.specs.Listing.{side_line, sheet_lines, lines_from, Lists};
+ghost use Rattle.press_sink.specs.Sending.{sheets_in};
 
 use crate::printing::run;
 use press_bits::Bitmap;
@@ -19,7 +20,8 @@ pub fn print_list<R: Read, W: Write, E: Write>(
     err: &mut E,
 ) -> u8
     ensures status { result ≤ 1 }
-    ensures lists { result ≡ 0 → IfSome (R.remaining reader.old) (λ bytes. Lists bytes (W.contents out.old) (W.contents out.new)) }
+    ensures lists { result ≡ 0 → IfSome (R.remaining reader.old) (λ bytes.
+        Lists bytes (W.contents out.old) (W.contents out.new)) }
 {
     let mut sheets = ListSink::new(alloc);
     let mut replies = ListReplies::new(alloc);
@@ -32,15 +34,16 @@ pub fn print_list<R: Read, W: Write, E: Write>(
         let _ = writeln!(err, "fault output");
         return 1;
     }
-    if printed.is_err() {
-        return 1;
+    match printed {
+        Ok(_) => 0,
+        Err(_) => 1,
     }
-    0
 }
 
 /// Lists the sides of the sheets, and then the replies.
 fn list<W: Write>(out: &mut W, deliveries: &[Delivery], replies: &[u8]) -> io::Result<()>
-    ensures { OnOk result (Appends (W.contents out.old) (W.contents out.new) (lines_from 1 deliveries.now ++ replies.now)) }
+    ensures { OnOk result (Appends (W.contents out.old) (W.contents out.new)
+        (lines_from 1 (sheets_in deliveries.now) ++ replies.now)) }
 {
     list_sheets(out, deliveries)?;
     out.write_all(replies)?;
@@ -49,7 +52,8 @@ fn list<W: Write>(out: &mut W, deliveries: &[Delivery], replies: &[u8]) -> io::R
 
 /// Lists the sides of the sheets, which are numbered from 1.
 fn list_sheets<W: Write>(out: &mut W, deliveries: &[Delivery]) -> io::Result<()>
-    ensures { OnOk result (Appends (W.contents out.old) (W.contents out.new) (lines_from 1 deliveries.now)) }
+    ensures { OnOk result (Appends (W.contents out.old) (W.contents out.new)
+        (lines_from 1 (sheets_in deliveries.now))) }
 {
     for (index, delivery) in deliveries.iter().enumerate() {
         list_sheet(out, index + 1, &delivery.sheet)?;
@@ -71,7 +75,8 @@ fn list_sheet<W: Write>(out: &mut W, number: usize, sheet: &Sheet) -> io::Result
 /// Writes the line of one side.
 #[tactic(auto, unfolding(crate::specs::Listing::side_line))]
 fn list_side<W: Write>(out: &mut W, number: usize, side: &str, page: &Bitmap) -> io::Result<()>
-    ensures { OnOk result (Appends (W.contents out.old) (W.contents out.new) (side_line number side.now page.now)) }
+    ensures { OnOk result (Appends (W.contents out.old) (W.contents out.new)
+        (side_line number side.now page.now)) }
 {
     let width = page.width();
     let height = page.height();

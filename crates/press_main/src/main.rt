@@ -6,24 +6,27 @@ mod printing;
 mod reading;
 #[cfg(test)]
 mod tests;
+mod words;
 
 use listing::print_list;
+use press_units::NO_MEMORY;
 use std::env;
 use std::io::{self, ErrorKind};
 use std::process::ExitCode;
+use words::refusal;
 
 fn main(rt: HostRuntime) -> ExitCode {
     let words = match env::args(&rt) {
         Ok(words) => words.count(),
         Err(error) if error.kind() == ErrorKind::OutOfMemory => {
-            let _ = eprintln!(rt; "fault memory");
+            let _ = eprintln!(rt; "{NO_MEMORY}");
             return ExitCode::from(1);
         }
         Err(_) => usize::MAX,
     };
-    if words > 1 {
+    if let Some(status) = refusal(words) {
         let _ = eprintln!(rt; "usage: press < STREAM");
-        return ExitCode::from(2);
+        return ExitCode::from(status);
     }
     let mut input = rt.stdin();
     let mut out = io::writer(&rt);

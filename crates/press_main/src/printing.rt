@@ -1,16 +1,17 @@
-ghost use Rattle.std.specs.Prelude.{◌≡◌, ◌<◌, [], ◌∷◌, IsSome, Some, IfOk, IfSome, OnOk};
-ghost use Rattle.press_cmd.specs.Mode.{Exit};
+ghost use Rattle.std.specs.Prelude.{◌≡◌, ◌≢◌, [], ◌∷◌, IsErr, IsSome, IfSome, Some};
 ghost use Rattle.press_cmd.specs.View.{token};
-ghost use Rattle.press_sink.specs.Told.{most_faults};
+ghost use Rattle.press_sink.specs.Told.{both, CanCount};
+ghost use Rattle.press_sink.specs.Sending.{Whole};
 ghost use Rattle.press_engine.specs.Engine.{live};
-ghost use Rattle.press_engine.specs.Table.{power_on_state};
-ghost use Rattle.press_main.specs.Printing.{Prints, Carried, CarriedOut, HasCause};
+ghost use Rattle.press_engine.specs.Machine.{power_on};
+ghost use Rattle.press_main.specs.Printing.{beginning, machine_of, fault_of, ended_by, Carried, CarriedOut, Finished, Printed};
 
 use crate::reading::feed_all;
 use press_cmd::Command;
 use press_engine::{Engine, EngineError};
 use press_scan::Scanner;
-use press_sink::{ReplySink, SheetSink};
+use press_sink::{REPLY_FAULT, ReplySink, SINK_FAULT, SheetSink};
+use press_units::NO_MEMORY;
 use std::alloc::{AllocError, Global};
 use std::io::Read;
 use thiserror::Error;
@@ -19,15 +20,15 @@ use thiserror::Error;
 #[derive(Debug, Drop, Error)]
 pub enum RunError {
     /// The sheet sink had a fault.
-    #[error("fault 301")]
+    #[error("{text}", text = SINK_FAULT)]
     SinkFault,
     /// The reply sink had a fault.
-    #[error("fault 302")]
+    #[error("{text}", text = REPLY_FAULT)]
     ReplyFault,
     /// A read failed.
     #[error("fault 304")]
     ReadFault,
-    #[error("fault memory")]
+    #[error("{text}", text = NO_MEMORY)]
     NoMemory,
 }
 
@@ -51,14 +52,11 @@ fn carry<S: SheetSink, P: ReplySink>(
     replies: &mut P,
 ) -> Result<(), RunError>
     requires running { IsSome (live engine.old) }
-    requires sheets_count { (S.told sheets.old).faults < most_faults }
-    requires replies_count { (P.told replies.old).faults < most_faults }
-    ensures carried { OnOk result (Carried (token command.entry ∷ []) tag (live engine.old) (live engine.new)
-        (record { sheets = S.told sheets.old; replies = P.told replies.old })
-        (record { sheets = S.told sheets.new; replies = P.told replies.new })) }
-    ensures cause { HasCause result
-        (record { sheets = S.told sheets.old; replies = P.told replies.old })
-        (record { sheets = S.told sheets.new; replies = P.told replies.new }) }
+    requires can_count { CanCount (both (S.told sheets.old) (P.told replies.old)) }
+    ensures carried { IfSome (live engine.old) (λ machine.
+        Carried (token command.entry ∷ []) machine tag (ended_by result) (live engine.new)
+        (both (S.told sheets.old) (P.told replies.old)) (both (S.told sheets.new) (P.told replies.new))) }
+    ensures stops { IsErr result → ended_by result ≢ Whole }
 {
     match engine.run_command(command, tag, sheets, replies) {
         Ok(()) => Ok(()),
@@ -78,14 +76,11 @@ fn carry_out<S: SheetSink, P: ReplySink>(
     replies: &mut P,
 ) -> Result<(), RunError>
     requires running { IsSome (live engine.old) }
-    requires sheets_count { (S.told sheets.old).faults < most_faults }
-    requires replies_count { (P.told replies.old).faults < most_faults }
-    ensures carried { OnOk result (CarriedOut scanner.old tag (live engine.old) (live engine.new)
-        (record { sheets = S.told sheets.old; replies = P.told replies.old })
-        (record { sheets = S.told sheets.new; replies = P.told replies.new })) }
-    ensures cause { HasCause result
-        (record { sheets = S.told sheets.old; replies = P.told replies.old })
-        (record { sheets = S.told sheets.new; replies = P.told replies.new }) }
+    requires can_count { CanCount (both (S.told sheets.old) (P.told replies.old)) }
+    ensures carried { IfSome (live engine.old) (λ machine.
+        CarriedOut scanner.old machine tag (ended_by result) (live engine.new)
+        (both (S.told sheets.old) (P.told replies.old)) (both (S.told sheets.new) (P.told replies.new))) }
+    ensures stops { IsErr result → ended_by result ≢ Whole }
 {
     while let Some(command) = scanner.next()? {
         carry(engine, command, tag, sheets, replies)?;
@@ -93,7 +88,8 @@ fn carry_out<S: SheetSink, P: ReplySink>(
     Ok(())
 }
 
-/// Gives a scanner the end of input, and hands the commands of what it holds, and then a universal exit, to an engine.
+/// Gives a scanner the end of input, and hands the commands of what it holds, and then a universal exit, to an engine that
+/// has not failed.
 fn finish<S: SheetSink, P: ReplySink>(
     scanner: &mut Scanner,
     engine: &mut Engine,
@@ -101,25 +97,48 @@ fn finish<S: SheetSink, P: ReplySink>(
     sheets: &mut S,
     replies: &mut P,
 ) -> Result<(), RunError>
-    requires beginning { scanner.old.mode ≡ Exit }
-    requires power_on { live engine.old ≡ Some power_on_state }
-    requires sheets_count { (S.told sheets.old).faults < most_faults }
-    requires replies_count { (P.told replies.old).faults < most_faults }
-    ensures prints { OnOk result (Prints scanner.old.bytes tag (live engine.new)
-        (record { sheets = S.told sheets.old; replies = P.told replies.old })
-        (record { sheets = S.told sheets.new; replies = P.told replies.new })) }
-    ensures cause { HasCause result
-        (record { sheets = S.told sheets.old; replies = P.told replies.old })
-        (record { sheets = S.told sheets.new; replies = P.told replies.new }) }
+    requires running { IsSome (live engine.old) }
+    requires can_count { CanCount (both (S.told sheets.old) (P.told replies.old)) }
+    ensures finished { IfSome (live engine.old) (λ machine.
+        Finished scanner.old.mode scanner.old.bytes machine tag (ended_by result) (live engine.new)
+        (both (S.told sheets.old) (P.told replies.old)) (both (S.told sheets.new) (P.told replies.new))) }
+    ensures stops { IsErr result → ended_by result ≢ Whole }
 {
     scanner.end_input();
     carry_out(scanner, engine, tag, sheets, replies)?;
     carry(engine, Command::Uel, tag, sheets, replies)
 }
 
+/// Reads a stream to its end and prints it on an engine, where scanner and engine are at the beginning.
+fn print_whole<R: Read, S: SheetSink, P: ReplySink>(
+    reader: &mut R,
+    scanner: &mut Scanner,
+    engine: &mut Engine,
+    tag: u64,
+    sheets: &mut S,
+    replies: &mut P,
+) -> Result<(), RunError>
+    requires beginning { scanner.old ≡ beginning }
+    requires power_on { live engine.old ≡ Some power_on }
+    requires can_count { CanCount (both (S.told sheets.old) (P.told replies.old)) }
+    ensures { Printed (R.remaining reader.old) (R.remaining reader.new) tag (fault_of result)
+        (live engine.new)
+        (both (S.told sheets.old) (P.told replies.old)) (both (S.told sheets.new) (P.told replies.new)) }
+{
+    if let Err(fault) = feed_all(reader, scanner) {
+        carry_out(scanner, engine, tag, sheets, replies)?;
+        return Err(fault);
+    }
+    finish(scanner, engine, tag, sheets, replies)
+}
+
 /// Reads a stream to its end and prints it on an engine after power on: its sheets are delivered under the tag, and the
-/// engine is handed back. `ReadFault` (304): a read failed; the commands that were whole by then were carried out.
-/// `SinkFault` (301) and `ReplyFault` (302): a sink had a fault, and nothing came after it.
+/// engine is handed back.
+///
+/// # Errors
+///
+/// `ReadFault` (304): a read failed; the commands that were whole by then were carried out. `SinkFault` (301) and
+/// `ReplyFault` (302): a sink had a fault, and nothing came after it.
 pub fn run<R: Read, S: SheetSink, P: ReplySink>(
     alloc: Global,
     reader: &mut R,
@@ -127,22 +146,15 @@ pub fn run<R: Read, S: SheetSink, P: ReplySink>(
     sheets: &mut S,
     replies: &mut P,
 ) -> Result<Engine, RunError>
-    requires sheets_count { (S.told sheets.old).faults < most_faults }
-    requires replies_count { (P.told replies.old).faults < most_faults }
-    ensures prints { IfOk result (λ engine. IfSome (R.remaining reader.old) (λ bytes.
-        Prints bytes tag (live engine)
-        (record { sheets = S.told sheets.old; replies = P.told replies.old })
-        (record { sheets = S.told sheets.new; replies = P.told replies.new }))) }
-    ensures cause { HasCause result
-        (record { sheets = S.told sheets.old; replies = P.told replies.old })
-        (record { sheets = S.told sheets.new; replies = P.told replies.new }) }
+    requires { CanCount (both (S.told sheets.old) (P.told replies.old)) }
+    ensures { Printed (R.remaining reader.old) (R.remaining reader.new) tag (fault_of result)
+        (machine_of result)
+        (both (S.told sheets.old) (P.told replies.old)) (both (S.told sheets.new) (P.told replies.new)) }
 {
-    let mut engine = Engine::power_on(alloc)?;
+    let Ok(mut engine) = Engine::power_on(alloc) else {
+        return Err(RunError::NoMemory);
+    };
     let mut scanner = Scanner::new(alloc);
-    if let Err(fault) = feed_all(reader, &mut scanner) {
-        carry_out(&mut scanner, &mut engine, tag, sheets, replies)?;
-        return Err(fault);
-    }
-    finish(&mut scanner, &mut engine, tag, sheets, replies)?;
+    print_whole(reader, &mut scanner, &mut engine, tag, sheets, replies)?;
     Ok(engine)
 }

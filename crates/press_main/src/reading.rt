@@ -1,4 +1,5 @@
-ghost use Rattle.std.specs.Prelude.{◌≡◌, ◌++◌, false, ◌⊎◌, OnOk, IfErr, IfSome};
+ghost use Rattle.std.specs.Prelude.{◌≡◌, false, ◌⊎◌, IfErr};
+ghost use Rattle.press_main.specs.Printing.{fault_of, Feeds};
 
 use crate::printing::RunError;
 use press_scan::Scanner;
@@ -17,7 +18,9 @@ pub fn feed_all<R: Read>(reader: &mut R, scanner: &mut Scanner) -> Result<(), Ru
     ensures fault { IfErr result (λ error. (error ≡ RunError.ReadFault) ⊎ (error ≡ RunError.NoMemory)) }
     ensures mode { scanner.new.mode ≡ scanner.old.mode }
     ensures ended { scanner.new.ended ≡ false }
-    ensures ok { OnOk result (IfSome (R.remaining reader.old) (λ bytes. scanner.new.bytes ≡ scanner.old.bytes ++ bytes)) }
+    ensures bound { MOST_READS ≡ 4294967295 }
+    ensures feeds { Feeds scanner.old.bytes scanner.new.bytes
+        (R.remaining reader.old) (R.remaining reader.new) (fault_of result) }
 {
     let mut piece = [0; PIECE];
     for _ in 0..MOST_READS {

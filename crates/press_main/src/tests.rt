@@ -1,11 +1,12 @@
 //! Streams that are printed whole, with the pages that they must give.
 use crate::listing::print_list;
 use crate::printing::{RunError, run};
-use press_bits::Bitmap;
+use crate::words::refusal;
+use press_bits::{Bitmap, BlankError};
 use press_cmd::{Command, ControlByte};
-use press_engine::{Engine, EngineError};
-use press_sink::{ListReplies, ListSink, Sheet, SheetSink, SinkError};
-use std::io::{self, ErrorKind, Read};
+use press_engine::{Engine, EngineError, Last};
+use press_sink::{ListReplies, ListSink, ReplyError, Sheet, SheetSink, SinkError};
+use std::io::{self, ErrorKind, Read, Write};
 use std::test::Fail;
 
 /// A reader that is interrupted once, gives its bytes one at a time, and then fails or ends.
@@ -123,10 +124,11 @@ fn a_failed_read_is_told_after_what_came_before_it(rt: HostRuntime) -> Result<()
     Ok(())
 }
 
-/// A sink that has a fault at each sheet.
+/// A sink that refuses each sheet: it has a fault, or finds no memory.
 #[derive(Drop)]
 struct Refusing {
     faults: u64,
+    has_memory: bool,
 }
 
 impl SheetSink for Refusing {
@@ -139,30 +141,43 @@ impl SheetSink for Refusing {
     }
 
     fn deliver(&mut self, _tag: u64, _sheet: &Sheet) -> Result<(), SinkError> {
+        if !self.has_memory {
+            return Err(SinkError::NoMemory);
+        }
         self.faults += 1;
         Err(SinkError::SinkFault)
     }
 }
 
 #[test]
-fn a_sink_with_a_fault_ends_the_run(rt: HostRuntime) -> Result<(), Fail> {
-    let mut reader: &[u8] = b"\x0C\x0C";
-    let mut sink = Refusing { faults: 0 };
-    let mut replies = ListReplies::new(rt.alloc());
-    match run(rt.alloc(), &mut reader, 0, &mut sink, &mut replies) {
-        Err(RunError::SinkFault) => {}
-        _ => assert!(rt; false, "the fault is answered"),
+fn a_sink_that_refuses_ends_the_run(rt: HostRuntime) -> Result<(), Fail> {
+    for has_memory in [true, false] {
+        let mut reader: &[u8] = b"\x0C\x0C";
+        let mut sink = Refusing {
+            faults: 0,
+            has_memory,
+        };
+        let mut replies = ListReplies::new(rt.alloc());
+        match run(rt.alloc(), &mut reader, 0, &mut sink, &mut replies) {
+            Err(RunError::SinkFault) => assert!(rt; has_memory),
+            Err(RunError::NoMemory) => assert!(rt; !has_memory),
+            _ => assert!(rt; false, "the refusal is answered"),
+        }
+        assert_eq!(rt; sink.faults(), u64::from(has_memory));
     }
-    assert_eq!(rt; sink.faults(), 1);
     Ok(())
 }
 
 #[test]
 fn an_engine_that_had_a_fault_answers_so(rt: HostRuntime) -> Result<(), Fail> {
     let form_feed = Command::Control(ControlByte::new(0x0C));
-    let mut sink = Refusing { faults: 0 };
+    let mut sink = Refusing {
+        faults: 0,
+        has_memory: true,
+    };
     let mut replies = ListReplies::new(rt.alloc());
     let mut engine = Engine::power_on(rt.alloc())?;
+    assert!(rt; matches!(engine.view().last, Last::Nothing));
     let first = engine.run_command(form_feed, 0, &mut sink, &mut replies);
     assert!(rt; matches!(first, Err(EngineError::SinkFault)));
     assert_eq!(rt; sink.faults(), 1);
@@ -171,4 +186,122 @@ fn an_engine_that_had_a_fault_answers_so(rt: HostRuntime) -> Result<(), Fail> {
     assert!(rt; matches!(second, Err(EngineError::Failed)));
     assert!(rt; list.deliveries().is_empty());
     Ok(())
+}
+
+#[test]
+fn faults_are_told_by_their_numbers(rt: HostRuntime) -> Result<(), Fail> {
+    let told = [
+        (
+            format!(in rt.alloc(); "{}", BlankError::BadSize)?,
+            "fault 101",
+        ),
+        (
+            format!(in rt.alloc(); "{}", BlankError::NoMemory)?,
+            "fault memory",
+        ),
+        (
+            format!(in rt.alloc(); "{}", SinkError::SinkFault)?,
+            "fault 301",
+        ),
+        (
+            format!(in rt.alloc(); "{}", SinkError::NoMemory)?,
+            "fault memory",
+        ),
+        (
+            format!(in rt.alloc(); "{}", ReplyError::ReplyFault)?,
+            "fault 302",
+        ),
+        (
+            format!(in rt.alloc(); "{}", ReplyError::NoMemory)?,
+            "fault memory",
+        ),
+        (
+            format!(in rt.alloc(); "{}", EngineError::SinkFault)?,
+            "fault 301",
+        ),
+        (
+            format!(in rt.alloc(); "{}", EngineError::ReplyFault)?,
+            "fault 302",
+        ),
+        (
+            format!(in rt.alloc(); "{}", EngineError::Failed)?,
+            "fault 303",
+        ),
+        (
+            format!(in rt.alloc(); "{}", EngineError::NoMemory)?,
+            "fault memory",
+        ),
+        (
+            format!(in rt.alloc(); "{}", RunError::SinkFault)?,
+            "fault 301",
+        ),
+        (
+            format!(in rt.alloc(); "{}", RunError::ReplyFault)?,
+            "fault 302",
+        ),
+        (
+            format!(in rt.alloc(); "{}", RunError::ReadFault)?,
+            "fault 304",
+        ),
+        (
+            format!(in rt.alloc(); "{}", RunError::NoMemory)?,
+            "fault memory",
+        ),
+    ];
+    for (text, wanted) in &told {
+        assert_eq!(rt; text.as_str(), *wanted);
+    }
+    Ok(())
+}
+
+/// A writer that hands its bytes on only where it is flushed, and may fail there.
+#[derive(Drop)]
+struct Held {
+    bytes: Vec<u8>,
+    flushed: usize,
+    fails: bool,
+}
+
+impl Write for Held {
+    fn write(&mut self, bytes: &[u8]) -> io::Result<usize> {
+        self.bytes.extend_from_slice(bytes)?;
+        Ok(bytes.len())
+    }
+
+    fn flush(&mut self) -> io::Result<()> {
+        if self.fails {
+            return Err(io::Error::from(ErrorKind::Other));
+        }
+        self.flushed = self.bytes.len();
+        Ok(())
+    }
+}
+
+#[test]
+fn the_listing_is_flushed(rt: HostRuntime) -> Result<(), Fail> {
+    for fails in [false, true] {
+        let mut reader: &[u8] = b"\x0C";
+        let mut out = Held {
+            bytes: Vec::new(rt.alloc()),
+            flushed: 0,
+            fails,
+        };
+        let mut err = Vec::new(rt.alloc());
+        let status = print_list(rt.alloc(), &mut reader, &mut out, &mut err);
+        let wanted: (u8, usize, &[u8]) = if fails {
+            (1, 0, b"fault output\n")
+        } else {
+            (0, 32, b"")
+        };
+        assert_eq!(rt; status, wanted.0);
+        assert_eq!(rt; out.flushed, wanted.1);
+        assert_eq!(rt; err.as_slice(), wanted.2);
+    }
+    Ok(())
+}
+
+#[test]
+fn the_program_takes_no_words(rt: HostRuntime) {
+    assert_eq!(rt; refusal(1), None);
+    assert_eq!(rt; refusal(2), Some(2));
 }

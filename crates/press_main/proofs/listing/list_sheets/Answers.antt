@@ -1,7 +1,8 @@
 use Rattle.std.proofs.Common.{List, ℕ, ◌<◌, length, sym, subst, arith}
 use Rattle.std.specs.Io.KnownBytes.{Appends}
+use Rattle.std.proofs.KnownBytes.{Appends-trans}
 use Rattle.press_main.proofs.Carrying.{at_ok}
-use Rattle.press_main.proofs.Lines.{lines_from-more, Appends-append}
+use Rattle.press_main.proofs.Lines.{lines_from-more}
 use Rattle.press_main.proofs.listing.list_sheets.Goals as goal
 
 pub loop-index-preserved : goal.loop-index-preserved
@@ -10,4 +11,4 @@ loop-index-preserved g c =
     let inside : c.loop-index.index < length c.args.deliveries.now = omega arith in
     let more = at_ok _ c.list_sheet.result _ c.list_sheet.ensures c.in_ok-list_sheet.was in
     let P : List ℕ → Type 0 = λ lines. Appends (g.W.Write.contents c.args.out.now) (g.W.Write.contents c.list_sheet.new.out) lines in
-    subst P (sym (lines_from-more c.args.deliveries.now c.loop-index.index item inside c.index-deliveries-index.is)) (Appends-append (g.W.Write.contents c.args.out.now) (g.W.Write.contents c.loop-index.out) (g.W.Write.contents c.list_sheet.new.out) _ _ c.loop-index.invariant more)
+    subst P (sym (lines_from-more c.args.deliveries.now c.loop-index.index item inside c.index-deliveries-index.is)) (Appends-trans (g.W.Write.contents c.args.out.now) (g.W.Write.contents c.loop-index.out) (g.W.Write.contents c.list_sheet.new.out) _ _ c.loop-index.invariant more)
