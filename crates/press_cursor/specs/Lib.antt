@@ -1,0 +1,4 @@
+pub mod Bounds
+pub mod Cursor
+pub mod CursorState
+pub mod Stack
