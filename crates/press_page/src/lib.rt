@@ -1,0 +1,18 @@
+//! The page environment of PCL 5: page sizes and orientations, margins, motion indices and copies, one setter for each
+//! command, and where a dot lies on the physical page.
+#![tactic(auto)]
+
+mod defaults;
+mod environment;
+mod margins;
+mod numbers;
+mod paper;
+mod place;
+mod settings;
+
+pub use defaults::Defaults;
+pub use environment::PageEnv;
+pub use margins::Margins;
+pub use paper::{Binding, Orientation, PageSize, Paper, Sides};
+pub use place::{Dot, Extent, placement_is_inverse};
+pub use settings::{LineTermination, Settings};

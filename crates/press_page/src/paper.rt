@@ -1,0 +1,278 @@
+ghost use Rattle.std.specs.Prelude.{◌≡◌, ◌≤◌, ◌<◌, ◌*◌};
+ghost use Rattle.press_page.specs.Paper.{page_size_of, orientation_of, sides_of, sized, dimensions_of, turned, offset_of, scale, physical_page, frame, offset, logical_width, logical_length, logical_page, with_sides};
+
+use crate::place::{Dot, Extent, to_frame, to_physical};
+use press_cursor::LogicalPage;
+use press_units::{POSITIONS_PER_DOT, Resolution};
+
+/// The page sizes of this press.
+#[derive(Clone, Copy, Debug, PartialEq, Eq)]
+pub enum PageSize {
+    Executive,
+    Letter,
+    Legal,
+    Ledger,
+    A4,
+    A3,
+}
+
+/// How the logical page lies on the physical page.
+#[derive(Clone, Copy, Debug, PartialEq, Eq)]
+pub enum Orientation {
+    Portrait,
+    Landscape,
+    ReversePortrait,
+    ReverseLandscape,
+}
+
+/// The edge along which sheets are bound that are printed on both sides.
+#[derive(Clone, Copy, Debug, PartialEq, Eq)]
+pub enum Binding {
+    LongEdge,
+    ShortEdge,
+}
+
+/// Which sides of a sheet are printed: what a simplex/duplex command asks for.
+#[derive(Clone, Copy, Debug, PartialEq, Eq)]
+pub enum Sides {
+    OneSided,
+    TwoSidedLongEdge,
+    TwoSidedShortEdge,
+}
+
+/// The paper: what a macro call does not restore.
+#[derive(Clone, Copy, Debug, PartialEq, Eq)]
+pub struct Paper {
+    pub size: PageSize,
+    pub orientation: Orientation,
+    /// Whether both sides of a sheet are printed.
+    pub duplex: bool,
+    /// The edge of the binding in duplex; it is kept in simplex.
+    pub binding: Binding,
+}
+
+/// A page size in dots of 1/300 inch: width and height, and how far the logical page begins right of the page's left
+/// edge in portrait and in landscape.
+#[derive(Clone, Copy)]
+pub(crate) struct Dimensions {
+    width: u32,
+    height: u32,
+    portrait_offset: u32,
+    landscape_offset: u32,
+}
+
+/// Positions (1/7200 inch) of a dot of the table of page sizes.
+const TABLE_DOT: u32 = POSITIONS_PER_DOT as u32;
+
+/// A line of the table of page sizes.
+fn sized(width: u32, height: u32, portrait_offset: u32, landscape_offset: u32) -> Dimensions
+    ensures { result ≡ sized width height portrait_offset landscape_offset }
+{
+    Dimensions {
+        width,
+        height,
+        portrait_offset,
+        landscape_offset,
+    }
+}
+
+/// How many dots of the engine a dot of the table of page sizes is, along a line.
+fn scale(resolution: Resolution) -> u32
+    ensures scale { result ≡ scale resolution }
+    ensures bound { result < 256 }
+{
+    match resolution {
+        Resolution::Dpi300 => 1,
+    }
+}
+
+/// The frame: the physical page, turned in the two landscape orientations.
+pub(crate) fn turned(orientation: Orientation, page: Extent) -> Extent
+    ensures { result ≡ turned orientation page }
+{
+    match orientation {
+        Orientation::Portrait | Orientation::ReversePortrait => page,
+        Orientation::Landscape | Orientation::ReverseLandscape => Extent {
+            width: page.height,
+            height: page.width,
+        },
+    }
+}
+
+impl PageSize {
+    /// The page size that `ESC & l # A` names by a number.
+    ///
+    /// Source: PCL 5 Printer Language Technical Reference Manual, Page Size command.
+    pub fn of_number(number: i64) -> Option<Self>
+        ensures { result ≡ page_size_of number }
+    {
+        match number {
+            1 => Some(PageSize::Executive),
+            2 => Some(PageSize::Letter),
+            3 => Some(PageSize::Legal),
+            6 => Some(PageSize::Ledger),
+            26 => Some(PageSize::A4),
+            27 => Some(PageSize::A3),
+            _ => None,
+        }
+    }
+
+    /// The size in dots of 1/300 inch.
+    fn dimensions(self) -> Dimensions
+        ensures size { result ≡ dimensions_of self }
+        ensures width { result.width < 8192 }
+        ensures height { result.height < 8192 }
+        ensures portrait { 2 * result.portrait_offset ≤ result.width }
+        ensures landscape { 2 * result.landscape_offset ≤ result.height }
+    {
+        match self {
+            PageSize::Letter => sized(2550, 3300, 75, 60),
+            PageSize::Legal => sized(2550, 4200, 75, 60),
+            PageSize::A4 => sized(2480, 3507, 71, 59),
+            PageSize::Executive => sized(2175, 3150, 75, 60),
+            PageSize::Ledger => sized(3300, 5100, 75, 60),
+            PageSize::A3 => sized(3507, 4960, 71, 59),
+        }
+    }
+}
+
+impl Orientation {
+    /// The orientation that `ESC & l # O` names by a number.
+    ///
+    /// Source: PCL 5 Printer Language Technical Reference Manual, Logical Page Orientation command.
+    pub fn of_number(number: i64) -> Option<Self>
+        ensures { result ≡ orientation_of number }
+    {
+        match number {
+            0 => Some(Orientation::Portrait),
+            1 => Some(Orientation::Landscape),
+            2 => Some(Orientation::ReversePortrait),
+            3 => Some(Orientation::ReverseLandscape),
+            _ => None,
+        }
+    }
+}
+
+impl Sides {
+    /// The sides that `ESC & l # S` names by a number.
+    ///
+    /// Source: PCL 5 Printer Language Technical Reference Manual, Simplex/Duplex Print command.
+    pub fn of_number(number: i64) -> Option<Self>
+        ensures { result ≡ sides_of number }
+    {
+        match number {
+            0 => Some(Sides::OneSided),
+            1 => Some(Sides::TwoSidedLongEdge),
+            2 => Some(Sides::TwoSidedShortEdge),
+            _ => None,
+        }
+    }
+}
+
+/// How far the logical page begins right of the frame's left edge, in dots of 1/300 inch.
+fn offset_of(orientation: Orientation, size: Dimensions) -> u32
+    ensures { result ≡ offset_of orientation size }
+{
+    match orientation {
+        Orientation::Portrait | Orientation::ReversePortrait => size.portrait_offset,
+        Orientation::Landscape | Orientation::ReverseLandscape => size.landscape_offset,
+    }
+}
+
+impl Paper {
+    ghost use Rattle.std.specs.Prelude.{◌≡◌, ◌<◌, ◌^◌};
+    ghost use Rattle.press_page.specs.Paper.{physical_page, frame, offset, logical_width, logical_length, logical_page, with_sides};
+    ghost use Rattle.press_page.specs.Place.{to_physical, to_frame};
+
+    /// The physical page, in dots of the engine.
+    pub fn physical_page(self, resolution: Resolution) -> Extent
+        ensures page { result ≡ physical_page self resolution }
+        ensures width { result.width < 2 ^ 21 }
+        ensures height { result.height < 2 ^ 21 }
+    {
+        let size = self.size.dimensions();
+        let scale = scale(resolution);
+        Extent {
+            width: size.width * scale,
+            height: size.height * scale,
+        }
+    }
+
+    /// The frame, in dots of the engine: the physical page as the orientation turns it.
+    pub fn frame(self, resolution: Resolution) -> Extent
+        ensures { result ≡ frame self resolution }
+    {
+        turned(self.orientation, self.physical_page(resolution))
+    }
+
+    /// How far the logical page begins right of the frame's left edge, and ends left of its right edge, in dots of the
+    /// engine.
+    pub fn offset(self, resolution: Resolution) -> u32
+        ensures offset { result ≡ offset self resolution }
+        ensures bound { result < 2 ^ 21 }
+    {
+        offset_of(self.orientation, self.size.dimensions()) * scale(resolution)
+    }
+
+    /// The width of the logical page, in positions (1/7200 inch).
+    pub fn logical_width(self) -> u32
+        ensures { result ≡ logical_width self }
+    {
+        let offset = self.offset(Resolution::Dpi300);
+        TABLE_DOT * (self.frame(Resolution::Dpi300).width - 2 * offset)
+    }
+
+    /// The length of the logical page, in positions (1/7200 inch).
+    pub fn logical_length(self) -> u32
+        ensures { result ≡ logical_length self }
+    {
+        TABLE_DOT * self.frame(Resolution::Dpi300).height
+    }
+
+    /// The logical page under a top margin.
+    pub fn logical_page(self, top_margin: u32) -> LogicalPage
+        ensures { result ≡ logical_page self top_margin }
+    {
+        LogicalPage {
+            width: self.logical_width(),
+            length: self.logical_length(),
+            top_margin,
+        }
+    }
+
+    /// The dot of the physical page that a dot of the frame is; a dot outside of the frame has none.
+    pub fn to_physical(self, dot: Dot, resolution: Resolution) -> Option<Dot>
+        ensures { result ≡ to_physical self.orientation (physical_page self resolution) dot }
+    {
+        to_physical(self.orientation, self.physical_page(resolution), dot)
+    }
+
+    /// The dot of the frame that a dot of the physical page is; a dot outside of the page has none.
+    pub fn to_frame(self, dot: Dot, resolution: Resolution) -> Option<Dot>
+        ensures { result ≡ to_frame self.orientation (physical_page self resolution) dot }
+    {
+        to_frame(self.orientation, self.physical_page(resolution), dot)
+    }
+
+    /// The paper after `ESC & l # S`: simplex leaves the binding.
+    pub fn with_sides(self, sides: Sides) -> Paper
+        ensures { result ≡ with_sides sides self }
+    {
+        match sides {
+            Sides::OneSided => Paper {
+                duplex: false,
+                ..self
+            },
+            Sides::TwoSidedLongEdge => Paper {
+                duplex: true,
+                binding: Binding::LongEdge,
+                ..self
+            },
+            Sides::TwoSidedShortEdge => Paper {
+                duplex: true,
+                binding: Binding::ShortEdge,
+                ..self
+            },
+        }
+    }
+}
