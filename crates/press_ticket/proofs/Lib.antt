@@ -1,0 +1,6 @@
+mod ItemLemmas
+mod JsonLemmas
+mod LeastLemmas
+mod PageLemmas
+mod RangeLemmas
+pub mod WorkedTickets

@@ -1,0 +1,7 @@
+pub mod Inside
+pub mod Members
+pub mod Names
+pub mod Pages
+pub mod Parts
+pub mod Reading
+pub mod Ticket

@@ -1,0 +1,31 @@
+-- What a ticket asks for (CIP4 JDF 1.5, digital printing; this profile).
+use Rattle.std.specs.Prelude.{ℕ, Bool, ◌&&◌, List, nat_le, nat_lt, length}
+use Rattle.std.specs.List.{list_all}
+use Rattle.press_ticket.specs.declared.media.Media.{Media}
+use Rattle.press_ticket.specs.declared.media.Sides.{Sides}
+use Rattle.press_ticket.specs.declared.page_range.PageRange.{PageRange}
+use Rattle.press_ticket.specs.Members.{is_job_id}
+use Rattle.press_ticket.specs.Pages.{page_order}
+
+-- A job of so many pages: the ranges whose pages make a set, on which medium and which sides; so many sets, whole ones one
+-- after another where they are collated.
+pub record JobTicket : Type 0 where
+  pub job_id : List ℕ
+  pub page_count : ℕ
+  pub amount : ℕ
+  pub run_list : List PageRange
+  pub media : Media
+  pub sides : Sides
+  pub collate : Bool
+
+-- both ends are pages of so many
+abbrev pub is_within : ℕ → PageRange → Bool
+is_within page_count range = nat_lt range.first page_count && nat_lt range.last page_count
+
+-- Whether it keeps the limits: 1 to 999 pages, 1 to 9,999 sets, each page of the set one of the pages, at most 999 of them,
+-- and a name of 1 to 63 printable bytes.
+abbrev pub is_in_range : JobTicket → Bool
+is_in_range ticket =
+    nat_le 1 ticket.page_count && nat_le ticket.page_count 999 && nat_le 1 ticket.amount && nat_le ticket.amount 9999
+    && list_all (is_within ticket.page_count) ticket.run_list && nat_le (length (page_order ticket.run_list)) 999
+    && is_job_id ticket.job_id
