@@ -1,0 +1,4 @@
+mod EntryLemmas
+mod NumberLemmas
+mod PutLemmas
+pub mod WorkedQueue

@@ -1,0 +1,5 @@
+use Rattle.press_queue.proofs.NumberLemmas.{up_to_with_entry}
+use Rattle.press_queue.proofs.queue.Queue.begin.Goals as goal
+
+pub invariant_of-self : goal.invariant_of-self
+invariant_of-self c = rw c.replace.ensures (up_to_with_entry c.self.inside.last _ _ c.self.inside.entries.entries c.self.invariant)

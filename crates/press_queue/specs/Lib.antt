@@ -1,0 +1,10 @@
+pub mod Answers
+pub mod Entries
+pub mod Inside
+pub mod Legal
+pub mod Priority
+pub mod Refusal
+pub mod Rows
+pub mod State
+pub mod Status
+pub mod View

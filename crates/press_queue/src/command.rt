@@ -1,0 +1,31 @@
+ghost use Rattle.std.specs.Prelude.{◌≡◌};
+ghost use Rattle.press_queue.specs.Legal.{is_legal};
+
+use crate::status::Status;
+
+/// A queue command that names an entry.
+#[derive(Clone, Copy, Debug)]
+pub enum EntryCommand {
+    Hold,
+    Resume,
+    Suspend,
+    Abort,
+    Remove,
+    SetPriority,
+    SetPosition,
+}
+
+impl EntryCommand {
+    /// Whether it may be given for an entry of this status.
+    pub fn is_legal(self, status: Status) -> bool
+        ensures { result ≡ is_legal self status }
+    {
+        match status {
+            Status::Waiting => !matches!(self, EntryCommand::Resume | EntryCommand::Suspend),
+            Status::Held => !matches!(self, EntryCommand::Hold | EntryCommand::Suspend),
+            Status::Running => matches!(self, EntryCommand::Suspend | EntryCommand::Abort),
+            Status::Suspended => matches!(self, EntryCommand::Resume | EntryCommand::Abort),
+            Status::Completed | Status::Aborted => matches!(self, EntryCommand::Remove),
+        }
+    }
+}

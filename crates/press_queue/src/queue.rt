@@ -1,0 +1,345 @@
+ghost use Rattle.std.specs.Prelude.{◌≡◌};
+ghost use Rattle.press_queue.specs.Priority.{priority_of, position_within};
+
+use crate::command::EntryCommand;
+use crate::entries;
+use crate::entries::Entries;
+use crate::entry::Entry;
+use crate::refusal::{Refusal, SubmitError};
+use crate::status::{End, QueueStatus, Status};
+use crate::view::QueueView;
+use std::alloc::Global;
+use std::marker::Model;
+
+/// The most entries that a queue has.
+pub const MAX_ENTRIES: usize = 64;
+/// The most entries that are in flight: begun, in the list, and not ended.
+pub const MAX_IN_FLIGHT: usize = 8;
+/// The highest priority.
+pub const MAX_PRIORITY: u8 = 100;
+
+/// A queue of jobs. Contracts see it as its entries under their numbers, in order, its two flags and
+/// the last number that it gave.
+///
+/// Source: CIP4 JDF 1.5, the queue and the queue commands. At which statuses a command is legal, and
+/// the limits, are this profile's.
+#[derive(Drop)]
+pub struct Queue {
+    entries: Entries,
+    held: bool,
+    closed: bool,
+    last: u64,
+}
+
+impl Model for Queue {
+    ghost use Rattle.std.specs.Prelude.{IsTrue};
+    ghost use Rattle.press_queue.specs.Entries.{are_up_to};
+    ghost use Rattle.press_queue.specs.State.{QueueState};
+
+    ghost Value = { QueueState };
+
+    ghost use Rattle.press_queue.specs.Inside.{queue_state};
+
+    ghost view = { queue_state };
+
+    ghost invariant = { λ q. IsTrue (are_up_to q.last q.entries.entries) };
+}
+
+impl Queue {
+    ghost use Rattle.std.specs.Prelude.{◌≡◌, None, IfOk, IsTrue};
+    ghost use Rattle.press_queue.specs.Answers.{Submits};
+    ghost use Rattle.press_queue.specs.Entries.{entry_of};
+    ghost use Rattle.press_queue.specs.State.{empty_queue};
+    ghost use Rattle.press_queue.specs.View.{shown};
+    ghost use Rattle.press_queue.specs.Rows as rows;
+
+    /// A queue without entries, open and not held. Entries are numbered from 1.
+    pub fn new(alloc: Global) -> Self
+        ensures { result ≡ empty_queue }
+    {
+        Queue {
+            entries: Entries::new(alloc),
+            held: false,
+            closed: false,
+            last: 0,
+        }
+    }
+
+    /// Takes a new entry of a priority from 0 to 100, which waits before the first of lower priority, and
+    /// gives its number.
+    ///
+    /// # Errors
+    ///
+    /// `Closed` (23), `Full` (24), `BadPriority` (25), in this order, and else `NoMemory` where memory
+    /// ran out. Each changes nothing.
+    pub fn submit(&mut self, priority: i128) -> Result<u64, SubmitError>
+        ensures row { Submits (rows.submit priority self.old) self.old result self.new }
+        ensures fresh { IfOk result (λ number. entry_of number self.old.entries ≡ None) }
+    {
+        if self.closed {
+            return Err(SubmitError::Refused(Refusal::Closed));
+        }
+        if self.entries.len() >= MAX_ENTRIES || self.last == u64::MAX {
+            return Err(SubmitError::Refused(Refusal::Full));
+        }
+        let Some(priority) = priority_of(priority) else {
+            return Err(SubmitError::Refused(Refusal::BadPriority));
+        };
+        let number = self.last + 1;
+        entries::put(&mut self.entries, number, Entry::waiting(priority))?;
+        self.last = number;
+        Ok(number)
+    }
+
+    /// The entry that a command names, where the command is legal.
+    fn legal_entry(&self, command: EntryCommand, number: u64) -> Result<Entry, Refusal>
+        ensures { result ≡ rows.legal_entry command number self.now.entries }
+    {
+        match entries::entry_of(&self.entries, number) {
+            None => Err(Refusal::Unknown),
+            Some(entry) if command.is_legal(entry.status) => Ok(entry),
+            Some(_) => Err(Refusal::WrongStatus),
+        }
+    }
+
+    /// Gives an entry another status.
+    fn set_status(&mut self, number: u64, entry: Entry, status: Status)
+        ensures { self.new ≡ rows.set_status number status entry self.old }
+    {
+        entries::replace(&mut self.entries, number, Entry { status, ..entry });
+    }
+
+    /// Holds an entry that waits.
+    ///
+    /// # Errors
+    ///
+    /// `Unknown` (21) and then `WrongStatus` (22). They change nothing.
+    pub fn hold(&mut self, number: u64) -> Result<(), Refusal>
+        ensures { (self.new, result) ≡ rows.hold number self.old }
+    {
+        let entry = self.legal_entry(EntryCommand::Hold, number)?;
+        self.set_status(number, entry, Status::Held);
+        Ok(())
+    }
+
+    /// Lets an entry that is held or suspended wait.
+    ///
+    /// # Errors
+    ///
+    /// `Unknown` (21) and then `WrongStatus` (22). They change nothing.
+    pub fn resume(&mut self, number: u64) -> Result<(), Refusal>
+        ensures { (self.new, result) ≡ rows.resume number self.old }
+    {
+        let entry = self.legal_entry(EntryCommand::Resume, number)?;
+        self.set_status(number, entry, Status::Waiting);
+        Ok(())
+    }
+
+    /// Suspends an entry that runs.
+    ///
+    /// # Errors
+    ///
+    /// `Unknown` (21), `WrongStatus` (22), and then `InFlightFull` (27). They change nothing.
+    pub fn suspend(&mut self, number: u64) -> Result<(), Refusal>
+        ensures { (self.new, result) ≡ rows.suspend number self.old }
+    {
+        let entry = self.legal_entry(EntryCommand::Suspend, number)?;
+        if entries::count_in_flight(&self.entries) >= MAX_IN_FLIGHT {
+            return Err(Refusal::InFlightFull);
+        }
+        self.set_status(number, entry, Status::Suspended);
+        Ok(())
+    }
+
+    /// Aborts an entry that did not end.
+    ///
+    /// # Errors
+    ///
+    /// `Unknown` (21) and then `WrongStatus` (22). They change nothing.
+    pub fn abort(&mut self, number: u64) -> Result<(), Refusal>
+        ensures { (self.new, result) ≡ rows.abort number self.old }
+    {
+        let entry = self.legal_entry(EntryCommand::Abort, number)?;
+        self.set_status(number, entry, Status::Aborted);
+        Ok(())
+    }
+
+    /// Takes an entry that waits, is held or ended off the list.
+    ///
+    /// # Errors
+    ///
+    /// `Unknown` (21) and then `WrongStatus` (22). They change nothing.
+    pub fn remove(&mut self, number: u64) -> Result<(), Refusal>
+        ensures { (self.new, result) ≡ rows.remove number self.old }
+    {
+        let _entry = self.legal_entry(EntryCommand::Remove, number)?;
+        self.entries.shift_remove(&number);
+        Ok(())
+    }
+
+    /// Gives an entry that waits or is held a priority from 0 to 100, and puts it as a new one is.
+    ///
+    /// # Errors
+    ///
+    /// `Unknown` (21), `WrongStatus` (22), and then `BadPriority` (25). They change nothing.
+    pub fn set_priority(&mut self, number: u64, priority: i128) -> Result<(), Refusal>
+        ensures { (self.new, result) ≡ rows.set_priority number priority self.old }
+    {
+        let entry = self.legal_entry(EntryCommand::SetPriority, number)?;
+        let Some(priority) = priority_of(priority) else {
+            return Err(Refusal::BadPriority);
+        };
+        entries::put_again(&mut self.entries, number, Entry { priority, ..entry });
+        Ok(())
+    }
+
+    /// Moves an entry that waits or is held to an index of the list, from 0. Its priority stays.
+    ///
+    /// # Errors
+    ///
+    /// `Unknown` (21), `WrongStatus` (22), and then `BadPosition` (26). They change nothing.
+    pub fn set_position(&mut self, number: u64, position: i128) -> Result<(), Refusal>
+        ensures { (self.new, result) ≡ rows.set_position number position self.old }
+    {
+        let entry = self.legal_entry(EntryCommand::SetPosition, number)?;
+        let Some(index) = position_within(self.entries.len(), position) else {
+            return Err(Refusal::BadPosition);
+        };
+        entries::move_to(&mut self.entries, index, number, entry);
+        Ok(())
+    }
+
+    /// From now on no entry begins.
+    pub fn hold_queue(&mut self)
+        ensures { self.new ≡ rows.hold_queue self.old }
+    {
+        self.held = true;
+    }
+
+    /// Entries begin again.
+    pub fn resume_queue(&mut self)
+        ensures { self.new ≡ rows.resume_queue self.old }
+    {
+        self.held = false;
+    }
+
+    /// New entries are taken again.
+    pub fn open_queue(&mut self)
+        ensures { self.new ≡ rows.open_queue self.old }
+    {
+        self.closed = false;
+    }
+
+    /// From now on no new entry is taken.
+    pub fn close_queue(&mut self)
+        ensures { self.new ≡ rows.close_queue self.old }
+    {
+        self.closed = true;
+    }
+
+    /// Takes every entry that does not run off the list.
+    pub fn flush(&mut self)
+        ensures { self.new ≡ rows.flush self.old }
+    {
+        entries::keep_running(&mut self.entries);
+    }
+
+    /// Where no entry runs, the first entry that waits runs, at the place that it had; its number is
+    /// given. `None` where none waits, or the queue is held.
+    pub fn begin(&mut self) -> Option<u64>
+        requires { rows.running self.old ≡ None }
+        ensures { (self.new, result) ≡ rows.begin self.old }
+    {
+        if self.held {
+            return None;
+        }
+        let (number, entry) = entries::first_waiting(&self.entries)?;
+        let begun = Entry {
+            status: Status::Running,
+            begun: true,
+            ..entry
+        };
+        entries::replace(&mut self.entries, number, begun);
+        Some(number)
+    }
+
+    /// An entry that runs ends.
+    pub fn finish(&mut self, number: u64, end: End)
+        requires { IsTrue (rows.runs number self.old) }
+        ensures { self.new ≡ rows.finish number end self.old }
+    {
+        if let Some(entry) = entries::entry_of(&self.entries, number) {
+            self.set_status(number, entry, end.status());
+        }
+    }
+
+    /// Its entries, in order, its flags, and the last number that it gave.
+    pub fn status(&self) -> QueueView<'_>
+        ensures { shown result ≡ self.now }
+    {
+        QueueView {
+            entries: &self.entries,
+            held: self.held,
+            closed: self.closed,
+            last: self.last,
+        }
+    }
+
+    /// The status of the queue as a whole.
+    pub fn queue_status(&self) -> QueueStatus
+        ensures { result ≡ rows.queue_status self.now }
+    {
+        if self.closed && self.held {
+            QueueStatus::Blocked
+        } else if self.closed {
+            QueueStatus::Closed
+        } else if self.held {
+            QueueStatus::Held
+        } else if self.entries.len() >= MAX_ENTRIES {
+            QueueStatus::Full
+        } else if self.running().is_some() {
+            QueueStatus::Running
+        } else {
+            QueueStatus::Waiting
+        }
+    }
+
+    /// The entry that has this number.
+    pub fn entry(&self, number: u64) -> Option<Entry>
+        ensures { result ≡ entry_of number self.now.entries }
+    {
+        entries::entry_of(&self.entries, number)
+    }
+
+    /// Whether the entry of this number runs.
+    pub fn is_running(&self, number: u64) -> bool
+        ensures { result ≡ rows.runs number self.now }
+    {
+        match entries::entry_of(&self.entries, number) {
+            Some(entry) => entry.status.is_running(),
+            None => false,
+        }
+    }
+
+    /// The number of the first entry that runs.
+    pub fn running(&self) -> Option<u64>
+        ensures { result ≡ rows.running self.now }
+    {
+        let (number, _) = entries::first_running(&self.entries)?;
+        Some(number)
+    }
+}
+
+/// A priority, if the number is one.
+fn priority_of(priority: i128) -> Option<u8>
+    ensures { result ≡ priority_of priority }
+{
+    u8::try_from(priority).ok().filter(|n| *n <= MAX_PRIORITY)
+}
+
+/// The index that a position names in a queue of this length.
+fn position_within(len: usize, position: i128) -> Option<usize>
+    ensures { result ≡ position_within len position }
+{
+    usize::try_from(position).ok().filter(|n| *n < len)
+}

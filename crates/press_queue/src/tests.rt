@@ -1,0 +1,324 @@
+use crate::command::EntryCommand;
+use crate::{End, Entry, Queue, QueueStatus, Refusal, Status, SubmitError};
+use std::alloc::Global;
+use std::process::Abort;
+use std::test::Fail;
+
+/// A queue with so many entries of priority 50.
+fn queue_of(alloc: Global, count: u64) -> Result<Queue, SubmitError> {
+    let mut queue = Queue::new(alloc);
+    for _ in 0..count {
+        queue.submit(50)?;
+    }
+    Ok(queue)
+}
+
+/// Lets the first entry that waits begin.
+fn begin(rt: &impl Abort, queue: &mut Queue) -> Option<u64> {
+    assert!(rt; queue.running().is_none());
+    queue.begin()
+}
+
+fn finish(rt: &impl Abort, queue: &mut Queue, number: u64, end: End) {
+    assert!(rt; queue.is_running(number));
+    queue.finish(number, end);
+}
+
+/// A queue with one entry, number 1, of this status.
+fn entry_at(rt: &impl Abort, alloc: Global, status: Status) -> Result<Queue, Fail> {
+    let mut queue = queue_of(alloc, 1)?;
+    match status {
+        Status::Waiting => {}
+        Status::Held => queue.hold(1)?,
+        Status::Aborted => queue.abort(1)?,
+        Status::Running => assert_eq!(rt; begin(rt, &mut queue), Some(1)),
+        Status::Suspended => {
+            assert_eq!(rt; begin(rt, &mut queue), Some(1));
+            queue.suspend(1)?;
+        }
+        Status::Completed => {
+            assert_eq!(rt; begin(rt, &mut queue), Some(1));
+            finish(rt, &mut queue, 1, End::Completed);
+        }
+    }
+    assert_eq!(rt; queue.entry(1).map(|entry| entry.status), Some(status));
+    Ok(queue)
+}
+
+/// Whether the numbers of the entries, in order, are these.
+fn stand_so(queue: &Queue, numbers: &[u64]) -> bool {
+    let entries = queue.status().entries;
+    entries.len() == numbers.len() && entries.keys().zip(numbers).all(|(is, wanted)| is == wanted)
+}
+
+const STATUSES: [Status; 6] = [
+    Status::Waiting,
+    Status::Held,
+    Status::Running,
+    Status::Suspended,
+    Status::Completed,
+    Status::Aborted,
+];
+
+/// A command for an entry, the statuses at which it is legal, and the status that it sets, if it sets one.
+struct Row {
+    command: EntryCommand,
+    legal: [bool; 6],
+    sets: Option<Status>,
+}
+
+/// Each command at each status, in the order of `STATUSES`.
+const ROWS: [Row; 7] = [
+    Row {
+        command: EntryCommand::Hold,
+        legal: [true, false, false, false, false, false],
+        sets: Some(Status::Held),
+    },
+    Row {
+        command: EntryCommand::Resume,
+        legal: [false, true, false, true, false, false],
+        sets: Some(Status::Waiting),
+    },
+    Row {
+        command: EntryCommand::Suspend,
+        legal: [false, false, true, false, false, false],
+        sets: Some(Status::Suspended),
+    },
+    Row {
+        command: EntryCommand::Abort,
+        legal: [true, true, true, true, false, false],
+        sets: Some(Status::Aborted),
+    },
+    Row {
+        command: EntryCommand::Remove,
+        legal: [true, true, false, false, true, true],
+        sets: None,
+    },
+    Row {
+        command: EntryCommand::SetPriority,
+        legal: [true, true, false, false, false, false],
+        sets: None,
+    },
+    Row {
+        command: EntryCommand::SetPosition,
+        legal: [true, true, false, false, false, false],
+        sets: None,
+    },
+];
+
+/// Gives a command for an entry, with a priority or a position.
+fn give(queue: &mut Queue, command: EntryCommand, number: u64, value: i128) -> Result<(), Refusal> {
+    match command {
+        EntryCommand::Hold => queue.hold(number),
+        EntryCommand::Resume => queue.resume(number),
+        EntryCommand::Suspend => queue.suspend(number),
+        EntryCommand::Abort => queue.abort(number),
+        EntryCommand::Remove => queue.remove(number),
+        EntryCommand::SetPriority => queue.set_priority(number, value),
+        EntryCommand::SetPosition => queue.set_position(number, value),
+    }
+}
+
+/// What a row wants of an entry of this status: the answer, and the status after it.
+fn wanted(row: &Row, before: Status, legal: bool) -> (Result<(), Refusal>, Option<Status>) {
+    if !legal {
+        (Err(Refusal::WrongStatus), Some(before))
+    } else if matches!(row.command, EntryCommand::Remove) {
+        (Ok(()), None)
+    } else {
+        (Ok(()), Some(row.sets.unwrap_or(before)))
+    }
+}
+
+#[test]
+fn each_command_at_each_status(rt: HostRuntime) -> Result<(), Fail> {
+    for row in &ROWS {
+        for (before, legal) in STATUSES.iter().zip(&row.legal) {
+            let mut queue = entry_at(&rt, rt.alloc(), *before)?;
+            let answer = give(&mut queue, row.command, 1, 0);
+            let after = queue.entry(1).map(|entry| entry.status);
+            assert_eq!(rt; (answer, after), wanted(row, *before, *legal));
+        }
+    }
+    Ok(())
+}
+
+/// Each refusal, and its return code.
+const CODES: [(Refusal, u8); 7] = [
+    (Refusal::Unknown, 21),
+    (Refusal::WrongStatus, 22),
+    (Refusal::Closed, 23),
+    (Refusal::Full, 24),
+    (Refusal::BadPriority, 25),
+    (Refusal::BadPosition, 26),
+    (Refusal::InFlightFull, 27),
+];
+
+/// Commands that are refused where entry 1 runs, entry 2 waits and there is no other.
+const REFUSALS: [(EntryCommand, u64, i128, u8); 10] = [
+    (EntryCommand::Hold, 3, 0, 21),
+    (EntryCommand::SetPriority, 0, 101, 21),
+    (EntryCommand::Resume, 2, 0, 22),
+    (EntryCommand::Suspend, 2, 0, 22),
+    (EntryCommand::SetPriority, 1, 101, 22),
+    (EntryCommand::SetPosition, 1, 2, 22),
+    (EntryCommand::SetPriority, 2, 101, 25),
+    (EntryCommand::SetPriority, 2, -1, 25),
+    (EntryCommand::SetPosition, 2, 2, 26),
+    (EntryCommand::SetPosition, 2, -1, 26),
+];
+
+#[test]
+fn each_refusal_has_its_code(rt: HostRuntime) -> Result<(), Fail> {
+    for (refusal, code) in &CODES {
+        assert_eq!(rt; refusal.return_code(), *code);
+    }
+    let mut queue = queue_of(rt.alloc(), 2)?;
+    assert_eq!(rt; begin(&rt, &mut queue), Some(1));
+    for (command, number, value, code) in &REFUSALS {
+        let answer = give(&mut queue, *command, *number, *value);
+        assert_eq!(rt; answer.map_err(|refusal| refusal.return_code()), Err(*code));
+    }
+    Ok(())
+}
+
+/// Commands, with the order of six entries after each. Before them it is 5, 2, 6, 1, 3, 4.
+const MOVES: [(EntryCommand, u64, i128, [u64; 6]); 5] = [
+    (EntryCommand::SetPriority, 5, 50, [2, 6, 1, 3, 5, 4]),
+    (EntryCommand::SetPriority, 4, 60, [2, 6, 4, 1, 3, 5]),
+    (EntryCommand::SetPosition, 3, 0, [3, 2, 6, 4, 1, 5]),
+    (EntryCommand::SetPosition, 2, 5, [3, 6, 4, 1, 5, 2]),
+    (EntryCommand::Abort, 6, 0, [3, 6, 4, 1, 5, 2]),
+];
+
+#[test]
+fn entries_stand_by_priority_and_move(rt: HostRuntime) -> Result<(), Fail> {
+    let mut queue = Queue::new(rt.alloc());
+    for priority in [50, 60, 50, 0, 100, 60] {
+        queue.submit(priority)?;
+    }
+    assert!(rt; stand_so(&queue, &[5, 2, 6, 1, 3, 4]));
+    for (command, number, value, order) in &MOVES {
+        assert_eq!(rt; give(&mut queue, *command, *number, *value), Ok(()));
+        assert!(rt; stand_so(&queue, order));
+    }
+    Ok(())
+}
+
+#[test]
+fn a_new_entry_stands_before_an_ended_one_of_lower_priority(rt: HostRuntime) -> Result<(), Fail> {
+    let mut queue = entry_at(&rt, rt.alloc(), Status::Completed)?;
+    queue.submit(40)?;
+    queue.abort(2)?;
+    queue.submit(30)?;
+    queue.submit(60)?;
+    queue.submit(50)?;
+    assert!(rt; stand_so(&queue, &[4, 1, 5, 2, 3]));
+    assert_eq!(rt; queue.set_position(3, 5), Err(Refusal::BadPosition));
+    assert_eq!(rt; queue.set_position(4, 4), Ok(()));
+    assert!(rt; stand_so(&queue, &[1, 5, 2, 3, 4]));
+    Ok(())
+}
+
+/// The answer to a submission that is refused.
+fn refusal_of(queue: &mut Queue, priority: i128) -> Option<Refusal> {
+    match queue.submit(priority) {
+        Err(SubmitError::Refused(refusal)) => Some(refusal),
+        Ok(_) | Err(SubmitError::NoMemory) => None,
+    }
+}
+
+#[test]
+fn submissions_are_refused_in_order(rt: HostRuntime) -> Result<(), Fail> {
+    let mut queue = queue_of(rt.alloc(), 63)?;
+    assert_eq!(rt; refusal_of(&mut queue, 101), Some(Refusal::BadPriority));
+    queue.close_queue();
+    assert_eq!(rt; refusal_of(&mut queue, 101), Some(Refusal::Closed));
+    queue.open_queue();
+    assert_eq!(rt; queue.submit(50)?, 64);
+    assert_eq!(rt; refusal_of(&mut queue, 101), Some(Refusal::Full));
+    queue.close_queue();
+    assert_eq!(rt; refusal_of(&mut queue, 101), Some(Refusal::Closed));
+    Ok(())
+}
+
+#[test]
+fn ended_entries_count_until_they_leave(rt: HostRuntime) -> Result<(), Fail> {
+    let mut queue = queue_of(rt.alloc(), 64)?;
+    queue.abort(1)?;
+    assert_eq!(rt; queue.queue_status(), QueueStatus::Full);
+    assert_eq!(rt; refusal_of(&mut queue, 50), Some(Refusal::Full));
+    queue.remove(1)?;
+    assert_eq!(rt; queue.submit(50)?, 65);
+    Ok(())
+}
+
+#[test]
+fn a_ninth_in_flight_is_refused(rt: HostRuntime) -> Result<(), Fail> {
+    let mut queue = queue_of(rt.alloc(), 9)?;
+    for number in 1..8 {
+        assert_eq!(rt; begin(&rt, &mut queue), Some(number));
+        queue.suspend(number)?;
+    }
+    assert_eq!(rt; begin(&rt, &mut queue), Some(8));
+    assert_eq!(rt; queue.suspend(9), Err(Refusal::WrongStatus));
+    assert_eq!(rt; queue.suspend(8), Err(Refusal::InFlightFull));
+    queue.abort(1)?;
+    assert_eq!(rt; queue.suspend(8), Ok(()));
+    Ok(())
+}
+
+#[test]
+fn the_first_that_waits_begins_where_it_stands(rt: HostRuntime) -> Result<(), Fail> {
+    let mut queue = queue_of(rt.alloc(), 3)?;
+    queue.hold(1)?;
+    assert_eq!(rt; begin(&rt, &mut queue), Some(2));
+    assert!(rt; stand_so(&queue, &[1, 2, 3]));
+    queue.flush();
+    assert!(rt; stand_so(&queue, &[2]));
+    finish(&rt, &mut queue, 2, End::Aborted);
+    assert_eq!(rt; begin(&rt, &mut queue), None);
+    assert_eq!(rt; queue.queue_status(), QueueStatus::Waiting);
+    Ok(())
+}
+
+#[test]
+fn the_first_status_of_the_queue_that_holds(rt: HostRuntime) -> Result<(), Fail> {
+    let mut queue = entry_at(&rt, rt.alloc(), Status::Running)?;
+    assert_eq!(rt; queue.queue_status(), QueueStatus::Running);
+    queue.hold_queue();
+    assert_eq!(rt; queue.queue_status(), QueueStatus::Held);
+    queue.close_queue();
+    assert_eq!(rt; queue.queue_status(), QueueStatus::Blocked);
+    queue.resume_queue();
+    assert_eq!(rt; queue.queue_status(), QueueStatus::Closed);
+    queue.open_queue();
+    assert!(rt; !queue.status().closed && !queue.status().held);
+    for _ in 1..64 {
+        assert_eq!(rt; queue.queue_status(), QueueStatus::Running);
+        queue.submit(50)?;
+    }
+    assert_eq!(rt; queue.queue_status(), QueueStatus::Full);
+    Ok(())
+}
+
+#[test]
+fn an_entry_is_in_flight_once_it_began(rt: HostRuntime) {
+    let entry = Entry::waiting(50);
+    assert_eq!(rt; (entry.priority, entry.status), (50, Status::Waiting));
+    for (status, ended) in STATUSES
+        .iter()
+        .zip(&[false, false, false, false, true, true])
+    {
+        assert_eq!(rt; status.has_ended(), *ended);
+        let begun = Entry {
+            priority: 50,
+            status: *status,
+            begun: true,
+        };
+        assert_eq!(rt;
+            (entry.is_in_flight(), begun.is_in_flight()),
+            (false, !*ended)
+        );
+    }
+}
