@@ -1,0 +1,110 @@
+"""What fills and raster rows mark. Sets of columns are whole numbers, bit a being column a of the frame."""
+
+from functools import lru_cache
+
+from . import pages, rows
+from .patterns import SOLID_BLACK, USER, WHITE
+from .values import DOT, POSITIONS_PER_INCH, dot
+
+ENGINE_RESOLUTION = 300
+
+
+def ceiling(dividend, divisor):
+    return -(-dividend // divisor)
+
+
+@lru_cache(maxsize=4096)
+def repeated(tile_row, width):
+    """The black columns of a tile's row over the whole frame."""
+    times = ceiling(width, len(tile_row))
+    text = "".join("1" if black else "0" for black in tile_row) * times
+    return int(text[:width][::-1], 2)
+
+
+def paint_line(state, page, line, covered, source, pattern):
+    """One line of a mark under a pattern that exists, a pair of kind and tile."""
+    kind, tile = pattern
+    width, _ = pages.frame(page.size, page.orientation)
+    columns = repeated(tuple(tile[line % len(tile)]), width)
+    pattern_opaque = state.pattern_opaque or kind == WHITE
+    page.paint(line, covered, source, columns, state.source_opaque, pattern_opaque)
+
+
+def current_pattern(state):
+    """Kind and tile of the current pattern; a user pattern that is not there is solid black."""
+    kind, number = state.current_pattern
+    tile = state.patterns.tile(kind, number)
+    if tile is None:
+        assert kind == USER
+        tile = SOLID_BLACK
+    return kind, tile
+
+
+def frame_dot(state):
+    """The cursor's frame dot."""
+    column = pages.offset(state.size, state.orientation) + dot(state.x)
+    return column, dot(state.y + state.top_margin)
+
+
+def fill(engine, pattern):
+    """A rectangle from the cursor's dot, all source dots black; no effect where the pattern has no tile."""
+    state = engine.state
+    kind, tile = pattern
+    if tile is None or state.rectangle_width == 0 or state.rectangle_height == 0:
+        return
+    page = engine.page_to_mark()
+    column, line = frame_dot(state)
+    across = ceiling(state.rectangle_width, DOT)
+    down = ceiling(state.rectangle_height, DOT)
+    _, frame_height = pages.frame(state.size, state.orientation)
+    columns = ((1 << across) - 1) << column
+    for each in range(line, min(line + down, frame_height)):
+        paint_line(state, page, each, columns, columns, (kind, tile))
+
+
+def start_raster(state, left):
+    """Raster graphics on; left is the cursor's place, if it is not 0."""
+    state.raster_on = True
+    state.raster_left = left
+    state.row_count = 0
+    state.seed = bytes(ceiling(row_width(state), 8))
+    state.place_cursor(left, state.y)
+
+
+def row_width(state):
+    """The width of a row in raster dots."""
+    if state.source_width is not None:
+        return state.source_width
+    room = state.logical_width() - state.raster_left
+    return room * state.raster_resolution // POSITIONS_PER_INCH
+
+
+def transfer_row(engine, data):
+    state = engine.state
+    if state.source_height is not None and state.row_count >= state.source_height:
+        return
+    row = rows.decode(state.method, data, state.seed)
+    page = engine.page_to_mark()
+    paint_row(state, page, row)
+    state.seed = row
+    skip_rows(state, 1)
+
+
+def skip_rows(state, count):
+    """The cursor and the row count go on by so many rows."""
+    state.place_cursor(state.x, state.y + count * POSITIONS_PER_INCH // state.raster_resolution)
+    state.row_count = min(65535, state.row_count + count)
+
+
+def paint_row(state, page, row):
+    side = ENGINE_RESOLUTION // state.raster_resolution
+    width = row_width(state)
+    column = pages.offset(state.size, state.orientation) + dot(state.raster_left)
+    bits = "".join(format(byte, "08b") for byte in row)[:width]
+    wide = "".join(bit * side for bit in bits)
+    source = int(wide[::-1] or "0", 2) << column
+    covered = ((1 << width * side) - 1) << column
+    line = dot(state.y + state.top_margin)
+    pattern = current_pattern(state)
+    for each in range(line, line + side):
+        paint_line(state, page, each, covered, source, pattern)

@@ -1,0 +1,577 @@
+#!/usr/bin/env python3
+"""Worked examples with their values. Run as a script; each test is a function named for what it shows."""
+
+import sys
+from pathlib import Path
+
+if __package__ in (None, ""):
+    sys.path[0] = str(Path(__file__).resolve().parent.parent)
+
+from model import (  # noqa: E402
+    asm, commands, job_queue, pages, patterns, pbm, press, rows, runs, ticket, values)
+from model.commands import (  # noqa: E402
+    Broken, Control, Param, PjlLine, Text, Uel, closed, same_commands, split)
+
+UEL = b"\x1b%-12345X"
+FF = b"\x0c"
+LETTER = (2550, 3300)
+
+
+def stream(text):
+    """The bytes of a written stream: ESC and FF are words, brackets hold hexadecimal, blanks only separate."""
+    spelled = b""
+    while text:
+        if text.startswith("["):
+            inside, _, text = text[1:].partition("]")
+            spelled += bytes.fromhex(inside)
+        elif text.startswith("ESC"):
+            spelled, text = spelled + b"\x1b", text[3:]
+        elif text.startswith("FF"):
+            spelled, text = spelled + FF, text[2:]
+        elif text.startswith("UEL"):
+            spelled, text = spelled + UEL, text[3:]
+        else:
+            spelled += text[0].strip().encode()
+            text = text[1:]
+    return spelled
+
+
+def run(text):
+    return runs.run_stream(stream(text) if isinstance(text, str) else text)
+
+
+def dots(columns, lines):
+    return {(x, y) for x in columns for y in lines}
+
+
+def span(first, last):
+    return range(first, last + 1)
+
+
+def fronts(text):
+    """The black dots of each sheet's front."""
+    outcome = run(text)
+    assert outcome.replies == b""
+    assert all(sheet.back is None for sheet in outcome.sheets)
+    return [sheet.front.black_dots() for sheet in outcome.sheets]
+
+
+def refused(number, call, *arguments):
+    try:
+        call(*arguments)
+    except Exception as fault:  # each module has its own refusals
+        assert getattr(fault, "number", None) == number, (number, fault)
+        return fault
+    raise AssertionError("not refused: %s" % number)
+
+
+# Streams and their sheets
+
+def test_empty_stream():
+    outcome = run(b"")
+    assert outcome.sheets == [] and outcome.replies == b""
+
+
+def test_blank_sheet():
+    outcome = run("ESC E FF ESC E")
+    sheet, = outcome.sheets
+    assert (sheet.front.width(), sheet.front.height()) == LETTER
+    assert sheet.back is None and sheet.front.count_black() == 0
+    assert pages.listing(outcome.sheets, b"") == b"sheet 1 front 2550x3300 black 0\n"
+
+
+def test_small_box():
+    text = "ESC E ESC*p0x0Y ESC*c3a2b0P ESC E"
+    assert fronts(text) == [dots(span(75, 77), span(150, 151))]
+    outcome = run(text)
+    assert pages.listing(outcome.sheets, outcome.replies) == b"sheet 1 front 2550x3300 black 6\n"
+
+
+def test_combined_sequence_runs_from_the_left():
+    assert fronts("ESC*p10x20Y ESC*c3a2b0P FF") == [dots(span(85, 87), span(170, 171))]
+
+
+def test_broken_sequence_and_carriage_return():
+    spelled = stream("ESC*p10 [0D] FF")
+    assert same_commands(closed(spelled), [Broken(b"\x1b*p10"), Control(13), Control(12)])
+    assert fronts(spelled) == [set()]
+    assert runs.run_commands(closed(spelled)).engine.state.x == 0
+    spelled = stream("ESC*p10x20 [0D]")
+    first = Param(ord("*"), ord("p"), b"10", ord("X"), b"")
+    assert same_commands(closed(spelled), [first, Broken(b"\x1b*p20"), Control(13)])
+
+
+def test_cursor_stack_holds_twenty():
+    pushes = b"".join(b"\x1b*p%dX\x1b&f0S" % place for place in span(1, 21))
+    for pops, x in [(1, 480), (20, 24), (21, 24)]:
+        assert runs.run_commands(closed(pushes + b"\x1b&f1S" * pops)).engine.state.x == x
+
+
+def test_packed_row():
+    columns = [*span(75, 78), *span(83, 86), *span(91, 94)]
+    assert fronts("ESC*t300R ESC*r0A ESC*b1m2W [02 F0] FF") == [dots(columns, [187])]
+
+
+def test_delta_row_and_its_seed():
+    text = "ESC*t300R ESC*r0A ESC*b3m2W [00 FF] ESC*b0W ESC*b0m0W ESC*b3m0W ESC*rC FF"
+    assert fronts(text) == [dots(span(75, 82), [187, 188])]
+
+
+def test_row_codes():
+    seed = bytes(5)
+    assert rows.decode(2, bytes.fromhex("FE 41 80 01 42"), seed) == bytes.fromhex("41 41 41 42 00")
+    assert rows.decode(1, bytes.fromhex("02 F0 05"), bytes(4)) == bytes.fromhex("F0 F0 F0 00")
+    # A cut offset replaces nothing; a replaced byte past the width is dropped and counts for the next offset.
+    assert rows.decode(3, bytes.fromhex("1F"), b"\x07") == b"\x07"
+    assert rows.decode(3, bytes.fromhex("1F FF"), b"\x07") == b"\x07"
+    assert rows.decode(3, bytes.fromhex("20 01 02 00 03"), b"\x07") == b"\x01"
+    assert rows.decode(3, bytes.fromhex("1F 01 09"), bytes(33)) == bytes(32) + b"\x09"
+    assert rows.decode(2, bytes.fromhex("05 01 02"), bytes(4)) == bytes.fromhex("01 02 00 00")
+    assert rows.decode(2, bytes.fromhex("81 09"), bytes(130)) == bytes([9] * 128 + [0, 0])
+
+
+def test_opaque_white_source_whitens():
+    text = ("ESC*p0x0Y ESC*c16a1b0P ESC*t300R ESC*r8S ESC*v1N ESC*r1A ESC*b0W ESC*rC FF")
+    assert fronts(text) == [dots(span(83, 90), [150])]
+
+
+PATTERN = bytes.fromhex("00 00 01 00 00 08 00 08") + b"\xff" * 8
+
+
+def test_user_pattern_survives_a_short_one():
+    spelled = stream("ESC*c5G ESC*c16W [%s] ESC*c15W [%s] ESC*p0x0Y ESC*c2a1b4P FF" % (
+        PATTERN.hex(), (PATTERN[:8] + bytes(7)).hex()))
+    assert fronts(spelled) == [dots([75, 76], [150])]
+    store = patterns.Patterns()
+    store.define(5, PATTERN)
+    refused(202, store.define, 5, PATTERN[:8] + bytes(7))
+    refused(201, store.define, 5, PATTERN[:7])
+    assert store.tile(patterns.USER, 5) == [[True] * 8] * 8
+
+
+NESTED = ("ESC*p0x0Y ESC&f1y0X ESC*c1a1b0P ESC*p+2X ESC&f3X ESC&f1X ESC&f3X FF")
+
+
+def test_nested_call():
+    assert fronts(NESTED) == [{(75, 150), (77, 150)}]
+    before_feed = stream(NESTED)[:-1]
+    assert runs.run_commands(closed(before_feed)).engine.state.x == 96
+
+
+def test_overlay():
+    box = dots(span(75, 78), [187])
+    assert fronts("ESC&f2y0X ESC*c4a1b0P FF ESC&f1X ESC&f4X FF FF") == [box, box]
+    open_definition = "ESC&f2y0X ESC*c4a1b0P FF ESC&f1X ESC&f4X ESC*c1a1b0P ESC&f3y0X"
+    assert fronts(open_definition) == [box]
+
+
+INQUIRIES = (UEL + b"@PJL SET COPIES=3\r\n@PJL INQUIRE COPIES\r\n@PJL DINQUIRE COPIES\r\n")
+
+
+def test_inquire_and_dinquire():
+    outcome = run(INQUIRIES)
+    first, second = b"@PJL INQUIRE COPIES\r\n3\r\n\x0c", b"@PJL DINQUIRE COPIES\r\n1\r\n\x0c"
+    assert outcome.replies == first + second and (len(first), len(second)) == (25, 26)
+    assert outcome.sheets == []
+
+
+def test_rest_in_a_line():
+    assert split(UEL + b"@PJ")[2] == b"@PJ"
+    spelled = INQUIRIES
+    for length in range(len(spelled)):
+        given, _, rest = split(spelled[:length])
+        assert same_commands(given, closed(spelled)[:len(given)])
+        assert spelled[:length] == b"".join(map(commands.command_bytes, given)) + rest
+
+
+ECHO_IN_TEXT = UEL + b"\x1b\x01@PJL ECHO x\n"
+
+
+def test_line_after_a_broken_escape_is_text():
+    expected = [Uel(), Broken(b"\x1b"), Control(1)] + [Text(byte) for byte in b"@PJL ECHO x"] + [Control(10)]
+    assert same_commands(closed(ECHO_IN_TEXT), expected)
+    assert run(ECHO_IN_TEXT).replies == b""
+    assert same_commands(closed(asm.assemble(asm.disassemble(ECHO_IN_TEXT))), expected)
+
+
+def test_low_resolution_row():
+    assert fronts("ESC*t75R ESC*r1A ESC*b1W [80] FF") == [dots(span(75, 78), span(187, 190))]
+
+
+def test_landscape_box():
+    assert fronts("ESC&l1O ESC*p0x0Y ESC*c3a2b0P FF") == [dots([150, 151], span(3237, 3239))]
+
+
+def test_shading():
+    assert fronts("ESC*c50G ESC*p0x0Y ESC*c4a1b2P FF") == [{(76, 150), (78, 150)}]
+
+
+def test_duplex_odd_page():
+    sheet, = run("ESC&l1S FF ESC E").sheets
+    assert sheet.front.count_black() == 0 and sheet.back is None
+
+
+def test_page_status():
+    outcome = run(UEL + b"@PJL USTATUS PAGE=ON\n@PJL ENTER LANGUAGE=PCL\n" + FF)
+    assert len(outcome.sheets) == 1
+    assert outcome.replies == b"@PJL USTATUS PAGE\r\n1\r\n\x0c" and len(outcome.replies) == 23
+
+
+def test_longest_line():
+    comment = b"@PJL COMMENT "
+    comment += b"x" * (4096 - len(comment))
+    outcome = run(UEL + comment + b"\n@PJL INQUIRE PAPER\n")
+    assert outcome.replies == b"@PJL INQUIRE PAPER\r\nLETTER\r\n\x0c"
+    tail = [Broken(comment), Broken(b"\n"), PjlLine(b"@PJL INQUIRE PAPER\n")]
+    assert same_commands(closed(comment + b"\n@PJL INQUIRE PAPER\n"), tail)
+    assert run(UEL + b"@PJL INQUIRE FOO\n").replies == b"@PJL INQUIRE FOO\r\n\"?\"\r\n\x0c"
+
+
+def test_blank_two_sided_sheets():
+    sheets = run("ESC&l1S ESC&l2X FF FF").sheets
+    assert len(sheets) == 2
+    assert all(sheet.back is not None and sheet.front.count_black() == sheet.back.count_black() == 0
+               for sheet in sheets)
+    assert all((side.width(), side.height()) == LETTER for sheet in sheets for _, side in sheet.sides())
+
+
+def test_skip_zeroes_the_seed():
+    text = "ESC*t300R ESC*r0A ESC*b3m2W [00 FF] ESC*b1Y ESC*b0W ESC*rC FF"
+    assert fronts(text) == [dots(span(75, 82), [187])]
+
+
+def test_body_that_deletes_itself_runs_on():
+    text = "ESC&f1y0X ESC&f8X ESC*c1a1b0P ESC&f1X ESC&f2X ESC&f2X FF"
+    assert fronts(text) == [{(75, 187)}]
+
+
+def test_a_million_moves():
+    spelled = b"\x1b*p0X" * 20000 + stream("ESC E ESC*p0x0Y ESC*c3a2b0P ESC E")
+    assert fronts(spelled) == [dots(span(75, 77), span(150, 151))]
+
+
+def test_large_box():
+    assert fronts("ESC*p5x100Y ESC*c70a140b0P FF") == [dots(span(80, 149), span(250, 389))]
+
+
+def test_placed_rows_are_the_placed_dots():
+    corner = "ESC*p0x-9999Y ESC*c3a2b0P ESC*p900x1200Y ESC*c50G ESC*c40a9b2P FF"
+    for orientation in range(4):
+        sheet, = run("ESC&l%dO" % orientation + corner).sheets
+        placed = sheet.front.physical_rows()
+        assert (len(placed[0]), len(placed)) == LETTER
+        found = {(x, y) for y, row in enumerate(placed) for x, bit in enumerate(row) if bit == "1"}
+        assert found == sheet.front.black_dots() and len(found) == sheet.front.count_black() > 100
+
+
+# Every shape of the tiles
+
+def tile_text(tile):
+    return ["".join("#" if black else "." for black in row) for row in tile]
+
+
+def test_tiles():
+    bounds = [(1, 2, "80"), (3, 10, "88"), (11, 20, "88"), (21, 35, "AA"), (36, 55, "AA"),
+              (56, 80, "FF"), (81, 99, "77"), (100, 100, "FF")]
+    for first, last, row in bounds:
+        for per_cent in (first, last):
+            assert patterns.shading(per_cent)[0] == patterns.dots_of_bytes(bytes.fromhex(row), 8)
+    assert patterns.shading(10) != patterns.shading(11) and patterns.shading(55) != patterns.shading(35)
+    assert patterns.shading(0) is None and patterns.shading(101) is None
+    assert patterns.hatch(0) is None and patterns.hatch(7) is None
+    assert tile_text(patterns.hatch(1))[0] == "#" * 16 and tile_text(patterns.hatch(1))[1] == "." * 16
+    assert [row.index(True) for row in patterns.hatch(4)] == list(range(16))
+    assert [row.index(True) for row in patterns.hatch(3)] == list(range(15, -1, -1))
+
+
+# Values
+
+def test_value_fields():
+    for field, number, signed in [
+            (b"99999", 655350000, False), (b"-40000.5", -327670000, True), (b".12345", 1234, False),
+            (b"+", 0, True), (b"", 0, False), (b"-.", 0, True), (b"5.", 50000, False)]:
+        assert values.read_value(field) == (number, signed)
+    assert values.read_value(b"-0.9").whole() == 0
+    assert len(values.UNITS_OF_MEASURE) == 26 and values.UNITS_OF_MEASURE[0] == 96
+
+
+# P4 files
+
+def test_portable_bitmaps():
+    file = b"P4\n3 1\n\xe0"
+    width, read_rows, unread = pbm.read(file)
+    assert (width, read_rows, unread) == (3, ["111"], b"")
+    assert pbm.bytes_of_rows(read_rows) == file
+    for number, bad in [(113, file[:-1]), (111, b"P5\n3 1\n\xe0"), (112, b"P4 0 1 "), (113, b""), (113, b"P"),
+                        (113, b"P4"), (113, b"P4#c"), (113, b"P4 3"), (113, b"P4 3 1"), (113, b"P4 3 #"),
+                        (111, b"P4x"), (111, b"P43 1 "), (111, b"P4 3 1#"), (112, b"P4 16385 1\n")]:
+        refused(number, pbm.read, bad)
+    assert pbm.read(b"P4#c\r3#d\n1\t\xff more")[2] == b" more"
+
+
+# Assembly text
+
+def test_assembly_text():
+    text = asm.disassemble(stream("ESC*p10x20Y"))
+    assert text == "par *p10X\npar *p20Y\n"
+    assert asm.assemble(text) == stream("ESC*p10X ESC*p20Y")
+    for number, line in [(402, "par *p1.2.3X"), (403, "par *b2W 02"), (401, "foo"), (401, "par %-12345X"),
+                         (401, "ctl 1"), (401, "ctl 1B"), (401, "txt 1F"), (403, "brk 1B2"), (401, "brk "),
+                         (401, "par *b0W "), (403, "par *p1X 00"), (403, "pjl 40504A4C"), (401, "uel\r"),
+                         (401, "esc /"), (401, "par *p1x")]:
+        assert refused(number, asm.assemble, line).line == 1
+    assert refused(401, asm.assemble, "; all is well\n\nuel\nfoo\nbar").line == 4
+
+
+def worked_streams():
+    return [stream(text) for text in [
+        "ESC E FF ESC E", "ESC E ESC*p0x0Y ESC*c3a2b0P ESC E", "ESC*p10 [0D] FF", "ESC*p10x20 [0D]",
+        "ESC*t300R ESC*r0A ESC*b1m2W [02 F0] FF", NESTED,
+        "ESC&f2y0X ESC*c4a1b0P FF ESC&f1X ESC&f4X FF FF", "ESC*t75R ESC*r1A ESC*b1W [80] FF",
+    ]] + [INQUIRIES, ECHO_IN_TEXT, b"@PJL ENTER LANGUAGE=X\nab\x1b%-1", b"@PJL x\x1b", b"@PJ", b"\x1b*p1x"]
+
+
+def test_disassembled_streams_close_alike():
+    for spelled in worked_streams():
+        for length in range(len(spelled) + 1):
+            part = spelled[:length]
+            assert same_commands(closed(asm.assemble(asm.disassemble(part))), closed(part)), part
+
+
+# Traces
+
+def test_steps_of_a_nested_call():
+    spelled = stream(NESTED)
+    items = runs.trace(spelled)
+    assert len(items) == 23
+    assert [item.depth for item in items] == [0] * 10 + [1] * 5 + [2] * 5 + [0] * 3
+    debugger = runs.Debugger(spelled)
+    for _ in range(10):
+        assert debugger.step_into() == "stepped"
+    assert debugger.step_over() == "stepped" and debugger.step() == 21
+    debugger = runs.Debugger(spelled)
+    debugger.breaks[0] = lambda at: at.last() == "par *cP"
+    stops = []
+    while debugger.go(1000) == "break 0":
+        stops.append(debugger.step())
+    assert stops == [14, 19] and debugger.step() == 23
+    debugger = runs.Debugger(spelled)
+    debugger.breaks[32] = lambda at: at.items[at.place - 1].view["x"] >= 96
+    assert debugger.go(1000) == "break 32" and debugger.step() == 20
+
+
+def test_deepest_trace():
+    text = ("ESC&f3y0X ESC*p1X ESC&f1X ESC&f4y0X ESC&f3y2X ESC&f1X "
+            "ESC&f2y0X FF ESC&f1X ESC&f1y0X ESC&f2y2X ESC&f1X ESC&f4y4X ESC&f1y2X")
+    depths = [item.depth for item in runs.trace(stream(text))]
+    assert max(depths) == 4 and depths[-1] == 0
+
+
+# Tickets
+
+IMAGE = (1, ["1"])
+PAGES = [(1, ["1"]), (2, ["11"]), (1, ["1", "1"])]
+
+
+def ticket_bytes(**changes):
+    fields = {"Amount": 2, "Collate": True, "JobID": "J", "NPage": 3, "Sides": "TwoSidedHeadToHead",
+              "Type": "DigitalPrinting", "Version": "1.5"}
+    fields.update(changes)
+    return press.compact({key: value for key, value in fields.items() if value is not None})
+
+
+def job_sheets(read, images):
+    outcome = runs.run_stream(press.writer.job_of(read, images))
+    assert outcome.replies == b""
+    return [(sheet.front.black_dots(), sheet.back and sheet.back.black_dots()) for sheet in outcome.sheets]
+
+
+def test_wanted_sheets():
+    for changes, expected in [
+            ({}, [(0, 1), (2, None), (0, 1), (2, None)]),
+            ({"Collate": False}, [(0, 1), (0, 1), (2, None), (2, None)]),
+            ({"RunList": [[-1, -1]]}, [(2, None), (2, None)]),
+            ({"RunList": [[2, 0]], "Sides": "OneSidedFront", "Amount": 1}, [(2, None), (1, None), (0, None)])]:
+        read = ticket.read_ticket(ticket_bytes(**changes))
+        assert ticket.wanted_page_sheets(read) == expected
+        ticket.check(read, PAGES)
+        assert job_sheets(read, PAGES) == ticket.wanted(read, PAGES)
+    read = ticket.read_ticket(ticket_bytes())
+    assert job_sheets(read, [IMAGE] * 3) == [({(75, 0)}, {(75, 0)}), ({(75, 0)}, None)] * 2
+
+
+def test_refused_tickets():
+    for number, key, changes in [
+            (605, None, {"Amount": 0}), (604, None, {"RunList": [[3, 3]]}), (603, None, {"Type": "Folding"}),
+            (602, "JobID", {"JobID": None}), (602, "A", {"A": 1, "JobID": None}), (604, None, {"NPage": 0}),
+            (602, "RunList", {"RunList": []}), (602, "RunList", {"RunList": [[1, 2, 3]]}),
+            (602, "Amount", {"Amount": 1.5}), (602, "Media", {"Media": "B5"}), (602, "Sides", {"Sides": []}),
+            (603, None, {"Type": "Folding", "NPage": 0}), (602, "Collate", {"Collate": "SheetSet"})]:
+        assert refused(number, ticket.read_ticket, ticket_bytes(**changes)).key == key
+    refused(601, ticket.read_ticket, b"{")
+    refused(601, ticket.read_ticket, b"[]")
+    read = ticket.read_ticket(ticket_bytes())
+    refused(612, ticket.check, read, [IMAGE, (2401, ["1" * 2401]), IMAGE])
+    refused(613, ticket.check, read, [IMAGE, (1, ["1"] * 3301), IMAGE])
+    refused(611, ticket.check, read, [IMAGE] * 2)
+
+
+def test_depth_of_tickets_and_messages():
+    assert refused(602, ticket.read_ticket, b'{"A":' + b"[" * 126 + b"]" * 126 + b"}").key == "A"
+    refused(601, ticket.read_ticket, b'{"A":' + b"[" * 127 + b"]" * 127 + b"}")
+    deep = b'{"ID":"m","Type":"Status","X":' + b"[" * 127 + b"]" * 127 + b"}"
+    assert press.Press().message(deep) == b'{"ReturnCode":6,"Type":"","refID":""}'
+
+
+# The queue and the press
+
+def message(kind, **fields):
+    return press.compact({"ID": "m1", "Type": kind, **fields})
+
+
+def submission(pages_in_all=1, **fields):
+    plain = {"Amount": 1, "JobID": "J", "NPage": pages_in_all, "Type": "DigitalPrinting", "Version": "1.5"}
+    plain.update(fields.pop("changes", {}))
+    return message("SubmitQueueEntry", Ticket=plain, **fields)
+
+
+def code(response):
+    return press.json.loads(response)["ReturnCode"]
+
+
+def test_submissions():
+    at = press.Press()
+    expected = b'{"QueueEntryID":"Q1","ReturnCode":0,"Type":"SubmitQueueEntry","refID":"m1"}'
+    assert at.message(submission(), [IMAGE]) == expected
+    for _ in range(63):
+        assert code(at.message(submission(), [IMAGE])) == 0
+    assert code(at.message(submission(), [IMAGE])) == 24 and len(at.queue.entries) == 64
+    assert code(at.message(message("CloseQueue"))) == 0
+    assert code(at.message(submission(), [IMAGE])) == 23
+
+
+def test_refused_messages():
+    at = press.Press()
+    assert code(at.message(submission(Priority=101), [IMAGE])) == 25
+    assert code(at.message(submission(), [IMAGE])) == 0
+    assert code(at.message(message("SetQueueEntryPosition", QueueEntryID="Q1", Position=1))) == 26
+    assert code(at.message(message("HoldQueueEntry", QueueEntryID="Q2"))) == 21
+    assert code(at.message(message("Foo"))) == 5
+    assert at.message(b'{"ID":"m1"}') == b'{"ReturnCode":7,"Type":"","refID":"m1"}'
+    assert at.message(b"no json") == b'{"ReturnCode":6,"Type":"","refID":""}'
+    assert at.message(b'{"Type":"Foo"}') == b'{"ReturnCode":7,"Type":"Foo","refID":""}'
+    assert at.message(b'{"ID":1,"Type":2}') == b'{"ReturnCode":6,"Type":"","refID":""}'
+    assert code(at.message(message("HoldQueueEntry"))) == 7
+    assert code(at.message(message("HoldQueueEntry", QueueEntryID=1))) == 6
+    no_image = b'{"Fault":611,"ReturnCode":6,"Type":"SubmitQueueEntry","refID":"m1"}'
+    assert at.message(submission()) == no_image
+
+
+def test_states_that_messages_show():
+    at = press.Press()
+    at.message(submission(), [IMAGE])
+    assert at.message(message("QueueStatus")) == (
+        b'{"Queue":{"Entries":[{"Priority":50,"QueueEntryID":"Q1","Status":"Waiting"}],"Status":"Waiting"},'
+        b'"ReturnCode":0,"Type":"QueueStatus","refID":"m1"}')
+    at.turn(1, press.Sink())
+    assert at.message(message("Status")) == (
+        b'{"Device":{"QueueEntryID":"Q1","Sheets":0,"Status":"Running"},'
+        b'"ReturnCode":0,"Type":"Status","refID":"m1"}')
+    assert code(at.message(message("RemoveQueueEntry", QueueEntryID="Q1"))) == 22
+    at.turn(1000, press.Sink())
+    assert at.message(message("RemoveQueueEntry", QueueEntryID="Q1")) == (
+        b'{"ReturnCode":0,"Status":"Removed","Type":"RemoveQueueEntry","refID":"m1"}')
+    assert at.delivered(1) is None
+
+
+def test_suspension_at_every_step():
+    two_sided = {"Sides": "TwoSidedHeadToHead"}
+    read = ticket.read_ticket(ticket_bytes(Amount=1, NPage=2))
+    steps = len(runs.trace(press.writer.job_of(read, [IMAGE] * 2), viewed=False))
+    for first in range(1, steps):
+        at, sink = press.Press(), press.Sink()
+        at.message(submission(2, changes=two_sided), [IMAGE] * 2)
+        at.message(submission(), [IMAGE])
+        assert at.turn(first, sink) == (1, first)
+        suspend = message("SuspendQueueEntry", QueueEntryID="Q1")
+        assert code(at.message(suspend)) == 0 and code(at.message(suspend)) == 22
+        assert at.turn(10 ** 6, sink)[0] == 2
+        assert code(at.message(message("ResumeQueueEntry", QueueEntryID="Q1"))) == 0
+        assert at.turn(10 ** 6, sink) == (1, steps - first)
+        sheet, = sink.sheets_of(1)
+        assert sheet.front.black_dots() == sheet.back.black_dots() == {(75, 0)}
+        assert len(sink.sheets_of(2)) == 1 and at.delivered(1) == 1
+
+
+def test_faulty_deliveries():
+    at, sink = press.Press(), press.Sink(failing=[1])
+    at.message(submission(changes={"Amount": 3}), [IMAGE])
+    refused(301, at.turn, 10 ** 6, sink)
+    assert len(sink.delivered) == 1 and at.queue.entries[0].status == "Aborted"
+    at, sink = press.Press(), press.Sink(failing=[0])
+    for _ in range(2):
+        at.message(submission(changes={"Amount": 2}), [IMAGE])
+    refused(301, at.turn, 10 ** 6, sink)
+    assert at.queue.entries[0].status == "Aborted" and at.delivered(1) == 0
+    assert at.turn(10 ** 6, sink)[0] == 2
+    assert [number for number, _ in sink.delivered] == [2, 2]
+
+
+def test_eight_in_flight():
+    queue = job_queue.Queue()
+    for number in span(1, 8):
+        queue.submit(50)
+        assert queue.begin().number == number
+        if number < 8:
+            queue.suspend(number)
+    try:
+        queue.suspend(8)
+    except job_queue.Refused as fault:
+        assert fault.code == 27
+    else:
+        raise AssertionError("the ninth context was admitted")
+
+
+def test_failed_reply_after_two_sheets():
+    spelled = UEL + b"@PJL USTATUS PAGE=ON\n\x1b&l3X" + FF
+    outcome = run(spelled)
+    assert len(outcome.sheets) == 3
+    kinds = [type(output).__name__ for output in outcome.engine.outputs]
+    assert kinds == ["Deliver", "Reply"] * 3
+    first, second = [output.reply for output in outcome.engine.outputs[1:4:2]]
+    assert len(first + second[:5]) == 28
+
+
+# Readings that no example above reaches
+
+def final(text, name):
+    return runs.run_commands(closed(stream(text))).engine.state.view()[name]
+
+
+def test_fields_after_commands():
+    for text, name, field in [
+            ("ESC&k-0.001H", "hmi", 720), ("ESC&k840H", "hmi", 50400), ("ESC&k840.0001H", "hmi", 720),
+            ("ESC&l336C", "vmi", 50400), ("ESC&l-0.00001C", "vmi", 0), ("ESC&l48D", "vmi", 150),
+            ("ESC&l0L", "perforation_skip", False), ("ESC&l5000X", "copies", 999),
+            ("ESC&l-0.9S", "duplex", False), ("ESC&l2S ESC&l0S", "binding", "SHORTEDGE"),
+            ("ESC&l1O", "right_margin", 76320), ("ESC&u300.5D", "unit", 300), ("ESC&u97D", "unit", 300),
+            ("ESC&a79M", "right_margin", 57600), ("ESC&a9M", "right_margin", 7200),
+            ("ESC&a10L", "left_margin", 7200), ("ESC&a80L", "left_margin", 0), ("ESC&l2E", "top_margin", 2400),
+            ("", "text_length", 72000), ("ESC&l10F", "text_length", 12000), ("ESC&l64F", "text_length", 72000),
+            ("ESC&a3R", "y", 4500), ("ESC*p+100Y", "y", 3300), ("ESC*p-9999Y", "y", -3600),
+            ("ESC*p9999X", "x", 57600), ("ESC*t300R ESC*r1A ESC*p+0X", "raster_on", False),
+            ("ESC*t300R ESC*r1A ESC*b2Y", "y", 948), ("ESC*t300R ESC*r1A ESC9", "raster_on", True),
+            ("ESC%0B ESC*p9X", "x", 0), ("ESC%0B ESC*p9X ESC%0A ESC*p5X", "x", 120)]:
+        assert final(text, name) == field, (text, name, final(text, name))
+
+
+def main():
+    tests = [(name, test) for name, test in globals().items() if name.startswith("test_")]
+    for name, test in tests:
+        test()
+        print("ok " + name[5:].replace("_", " "))
+    print("%d tests" % len(tests))
+
+
+if __name__ == "__main__":
+    main()
