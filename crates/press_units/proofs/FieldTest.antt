@@ -5,7 +5,7 @@ use Rattle.std.specs.Char.{IsAsciiDigit, is_ascii_digit}
 use Rattle.std.proofs.lemmas.Bool.{and_parts, and_from, leb-true, le-leb, eqb-true}
 use Rattle.std.proofs.lemmas.Bool.Decides.{nat_tests}
 use Rattle.std.proofs.lemmas.List.Elements.{recursion_from_All, All-from_recursion, All-nil}
-use Rattle.press_units.specs.Field.{Parts, AreParts, IsSign, spelling, fraction_bytes, IsField, is_sign, is_point, is_field_byte, is_unsigned_field, is_field_text, is_value_field}
+use Rattle.press_units.specs.Field.{Parts, AreParts, IsSign, spelling, fraction_bytes, IsField, is_sign, is_point, is_field_byte, is_unsigned_field, is_field_text, longest_field, is_value_field}
 
 digit-true : (b : ℕ) → is_ascii_digit b ≡ true → IsAsciiDigit b
 digit-true b h = grind (arith, nat_tests)
@@ -101,12 +101,12 @@ pub IsField-from_test : (bs : List ℕ) → is_value_field bs ≡ true → IsFie
 IsField-from_test bs h =
     let p = and_parts (is_field_text bs) _ h in
     let s = text-true bs p.0 in
-    (s.parts, s.are, s.spelled, leb-true (length bs) 32 p.1)
+    (s.parts, s.are, s.spelled, leb-true (length bs) longest_field p.1)
 
 pub test-from_IsField : (bs : List ℕ) → IsField bs → is_value_field bs ≡ true
 test-from_IsField bs f =
     let t : is_field_text bs ≡ true = subst (λ (x : List ℕ). is_field_text x ≡ true) (sym f.2) (text-from f.0.sign f.0.whole f.0.fraction f.1.sign (recursion_from_All IsAsciiDigit f.0.whole f.1.whole) f.1.fraction) in
-    and_from (is_field_text bs) _ t (le-leb (length bs) 32 f.3)
+    and_from (is_field_text bs) _ t (le-leb (length bs) longest_field f.3)
 
 -- what is true exactly of value fields is the test
 pub decides-test : (bs : List ℕ) (b : Bool) → (b ≡ true → IsField bs) → (IsField bs → b ≡ true) → b ≡ is_value_field bs
@@ -140,7 +140,7 @@ text-front (b ∷ f) z h = text_front-at b f z (is_sign b) h
 pub test-front : (f z : List ℕ) → is_value_field (f ++ z) ≡ true → is_value_field f ≡ true
 test-front f z h =
     let p = and_parts (is_field_text (f ++ z)) _ h in
-    and_from (is_field_text f) _ (text-front f z p.0) (le-leb (length f) 32 (omega (arith, leb-true (length (f ++ z)) 32 p.1, length-append f z)))
+    and_from (is_field_text f) _ (text-front f z p.0) (le-leb (length f) longest_field (omega (arith, leb-true (length (f ++ z)) longest_field p.1, length-append f z)))
 
 byte-at : (x : ℕ) (f : List ℕ) (b : ℕ) (z : List ℕ) (t : Bool) → cond t (is_unsigned_field (f ++ (b ∷ z))) (is_point x && list_all is_ascii_digit (f ++ (b ∷ z))) ≡ true
     → (is_unsigned_field (f ++ (b ∷ z)) ≡ true → is_field_byte b ≡ true) → is_field_byte b ≡ true

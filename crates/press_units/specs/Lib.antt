@@ -1,4 +1,5 @@
 pub mod Field
+pub mod Limits
 pub mod Measure
 pub mod Position
 pub mod Value

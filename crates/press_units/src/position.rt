@@ -176,6 +176,13 @@ mod tests {
     }
 
     #[test]
+    fn measures_count_as_the_manual_says(rt: HostRuntime) {
+        assert_eq!(rt; UnitOfMeasure::default().unit().positions, 24);
+        assert_eq!(rt; Resolution::Dpi300.positions_per_dot(), 24);
+        assert_eq!(rt; POSITIONS_PER_DOT, 24);
+    }
+
+    #[test]
     fn a_value_of_units_lies_on_a_dot(rt: HostRuntime) {
         let value = Value {
             tenthousandths: -15_000,
