@@ -1,9 +1,9 @@
 -- Laws of Heads.
 use Rattle.std.proofs.Common.{◌≡◌, ◌∙◌, ℕ, List, [], ◌∷◌, ◌++◌, Bool, true, false, cond, refl, sym, ap, subst, inl, inr, append_assoc, eqb}
 use Rattle.std.proofs.lemmas.List.{append_cancel_right}
-use Rattle.press_cmd.specs.Token.{Token, Escape, Grouped, Ungrouped, Control, Text, Broken, Uel, PjlLine, ForeignByte, uel, escape_byte}
+use Rattle.press_cmd.specs.Token.{Token, Escape, Grouped, Ungrouped, Control, Text, Broken, Uel, PjlLine, ForeignByte, uel, escape_byte, pjl_mark}
 use Rattle.press_cmd.specs.Mode.{Mode, Exit, Tail, Foreign, Pcl, Open}
-use Rattle.press_cmd.specs.Grammar.{Whole, Breaks, BeginsLine, differs, scanned_in, Stands, Head, pjl_mark}
+use Rattle.press_cmd.specs.Grammar.{Whole, Breaks, BeginsLine, differs, scanned_in, Stands, Head}
 use Rattle.press_cmd.specs.Split.{NoHead}
 use Rattle.press_cmd.proofs.Reading.{Short, Found, reading, read_on}
 use Rattle.press_cmd.proofs.ReadWhole.{start, whole_reads}

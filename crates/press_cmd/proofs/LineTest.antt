@@ -5,7 +5,8 @@ use Rattle.std.specs.List.{list_all}
 use Rattle.std.proofs.lemmas.Bool.{and_parts, and_from, eqb-true, leb-true, le-leb}
 use Rattle.std.proofs.Math.Bool.{Bool-set}
 use mathlib.Core.Logic.{∥∥₁_elim}
-use Rattle.press_cmd.specs.Grammar.{pjl_mark, longest_line, is_line_byte, differs, BeginsLine, IsLine}
+use Rattle.press_cmd.specs.Token.{pjl_mark}
+use Rattle.press_cmd.specs.Grammar.{longest_line, is_line_byte, differs, BeginsLine, IsLine}
 use Rattle.press_cmd.proofs.Reading.{stripped}
 use Rattle.press_cmd.proofs.ReadHead.{stripped-true}
 

@@ -1,8 +1,8 @@
 -- The written bytes of a command are read as the command.
 use Rattle.std.proofs.Common.{◌≡◌, ◌∙◌, ℕ, List, [], ◌∷◌, ◌++◌, length, false, cond, Option, Some, None, refl, sym, ap, subst, inl, IsTrue}
-use Rattle.press_cmd.specs.Token.{Token, Escape, Grouped, Ungrouped, Control, Text, Uel, PjlLine, bytes_of, param_of, broken_of, uel}
+use Rattle.press_cmd.specs.Token.{Token, Escape, Grouped, Ungrouped, Control, Text, Uel, PjlLine, bytes_of, param_of, broken_of, uel, pjl_mark}
 use Rattle.press_cmd.specs.Mode.{Mode, Exit, Pcl}
-use Rattle.press_cmd.specs.Grammar.{Whole, Head, Stands, IsCharacter, IsGroup, IsEnd, IsLine, differs, pjl_mark}
+use Rattle.press_cmd.specs.Grammar.{Whole, Head, Stands, IsCharacter, IsGroup, IsEnd, IsLine, differs}
 use Rattle.std.specs.Option.{ForSome}
 use Rattle.press_cmd.specs.Carried.{data_count}
 use Rattle.press_units.specs.Field.{is_value_field}

@@ -1,9 +1,9 @@
 -- Reading finds exactly the Head that stands.
 use Rattle.std.proofs.Common.{◌≡◌, ◌∙◌, ◌==◌, ℕ, List, [], ◌∷◌, ◌++◌, Bool, true, false, cond, Option, Some, None, refl, sym, ap, subst, inl, inr, arith, append_assoc, eqb}
 use Rattle.std.proofs.lemmas.Bool.{eqb-true, true≢false}
-use Rattle.press_cmd.specs.Token.{Token, Escape, Grouped, Ungrouped, Control, Text, Broken, Uel, PjlLine, ForeignByte, uel, escape_byte}
+use Rattle.press_cmd.specs.Token.{Token, Escape, Grouped, Ungrouped, Control, Text, Broken, Uel, PjlLine, ForeignByte, uel, escape_byte, pjl_mark}
 use Rattle.press_cmd.specs.Mode.{Mode, Exit, Tail, Foreign, Pcl, Open}
-use Rattle.press_cmd.specs.Grammar.{Whole, Breaks, BeginsLine, IsLine, differs, begins_pair, scanned_in, Stands, Head, pjl_mark}
+use Rattle.press_cmd.specs.Grammar.{Whole, Breaks, BeginsLine, IsLine, differs, begins_pair, scanned_in, Stands, Head}
 use Rattle.press_cmd.proofs.Reading.{Short, Found, stripped, read_line, read_after_mark, read_foreign, read_on, reading_in, reading}
 use Rattle.press_cmd.proofs.ReadWhole.{start, whole_reads}
 use Rattle.press_cmd.proofs.ReadStep.{broken_in, EndsOpen}

@@ -3,10 +3,10 @@ use Rattle.std.proofs.Common.{◌≡◌, ◌<◌, ◌+◌, ◌∙◌, ℕ, suc, 
 use Rattle.std.specs.List.{list_all}
 use Rattle.std.proofs.lemmas.List.{append-nil}
 use Rattle.std.proofs.lemmas.Bool.{and_parts, and_from, not-true, not_from_false, eqb-false, eqb-true, ne_eqb, eq-eqb}
-use Rattle.press_cmd.specs.Token.{Token, Broken, PjlLine, escape_byte}
+use Rattle.press_cmd.specs.Token.{Token, Broken, PjlLine, escape_byte, pjl_mark}
 use Rattle.press_cmd.specs.Mode.{Mode, Exit, Tail}
 use Rattle.press_cmd.specs.Language.{mode_after}
-use Rattle.press_cmd.specs.Grammar.{pjl_mark, longest_line, is_line_byte, BeginsLine, IsLine, Stands}
+use Rattle.press_cmd.specs.Grammar.{longest_line, is_line_byte, BeginsLine, IsLine, Stands}
 use Rattle.press_cmd.proofs.Reading.{Found, is_feed, is_escape, is_full, read_line, stripped}
 use Rattle.press_cmd.proofs.ByteTests.{is_feed-true, is_escape-true, is_escape-from}
 

@@ -1,12 +1,12 @@
 -- Reading the first command of bytes, one byte after another: a program that decides which Head stands there.
 use Rattle.std.specs.Prelude.{ℕ, zero, suc, ◌+◌, ◌-◌, Bool, true, ◌==◌, cond, List, [], ◌∷◌, ◌++◌, length, Option, Some, None, bytes_eq}
 use Rattle.std.specs.Int.{is_in_range}
-use Rattle.press_cmd.specs.Token.{Token, Escape, Grouped, Ungrouped, Control, Text, Broken, Uel, PjlLine, ForeignByte, uel, escape_byte}
+use Rattle.press_cmd.specs.Token.{Token, Escape, Grouped, Ungrouped, Control, Text, Broken, Uel, PjlLine, ForeignByte, uel, escape_byte, pjl_mark}
 use Rattle.press_cmd.specs.Mode.{Mode, Exit, Tail, Foreign, Pcl, Open}
 use Rattle.press_cmd.specs.Carried.{data_count}
 use Rattle.press_units.specs.Field.{is_value_field}
 use Rattle.press_cmd.specs.Language.{mode_after}
-use Rattle.press_cmd.specs.Grammar.{differs, scanned_in, pjl_mark, longest_line}
+use Rattle.press_cmd.specs.Grammar.{differs, scanned_in, longest_line}
 
 -- What has been read of a sequence: nothing, the escape character, a field without a group, a field after a group,
 -- and the data of either, with how many bytes are to come after the next one.

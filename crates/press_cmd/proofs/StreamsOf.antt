@@ -5,9 +5,9 @@ use Rattle.std.specs.List.{list_all}
 use Rattle.std.proofs.lemmas.List.{append-nil, length-replicate}
 use Rattle.std.proofs.lemmas.Bool.{ne_eqb, le-ltb, cases_eq, cases_lt}
 use mathlib.Core.Logic.{∥∥₁_map}
-use Rattle.press_cmd.specs.Token.{Token, Escape, Grouped, Ungrouped, Control, Text, Broken, Uel, PjlLine, ForeignByte, bytes_of, param_of, broken_of, uel, escape_byte}
+use Rattle.press_cmd.specs.Token.{Token, Escape, Grouped, Ungrouped, Control, Text, Broken, Uel, PjlLine, ForeignByte, bytes_of, param_of, broken_of, uel, escape_byte, pjl_mark}
 use Rattle.press_cmd.specs.Mode.{Mode, Exit, Tail, Foreign, Pcl, Open}
-use Rattle.press_cmd.specs.Grammar.{Whole, Head, Stands, GoesOn, IsLine, BeginsLine, IsBroken, is_line_byte, differs, pjl_mark, longest_line, scanned_in}
+use Rattle.press_cmd.specs.Grammar.{Whole, Head, Stands, GoesOn, IsLine, BeginsLine, IsBroken, is_line_byte, differs, longest_line, scanned_in}
 use Rattle.press_cmd.specs.Language.{mode_after}
 use Rattle.press_cmd.specs.Split.{NoHead, closing}
 use Rattle.press_cmd.proofs.Reading.{Reading, Short, Found, reading, read_on, read_line, Start, is_escape}

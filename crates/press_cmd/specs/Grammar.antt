@@ -3,15 +3,12 @@ use Rattle.std.specs.Prelude.{◌≡◌, ◌≤◌, ◌<◌, ◌+◌, ◌⊎◌,
 use Rattle.std.specs.Int.{IsInRange, is_in_range}
 use Rattle.std.specs.List.{list_all}
 use Rattle.press_units.specs.Field.{IsField, is_field_byte}
-use Rattle.press_cmd.specs.Token.{Token, Escape, Grouped, Ungrouped, Control, Text, Broken, Uel, PjlLine, ForeignByte, uel, escape_byte}
+use Rattle.press_cmd.specs.Token.{Token, Escape, Grouped, Ungrouped, Control, Text, Broken, Uel, PjlLine, ForeignByte, uel, pjl_mark, escape_byte}
 use Rattle.press_cmd.specs.Mode.{Mode, Exit, Tail, Foreign, Pcl, Open}
 use Rattle.press_cmd.specs.Carried.{data_count}
 use Rattle.press_cmd.specs.Language.{mode_after}
 
--- the text that a PJL line begins with, `@PJL`, and the most bytes that a line has (this profile)
-abbrev pub pjl_mark : List ℕ
-pjl_mark = 64 ∷ 80 ∷ 74 ∷ 76 ∷ []
-
+-- the most bytes that a PJL line has (this profile)
 abbrev pub longest_line : ℕ
 longest_line = 4096
 

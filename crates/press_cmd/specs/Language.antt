@@ -3,6 +3,7 @@ use Rattle.std.specs.Prelude.{ℕ, ◌-◌, Bool, false, ◌==◌, ◌&&◌, ◌
 use Rattle.std.specs.List.{prefix_len, suffix_len, before_first, after_first, ends_with}
 use Rattle.std.specs.Bool.{nat_eq}
 use Rattle.std.specs.Char.{to_ascii_uppercase}
+use Rattle.press_cmd.specs.Token.{pjl_mark}
 use Rattle.press_cmd.specs.Mode.{Mode, Exit, Foreign, Pcl}
 
 -- a space or a tab
@@ -31,7 +32,7 @@ without_end byte bytes = if ends_with nat_eq bytes (byte ∷ []) then take (leng
 
 -- what stands in a PJL line after `@PJL`: its line feed, and one carriage return before that, are no part of it
 abbrev pub line_text : List ℕ → List ℕ
-line_text line = drop 4 (without_end 13 (without_end 10 line))
+line_text line = drop (length pjl_mark) (without_end 13 (without_end 10 line))
 
 -- whether white space stands at the front
 abbrev pub begins_white : List ℕ → Bool

@@ -1,6 +1,6 @@
 -- The split of a list of bytes into commands and a rest.
 use Rattle.std.specs.Prelude.{◌≡◌, ℕ, if◌then◌else◌, List, [], ◌∷◌, ◌++◌, map, length, nat_lt, ⊤}
-use Rattle.press_cmd.specs.Token.{Token, Text, Broken, Uel, PjlLine, ForeignByte, escape_byte, bytes_of}
+use Rattle.press_cmd.specs.Token.{Token, Text, Broken, Uel, PjlLine, ForeignByte, escape_byte, pjl_mark, bytes_of}
 use Rattle.press_cmd.specs.Mode.{Mode, Exit, Foreign, Pcl, Open}
 use Rattle.press_cmd.specs.Language.{mode_after}
 use Rattle.press_cmd.specs.Grammar.{Head, scanned_in}
@@ -30,7 +30,8 @@ Split bytes commands mode rest = SplitFrom Exit bytes commands mode rest
 -- is foreign bytes
 abbrev pub closing_in : Mode → List ℕ → List Token
 closing_in mode [] = []
-closing_in Exit (byte ∷ rest) = if nat_lt (length (byte ∷ rest)) 4 then map Text (byte ∷ rest) else Broken (byte ∷ rest) ∷ []
+closing_in Exit (byte ∷ rest) =
+    if nat_lt (length (byte ∷ rest)) (length pjl_mark) then map Text (byte ∷ rest) else Broken (byte ∷ rest) ∷ []
 closing_in Foreign (byte ∷ rest) = map ForeignByte (byte ∷ rest)
 closing_in (Open character group) (byte ∷ rest) = Broken (escape_byte ∷ character ∷ group ∷ byte ∷ rest) ∷ []
 closing_in mode (byte ∷ rest) = Broken (byte ∷ rest) ∷ []

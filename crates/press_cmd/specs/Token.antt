@@ -5,9 +5,9 @@ use Rattle.std.specs.Prelude.{ℕ, List, [], ◌∷◌, ◌++◌, Option, Some, 
 -- escape sequences; PJL Technical Reference Manual, the universal exit and PJL commands; Broken and Foreign
 -- are this profile's):
 -- a two-character escape sequence; a parameter of a parameterized one with a group character, and of one without,
--- each with its parameterized character, value field, parameter or termination character in upper case, and data; a control byte; a text byte; bytes
--- that begin a sequence or line which does not go on; the universal exit; a PJL line with its line feed; and
--- a byte of another language.
+-- each with its parameterized character, value field, parameter or termination character in upper case, and data;
+-- a control byte; a text byte; bytes that begin a sequence or line which does not go on; the universal exit; a PJL
+-- line with its line feed; and a byte of another language.
 pub data Token : Type 0 where
   Escape : ℕ → Token
   Grouped : ℕ → ℕ → List ℕ → ℕ → List ℕ → Token
@@ -26,6 +26,10 @@ escape_byte = 27
 -- the universal exit: ESC%-12345X
 abbrev pub uel : List ℕ
 uel = 27 ∷ 37 ∷ 45 ∷ 49 ∷ 50 ∷ 51 ∷ 52 ∷ 53 ∷ 88 ∷ []
+
+-- the text that a PJL line begins with, `@PJL`
+abbrev pub pjl_mark : List ℕ
+pjl_mark = 64 ∷ 80 ∷ 74 ∷ 76 ∷ []
 
 -- The bytes of a command by itself. A parameter is spelled as a sequence of its own: the escape character,
 -- the character, the group if there is one, the field, the end in upper case, and the data.

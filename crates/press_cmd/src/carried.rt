@@ -23,7 +23,8 @@ pub fn data_count(character: u8, group: Option<u8>, field: &[u8], end: u8) -> us
     }
 }
 
-/// Whether a parameter of this end carries data: each W, and the ends of `ESC*b#V` and `ESC&p#X`.
+/// Whether a parameter of these characters carries data: under each termination or parameter character W, and under
+/// those of `ESC*b#V` and `ESC&p#X`.
 pub fn carries_data(character: u8, group: Option<u8>, end: u8) -> bool
     ensures { result ≡ carries_data character group end }
 {

@@ -19,7 +19,8 @@ use std::alloc::AllocError;
 pub enum Command<'a> {
     /// A two-character escape sequence.
     Escape(EscapeByte),
-    /// A parameter of an escape sequence, with its data.
+    /// A parameter of a parameterized escape sequence: its parameterized character, group character, value field and
+    /// parameter or termination character, with its data.
     Param(Param<'a>),
     /// A control byte.
     Control(ControlByte),

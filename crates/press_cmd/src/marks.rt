@@ -37,21 +37,22 @@ pub fn is_text(byte: u8) -> bool
     32 <= byte
 }
 
-/// Whether the byte is a parameterized character: 33 to 47.
+/// Whether the byte is a parameterized character, the second byte of a parameterized escape sequence: 33 to 47.
 pub fn is_character(byte: u8) -> bool
     ensures { IsTrue result ↔ IsCharacter byte }
 {
     matches!(byte, 33..=47)
 }
 
-/// Whether the byte is a group character: 96 to 126.
+/// Whether the byte is a group character, the third byte of most parameterized escape sequences: 96 to 126.
 pub fn is_group(byte: u8) -> bool
     ensures { IsTrue result ↔ IsGroup byte }
 {
     matches!(byte, 96..=126)
 }
 
-/// Whether the byte is a termination character: 64 to 94.
+/// Whether the byte is a termination character, which ends a parameterized escape sequence: 64 to 94. A parameter
+/// character, which ends a parameter and lets the sequence go on, stands 32 above the termination character.
 pub fn is_end(byte: u8) -> bool
     ensures { IsTrue result ↔ IsEnd byte }
 {

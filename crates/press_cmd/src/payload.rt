@@ -29,8 +29,8 @@ pub struct TextByte {
     ghost class: { IsText byte },
 }
 
-/// A parameter of an escape sequence: its parameterized character, its group character if it has one, its value field
-/// as it stands, its parameter or termination character in upper case, and its data.
+/// A parameter of a parameterized escape sequence: its parameterized character, its group character if it has one, its
+/// value field as it stands, its parameter or termination character in upper case (`end`), and its data.
 #[derive(Clone, Copy, Debug)]
 pub struct Param<'a> {
     pub(crate) character: u8,
@@ -47,7 +47,8 @@ pub struct Param<'a> {
 }
 
 /// Bytes that begin a sequence or a line which does not go on. Where a command of the same sequence stood before
-/// them, its character and group stand beside the bytes, which then follow the group.
+/// them, its parameterized character and its group character stand beside the bytes, which then follow the group
+/// character.
 #[derive(Clone, Copy, Debug)]
 pub struct Broken<'a> {
     pub(crate) sequence: Option<(u8, u8)>,
@@ -170,7 +171,8 @@ impl<'a> Param<'a> {
 impl<'a> Broken<'a> {
     ghost use Rattle.press_cmd.specs.View.{broken_token};
 
-    /// Bytes that do not go on, after the character and group of the sequence that they would go on with.
+    /// Bytes that do not go on, after the parameterized character and the group character of the sequence that they
+    /// would go on with.
     pub fn new(sequence: Option<(u8, u8)>, bytes: &'a [u8]) -> Self
         requires { IsBroken (bytes_of (broken_of sequence bytes.now)) }
         ensures { broken_token result ≡ broken_of sequence bytes.now }
@@ -178,8 +180,8 @@ impl<'a> Broken<'a> {
         Broken { sequence, bytes }
     }
 
-    /// The character and the group of the sequence, where a command of it stood before, and the bytes that follow
-    /// them; without a sequence all bytes.
+    /// The parameterized character and the group character of the sequence, where a command of it stood before, and the
+    /// bytes that follow them; without a sequence all bytes.
     pub fn parts(&self) -> (Option<(u8, u8)>, &'a [u8])
         ensures { broken_of result.0 result.1.now ≡ broken_token self.now }
     {

@@ -1,4 +1,5 @@
-/// The kind of a command: its variant, with its byte, or with character, group and end.
+/// The kind of a command: its variant, with its byte, or with the parameterized character, the group character and the
+/// parameter or termination character in upper case (`end`).
 #[derive(Clone, Copy, Debug, PartialEq, Eq)]
 pub enum Kind {
     Escape(u8),
