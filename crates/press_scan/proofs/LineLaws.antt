@@ -6,11 +6,11 @@ use Rattle.std.proofs.lemmas.List.{take-append-drop, take_all}
 use Rattle.std.proofs.lemmas.List.Folds.{list_all-append}
 use Rattle.std.proofs.lemmas.Bool.{eqb-true, ne_eqb}
 use Rattle.std.proofs.Math.Seq.{take-append-add, take-suc}
-use Rattle.press_cmd.specs.Token.{Token, Escape, Grouped, Ungrouped, Control, Text, Broken, Uel, PjlLine, ForeignByte, escape_byte}
+use Rattle.press_cmd.specs.Token.{Token, Escape, Grouped, Ungrouped, Control, Text, Broken, Uel, PjlLine, ForeignByte, escape_byte, pjl_mark}
 use Rattle.press_cmd.specs.Mode.{Mode, Exit, Tail}
 use Rattle.press_cmd.specs.View.{token}
 use Rattle.press_cmd.specs.Language.{mode_after}
-use Rattle.press_cmd.specs.Grammar.{Stands, differs, pjl_mark, longest_line, is_line_byte, BeginsLine, IsLine, IsBroken}
+use Rattle.press_cmd.specs.Grammar.{Stands, differs, longest_line, is_line_byte, BeginsLine, IsLine, IsBroken}
 use Rattle.press_scan.specs.declared.reading.Found.{Found}
 use Rattle.press_scan.specs.Modes.{mode_of}
 use Rattle.press_scan.specs.Stands.{IsFound, IsShort}

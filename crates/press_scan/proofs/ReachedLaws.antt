@@ -2,7 +2,7 @@
 use Rattle.std.proofs.Common.{◌≡◌, ◌∙◌, ℕ, List, [], ◌∷◌, ◌++◌, true, false, refl, sym, ap, subst, append_assoc, append-nil}
 use Rattle.press_cmd.specs.Token.{Token}
 use Rattle.press_cmd.specs.Mode.{Mode, Exit}
-use Rattle.press_cmd.specs.Split.{Split, SplitFrom, Closed}
+use Rattle.press_cmd.specs.Split.{Split, SplitFrom, closing, ClosedFrom, Closed}
 use Rattle.press_cmd.proofs.Splits.{steps-more, steps-then, some_split, one_split}
 use Rattle.press_scan.specs.Held.{Held}
 use Rattle.press_scan.specs.Gives.{Passes, IsDone}
@@ -65,5 +65,20 @@ done_after : (all : List ℕ) (given : List Token) (held : Held) → Remains all
 done_after all given held remains ended is_done =
     subst (λ (commands : List Token). Closed all commands) (append-nil given) (remains [] (is_done.closed ended))
 
+-- the commands of bytes that end here are those of any split of them, closed
+closed-unique : (from : Mode) (bytes : List ℕ) (commands commands' : List Token) → ClosedFrom from bytes commands
+    → ClosedFrom from bytes commands' → commands ≡ commands'
+closed-unique from bytes commands commands' closed closed' =
+    let same = one_split from bytes closed.0 closed'.0 closed.1 closed'.1 closed.2 closed'.2 closed.3 closed'.3 in
+    closed.4 ∙ (rw (same.0, same.1, same.2) (sym closed'.4))
+
+front_after : (all : List ℕ) (given commands : List Token) (held : Held) → Remains all given held
+    → Closed all commands → (more : List Token) × (commands ≡ given ++ more)
+front_after all given commands held remains closed =
+    let split = some_split held.mode held.bytes in
+    let more = split.commands ++ closing split.mode split.rest in
+    let whole = remains more (split.commands, split.mode, split.rest, split.split, refl) in
+    (more, closed-unique Exit all commands (given ++ more) closed whole)
+
 pub end_reaches : EndReaches
-end_reaches = record { ends = ends; passes = passes_after; done = done_after }
+end_reaches = record { ends = ends; passes = passes_after; front = front_after; done = done_after }

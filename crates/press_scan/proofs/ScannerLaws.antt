@@ -4,12 +4,12 @@ use Rattle.std.specs.Prelude.{◌==◌, nat_lt}
 use Rattle.std.specs.List.{AllByRecursion}
 use Rattle.std.proofs.lemmas.List.{take-append-drop, take_all, drop_all}
 use Rattle.std.proofs.lemmas.Bool.{eqb-true, ne_eqb, lt-ltb, ltb-false}
-use Rattle.press_cmd.specs.Token.{Token, Text, Broken, ForeignByte, escape_byte, uel}
+use Rattle.press_cmd.specs.Token.{Token, Text, Broken, ForeignByte, escape_byte, uel, pjl_mark}
 use Rattle.press_cmd.specs.Mode.{Mode, Exit, Tail, Foreign, Pcl, Open}
 use Rattle.press_cmd.specs.Kinds.{kind_of}
 use Rattle.press_cmd.specs.declared.variant.Kind.TheVariants as kinds
 use Rattle.press_cmd.specs.View.{token}
-use Rattle.press_cmd.specs.Grammar.{Head, IsText, scanned_in, differs, pjl_mark}
+use Rattle.press_cmd.specs.Grammar.{Head, IsText, scanned_in, differs}
 use Rattle.press_cmd.specs.Split.{Steps, NoHead, ClosedFrom, closing_in}
 use Rattle.press_cmd.proofs.Splits.{one_split, closing-nothing, no_head_of_nothing, nothing_closed}
 use Rattle.press_scan.specs.declared.reading.Found.{Found}

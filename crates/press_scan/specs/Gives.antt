@@ -1,9 +1,9 @@
 -- What the scanner answers.
 use Rattle.std.specs.Prelude.{◌≡◌, ◌≤◌, ◌<◌, ◌⊎◌, ℕ, List, [], ◌∷◌, ◌++◌, length, true, false, Option, Some, None, Result, Ok, Err}
 use Rattle.std.specs.declared.alloc.AllocError.{AllocError}
-use Rattle.press_cmd.specs.Token.{Token, Text, Broken, ForeignByte, escape_byte}
+use Rattle.press_cmd.specs.Token.{Token, Text, Broken, ForeignByte, escape_byte, pjl_mark}
 use Rattle.press_cmd.specs.Mode.{Mode, Exit, Foreign, Pcl, Open}
-use Rattle.press_cmd.specs.Grammar.{Head, scanned_in, pjl_mark}
+use Rattle.press_cmd.specs.Grammar.{Head, scanned_in}
 use Rattle.press_cmd.specs.Split.{NoHead, ClosedFrom}
 use Rattle.press_cmd.specs.View.{token}
 use Rattle.press_cmd.specs.declared.command.Command.{Command}

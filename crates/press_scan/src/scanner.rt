@@ -22,6 +22,9 @@ use std::marker::Model;
 
 /// A scanner: it is fed the bytes of a stream in pieces, and gives the commands of the stream one after another.
 ///
+/// Source: PCL 5 Printer Language Technical Reference Manual, the syntax of escape sequences; PJL Technical Reference
+/// Manual, the universal exit and the syntax of PJL commands. How long a line and a rest may be is this profile's.
+///
 /// Contracts see the mode, the bytes fed that stand in no command given, and whether the end of input was given.
 #[derive(Drop)]
 pub struct Scanner {
@@ -43,9 +46,14 @@ impl Model for Scanner {
     ghost use Rattle.press_scan.specs.Modes.{mode_of};
     ghost use Rattle.press_scan.specs.Lines.{IsKnownPlain};
 
-    ghost view = { λ s. record { mode = mode_of s.mode; bytes = drop s.start s.buffer.items; ended = s.ended } };
+    ghost view = { λ s. record {
+      mode = mode_of s.mode;
+      bytes = drop s.start s.buffer.items;
+      ended = s.ended;
+    } };
 
-    ghost invariant = { λ s. (s.start ≤ vec_len s.buffer) × IsKnownPlain (drop s.start s.buffer.items) s.searched };
+    ghost invariant = { λ s. (s.start ≤ vec_len s.buffer)
+        × IsKnownPlain (drop s.start s.buffer.items) s.searched };
 }
 
 /// The next command of what is held, if there is one, and how many bytes behind `@PJL` are then known to be part of

@@ -269,9 +269,7 @@ fn closes_streams(rt: HostRuntime) -> Result<(), Fail> {
 /// `@PJL ` and so many letters in all.
 fn long_line(alloc: Global, length: usize) -> Result<Vec<u8>, Fail> {
     let mut line = Vec::from_slice(alloc, b"@PJL ")?;
-    for _ in 5..length {
-        line.push(b'x')?;
-    }
+    line.resize(length, b'x')?;
     Ok(line)
 }
 
