@@ -11,4 +11,5 @@ pub mod EncodingLemmas
 pub mod DeltaEncodingLemmas
 pub mod LawLemmas
 pub mod NoData
+pub mod WidthLemmas
 pub mod WorkedRows

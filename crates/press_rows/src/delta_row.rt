@@ -23,7 +23,8 @@ fn first_change(row: &[u8], seed: &[u8]) -> Option<Change>
     ensures bounded { IfSome result (λ first. first.count ≤ 8) }
     ensures next { IfSome result (λ first. changes 0 0 row.now seed.now
         ≡ change first.kept (take first.count (drop first.kept row.now))
-        ∷ changes 0 0 (drop (first.kept + first.count) row.now) (drop (first.kept + first.count) seed.now)) }
+        ∷ changes 0 0
+        (drop (first.kept + first.count) row.now) (drop (first.kept + first.count) seed.now)) }
 {
     let kept = count_equal(row, seed);
     if kept == row.len() {
@@ -87,7 +88,8 @@ pub(crate) fn write_changes(row: &[u8], seed: &[u8], out: &mut Vec<u8>) -> Resul
 fn write_change(kept: usize, bytes: &[u8], out: &mut Vec<u8>) -> Result<(), AllocError>
     requires some { 0 < length bytes.now }
     requires few { length bytes.now ≤ 8 }
-    ensures ok { OnOk result (out.new.items ≡ out.old.items ++ delta_bytes (change kept bytes.now)) }
+    ensures ok { OnOk result
+        (out.new.items ≡ out.old.items ++ delta_bytes (change kept bytes.now)) }
     ensures capacity { vec_capacity out.old ≤ vec_capacity out.new }
     ensures full { OnErr result
         (vec_capacity out.old < vec_len out.old + length (delta_bytes (change kept bytes.now))) }
@@ -102,7 +104,8 @@ fn write_change(kept: usize, bytes: &[u8], out: &mut Vec<u8>) -> Result<(), Allo
 fn write_offset(offset: usize, out: &mut Vec<u8>) -> Result<(), AllocError>
     ensures ok { OnOk result (out.new.items ≡ out.old.items ++ offset_bytes offset) }
     ensures capacity { vec_capacity out.old ≤ vec_capacity out.new }
-    ensures full { OnErr result (vec_capacity out.old < vec_len out.old + length (offset_bytes offset)) }
+    ensures full { OnErr result
+        (vec_capacity out.old < vec_len out.old + length (offset_bytes offset)) }
 {
     if offset < 31 {
         return Ok(());

@@ -13,9 +13,13 @@ use std::alloc::AllocError;
 /// Gives the data of a transfer that stands for a row, and its compression method; `seed` is the row
 /// before it. It makes one coding of the row by each of the four methods, and takes the shortest, of several the one
 /// with the lowest number. What was in `data` goes; where memory is refused it stays.
+///
+/// Source: PCL 5 Printer Language Technical Reference Manual, Raster Graphics, what the data of each method stands for;
+/// which data stands for a row the manual leaves to the driver, and is this profile's.
 pub fn encode(row: &[u8], seed: &[u8], data: &mut Vec<u8>) -> Result<Method, AllocError>
     requires { length seed.now ≡ length row.now }
-    ensures exact { IfOk result (λ method. (method, «data».new.items) ≡ encoded row.now seed.now) }
+    ensures exact { IfOk result
+        (λ method. (method, «data».new.items) ≡ encoded row.now seed.now) }
 
     // Decoding gives the row back.
     ensures decodes { IfOk result

@@ -9,6 +9,7 @@ mod compression;
 mod decoder;
 mod delta_row;
 mod encoder;
+pub mod laws;
 mod pack_bits;
 mod run_length;
 mod runs;

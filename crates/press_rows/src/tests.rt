@@ -33,7 +33,7 @@ fn worked_rows(rt: HostRuntime) -> Result<(), Fail> {
 #[test]
 fn rows_of_the_manual(rt: HostRuntime) -> Result<(), Fail> {
     let seed = [0; 10];
-    let coded = [
+    let coded: [(Method, &[u8]); 3] = [
         (Method::Unencoded, b"UUUUATTTTT".as_slice()),
         (Method::RunLength, b"\x03U\x00A\x04T".as_slice()),
         (Method::PackBits, b"\xfdU\x00A\xfcT".as_slice()),
@@ -43,7 +43,7 @@ fn rows_of_the_manual(rt: HostRuntime) -> Result<(), Fail> {
         assert_eq!(rt; row.as_slice(), b"UUUUATTTTT".as_slice(), "by {method:?}");
     }
     let mut row = row_of(rt.alloc(), Method::Unencoded, b"", &[0; 5])?;
-    let rows = [
+    let rows: [(&[u8], [u8; 5]); 3] = [
         (b"\x01\xff".as_slice(), [0, 0xff, 0, 0, 0]),
         (b"\x02\xf0".as_slice(), [0, 0xff, 0xf0, 0, 0]),
         (
@@ -58,11 +58,29 @@ fn rows_of_the_manual(rt: HostRuntime) -> Result<(), Fail> {
     Ok(())
 }
 
+/// The numbers of "Set Compression Method", and some that are no method of this press.
+#[test]
+fn numbers_of_methods(rt: HostRuntime) {
+    let methods: [(u8, Method); 4] = [
+        (0, Method::Unencoded),
+        (1, Method::RunLength),
+        (2, Method::PackBits),
+        (3, Method::DeltaRow),
+    ];
+    for (number, method) in methods {
+        assert_eq!(rt; Method::of_number(i64::from(number)), Some(method));
+        assert_eq!(rt; method.number(), number);
+    }
+    for number in [-1, 4, 5, 9] {
+        assert_eq!(rt; Method::of_number(number), None);
+    }
+}
+
 /// Each cut of a row's data, from none of its bytes on.
 #[test]
 fn data_cut_at_every_byte(rt: HostRuntime) -> Result<(), Fail> {
     let seed = [1, 2, 3, 4];
-    let cuts = [
+    let cuts: [(Method, &[u8], [[u8; 4]; 6]); 4] = [
         (
             Method::Unencoded,
             b"\x07\x08\x09\x0a\x0b".as_slice(),
@@ -133,7 +151,7 @@ fn data_cut_at_every_byte(rt: HostRuntime) -> Result<(), Fail> {
 /// A delta row that keeps 31, 285 and 286 bytes, and what it drops past the width.
 #[test]
 fn long_offsets(rt: HostRuntime) -> Result<(), Fail> {
-    let offsets = [
+    let offsets: [(&[u8], usize); 3] = [
         (b"\x1f\x00\x07".as_slice(), 31),
         (b"\x1f\xfe\x07".as_slice(), 285),
         (b"\x1f\xff\x00\x07".as_slice(), 286),
