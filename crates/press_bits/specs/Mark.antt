@@ -21,7 +21,8 @@ unfoldable pub marked_dot : Page → Mark → ℕ → ℕ → Bool
 marked_dot page mark x y =
     let dot = mark.frame_dot x y in
     let before = black_at page x y in
-    option_map_or (λ source. dot_after (dot_rule mark.mode source (mark.pattern dot.0 dot.1)) before) (mark.source dot.0 dot.1) before
+    option_map_or (λ source. dot_after (dot_rule mark.mode source (mark.pattern dot.0 dot.1)) before)
+    (mark.source dot.0 dot.1) before
 
 -- The page after the mark. Dots of the mark outside the page are dropped.
 unfoldable pub painted : Page → Mark → Page
@@ -45,7 +46,8 @@ row_source x y bits dots column line =
 -- The source of a rectangle (the same manual, "Rectangular Area Fill Graphics"): black in the w columns from x on, in the h lines from y on.
 unfoldable pub box_source : (x y w h : ℕ) → ℕ → ℕ → Option Bool
 box_source x y w h column line =
-    if nat_le x column && nat_lt column (x + w) && nat_le y line && nat_lt line (y + h) then Some true else None
+    if nat_le x column && nat_lt column (x + w) && nat_le y line && nat_lt line (y + h)
+    then Some true else None
 
 -- The mark of a source in solid black, with white source dots transparent, on a page whose dots are the frame's.
 unfoldable pub solid_black : (ℕ → ℕ → Option Bool) → Mark

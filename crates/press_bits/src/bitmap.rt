@@ -15,6 +15,9 @@ use thiserror::Error;
 /// The most dots on a side of a bitmap.
 pub const MAX_SIDE: u32 = 16_384;
 
+/// The bytes of the widest row of dots.
+pub const WIDEST_ROW: usize = MAX_SIDE as usize / 8;
+
 /// Why no blank bitmap was made.
 #[derive(Debug, Drop, Error)]
 pub enum BlankError {
@@ -161,6 +164,8 @@ impl Bitmap {
 
     /// The bytes of a line: the most significant bit of the first byte is the leftmost dot, and 1 is black; the bits past the
     /// last dot are 0.
+    ///
+    /// Source: PCL 5 Printer Language Technical Reference Manual, Raster Graphics, the bits of a raster row.
     pub fn line(&self, y: u32) -> &[u8]
         requires { y < self.now.height }
         ensures { IsLine self.now y result.now }
@@ -184,6 +189,9 @@ impl Bitmap {
 
     /// Paints the first `dots` dots of the bytes in solid black, with white dots transparent: dot 0, the most significant
     /// bit of the first byte, at column `x` of line `y`, and the others to its right. Dots outside the page are dropped.
+    ///
+    /// Source: PCL 5 Printer Language Technical Reference Manual, The PCL Print Model (solid black, transparent source),
+    /// and Raster Graphics (the order of the dots).
     pub fn paint_row(&mut self, x: i64, y: i64, bits: &[u8], dots: usize)
         requires { dots ≤ 8 * length bits.now }
         ensures { self.new ≡ painted self.old (row_mark x y bits.now dots) }

@@ -6,4 +6,4 @@ mod dot_bytes;
 #[cfg(test)]
 mod tests;
 
-pub use bitmap::{Bitmap, BlankError, MAX_SIDE};
+pub use bitmap::{Bitmap, BlankError, MAX_SIDE, WIDEST_ROW};

@@ -1,5 +1,5 @@
 //! Worked pages, and rows of dots against a slow rule.
-use crate::bitmap::{Bitmap, BlankError};
+use crate::bitmap::{Bitmap, BlankError, MAX_SIDE, WIDEST_ROW};
 use std::process::Abort;
 use std::test::Fail;
 
@@ -83,8 +83,13 @@ fn black_dots_are_counted_on_the_page_alone(rt: HostRuntime) -> Result<(), Fail>
 }
 
 #[test]
+fn the_widest_row_has_its_bytes(rt: HostRuntime) {
+    assert_eq!(rt; (MAX_SIDE, WIDEST_ROW), (16_384, 2048));
+}
+
+#[test]
 fn faults_tell_their_number(rt: HostRuntime) -> Result<(), Fail> {
-    let faults = [
+    let faults: [(BlankError, &str); 2] = [
         (BlankError::BadSize, "fault 101"),
         (BlankError::NoMemory, "fault memory"),
     ];

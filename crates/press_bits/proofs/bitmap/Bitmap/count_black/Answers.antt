@@ -1,6 +1,6 @@
 use Rattle.std.proofs.Common.{◌≡◌, ℕ, List, ◌+◌, ◌*◌, ◌≤◌, sym, ap, ◌∙◌, arith, rules}
 use Rattle.std.specs.List.{count_by, sum_by, range_with_len}
-use Rattle.press_bits.specs.Page.{count_black}
+use Rattle.press_bits.specs.Page.{longest_side, count_black}
 use Rattle.press_bits.specs.Mark.{row_dot}
 use Rattle.press_bits.proofs.CountLemmas.{sum_more, sum_bound, count_bound}
 use Rattle.press_bits.proofs.DotRowsLemmas.{count_black-page_of_rows}
@@ -12,10 +12,10 @@ in_line rows bytes width y = count_by (λ x. row_dot rows (8 * (y * bytes) + x))
 
 pub overflow_add-black : goal.overflow_add-black
 overflow_add-black c =
-    let each : (y : ℕ) → in_line c.self.inside.rows.items c.line_bytes-bytes.result c.self.inside.width y ≤ 16384 =
+    let each : (y : ℕ) → in_line c.self.inside.rows.items c.line_bytes-bytes.result c.self.inside.width y ≤ longest_side =
     λ y. omega (arith, c.self.invariant.most_width, count_bound (λ x. row_dot c.self.inside.rows.items (8 * (y * c.line_bytes-bytes.result) + x)) c.self.inside.width) in
-    let so_far : c.loop-y.black ≤ c.loop-y.y * 16384 =
-    omega (arith, c.loop-y.invariant, sum_bound (in_line c.self.inside.rows.items c.line_bytes-bytes.result c.self.inside.width) 16384 c.loop-y.y each) in
+    let so_far : c.loop-y.black ≤ c.loop-y.y * longest_side =
+    omega (arith, c.loop-y.invariant, sum_bound (in_line c.self.inside.rows.items c.line_bytes-bytes.result c.self.inside.width) longest_side c.loop-y.y each) in
     search (rules, so_far, c.count_black-black.ensures.most)
 
 pub loop-y-preserved : goal.loop-y-preserved
