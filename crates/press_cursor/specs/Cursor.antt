@@ -40,7 +40,8 @@ abbrev pub first_line_y : (vertical_motion : ℕ) → LogicalPage → ℤ
 first_line_y vertical_motion page = nearest_y (first_line vertical_motion) page
 
 -- A move by rows (PCL 5, Vertical Cursor Positioning by Rows command); absolute rows count from the first line.
-abbrev pub moved_rows : (distance : ℤ) (relative : Bool) (vertical_motion : ℕ) → LogicalPage → CursorState → CursorState
+abbrev pub moved_rows :
+    (distance : ℤ) (relative : Bool) (vertical_motion : ℕ) → LogicalPage → CursorState → CursorState
 moved_rows distance relative vertical_motion page cursor =
     record cursor { y = nearest_y (origin relative cursor.y (first_line vertical_motion) +ℤ distance) page }
 

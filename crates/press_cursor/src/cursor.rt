@@ -258,7 +258,7 @@ mod tests {
 
     #[test]
     fn moves_within_the_page(rt: HostRuntime) {
-        let cases = [
+        let cases: [(i64, bool, u32, i64); 9] = [
             // distance, relative, x, y
             (0, false, 0, 0),
             (57_600, false, 57_600, 57_600),
