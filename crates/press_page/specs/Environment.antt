@@ -51,19 +51,22 @@ abbrev pub logical_page_of : PageEnv → LogicalPage
 logical_page_of env = logical_page env.paper env.margins.top
 
 -- a change by what a command asks for, if it asks for something
-abbrev pub changed_by : {Asked : Type 0} → Option Asked → (Asked → PageEnv → PageEnv) → PageEnv → PageEnv
+abbrev pub changed_by :
+    {Asked : Type 0} → Option Asked → (Asked → PageEnv → PageEnv) → PageEnv → PageEnv
 changed_by None change env = env
 changed_by (Some asked) change env = change asked env
 
 -- ESC&u#D, Unit of Measure
 abbrev pub set_unit_of_measure : ℤ → PageEnv → PageEnv
 set_unit_of_measure value =
-    changed_by (measure_of (whole_part value)) (λ measure env. record env { settings = record env.settings { unit_of_measure = measure } })
+    changed_by (measure_of (whole_part value))
+    (λ measure env. record env { settings = record env.settings { unit_of_measure = measure } })
 
 -- ESC&k#G, Line Termination
 abbrev pub set_line_termination : ℤ → PageEnv → PageEnv
 set_line_termination value =
-    changed_by (line_termination_of (whole_part value)) (λ termination env. record env { settings = record env.settings { line_termination = termination } })
+    changed_by (line_termination_of (whole_part value))
+    (λ termination env. record env { settings = record env.settings { line_termination = termination } })
 
 -- ESC&k#H, Horizontal Motion Index; no margin changes
 abbrev pub with_horizontal_motion : ℕ → PageEnv → PageEnv
@@ -106,7 +109,8 @@ asked_text_length value env =
 
 abbrev pub set_text_length : ℤ → PageEnv → PageEnv
 set_text_length value env =
-    changed_by (asked_text_length value env) (λ text_length env. record env { margins = record env.margins { text_length = text_length } }) env
+    changed_by (asked_text_length value env)
+    (λ text_length env. record env { margins = record env.margins { text_length = text_length } }) env
 
 -- ESC&l#L, Perforation Skip: a change sets the top margin and the text length to their defaults (this profile)
 abbrev pub asked_skip : ℤ → PageEnv → Option Bool
@@ -164,12 +168,14 @@ set_sides sides env = record env { paper = with_sides sides env.paper }
 -- ESC&l#X, Number of Copies
 abbrev pub set_copies : ℤ → PageEnv → PageEnv
 set_copies value =
-    changed_by (copies_of (whole_part value)) (λ copies env. record env { settings = record env.settings { copies = copies } })
+    changed_by (copies_of (whole_part value))
+    (λ copies env. record env { settings = record env.settings { copies = copies } })
 
 -- the end of the text, below the top margin; without perforation skip that of the page
 abbrev pub text_end : PageEnv → ℤ
 text_end env =
-    if env.settings.perforation_skip then pos env.margins.text_length else (pos (logical_length env.paper) -ℤ pos env.margins.top)
+    if env.settings.perforation_skip then pos env.margins.text_length
+    else (pos (logical_length env.paper) -ℤ pos env.margins.top)
 
 -- whether a line feed by a distance passes the end of the text, from where the cursor is
 abbrev pub passes_text : (y : ℤ) (distance : ℕ) → PageEnv → Bool

@@ -40,7 +40,8 @@ top_margin_of value vertical_motion length =
 -- ESC&l#F, the text length in lines: the text ends on the page
 abbrev pub text_length_of : ℤ → (vertical_motion top length : ℕ) → Option ℕ
 text_length_of (pos n) vertical_motion top length =
-    if nat_lt 0 vertical_motion && nat_lt 0 n && nat_le (top + n * vertical_motion) length then Some (n * vertical_motion) else None
+    if nat_lt 0 vertical_motion && nat_lt 0 n && nat_le (top + n * vertical_motion) length
+    then Some (n * vertical_motion) else None
 text_length_of (negsuc n) vertical_motion top length = None
 
 -- ESC&a#L, the left margin in columns: not negative, and left of the right margin

@@ -40,7 +40,8 @@ to_frame orientation page dot = if lies_on page dot then Some (frame_dot orienta
 -- The two are inverse to each other on the page.
 abbrev pub ArePlacementsInverse : Orientation → Extent → Type 0
 ArePlacementsInverse orientation page =
-    (inner physical : Dot) → (to_physical orientation page inner ≡ Some physical) ↔ (to_frame orientation page physical ≡ Some inner)
+    (inner physical : Dot)
+    → (to_physical orientation page inner ≡ Some physical) ↔ (to_frame orientation page physical ≡ Some inner)
 
 -- how far a position lies below the upper edge of the logical page
 abbrev pub below_edge : ℤ → ℕ

@@ -24,7 +24,9 @@ terminated feed_after_return return_before_feed =
 
 abbrev pub line_termination_of : ℤ → Option LineTermination
 line_termination_of =
-    named ((0, terminated false false) ∷ (1, terminated true false) ∷ (2, terminated false true) ∷ (3, terminated true true) ∷ [])
+    named
+    ((0, terminated false false) ∷ (1, terminated true false) ∷ (2, terminated false true) ∷ (3, terminated true true)
+    ∷ [])
 
 -- a motion index: a value from 0 to the most, in its unit
 abbrev pub motion_of : (value : ℤ) (most unit : ℕ) → Option ℕ

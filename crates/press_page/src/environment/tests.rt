@@ -147,9 +147,15 @@ fn top_margins(rt: HostRuntime) {
         assert_eq!(rt; env.margins.top, top);
         assert_eq!(rt; env.margins.text_length, text_length);
     }
+}
+
+#[test]
+fn lines_without_height(rt: HostRuntime) {
     let mut env = letter();
     env.set_vertical_motion(value(&rt, b"0"));
     assert!(rt; !env.set_top_margin(value(&rt, b"1")));
+    env.set_text_length(value(&rt, b"1"));
+    assert_eq!(rt; env.margins.text_length, 72_000);
 }
 
 #[test]
@@ -168,10 +174,6 @@ fn text_lengths(rt: HostRuntime) {
         env.set_text_length(value(&rt, field));
         assert_eq!(rt; env.margins.text_length, text_length);
     }
-    let mut env = letter();
-    env.set_vertical_motion(value(&rt, b"0"));
-    env.set_text_length(value(&rt, b"1"));
-    assert_eq!(rt; env.margins.text_length, 72_000);
 }
 
 #[test]
@@ -193,6 +195,10 @@ fn perforation_skips(rt: HostRuntime) {
         assert_eq!(rt; env.settings.perforation_skip, skip);
         assert_eq!(rt; env.margins.top, top);
     }
+}
+
+#[test]
+fn a_skip_at_the_default_top_margin_moves_nothing(rt: HostRuntime) {
     let mut env = letter();
     assert!(rt; !env.set_perforation_skip(value(&rt, b"0")));
     assert!(rt; !env.settings.perforation_skip);
@@ -236,6 +242,10 @@ fn right_margins(rt: HostRuntime) {
         assert_eq!(rt; env.set_right_margin(value(&rt, field)), effect);
         assert_eq!(rt; env.margins.right, right);
     }
+}
+
+#[test]
+fn cleared_margins(rt: HostRuntime) {
     let mut env = letter();
     assert!(rt; env.set_right_margin(value(&rt, b"-0.5")));
     assert_eq!(rt; env.margins.right, 360);
@@ -264,7 +274,7 @@ fn copies_of_a_sheet(rt: HostRuntime) {
 
 #[test]
 fn numbers_of_paper(rt: HostRuntime) {
-    let sizes = [
+    let sizes: [(i64, Option<PageSize>); 10] = [
         (0, None),
         (1, Some(PageSize::Executive)),
         (2, Some(PageSize::Letter)),
@@ -279,7 +289,7 @@ fn numbers_of_paper(rt: HostRuntime) {
     for (number, size) in sizes {
         assert_eq!(rt; PageSize::of_number(number), size);
     }
-    let orientations = [
+    let orientations: [(i64, Option<Orientation>); 6] = [
         (-1, None),
         (0, Some(Orientation::Portrait)),
         (1, Some(Orientation::Landscape)),
@@ -290,7 +300,7 @@ fn numbers_of_paper(rt: HostRuntime) {
     for (number, orientation) in orientations {
         assert_eq!(rt; Orientation::of_number(number), orientation);
     }
-    let sides = [
+    let sides: [(i64, Option<Sides>); 5] = [
         (-1, None),
         (0, Some(Sides::OneSided)),
         (1, Some(Sides::TwoSidedLongEdge)),
@@ -312,6 +322,8 @@ fn simplex_keeps_the_binding(rt: HostRuntime) {
     assert_eq!(rt; env.paper.binding, Binding::ShortEdge);
     env.set_sides(Sides::TwoSidedLongEdge);
     assert_eq!(rt; env.paper.binding, Binding::LongEdge);
+    let short = env.paper.with_sides(Sides::TwoSidedShortEdge);
+    assert_eq!(rt; (short.duplex, short.binding), (true, Binding::ShortEdge));
 }
 
 #[test]
@@ -330,6 +342,13 @@ fn paper_sets_the_margins(rt: HostRuntime) {
             text_length: 75_600
         }
     );
+}
+
+#[test]
+fn an_orientation_sets_motion_and_margins(rt: HostRuntime) {
+    let mut env = letter();
+    env.set_vertical_motion(value(&rt, b"12"));
+    env.set_page_size(PageSize::A4);
     env.set_orientation(Orientation::Landscape);
     assert_eq!(rt; env.settings.vertical_motion, 1200);
     assert_eq!(rt; env.settings.horizontal_motion, 720);
@@ -365,7 +384,7 @@ fn line_feeds_at_the_end_of_the_text(rt: HostRuntime) {
 fn the_cursor_lies_on_a_dot(rt: HostRuntime) {
     let env = letter();
     // The position, and the dot of the frame.
-    let cases = [
+    let cases: [(u32, i64, u32, u32); 6] = [
         (0, 0, 75, 150),
         (23, 23, 75, 150),
         (24, 24, 76, 151),
@@ -376,5 +395,44 @@ fn the_cursor_lies_on_a_dot(rt: HostRuntime) {
     for (x, y, column, line) in cases {
         let dot = env.cursor_dot(CursorPosition { x, y }, Resolution::Dpi300);
         assert_eq!(rt; dot, Dot { x: column, y: line });
+    }
+}
+
+/// Ledger has 3300 x 5100 dots, and its logical page lies 75 and 60 of them from the edges in portrait and landscape.
+#[test]
+fn a_frame_is_the_page_turned(rt: HostRuntime) {
+    let orientations: [(Orientation, (u32, u32), (u32, u32)); 4] = [
+        (Orientation::Portrait, (3300, 5100), (75_600, 122_400)),
+        (Orientation::Landscape, (5100, 3300), (119_520, 79_200)),
+        (
+            Orientation::ReversePortrait,
+            (3300, 5100),
+            (75_600, 122_400),
+        ),
+        (
+            Orientation::ReverseLandscape,
+            (5100, 3300),
+            (119_520, 79_200),
+        ),
+    ];
+    let mut env = letter();
+    env.set_page_size(PageSize::Ledger);
+    for (orientation, frame, logical) in orientations {
+        env.set_orientation(orientation);
+        let page = env.paper.physical_page(Resolution::Dpi300);
+        assert_eq!(rt; (page.width, page.height), (3300, 5100));
+        let turned = env.paper.frame(Resolution::Dpi300);
+        assert_eq!(rt; (turned.width, turned.height), frame);
+        assert!(rt;
+            turned.contains(Dot {
+                x: frame.0.saturating_sub(1),
+                y: frame.1.saturating_sub(1)
+            })
+        );
+        assert!(rt; !turned.contains(Dot { x: frame.0, y: 0 }));
+        assert!(rt; !turned.contains(Dot { x: 0, y: frame.1 }));
+        let within = env.paper.logical_page(720);
+        assert_eq!(rt; (within.width, within.length), logical);
+        assert_eq!(rt; within.top_margin, 720);
     }
 }
