@@ -1,6 +1,7 @@
 -- What each command does to the queue, and what it answers (JDF 1.5, the queue commands; this profile).
 use Rattle.std.specs.Prelude.{ℕ, ◌+◌, ℤ, Bool, true, false, ◌&&◌, ◌||◌, if◌then◌else◌, nat_eq, nat_le, List, length, Option, Some, None, option_map, Result, Ok, Err, is_some}
 use Rattle.std.specs.Option.{option_map_or}
+use Rattle.press_units.specs.Limits.{greatest_of_64_bits}
 use Rattle.press_queue.specs.declared.command.EntryCommand.{EntryCommand}
 use Rattle.press_queue.specs.declared.command.EntryCommand.TheVariants as commands
 use Rattle.press_queue.specs.declared.entry.Entry.{Entry}
@@ -27,7 +28,7 @@ most_in_flight = 8
 
 -- the last number that there is
 abbrev pub last_number : ℕ
-last_number = 18446744073709551615
+last_number = greatest_of_64_bits
 
 -- What a command answers: the queue after it, and a value or why it was refused.
 abbrev pub Answer : Type 0 → Type 0
@@ -50,8 +51,13 @@ is_full queue = nat_le most_entries (length queue.entries) || nat_eq queue.last 
 
 -- The queue with a new entry under the next number, which is answered.
 abbrev pub submitted : ℕ → QueueState → Answer ℕ
-submitted priority queue =
-    (record queue { entries = put (queue.last + 1) (new_entry priority) queue.entries; last = queue.last + 1 }, Ok (queue.last + 1))
+submitted priority queue = (
+  record queue {
+    entries = put (queue.last + 1) (new_entry priority) queue.entries;
+    last = queue.last + 1;
+  },
+  Ok (queue.last + 1),
+)
 
 abbrev pub submitted_at : Option ℕ → QueueState → Answer ℕ
 submitted_at None queue = refused queue BadPriority
@@ -72,7 +78,8 @@ abbrev pub legal_entry : EntryCommand → ℕ → List (ℕ × Entry) → Result
 legal_entry command number entries = legal_at command (entry_of number entries)
 
 -- what follows for that entry
-abbrev pub at_entry : Result Entry Refusal → QueueState → (Entry → Answer (Unit {0})) → Answer (Unit {0})
+abbrev pub at_entry :
+    Result Entry Refusal → QueueState → (Entry → Answer (Unit {0})) → Answer (Unit {0})
 at_entry (Err refusal) queue row = refused queue refusal
 at_entry (Ok entry) queue row = row entry
 

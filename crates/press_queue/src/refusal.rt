@@ -1,6 +1,7 @@
 ghost use Rattle.std.specs.Prelude.{◌≡◌};
 ghost use Rattle.press_queue.specs.Refusal.{return_code_of};
 
+use press_units::NO_MEMORY;
 use std::alloc::AllocError;
 use thiserror::Error;
 
@@ -52,7 +53,8 @@ impl Refusal {
 pub enum SubmitError {
     #[error("{0}")]
     Refused(Refusal),
-    #[error("fault memory")]
+    /// Memory ran out.
+    #[error("{text}", text = NO_MEMORY)]
     NoMemory,
 }
 

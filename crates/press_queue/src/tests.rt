@@ -1,6 +1,6 @@
 use crate::command::EntryCommand;
 use crate::{End, Entry, Queue, QueueStatus, Refusal, Status, SubmitError};
-use std::alloc::Global;
+use std::alloc::{AllocError, Global};
 use std::process::Abort;
 use std::test::Fail;
 
@@ -143,16 +143,21 @@ fn each_command_at_each_status(rt: HostRuntime) -> Result<(), Fail> {
     Ok(())
 }
 
-/// Each refusal, and its return code.
-const CODES: [(Refusal, u8); 7] = [
-    (Refusal::Unknown, 21),
-    (Refusal::WrongStatus, 22),
-    (Refusal::Closed, 23),
-    (Refusal::Full, 24),
-    (Refusal::BadPriority, 25),
-    (Refusal::BadPosition, 26),
-    (Refusal::InFlightFull, 27),
+/// Each refusal, its return code and its text.
+const CODES: [(Refusal, u8, &str); 7] = [
+    (Refusal::Unknown, 21, "fault 21"),
+    (Refusal::WrongStatus, 22, "fault 22"),
+    (Refusal::Closed, 23, "fault 23"),
+    (Refusal::Full, 24, "fault 24"),
+    (Refusal::BadPriority, 25, "fault 25"),
+    (Refusal::BadPosition, 26, "fault 26"),
+    (Refusal::InFlightFull, 27, "fault 27"),
 ];
+
+/// The text of why a submission was not taken.
+fn text_of(alloc: Global, error: &SubmitError) -> Result<String, AllocError> {
+    format!(in alloc; "{error}")
+}
 
 /// Commands that are refused where entry 1 runs, entry 2 waits and there is no other.
 const REFUSALS: [(EntryCommand, u64, i128, u8); 10] = [
@@ -170,9 +175,13 @@ const REFUSALS: [(EntryCommand, u64, i128, u8); 10] = [
 
 #[test]
 fn each_refusal_has_its_code(rt: HostRuntime) -> Result<(), Fail> {
-    for (refusal, code) in &CODES {
+    for (refusal, code, text) in &CODES {
         assert_eq!(rt; refusal.return_code(), *code);
+        let told = text_of(rt.alloc(), &SubmitError::Refused(*refusal))?;
+        assert_eq!(rt; told.as_str(), *text);
     }
+    let told = text_of(rt.alloc(), &SubmitError::NoMemory)?;
+    assert_eq!(rt; told.as_str(), "fault memory");
     let mut queue = queue_of(rt.alloc(), 2)?;
     assert_eq!(rt; begin(&rt, &mut queue), Some(1));
     for (command, number, value, code) in &REFUSALS {
@@ -306,19 +315,27 @@ fn the_first_status_of_the_queue_that_holds(rt: HostRuntime) -> Result<(), Fail>
 fn an_entry_is_in_flight_once_it_began(rt: HostRuntime) {
     let entry = Entry::waiting(50);
     assert_eq!(rt; (entry.priority, entry.status), (50, Status::Waiting));
-    for (status, ended) in STATUSES
-        .iter()
-        .zip(&[false, false, false, false, true, true])
-    {
-        assert_eq!(rt; status.has_ended(), *ended);
+    // Each status, and whether an entry waits, runs and has ended at it.
+    let statuses: [(Status, bool, bool, bool); 6] = [
+        (Status::Waiting, true, false, false),
+        (Status::Held, false, false, false),
+        (Status::Running, false, true, false),
+        (Status::Suspended, false, false, false),
+        (End::Completed.status(), false, false, true),
+        (End::Aborted.status(), false, false, true),
+    ];
+    for (status, waits, runs, ended) in statuses {
+        assert_eq!(rt; status.is_waiting(), waits);
+        assert_eq!(rt; status.is_running(), runs);
+        assert_eq!(rt; status.has_ended(), ended);
         let begun = Entry {
             priority: 50,
-            status: *status,
+            status,
             begun: true,
         };
         assert_eq!(rt;
             (entry.is_in_flight(), begun.is_in_flight()),
-            (false, !*ended)
+            (false, !ended)
         );
     }
 }

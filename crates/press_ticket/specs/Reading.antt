@@ -78,7 +78,9 @@ up_to most (negsuc n) = None
 -- a pair of pages, of so many
 abbrev pub range_of : ℕ → ℤ × ℤ → Option PageRange
 range_of page_count pair =
-    option_and_then (λ first. option_map (λ last. record { first = first; last = last }) (page_at page_count pair.1)) (page_at page_count pair.0)
+    option_and_then
+    (λ first. option_map (λ last. record { first = first; last = last }) (page_at page_count pair.1))
+    (page_at page_count pair.0)
 
 abbrev pub ranges_of : ℕ → List (ℤ × ℤ) → Option (List PageRange)
 ranges_of page_count [] = Some []

@@ -1,4 +1,5 @@
 use crate::key::Key;
+use press_units::NO_MEMORY;
 use std::alloc::AllocError;
 use thiserror::Error;
 
@@ -22,7 +23,8 @@ pub enum TicketError {
     /// The number of copies is out of range.
     #[error("fault 605")]
     BadAmount,
-    #[error("fault memory")]
+    /// Memory ran out.
+    #[error("{text}", text = NO_MEMORY)]
     NoMemory,
 }
 

@@ -1,6 +1,7 @@
 use crate::{Key, Media, PageRange, Sides, TicketError, read_ticket, ticket_of};
 use serde_json::Value;
 use std::alloc::{AllocError, Global};
+use std::process::Abort;
 use std::test::Fail;
 
 /// The members of a ticket of three pages.
@@ -17,17 +18,13 @@ const MEMBERS: [(&str, &str); 9] = [
 ];
 
 /// Adds a member, unless its value is empty.
-fn push_member(text: &mut String, key: &str, value: &str) -> Result<(), AllocError> {
+fn push_member(alloc: Global, text: &mut String, key: &str, value: &str) -> Result<(), AllocError> {
     if value.is_empty() {
         return Ok(());
     }
-    if text.len() > 1 {
-        text.push_str(",")?;
-    }
-    text.push_str("\"")?;
-    text.push_str(key)?;
-    text.push_str("\":")?;
-    text.push_str(value)
+    let comma = if text.len() > 1 { "," } else { "" };
+    let member = format!(in alloc; "{comma}\"{key}\":{value}")?;
+    text.push_str(member.as_str())
 }
 
 /// A key, and the value that it has in place of the usual one; without the key where the value is empty.
@@ -39,11 +36,11 @@ fn text_with(alloc: Global, first: Change, second: Change) -> Result<String, All
     let mut text = String::from_str(alloc, "{")?;
     for (key, usual) in &MEMBERS {
         if *key == first.0 {
-            push_member(&mut text, *key, first.1)?;
+            push_member(alloc, &mut text, *key, first.1)?;
         } else if *key == second.0 {
-            push_member(&mut text, *key, second.1)?;
+            push_member(alloc, &mut text, *key, second.1)?;
         } else {
-            push_member(&mut text, *key, *usual)?;
+            push_member(alloc, &mut text, *key, *usual)?;
         }
     }
     text.push_str("}")?;
@@ -59,6 +56,30 @@ fn fault_of(alloc: Global, text: &[u8]) -> Result<String, AllocError> {
         Ok(_) => Ok(String::new(alloc)),
         Err(error) => format!(in alloc; "{error}"),
     }
+}
+
+/// The ticket with two changes has this fault; none where the text is empty.
+fn expect_fault(
+    rt: &(impl Abort + AllocGlobal),
+    first: Change,
+    second: Change,
+    wanted: &str,
+) -> Result<(), Fail> {
+    let text = text_with(rt.alloc(), first, second)?;
+    let fault = fault_of(rt.alloc(), text.as_bytes())?;
+    assert_eq!(rt; fault.as_str(), wanted, "{first:?}");
+    Ok(())
+}
+
+/// Tickets with one change, each with its fault.
+fn expect_faults(
+    rt: &(impl Abort + AllocGlobal),
+    changes: &[(Change, &'static str)],
+) -> Result<(), Fail> {
+    for (change, wanted) in changes {
+        expect_fault(rt, *change, SAME, *wanted)?;
+    }
+    Ok(())
 }
 
 /// A member with another value, and the fault, if any.
@@ -139,12 +160,7 @@ const CHANGED: [(Change, &str); 51] = [
 
 #[test]
 fn each_member_absent_of_another_kind_out_of_range(rt: HostRuntime) -> Result<(), Fail> {
-    for (change, wanted) in &CHANGED {
-        let text = text_with(rt.alloc(), *change, SAME)?;
-        let fault = fault_of(rt.alloc(), text.as_bytes())?;
-        assert_eq!(rt; fault.as_str(), *wanted, "{change:?}");
-    }
-    Ok(())
+    expect_faults(&rt, &CHANGED)
 }
 
 /// Members that stand twice, and the fault, if any: the last one counts.
@@ -195,12 +211,7 @@ const TWICE: [(Change, &str); 18] = [
 
 #[test]
 fn the_last_member_of_a_key_counts(rt: HostRuntime) -> Result<(), Fail> {
-    for (change, wanted) in &TWICE {
-        let text = text_with(rt.alloc(), *change, SAME)?;
-        let fault = fault_of(rt.alloc(), text.as_bytes())?;
-        assert_eq!(rt; fault.as_str(), *wanted, "{change:?}");
-    }
-    Ok(())
+    expect_faults(&rt, &TWICE)
 }
 
 /// Two members with other values, and the fault that comes first.
@@ -283,9 +294,7 @@ const TWO_CHANGED: [(Change, Change, &str); 17] = [
 #[test]
 fn the_first_fault_is_told(rt: HostRuntime) -> Result<(), Fail> {
     for (first, second, wanted) in &TWO_CHANGED {
-        let text = text_with(rt.alloc(), *first, *second)?;
-        let fault = fault_of(rt.alloc(), text.as_bytes())?;
-        assert_eq!(rt; fault.as_str(), *wanted, "{first:?}");
+        expect_fault(&rt, *first, *second, *wanted)?;
     }
     Ok(())
 }
@@ -475,12 +484,10 @@ fn each_medium_sides_and_collation_is_shown(rt: HostRuntime) -> Result<(), Fail>
 }
 
 /// A ticket without a run list and without a medium.
-const TEXT: &[u8] =
-    b"{\"Amount\":2,\"Collate\":true,\"JobID\":\"J\",\"NPage\":3,\"Sides\":\"TwoSidedHeadToHead\",\"Type\":\"DigitalPrinting\",\"Version\":\"1.5\"}";
-
 #[test]
 fn a_ticket_shows_what_it_asks_for(rt: HostRuntime) -> Result<(), Fail> {
-    let value = Value::from_slice(rt.alloc(), TEXT)?;
+    let text = text_with(rt.alloc(), Change("RunList", ""), Change("Media", ""))?;
+    let value = Value::from_slice(rt.alloc(), text.as_bytes())?;
     let ticket = ticket_of(rt.alloc(), &value)?;
     assert_eq!(rt; ticket.job_id(), "J");
     assert_eq!(rt; (ticket.page_count(), ticket.amount()), (3, 2));
@@ -491,6 +498,13 @@ fn a_ticket_shows_what_it_asks_for(rt: HostRuntime) -> Result<(), Fail> {
         (Media::Letter, Sides::TwoSidedHeadToHead)
     );
     assert!(rt; ticket.is_collated());
+    Ok(())
+}
+
+#[test]
+fn want_of_memory_has_its_text(rt: HostRuntime) -> Result<(), Fail> {
+    let error = TicketError::NoMemory;
+    assert_eq!(rt; format!(in rt.alloc(); "{error}")?.as_str(), "fault memory");
     Ok(())
 }
 
