@@ -1,0 +1,57 @@
+-- What reading a header byte by byte answers.
+use Rattle.std.proofs.Common.{◌≡◌, ℕ, ◌+◌, ◌<◌, ◌≤◌, List, [], ◌∷◌, ◌++◌, length, get_or, Option, Some, Result, Err, IfErr, IsErrAnd, refl, sym, ap, ◌∙◌, arith, subst, inl, append-nil}
+use Rattle.std.proofs.lemmas.Result.{err_from_is_err_and}
+use Rattle.std.specs.Io.KnownBytes.{Consumes}
+use Rattle.std.proofs.KnownBytes.{Consumes-trans}
+use Rattle.press_pbm.specs.Header.{BeginsHeader}
+use Rattle.press_pbm.specs.File.{Refused, IsNoHeader}
+use Rattle.press_pbm.specs.Reading.{Stopped, ReadHeader, place_after, least_behind}
+use Rattle.press_pbm.specs.declared.fault.ReadPbmError.{ReadPbmError}
+use Rattle.press_pbm.specs.declared.fault.ReadPbmError.TheVariants.{NotPbm, BadSize, Truncated, ReadFault, NoMemory}
+use Rattle.press_pbm.specs.declared.place.Place.{Place}
+use Rattle.press_pbm.specs.declared.place.Place.TheVariants as at
+use Rattle.press_pbm.proofs.HeaderLemmas.{run, run-then, run-byte, cut_header, found}
+
+pub one_byte : (bytes : List ℕ) → length bytes ≡ 1 → bytes ≡ get_or bytes 0 0 ∷ []
+one_byte [] one = absurd (omega arith)
+one_byte (byte ∷ []) one = refl
+one_byte (byte ∷ other ∷ bytes) one = absurd (omega arith)
+
+no_byte : (bytes : List ℕ) → length bytes < 1 → bytes ≡ []
+no_byte [] none = refl
+no_byte (byte ∷ bytes) none = absurd (omega arith)
+
+-- what an exit by `?` answers
+pub passed_on : {X : Type 0} (result : Result X ReadPbmError) (error : ReadPbmError) (P : ReadPbmError → Type 0) → IsErrAnd result (λ e. e ≡ error) → P error → IfErr result P
+passed_on result error P is holds = let p = err_from_is_err_and result is in subst (λ r. IfErr r P) (sym (p.1 ∙ ap Err p.2)) holds
+
+-- the bytes so far, and one more
+pub one_more : (had middle left : Option (List ℕ)) (read buffer : List ℕ) → Consumes had middle read → length buffer ≡ 1 → Consumes middle left buffer → Consumes had left (read ++ get_or buffer 0 0 ∷ [])
+one_more had middle left read buffer first one more = subst (λ l. Consumes had left (read ++ l)) (one_byte buffer one) (Consumes-trans had middle left read buffer first more)
+
+-- the next byte was not read
+pub stopped_in_header : (error : ReadPbmError) (had middle left : Option (List ℕ)) (read : List ℕ) (place : Place) (wanted : ℕ) → Consumes had middle read → run at.Start read ≡ Some place →
+    length read + least_behind place ≤ 65536 → 0 < least_behind place → wanted ≡ 1 → Stopped error wanted middle left → Refused error had left
+stopped_in_header Truncated had middle left read place wanted first is short some one (none, few, more, ends) =
+    let nothing : read ++ none ≡ read = ap (λ l. read ++ l) (no_byte none (omega arith)) ∙ append-nil read in
+    (read, subst (Consumes had left) nothing (Consumes-trans had middle left read none first more), ends, inl (cut_header read place is short some))
+stopped_in_header ReadFault had middle left read place wanted first is short some one stopped = tt
+stopped_in_header NotPbm had middle left read place wanted first is short some one stopped = absurd stopped
+stopped_in_header BadSize had middle left read place wanted first is short some one stopped = absurd stopped
+stopped_in_header NoMemory had middle left read place wanted first is short some one stopped = absurd stopped
+
+-- the bytes so far and one more lead to the next place
+pub run-more : (read : List ℕ) (byte : ℕ) (place : Place) (next : Option Place) (after : Place) → run at.Start read ≡ Some place → place_after place byte ≡ next → next ≡ Some after → run at.Start (read ++ byte ∷ []) ≡ Some after
+run-more read byte place next after is gives some = run-then at.Start place (Some after) read (byte ∷ []) is (run-byte place after (Some after) byte [] (gives ∙ some) refl)
+
+-- a header was read to its end
+pub read_header_of : (had left : Option (List ℕ)) (bytes : List ℕ) (width height : ℕ) → run at.Start bytes ≡ Some (at.End width height) → length bytes ≤ 65536 → Consumes had left bytes → ReadHeader (width, height) had left
+read_header_of had left bytes width height is short reads =
+    let whole = found bytes width height is short in
+    record { parts = whole.parts; header = whole.are; read = subst (Consumes had left) whole.is reads; width = whole.width_is; height = whole.height_is }
+
+-- one more byte was read, and no header begins so
+pub no_header_read : (had left : Option (List ℕ)) (read : List ℕ) (byte : ℕ) (place : Place) → run at.Start read ≡ Some place → length read + least_behind place ≤ 65536 → 0 < least_behind place →
+    Consumes had left (read ++ byte ∷ []) → (BeginsHeader (read ++ byte ∷ []) → ⊥) → (bytes : List ℕ) × Consumes had left bytes × IsNoHeader bytes
+no_header_read had left read byte place is short some reads none =
+    (read ++ byte ∷ [], reads, record { front = read; byte = byte; ends = refl; goes_on = cut_header read place is short some; none = none })

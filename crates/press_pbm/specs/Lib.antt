@@ -1,0 +1,8 @@
+-- The definitions of P4 files.
+pub mod Answer
+pub mod Blank
+pub mod File
+pub mod Fuse
+pub mod Header
+pub mod Reading
+pub mod Spelling

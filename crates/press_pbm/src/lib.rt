@@ -1,0 +1,18 @@
+//! P4 files: pages of dots as the raw form of the Netpbm format PBM has them.
+#![tactic(auto)]
+
+mod fault;
+mod fuse_read;
+mod fuse_write;
+pub mod laws;
+mod place;
+mod reading;
+#[cfg(test)]
+mod tests;
+mod writing;
+
+pub use fault::{ReadPbmError, WritePbmError};
+pub use fuse_read::FuseRead;
+pub use fuse_write::FuseWrite;
+pub use reading::read_pbm;
+pub use writing::write_pbm;

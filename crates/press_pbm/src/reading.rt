@@ -1,0 +1,114 @@
+ghost use Rattle.std.specs.Prelude.{◌≡◌, ℕ, ◌*◌, List, length, IfOk, IfErr, OnOk};
+ghost use Rattle.std.specs.Io.KnownBytes.{Consumes};
+ghost use Rattle.press_bits.specs.Page.{blank};
+ghost use Rattle.press_bits.specs.DotRows.{page_of_rows};
+ghost use Rattle.press_bits.specs.Lines.{bytes_per_line};
+ghost use Rattle.press_pbm.specs.File.{IsFile, Refused};
+ghost use Rattle.press_pbm.specs.Reading.{ReadHeader, Stopped};
+
+use crate::fault::ReadPbmError;
+use crate::place::Place;
+use press_bits::{Bitmap, MAX_SIDE};
+use std::alloc::Global;
+use std::io::{ErrorKind, Read};
+
+/// The most bytes of a header.
+const LONGEST_HEADER: u32 = 65_536;
+
+/// The most bytes of a row.
+const LONGEST_ROW: usize = MAX_SIDE as usize / 8;
+
+/// The most reads of one row or of one byte.
+const MOST_READS: u32 = u32::MAX;
+
+/// Fills a buffer with the next bytes.
+fn fill<R: Read>(input: &mut R, buffer: &mut [u8]) -> Result<(), ReadPbmError>
+    ensures ok { OnOk result (Consumes (R.remaining input.old) (R.remaining input.new) buffer.new) }
+    ensures err { IfErr result (λ error.
+        Stopped error (length buffer.new) (R.remaining input.old) (R.remaining input.new)) }
+{
+    let mut filled = 0;
+    for _ in 0..MOST_READS {
+        if filled >= buffer.len() {
+            return Ok(());
+        }
+        match input.read(&mut buffer[filled..]) {
+            Ok(0) => return Err(ReadPbmError::Truncated),
+            Ok(count) => filled += count,
+            Err(error) => {
+                if error.kind() != ErrorKind::Interrupted {
+                    return Err(ReadPbmError::ReadFault);
+                }
+            }
+        }
+    }
+    Err(ReadPbmError::ReadFault)
+}
+
+/// Reads a header, byte by byte: its width and its height, cut to one above the greatest.
+fn read_header<R: Read>(input: &mut R) -> Result<(u32, u32), ReadPbmError>
+    ensures ok { IfOk result (λ size.
+        ReadHeader size (R.remaining input.old) (R.remaining input.new)) }
+    ensures err { IfErr result (λ error.
+        Refused error (R.remaining input.old) (R.remaining input.new)) }
+{
+    let mut place = Place::Start;
+    for count in 1..=LONGEST_HEADER {
+        let mut byte = [0];
+        fill(input, &mut byte)?;
+        let Some(next) = place.after(byte[0]) else {
+            return Err(ReadPbmError::NotPbm);
+        };
+        if let Place::End(width, height) = next {
+            return Ok((width, height));
+        }
+        if LONGEST_HEADER - count < next.least_behind() {
+            return Err(ReadPbmError::NotPbm);
+        }
+        place = next;
+    }
+    Err(ReadPbmError::NotPbm)
+}
+
+/// Reads the rows of a white page.
+fn read_rows<R: Read>(input: &mut R, page: &mut Bitmap) -> Result<(), ReadPbmError>
+    requires { page.old ≡ blank page.old.width page.old.height }
+    ensures ok { OnOk result ((rows : List ℕ)
+        × (length rows ≡ page.old.height * bytes_per_line page.old.width)
+        × Consumes (R.remaining input.old) (R.remaining input.new) rows
+        × (page.new ≡ page_of_rows page.old.width page.old.height rows)) }
+    ensures err { IfErr result (λ error.
+        Stopped error (page.old.height * bytes_per_line page.old.width)
+        (R.remaining input.old) (R.remaining input.new)) }
+{
+    let width = page.width() as usize;
+    let mut buffer = [0; LONGEST_ROW];
+    let row = &mut buffer[..width.div_ceil(8)];
+    for y in 0..page.height() {
+        fill(input, row)?;
+        page.paint_row(0, i64::from(y), row, width);
+    }
+    Ok(())
+}
+
+/// Reads a P4 file: `P4`, a gap, the width, a gap, the height, one byte of white space, and the rows, whose spare bits are
+/// ignored. A gap is white space and comments, each from `#` through the end of the line; a header has at most 65,536 bytes.
+/// What stands behind the file is left unread.
+///
+/// # Errors
+///
+/// `NotPbm` (111) where no header begins with what was read; `BadSize` (112) where a side of the header is 0 or above 16,384;
+/// `Truncated` (113) where the input ends first; `ReadFault` (114) where a read failed; `NoMemory`.
+///
+/// Source: Netpbm, the raw form of the PBM format.
+pub fn read_pbm<R: Read>(alloc: Global, input: &mut R) -> Result<Bitmap, ReadPbmError>
+    ensures page { IfOk result (λ page. (file : List ℕ) × IsFile page file
+        × Consumes (R.remaining input.old) (R.remaining input.new) file) }
+    ensures refused { IfErr result (λ error.
+        Refused error (R.remaining input.old) (R.remaining input.new)) }
+{
+    let (width, height) = read_header(input)?;
+    let mut page = Bitmap::blank(alloc, width, height)?;
+    read_rows(input, &mut page)?;
+    Ok(page)
+}

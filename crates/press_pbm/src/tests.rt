@@ -1,0 +1,300 @@
+//! Worked files, and devices that fail.
+use crate::{FuseRead, FuseWrite, ReadPbmError, WritePbmError, read_pbm, write_pbm};
+use press_bits::Bitmap;
+use std::alloc::Global;
+use std::io::{self, ErrorKind, Read, Write};
+use std::process::Abort;
+use std::test::Fail;
+
+/// Three black dots in a line.
+const THREE: &[u8; 8] = b"P4\n3 1\n\xe0";
+
+#[test]
+fn reads_and_writes_three_dots(rt: HostRuntime) -> Result<(), Fail> {
+    let mut input = THREE.as_slice();
+    let page = read_pbm(rt.alloc(), &mut input)?;
+    assert_eq!(rt; (page.width(), page.height()), (3, 1));
+    assert_eq!(rt; page.count_black(), 3);
+    let mut output = Vec::new(rt.alloc());
+    write_pbm(&page, &mut output)?;
+    assert_eq!(rt; output.as_slice(), THREE.as_slice());
+    Ok(())
+}
+
+#[test]
+fn what_follows_a_file_stays_unread(rt: HostRuntime) -> Result<(), Fail> {
+    let mut input = b"P4 9 2\n\xff\x80\x00\x00P4 ".as_slice();
+    let page = read_pbm(rt.alloc(), &mut input)?;
+    assert_eq!(rt;
+        (page.width(), page.height(), page.count_black()),
+        (9, 2, 9)
+    );
+    assert_eq!(rt; input, b"P4 ".as_slice());
+    Ok(())
+}
+
+#[test]
+fn spare_bits_are_no_dots(rt: HostRuntime) -> Result<(), Fail> {
+    let mut input = b"P4\n3 2\n\x5f\xff".as_slice();
+    let page = read_pbm(rt.alloc(), &mut input)?;
+    assert_eq!(rt; page.count_black(), 4);
+    let mut output = Vec::new(rt.alloc());
+    write_pbm(&page, &mut output)?;
+    assert_eq!(rt; output.as_slice(), b"P4\n3 2\n\x40\xe0".as_slice());
+    Ok(())
+}
+
+/// The number of the fault that reading the bytes ends in, 0 where it gives a page.
+fn fault(alloc: Global, bytes: &[u8]) -> u32 {
+    let mut input = bytes;
+    match read_pbm(alloc, &mut input) {
+        Ok(_) => 0,
+        Err(ReadPbmError::NotPbm) => 111,
+        Err(ReadPbmError::BadSize) => 112,
+        Err(ReadPbmError::Truncated) => 113,
+        Err(ReadPbmError::ReadFault) => 114,
+        Err(ReadPbmError::NoMemory) => 1,
+    }
+}
+
+#[test]
+fn headers_are_told_from_other_text(rt: HostRuntime) {
+    let cases: [(&[u8], u32); 30] = [
+        (b"", 113),
+        (b"P", 113),
+        (b"P4", 113),
+        (b"P4\n3 1\n", 113),
+        (b"P4\n3 1", 113),
+        (b"P4 # no end", 113),
+        (b"P4 3 9\n\xe0", 113),
+        (b"P5\n3 1\n\xe0", 111),
+        (b"p4\n3 1\n\xe0", 111),
+        (b"P43 1\n\xe0", 111),
+        (b"P4 x", 111),
+        (b"P4 -3 1\n\xe0", 111),
+        (b"P4 3x1\n\xe0", 111),
+        (b"P4 3 1#\n\xe0", 111),
+        (b"P4 3 1x", 111),
+        (b"P4\x0e3 1\n\xe0", 111),
+        (b"P4\x083 1\n\xe0", 111),
+        (b"P4 0 1 ", 112),
+        (b"P4 1 0 ", 112),
+        (b"P4 00 1 ", 112),
+        (b"P4 16385 1 ", 112),
+        (b"P4 1 16385 ", 112),
+        (b"P4 4294967297 1 ", 112),
+        (b"P4 99999999999999999999999999 1 ", 112),
+        (b"P4\t\x0b\x0c\r 0003\n\n01\t\xe0", 0),
+        (b"P4#a comment\n3#another\r1\n\xe0", 0),
+        (b"P4 #\n#\r\n3 1 \xe0", 0),
+        (b"P4 # 5 5\n3 # 7 #\n1\n\xe0", 0),
+        (b"P4 3 1\r\n", 0),
+        (b"P4 8 1 #", 0),
+    ];
+    for (bytes, wanted) in cases {
+        assert_eq!(rt; fault(rt.alloc(), bytes), wanted, "{bytes:?}");
+    }
+}
+
+/// A header of so many bytes, by a long comment, and the row behind it.
+fn long_header(alloc: Global, bytes: usize) -> Result<Vec<u8>, Fail> {
+    let mut file = Vec::new(alloc);
+    file.extend_from_slice(b"P4#")?;
+    for _ in 0..bytes.saturating_sub(8) {
+        file.push(b'.')?;
+    }
+    file.extend_from_slice(b"\n3 1\n\xe0")?;
+    Ok(file)
+}
+
+#[test]
+fn a_header_has_at_most_65536_bytes(rt: HostRuntime) -> Result<(), Fail> {
+    for (bytes, wanted) in [(65_535, 0), (65_536, 0), (65_537, 111)] {
+        let file = long_header(rt.alloc(), bytes)?;
+        assert_eq!(rt; file.len(), bytes + 1);
+        assert_eq!(rt; fault(rt.alloc(), &file), wanted, "{bytes}");
+    }
+    let mut file = long_header(rt.alloc(), 65_600)?;
+    file.truncate(65_532);
+    assert_eq!(rt; fault(rt.alloc(), &file), 111);
+    file.truncate(65_531);
+    assert_eq!(rt; fault(rt.alloc(), &file), 113);
+    Ok(())
+}
+
+#[test]
+fn the_longest_sides_are_read(rt: HostRuntime) -> Result<(), Fail> {
+    for header in [b"P4 16384 1\n", b"P4 8 16384\n"] {
+        let mut file = Vec::new(rt.alloc());
+        file.extend_from_slice(header)?;
+        let rows = if header == b"P4 8 16384\n" {
+            16_384
+        } else {
+            2_048
+        };
+        for _ in 0..rows {
+            file.push(1)?;
+        }
+        let mut input = file.as_slice();
+        let page = read_pbm(rt.alloc(), &mut input)?;
+        assert_eq!(rt; page.count_black(), rows);
+        assert!(rt; input.is_empty());
+    }
+    Ok(())
+}
+
+/// A reader that gives at most so many bytes at once, and is interrupted before each of them.
+#[derive(Drop)]
+struct Slow<'a> {
+    bytes: &'a [u8],
+    most: usize,
+    interrupted: bool,
+}
+
+impl Read for Slow<'_> {
+    fn read(&mut self, buf: &mut [u8]) -> io::Result<usize> {
+        self.interrupted = !self.interrupted;
+        if self.interrupted {
+            return Err(io::Error::from(ErrorKind::Interrupted));
+        }
+        let most = buf.len().min(self.most);
+        self.bytes.read(&mut buf[..most])
+    }
+}
+
+#[test]
+fn pieces_and_interruptions_do_not_matter(rt: HostRuntime) -> Result<(), Fail> {
+    for most in 1..4 {
+        let mut input = Slow {
+            bytes: b"P4 20 2 \xff\x00\xff\x00\xff\x00",
+            most,
+            interrupted: false,
+        };
+        let page = read_pbm(rt.alloc(), &mut input)?;
+        assert_eq!(rt; page.count_black(), 20, "{most} at once");
+    }
+    Ok(())
+}
+
+#[test]
+fn each_read_may_fail(rt: HostRuntime) -> Result<(), Fail> {
+    for call in 0..8 {
+        let mut input = FuseRead::new(THREE.as_slice(), call);
+        let failed = matches!(
+            read_pbm(rt.alloc(), &mut input),
+            Err(ReadPbmError::ReadFault)
+        );
+        assert!(rt; failed, "read {call}");
+    }
+    let mut input = FuseRead::new(THREE.as_slice(), 8);
+    let page = read_pbm(rt.alloc(), &mut input)?;
+    assert_eq!(rt; page.count_black(), 3);
+    Ok(())
+}
+
+#[test]
+fn a_fuse_fails_one_read_alone(rt: HostRuntime) -> Result<(), Fail> {
+    let mut input = FuseRead::new(b"abc".as_slice(), 1);
+    let mut byte = [0];
+    assert_eq!(rt; input.read(&mut byte)?, 1);
+    let Err(error) = input.read(&mut byte) else {
+        return Err(Fail::from("the second read went through"));
+    };
+    assert!(rt; error.kind() == ErrorKind::Other);
+    assert_eq!(rt; input.read(&mut byte)?, 1);
+    assert_eq!(rt; byte, *b"b");
+    Ok(())
+}
+
+#[test]
+fn each_write_may_fail(rt: HostRuntime) -> Result<(), Fail> {
+    let file = b"P4\n9 2\n\xff\x80\x00\x80";
+    let mut input = file.as_slice();
+    let page = read_pbm(rt.alloc(), &mut input)?;
+    for (call, front) in [0, 3, 4, 5, 6, 7, 9].into_iter().enumerate() {
+        let mut output = FuseWrite::new(Vec::new(rt.alloc()), call as u64);
+        let failed = matches!(
+            write_pbm(&page, &mut output),
+            Err(WritePbmError::WriteFault)
+        );
+        assert!(rt; failed, "write {call}");
+        let written = output.into_inner();
+        assert_eq!(rt; written.len(), front, "write {call}");
+        assert!(rt; file.as_slice().starts_with(written.as_slice()));
+    }
+    let mut output = FuseWrite::new(Vec::new(rt.alloc()), 7);
+    write_pbm(&page, &mut output)?;
+    output.flush()?;
+    assert_eq!(rt; output.into_inner().as_slice(), file.as_slice());
+    Ok(())
+}
+
+/// A writer that takes one byte at a time, is interrupted before each, and is full after so many.
+#[derive(Drop)]
+struct Tight {
+    bytes: Vec<u8>,
+    most: usize,
+    interrupted: bool,
+}
+
+impl Write for Tight {
+    fn write(&mut self, buf: &[u8]) -> io::Result<usize> {
+        self.interrupted = !self.interrupted;
+        if self.interrupted {
+            return Err(io::Error::from(ErrorKind::Interrupted));
+        }
+        if self.bytes.len() >= self.most {
+            return Ok(0);
+        }
+        match buf {
+            [byte, ..] => {
+                self.bytes.push(*byte)?;
+                Ok(1)
+            }
+            [] => Ok(0),
+        }
+    }
+
+    fn flush(&mut self) -> io::Result<()> {
+        Ok(())
+    }
+}
+
+fn expect_tight(rt: &impl Abort, page: &Bitmap, alloc: Global, most: usize) {
+    let mut output = Tight {
+        bytes: Vec::new(alloc),
+        most,
+        interrupted: false,
+    };
+    let whole = write_pbm(page, &mut output).is_ok();
+    let wanted = most.min(8);
+    assert_eq!(rt; whole, wanted == 8, "{most} bytes");
+    assert_eq!(rt; output.bytes.as_slice(), &THREE[..wanted], "{most} bytes");
+}
+
+#[test]
+fn a_full_writer_is_a_fault(rt: HostRuntime) -> Result<(), Fail> {
+    let mut input = THREE.as_slice();
+    let page = read_pbm(rt.alloc(), &mut input)?;
+    for most in 0..10 {
+        expect_tight(&rt, &page, rt.alloc(), most);
+    }
+    Ok(())
+}
+
+#[test]
+fn faults_tell_their_number(rt: HostRuntime) -> Result<(), Fail> {
+    let faults = [
+        (ReadPbmError::NotPbm, "fault 111"),
+        (ReadPbmError::BadSize, "fault 112"),
+        (ReadPbmError::Truncated, "fault 113"),
+        (ReadPbmError::ReadFault, "fault 114"),
+        (ReadPbmError::NoMemory, "fault memory"),
+    ];
+    for (fault, text) in faults {
+        assert_eq!(rt; format!(in rt.alloc(); "{fault}")?.as_str(), text);
+    }
+    let fault = WritePbmError::WriteFault;
+    assert_eq!(rt; format!(in rt.alloc(); "{fault}")?.as_str(), "fault 115");
+    Ok(())
+}
