@@ -1,8 +1,13 @@
--- What the list sinks keep.
-use Rattle.std.specs.Prelude.{ℕ, List}
+-- What sinks keep.
+use Rattle.std.specs.Prelude.{ℕ, zero, suc, List, Option, Some, None}
+use Rattle.std.specs.String.{string_bytes}
 use Rattle.press_sink.specs.declared.sheet.Delivery.{Delivery}
 use Rattle.press_sink.specs.declared.list_sink.ListSink.{ListSink}
 use Rattle.press_sink.specs.declared.list_replies.ListReplies.{ListReplies}
+use Rattle.press_sink.specs.declared.fuse_sink.FuseSink.{FuseSink}
+use Rattle.press_sink.specs.declared.template.Template.{Template}
+use Rattle.press_sink.specs.declared.folder_sink.FolderSink.{FolderSink}
+use Rattle.press_sink.specs.Template.{NameParts}
 
 -- the sheets that a list sink took
 abbrev pub deliveries : ListSink → List Delivery
@@ -11,3 +16,37 @@ deliveries sink = sink.deliveries.items
 -- the bytes that a list of replies took
 abbrev pub replied : ListReplies → List ℕ
 replied sink = sink.bytes.items
+
+-- the sink to which a fuse sink passes deliveries on
+abbrev pub inner : {S : Type 0} → FuseSink S → S
+inner fuse = fuse.sink
+
+-- how many more deliveries a fuse sink passes on before the one that has a fault, where that has not been
+abbrev pub left_of : {S : Type 0} → FuseSink S → Option ℕ
+left_of fuse = fuse.left
+
+-- the same after one more delivery
+abbrev pub left_after : Option ℕ → Option ℕ
+left_after None = None
+left_after (Some zero) = None
+left_after (Some (suc left)) = Some left
+
+-- how many faults a fuse sink had that were its own
+abbrev pub own_faults : {S : Type 0} → FuseSink S → ℕ
+own_faults fuse = fuse.faults
+
+-- what stands before and behind the place of the number in a template
+abbrev pub parts_of : Template → NameParts
+parts_of template = record { front = string_bytes template.front; back = string_bytes template.back }
+
+-- the same in the template of a folder sink
+abbrev pub name_parts : {F : Type 0} → FolderSink F → NameParts
+name_parts sink = parts_of sink.template
+
+-- the number of the next side that a folder sink writes
+abbrev pub next_number : {F : Type 0} → FolderSink F → ℕ
+next_number sink = sink.number
+
+-- how many faults a folder sink had
+abbrev pub file_faults : {F : Type 0} → FolderSink F → ℕ
+file_faults sink = sink.faults

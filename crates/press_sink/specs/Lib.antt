@@ -1,5 +1,6 @@
 pub mod Kept
 pub mod Sending
 pub mod Sides
+pub mod Template
 pub mod Told
 pub use Rattle.press_bits.specs.Page

@@ -1,6 +1,7 @@
 -- What sinks tell of themselves: what they took, where they tell it, and how many faults they had.
-use Rattle.std.specs.Prelude.{◌≡◌, ◌<◌, ◌++◌, ℕ, List, [], ◌∷◌, Option, option_map, Result, Ok, Err}
+use Rattle.std.specs.Prelude.{◌≡◌, ◌<◌, ◌+◌, ◌++◌, min, ℕ, List, [], ◌∷◌, Option, None, option_map, Result, Ok, Err}
 use Rattle.std.specs.Io.KnownBytes.{Appends, Keeps}
+use Rattle.press_units.specs.Limits.{greatest_of_64_bits}
 use Rattle.press_sink.specs.declared.sheet.Delivery.{Delivery}
 use Rattle.press_sink.specs.declared.fault.SinkError.{SinkError}
 use Rattle.press_sink.specs.declared.fault.SinkError.TheVariants as sink_errors
@@ -27,7 +28,15 @@ both sheets replies = record { sheets = sheets; replies = replies }
 
 -- the most faults that a sink can count
 abbrev pub most_faults : ℕ
-most_faults = 18446744073709551615
+most_faults = greatest_of_64_bits
+
+-- what a sink tells that keeps no list of its sheets
+abbrev pub nothing_told : ℕ → SheetsTold
+nothing_told faults = record { delivered = None; faults = faults }
+
+-- what a sink over another tells, which had so many faults of its own
+abbrev pub with_own_faults : SheetsTold → ℕ → SheetsTold
+with_own_faults told own = record { delivered = told.delivered; faults = min (told.faults + own) most_faults }
 
 -- Both sinks can count one more fault.
 pub record CanCount (told : Told) : Type 0 where

@@ -1,4 +1,5 @@
 use press_units::NO_MEMORY;
+use std::alloc::AllocError;
 use thiserror::Error;
 
 /// What is told where a sheet sink had a fault.
@@ -23,4 +24,25 @@ pub enum ReplyError {
     ReplyFault,
     #[error("{text}", text = NO_MEMORY)]
     NoMemory,
+}
+
+/// Why a text is no template of file names.
+#[derive(Debug, Drop, Error)]
+pub enum TemplateError {
+    /// `%d` does not stand in it exactly once.
+    #[error("fault 121")]
+    BadTemplate,
+    #[error("{text}", text = NO_MEMORY)]
+    NoMemory,
+}
+
+impl From<AllocError> for TemplateError {
+    ghost use Rattle.std.specs.Prelude.{◌≡◌};
+    ghost use Rattle.press_sink.specs.declared.fault.TemplateError.TheVariants.{NoMemory};
+
+    ghost from_gives = { λ _ error. error ≡ NoMemory };
+
+    fn from(_error: AllocError) -> TemplateError {
+        TemplateError::NoMemory
+    }
 }

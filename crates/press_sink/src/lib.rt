@@ -2,12 +2,17 @@
 #![tactic(auto)]
 
 mod fault;
+mod folder_sink;
+mod fuse_sink;
 mod list_replies;
 mod list_sink;
 mod sheet;
 mod sink;
+mod template;
 
-pub use fault::{REPLY_FAULT, ReplyError, SINK_FAULT, SinkError};
+pub use fault::{REPLY_FAULT, ReplyError, SINK_FAULT, SinkError, TemplateError};
+pub use folder_sink::FolderSink;
+pub use fuse_sink::FuseSink;
 pub use list_replies::ListReplies;
 pub use list_sink::ListSink;
 pub use sheet::{Delivery, Sheet};

@@ -5,6 +5,8 @@ use std::alloc::AllocError;
 use std::marker::Model;
 
 /// A printed sheet: its front, and its back where it has one. Contracts see its pages alone.
+///
+/// Source: PCL 5 Printer Language Technical Reference Manual, Simplex/Duplex Print command.
 #[derive(Drop)]
 pub struct Sheet {
     pub front: Bitmap,

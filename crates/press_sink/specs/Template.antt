@@ -1,0 +1,35 @@
+-- Names of files by a template, in which the number of a side has its place.
+use Rattle.std.specs.Prelude.{◌≡◌, ℕ, ◌+◌, List, ◌++◌, codes, min, is_some, if◌then◌else◌}
+use Rattle.std.specs.Fmt.{decimal}
+use Rattle.press_units.specs.Limits.{greatest_of_64_bits}
+use Rattle.press_sink.specs.Sides.{Sides}
+
+-- What stands before the place of the number, and what stands behind it.
+pub record NameParts : Type 0 where
+  pub front : List ℕ
+  pub back : List ℕ
+
+-- a text is these parts round a place of the number
+abbrev pub Spells : List ℕ → NameParts → Type 0
+Spells text parts = text ≡ parts.front ++ (codes "%d" ++ parts.back)
+
+-- A text is a template with these parts: the number has exactly one place in it.
+pub record IsTemplate (text : List ℕ) (parts : NameParts) : Type 0 where
+  pub spells : Spells text parts
+  pub once : (others : NameParts) → Spells text others → others ≡ parts
+
+-- a text that is no template
+abbrev pub IsNoTemplate : List ℕ → Type 0
+IsNoTemplate text = (parts : NameParts) → ¬ (IsTemplate text parts)
+
+-- The name of the side with this number.
+abbrev pub side_name : NameParts → ℕ → List ℕ
+side_name parts number = parts.front ++ (decimal number ++ parts.back)
+
+-- The number after so many sides; the greatest number stays.
+abbrev pub number_after : ℕ → ℕ → ℕ
+number_after sides number = min (number + sides) greatest_of_64_bits
+
+-- how many sides of a sheet are printed
+abbrev pub side_count : Sides → ℕ
+side_count sheet = if is_some sheet.back then 2 else 1
