@@ -1,3 +1,4 @@
+pub mod PlaceLemmas
 pub mod Runs
 pub mod SendsLemmas
 pub mod WorkedStreams

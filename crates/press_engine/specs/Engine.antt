@@ -1,6 +1,8 @@
 -- The engine as callers see it.
-use Rattle.std.specs.Prelude.{◌≡◌, ◌≢◌, ℕ, pos, Option, Some, None, List, [], Result, Ok, Err, OnOk, MatchResult, if◌then◌else◌}
+use Rattle.std.specs.Prelude.{◌≡◌, ◌≢◌, ◌⊎◌, ℕ, pos, Option, Some, None, List, [], Result, Ok, Err, OnOk, MatchResult, if◌then◌else◌}
+use Rattle.std.specs.Borrow.{Bor}
 use Rattle.press_cmd.specs.Token.{Token}
+use Rattle.press_cursor.specs.declared.stack.CursorPosition.{CursorPosition}
 use Rattle.press_sink.specs.Told.{Told}
 use Rattle.press_sink.specs.Sending.{Output, Whole, AtSheet, AtReply, ForMemory, WentOut}
 use Rattle.press_engine.specs.declared.engine.Engine.{Engine}
@@ -8,7 +10,9 @@ use Rattle.press_engine.specs.declared.fault.EngineError.{EngineError}
 use Rattle.press_engine.specs.declared.fault.EngineError.TheVariants as engine_errors
 use Rattle.press_engine.specs.declared.machine.Machine.{Machine}
 use Rattle.press_engine.specs.declared.view.View.{View}
-use Rattle.press_engine.specs.Table.{Effect, Done, Closes, effect_on}
+use Rattle.press_engine.specs.declared.state.State.{State}
+use Rattle.press_engine.specs.Outcome.{Effect, Done, Closes, is_marked}
+use Rattle.press_engine.specs.Table.{effect_on}
 use Rattle.press_engine.specs.Machine.{run}
 
 -- the engine's machine, and none where an earlier command had a fault
@@ -40,26 +44,35 @@ abbrev pub Runs : Option Machine → Token → ℕ → Result (Unit {0}) EngineE
 Runs (Some machine) command tag result new before after = Carries machine command tag result new before after
 Runs None command tag result new before after = (new ≡ None) × (after ≡ before)
 
--- memory may be taken where the page closes or something goes out, and nowhere else
-abbrev pub TakesMemory : Effect → Type 0
-TakesMemory (Done outcome) = outcome.outputs ≢ []
-TakesMemory (Closes closer state) = Unit {0}
+-- whether a row closes the page
+abbrev pub IsClosing : Effect → Type 0
+IsClosing (Done outcome) = ⊥
+IsClosing (Closes closer state) = Unit {0}
+
+-- Memory may be taken where the page closes, where something goes out, and where the page or the front that waits changes;
+-- and nowhere else.
+abbrev pub TakesMemory : (before : State) → Effect → Type 0
+TakesMemory before (Done outcome) =
+    (outcome.outputs ≢ []) ⊎ ((outcome.state.page ≢ before.page) ⊎ (outcome.state.pending ≢ before.pending))
+TakesMemory before (Closes closer state) = Unit {0}
 
 -- the same for the command of an engine with this machine
 abbrev pub NeedsMemory : Option Machine → Token → Type 0
 NeedsMemory None command = ⊥
-NeedsMemory (Some machine) command = TakesMemory (effect_on command machine.state)
+NeedsMemory (Some machine) command = TakesMemory machine.state (effect_on command machine.state)
 
--- What can be seen of a machine.
-abbrev pub view_of : Machine → View
-view_of machine = record {
+-- What can be seen of a machine, with its cursor's stack lent.
+abbrev pub view_of : Bor (List CursorPosition) → Machine → View
+view_of stack machine = record {
   step = machine.step;
   depth = machine.depth;
   last = machine.last;
   x = record { 0 = pos machine.state.cursor.x };
   y = record { 0 = machine.state.cursor.y };
+  stack = stack;
   sheets = machine.state.sheets;
   environment = machine.state.environment;
-  margins = machine.state.margins;
-  marked = machine.state.marked;
+  rectangle = machine.state.rectangle;
+  hp_gl = machine.state.hp_gl;
+  marked = is_marked machine.state;
 }

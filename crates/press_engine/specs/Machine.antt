@@ -5,7 +5,9 @@ use Rattle.press_cmd.specs.Kinds.{kind_of}
 use Rattle.press_sink.specs.Sending.{Output}
 use Rattle.press_engine.specs.declared.machine.Last.TheVariants as lasts
 use Rattle.press_engine.specs.declared.machine.Machine.{Machine}
-use Rattle.press_engine.specs.Table.{Outcome, power_on_state, effect_on, settle, counted}
+use Rattle.press_engine.specs.Closing.{settle}
+use Rattle.press_engine.specs.Outcome.{Outcome, power_on_state, counted}
+use Rattle.press_engine.specs.Table.{effect_on}
 
 -- What commands leave: the machine, and the outputs in order.
 pub record Run : Type 0 where

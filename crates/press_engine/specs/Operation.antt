@@ -1,39 +1,84 @@
 -- The command table: which command has which row. Each row stands on a line, by the letters of its command
 -- (PCL 5 Printer Language Technical Reference Manual, the commands by their sequences).
 use Prim.Native.Char.{code}
-use Rattle.std.specs.Prelude.{ℕ, ◌==◌, List, [], ◌∷◌, Option, Some, None, if◌then◌else◌}
+use Rattle.std.specs.Prelude.{ℕ, ◌==◌, ◌&&◌, List, [], ◌∷◌, Option, Some, None, if◌then◌else◌}
 use Rattle.press_cmd.specs.declared.variant.Kind.{Kind}
 use Rattle.press_cmd.specs.declared.variant.Kind.TheVariants as kinds
 use Rattle.press_engine.specs.declared.operation.Operation.{Operation}
-use Rattle.press_engine.specs.declared.operation.Operation.TheVariants.{Nothing, Reset, FormFeed, MoveX, MoveY, RectangleWidth, RectangleHeight, Fill}
+use Rattle.press_engine.specs.declared.operation.Operation.TheVariants.{Nothing, CarriageReturn, LineFeed, FormFeed, HalfLineFeed, ClearMargins, Reset, EnterHpGl, LeaveHpGl, UnitOfMeasure, MoveColumns, MoveRows, MoveHorizontally, MoveVertically, SelectSide, LeftMargin, RightMargin, PushOrPop, LineTermination, HorizontalMotion, SelectPageSize, VerticalMotion, LineSpacing, TopMargin, TextLength, EjectPage, PerforationSkip, SelectOrientation, SelectSides, Copies, RectangleWidth, RectangleHeight, Fill, MoveX, MoveY}
 
 -- the row beside a byte; a command without a row has no effect
 abbrev pub row_at : ℕ → List (ℕ × Operation) → Operation
 row_at byte [] = Nothing
 row_at byte (row ∷ rows) = if byte == row.0 then row.1 else row_at byte rows
 
--- the rows beside a byte
-abbrev pub rows_at : ℕ → List (ℕ × List (ℕ × Operation)) → List (ℕ × Operation)
-rows_at byte [] = []
-rows_at byte (rows ∷ others) = if byte == rows.0 then rows.1 else rows_at byte others
+-- control codes
+abbrev pub control_rows : List (ℕ × Operation)
+control_rows =
+    (code "\n", LineFeed)
+    ∷ (code "\u{c}", FormFeed)
+    ∷ (code "\r", CarriageReturn)
+    ∷ []
 
 -- two-character escape sequences: ESC and one byte
 abbrev pub escape_rows : List (ℕ × Operation)
 escape_rows =
-    (code "E", Reset)
+    (code "=", HalfLineFeed)
+    ∷ (code "9", ClearMargins)
+    ∷ (code "E", Reset)
     ∷ []
 
--- control codes
-abbrev pub control_rows : List (ℕ × Operation)
-control_rows =
-    (code "\u{c}", FormFeed)
+-- ESC%#, by the termination character
+abbrev pub percent_rows : List (ℕ × Operation)
+percent_rows =
+    (code "A", LeaveHpGl)
+    ∷ (code "B", EnterHpGl)
     ∷ []
 
--- ESC*p#, by the termination character
-abbrev pub star_p_rows : List (ℕ × Operation)
-star_p_rows =
-    (code "X", MoveX)
-    ∷ (code "Y", MoveY)
+-- ESC&a#
+abbrev pub and_a_rows : List (ℕ × Operation)
+and_a_rows =
+    (code "C", MoveColumns)
+    ∷ (code "G", SelectSide)
+    ∷ (code "H", MoveHorizontally)
+    ∷ (code "L", LeftMargin)
+    ∷ (code "M", RightMargin)
+    ∷ (code "R", MoveRows)
+    ∷ (code "V", MoveVertically)
+    ∷ []
+
+-- ESC&f#
+abbrev pub and_f_rows : List (ℕ × Operation)
+and_f_rows =
+    (code "S", PushOrPop)
+    ∷ []
+
+-- ESC&k#
+abbrev pub and_k_rows : List (ℕ × Operation)
+and_k_rows =
+    (code "G", LineTermination)
+    ∷ (code "H", HorizontalMotion)
+    ∷ []
+
+-- ESC&l#
+abbrev pub and_l_rows : List (ℕ × Operation)
+and_l_rows =
+    (code "A", SelectPageSize)
+    ∷ (code "C", VerticalMotion)
+    ∷ (code "D", LineSpacing)
+    ∷ (code "E", TopMargin)
+    ∷ (code "F", TextLength)
+    ∷ (code "H", EjectPage)
+    ∷ (code "L", PerforationSkip)
+    ∷ (code "O", SelectOrientation)
+    ∷ (code "S", SelectSides)
+    ∷ (code "X", Copies)
+    ∷ []
+
+-- ESC&u#
+abbrev pub and_u_rows : List (ℕ × Operation)
+and_u_rows =
+    (code "D", UnitOfMeasure)
     ∷ []
 
 -- ESC*c#
@@ -44,20 +89,37 @@ star_c_rows =
     ∷ (code "P", Fill)
     ∷ []
 
--- ESC*, by the group character
-abbrev pub star_rows : List (ℕ × List (ℕ × Operation))
-star_rows =
-    (code "p", star_p_rows)
-    ∷ (code "c", star_c_rows)
+-- ESC*p#
+abbrev pub star_p_rows : List (ℕ × Operation)
+star_p_rows =
+    (code "X", MoveX)
+    ∷ (code "Y", MoveY)
     ∷ []
+
+-- the rows beside a parameterized character and a group character
+abbrev pub group_rows : List ((ℕ × ℕ) × List (ℕ × Operation))
+group_rows =
+    ((code "&", code "a"), and_a_rows)
+    ∷ ((code "&", code "f"), and_f_rows)
+    ∷ ((code "&", code "k"), and_k_rows)
+    ∷ ((code "&", code "l"), and_l_rows)
+    ∷ ((code "&", code "u"), and_u_rows)
+    ∷ ((code "*", code "c"), star_c_rows)
+    ∷ ((code "*", code "p"), star_p_rows)
+    ∷ []
+
+abbrev pub rows_of : (character group : ℕ) → List ((ℕ × ℕ) × List (ℕ × Operation)) → List (ℕ × Operation)
+rows_of character group [] = []
+rows_of character group (rows ∷ others) =
+    if character == rows.0.0 && group == rows.0.1 then rows.1 else rows_of character group others
 
 -- the sequences of a parameterized character, a group character and a termination character
 abbrev pub grouped_operation : (character group end : ℕ) → Operation
-grouped_operation character group end =
-    if character == code "*" then row_at end (rows_at group star_rows) else Nothing
+grouped_operation character group end = row_at end (rows_of character group group_rows)
 
-abbrev pub parameter_operation : ℕ → Option ℕ → ℕ → Operation
-parameter_operation character None end = Nothing
+-- those of a parameterized character and a termination character
+abbrev pub parameter_operation : (character : ℕ) → (group : Option ℕ) → (end : ℕ) → Operation
+parameter_operation character None end = if character == code "%" then row_at end percent_rows else Nothing
 parameter_operation character (Some group) end = grouped_operation character group end
 
 -- The row of a kind.

@@ -1,44 +1,46 @@
--- Places of the page: Letter in portrait, the one page of this table so far (PCL 5 Printer Language Technical Reference
--- Manual, the logical page; sizes and offsets are this profile's).
-use Rattle.std.specs.Prelude.{ℕ, ℤ, pos, negsuc, ◌+ℤ◌, ◌+◌, ◌*◌, ◌/◌, ◌-◌}
-use Rattle.press_units.specs.Position.{positions_per_dot}
+-- Where marks lie on the physical page (PCL 5 Printer Language Technical Reference Manual, the PCL coordinate system; sizes
+-- and offsets of the logical page are this profile's).
+use Rattle.std.specs.Prelude.{◌≡◌, ℕ, ◌<◌, true}
+use Rattle.press_units.specs.declared.position.Resolution.{Resolution}
 use Rattle.press_units.specs.declared.position.Resolution.TheVariants.{Dpi300}
-use Rattle.press_engine.specs.CursorPosition.{CursorPosition}
-use Rattle.press_engine.specs.declared.cursor.LogicalPage.{LogicalPage}
-use Rattle.press_engine.specs.declared.environment.Margins.{Margins}
+use Rattle.press_bits.specs.Page.{Page, blank}
+use Rattle.press_bits.specs.DotRule.{both_transparent}
+use Rattle.press_bits.specs.Mark.{Mark, box_source}
+use Rattle.press_page.specs.Paper.{physical_page}
+use Rattle.press_page.specs.Place.{frame_dot}
+use Rattle.press_page.specs.declared.paper.Orientation.{Orientation}
+use Rattle.press_page.specs.declared.paper.Paper.{Paper}
+use Rattle.press_page.specs.declared.place.Dot.{Dot}
+use Rattle.press_page.specs.declared.place.Extent.{Extent}
+use Rattle.press_engine.specs.declared.area.Area.{Area}
 
--- positions of a dot: the engine has 300 dots per inch
-abbrev pub dot_positions : ℕ
-dot_positions = positions_per_dot Dpi300
+-- the engine's resolution
+abbrev pub resolution : Resolution
+resolution = Dpi300
 
--- Letter: 8 1/2 by 11 inch at 300 dots per inch
-abbrev pub page_width : ℕ
-page_width = 2550
+-- the blank physical page of a paper
+abbrev pub blank_page : Paper → Page
+blank_page paper = let page = physical_page paper resolution in blank page.width page.height
 
-abbrev pub page_height : ℕ
-page_height = 3300
+-- how many dots a page is wide and high
+abbrev pub extent_of : Page → Extent
+extent_of page = record { width = page.width; height = page.height }
 
--- the logical page begins so many dots right of the physical page's left edge, and ends as many left of its right edge
-abbrev pub page_offset : ℕ
-page_offset = 75
+-- the dot of the frame that lies at a column and a line of the physical page
+abbrev pub placed_dot : Orientation → Extent → ℕ → ℕ → ℕ × ℕ
+placed_dot orientation page x y = let dot = frame_dot orientation page (record { x = x; y = y }) in (dot.x, dot.y)
 
--- the logical page, in positions, with the top margin
-abbrev pub logical_page : Margins → LogicalPage
-logical_page margins = record {
-  width = dot_positions * (page_width - 2 * page_offset);
-  length = dot_positions * page_height;
-  top_margin = margins.top;
+-- The mark of a rectangle in solid black, of so many columns and lines from a dot of the frame on.
+abbrev pub placed_box : Orientation → Extent → (corner : Dot) → (columns lines : ℕ) → Mark
+placed_box orientation page corner columns lines = record {
+  source = box_source corner.x corner.y columns lines;
+  pattern = λ _ _. true;
+  mode = both_transparent;
+  frame_dot = placed_dot orientation page;
 }
 
--- how far the cursor lies below the upper edge of the logical page
-abbrev pub below_edge : ℤ → ℕ
-below_edge (pos n) = n
-below_edge (negsuc n) = 0
-
--- The cursor's frame dot: the column and the line on the physical page of the dot on which the cursor lies. In portrait
--- the frame is the physical page.
-abbrev pub frame_column : CursorPosition → ℕ
-frame_column cursor = page_offset + cursor.x / dot_positions
-
-abbrev pub frame_line : CursorPosition → Margins → ℕ
-frame_line cursor margins = below_edge (cursor.y +ℤ pos margins.top) / dot_positions
+-- An area of the physical page is where a rectangle of the frame lies: it has the dots whose frame dots the rectangle has.
+pub record LiesAt (orientation : Orientation) (page : Extent) (corner : Dot) (columns lines : ℕ) (area : Area) : Type 0 where
+  pub dots : (x y : ℕ) → x < page.width → y < page.height →
+      box_source area.across.start area.down.start area.across.length area.down.length x y
+      ≡ box_source corner.x corner.y columns lines (placed_dot orientation page x y).0 (placed_dot orientation page x y).1

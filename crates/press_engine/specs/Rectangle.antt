@@ -1,8 +1,13 @@
--- Sizes of a rectangle (PCL 5 Printer Language Technical Reference Manual, rectangular area fills).
+-- Sizes of a rectangle (PCL 5 Printer Language Technical Reference Manual, Rectangular Area Fill Graphics).
 use Rattle.std.specs.Prelude.{ℕ, ℤ, pos, negsuc, Option, Some, None, unsigned_abs}
 use Rattle.std.specs.Int.{div_ceil}
-use Rattle.press_units.specs.Position.{position_of}
-use Rattle.press_engine.specs.Place.{dot_positions}
+use Rattle.press_units.specs.Position.{position_of, positions_per_dot}
+use Rattle.press_engine.specs.Place.{resolution}
+use Rattle.press_engine.specs.declared.rectangle.Rectangle.{Rectangle}
+
+-- no rectangle
+abbrev pub no_rectangle : Rectangle
+no_rectangle = record { width = 0; height = 0 }
 
 -- the size that a value of so many units stands for; a negative value stands for none
 abbrev pub size_of : ℤ → ℕ → Option ℕ
@@ -11,4 +16,4 @@ size_of (negsuc n) unit = None
 
 -- how many dots a size takes, a begun one as a whole one
 abbrev pub dots_up : ℕ → ℕ
-dots_up size = div_ceil size dot_positions
+dots_up size = div_ceil size (positions_per_dot resolution)

@@ -1,10 +1,15 @@
+use crate::area::physical_area;
 use crate::fill::fill_box;
-use crate::place::{PAGE_HEIGHT, PAGE_WIDTH};
 use press_bits::{Bitmap, BlankError};
+use press_page::{Dot, Extent, Orientation, Paper};
+use press_units::Resolution;
 use std::alloc::{AllocError, Global};
 use std::marker::Model;
 
-/// The page that is being printed. Contracts see its dots alone.
+/// The engine's resolution.
+pub const RESOLUTION: Resolution = Resolution::Dpi300;
+
+/// A page that is being printed, or waits for its back. Contracts see its dots alone.
 #[derive(Drop)]
 pub struct Canvas {
     pub bitmap: Bitmap,
@@ -22,25 +27,54 @@ impl Model for Canvas {
 
 impl Canvas {
     ghost use Rattle.std.specs.Prelude.{◌≡◌, IfOk};
-    ghost use Rattle.press_bits.specs.Page.{blank};
-    ghost use Rattle.press_bits.specs.Mark.{painted, box_mark};
-    ghost use Rattle.press_engine.specs.Place.{page_width, page_height};
+    ghost use Rattle.press_bits.specs.Mark.{painted};
+    ghost use Rattle.press_engine.specs.Place.{blank_page, extent_of, placed_box};
 
-    /// A blank page of the physical page's size.
-    pub fn blank(alloc: Global) -> Result<Self, AllocError>
-        ensures { IfOk result (λ page. page ≡ blank page_width page_height) }
+    /// The blank physical page of a paper.
+    #[tactic(auto, using(crate::proofs::PlaceLemmas::paper_fits))]
+    pub fn blank(alloc: Global, paper: Paper) -> Result<Self, AllocError>
+        ensures { IfOk result (λ page. page ≡ blank_page paper) }
     {
-        match Bitmap::blank(alloc, PAGE_WIDTH, PAGE_HEIGHT) {
+        let page = paper.physical_page(RESOLUTION);
+        match Bitmap::blank(alloc, page.width, page.height) {
             Ok(bitmap) => Ok(Canvas { bitmap }),
             Err(BlankError::NoMemory) => Err(AllocError),
             Err(BlankError::BadSize) => unreachable!(),
         }
     }
 
-    /// Paints a box of black dots: so many columns from x on, in so many lines from y on. Dots outside the page are dropped.
-    pub fn fill_box(&mut self, x: u32, y: u32, width: u32, height: u32)
-        ensures { self.new ≡ painted self.old (box_mark x y width height) }
+    /// An equal page, in memory of its own.
+    pub fn copy(&self) -> Result<Self, AllocError>
+        ensures { IfOk result (λ page. page ≡ self.now) }
     {
-        fill_box(&mut self.bitmap, x, y, width, height);
+        Ok(Canvas {
+            bitmap: self.bitmap.copy()?,
+        })
+    }
+
+    /// How many dots the page is wide and high.
+    fn extent(&self) -> Extent
+        ensures { result ≡ extent_of self.now }
+    {
+        Extent {
+            width: self.bitmap.width(),
+            height: self.bitmap.height(),
+        }
+    }
+
+    /// Paints a rectangle black: so many columns and lines from a dot of the frame on. Dots outside the page are dropped.
+    pub fn fill_box(&mut self, orientation: Orientation, corner: Dot, columns: u32, lines: u32)
+        ensures { self.new
+            ≡ painted self.old (placed_box orientation (extent_of self.old) corner columns lines) }
+    {
+        let area = physical_area(orientation, self.extent(), corner, columns, lines);
+        let (across, down) = (area.across, area.down);
+        fill_box(
+            &mut self.bitmap,
+            across.start,
+            down.start,
+            across.length,
+            down.length,
+        );
     }
 }

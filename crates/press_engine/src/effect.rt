@@ -1,3 +1,7 @@
+ghost use Rattle.std.specs.Prelude.{◌≡◌};
+ghost use Rattle.press_engine.specs.Closing.{selection_of};
+
+use press_page::{Orientation, PageSize, Sides};
 use press_sink::Sheet;
 
 /// A finished sheet, and how many times it goes out.
@@ -19,11 +23,31 @@ pub enum Sent {
     Reply(Vec<u8>),
 }
 
-/// Which command closes the page, and so what it does after the close.
-#[derive(Clone, Copy, Debug)]
-pub enum Closer {
-    FormFeed,
+/// Which side of a sheet the next page is to be on.
+#[derive(Clone, Copy, Debug, PartialEq, Eq)]
+pub enum Selection {
+    NextSide,
+    Front,
+    Back,
+}
+
+/// A change of the page, which meets no page with a mark.
+#[derive(Clone, Copy, Debug, PartialEq, Eq)]
+pub enum PageChange {
     Reset,
+    Size(PageSize),
+    Orientation(Orientation),
+    Sides(Sides),
+}
+
+/// Which command closes the page, and so what it does after the close.
+#[derive(Clone, Copy, Debug, PartialEq, Eq)]
+pub enum Closer {
+    /// A form feed, a line feed past the end of the text, an ejected page.
+    Feed,
+    /// The selection of a side.
+    Side(Selection),
+    Change(PageChange),
 }
 
 /// What a row of the command table gives.
@@ -33,4 +57,33 @@ pub enum Effect {
     Done(Sent),
     /// The page closes.
     Closes(Closer),
+}
+
+impl Sent {
+    ghost use Rattle.std.specs.Prelude.{◌≡◌, []};
+    ghost use Rattle.press_engine.specs.Outputs.{outputs_of};
+
+    /// Nothing goes out.
+    pub fn nothing() -> Self
+        ensures { outputs_of result ≡ [] }
+    {
+        Sent::Sheets {
+            closed: None,
+            alone: None,
+        }
+    }
+}
+
+impl Selection {
+    /// The side that `ESC & a # G` selects by a number.
+    pub fn of_number(number: i64) -> Option<Self>
+        ensures { result ≡ selection_of number }
+    {
+        match number {
+            0 => Some(Selection::NextSide),
+            1 => Some(Selection::Front),
+            2 => Some(Selection::Back),
+            _ => None,
+        }
+    }
 }

@@ -32,7 +32,7 @@ impl Engine {
     {
         Ok(Engine {
             alloc,
-            machine: Machine::power_on(alloc)?,
+            machine: Machine::power_on(),
             failed: false,
         })
     }
@@ -66,9 +66,33 @@ impl Engine {
         outcome
     }
 
+    /// An equal engine, in memory of its own.
+    ///
+    /// # Errors
+    ///
+    /// `Failed` (303) where this engine has failed, and else `NoMemory` where memory ran out.
+    pub fn copy(&self) -> Result<Self, EngineError>
+        ensures copy { IfOk result (λ engine. live engine ≡ live self.now) }
+        ensures failed { IsErrOf result EngineError.Failed ↔ (live self.now ≡ None) }
+    {
+        if self.failed {
+            return Err(EngineError::Failed);
+        }
+        let Ok(machine) = self.machine.copy() else {
+            return Err(EngineError::NoMemory);
+        };
+        Ok(Engine {
+            alloc: self.alloc,
+            machine,
+            failed: false,
+        })
+    }
+
     /// What can be seen of the engine. After a fault nothing is said of it.
-    pub fn view(&self) -> View
-        ensures { IfSome (live self.now) (λ machine. result ≡ view_of machine) }
+    pub fn view(&self) -> View<'_>
+        ensures view { IfSome (live self.now) (λ machine. result ≡ view_of result.stack machine) }
+        ensures stack { IfSome (live self.now)
+            (λ machine. result.stack.now ≡ machine.state.cursor.stack) }
     {
         let machine = &self.machine;
         let state = &machine.state;
@@ -78,10 +102,12 @@ impl Engine {
             last: machine.last,
             x: Pos(i64::from(state.cursor.x())),
             y: Pos(state.cursor.y()),
+            stack: state.cursor.stack(),
             sheets: state.sheets,
             environment: state.environment,
-            margins: state.margins,
-            marked: state.marked,
+            rectangle: state.rectangle,
+            hp_gl: state.hp_gl,
+            marked: state.is_marked(),
         }
     }
 }

@@ -1,23 +1,25 @@
-//! The engine: the command table of PCL 5 at work, on Letter in portrait.
+//! The engine: the command table of PCL 5 at work, on every page size and orientation.
 #![tactic(auto)]
 
+mod area;
 mod canvas;
-mod cursor;
+mod closing;
 mod effect;
 mod engine;
-mod environment;
 mod fault;
 mod fill;
+mod filling;
 mod machine;
+mod motion;
 mod operation;
-mod place;
 mod rectangle;
+mod row;
 mod sender;
+mod span;
 mod state;
 mod view;
 
 pub use engine::Engine;
-pub use environment::{Environment, Margins};
 pub use fault::EngineError;
 pub use machine::Last;
 pub use rectangle::Rectangle;

@@ -34,14 +34,26 @@ impl Machine {
     ghost use Rattle.press_engine.specs.Table.{effect_on};
 
     /// The machine after power on.
-    pub fn power_on(alloc: Global) -> Result<Self, AllocError>
-        ensures { IfOk result (λ machine. machine ≡ power_on) }
+    pub fn power_on() -> Self
+        ensures { result ≡ power_on }
     {
-        Ok(Machine {
-            state: State::power_on(alloc)?,
+        Machine {
+            state: State::power_on(),
             step: 0,
             depth: 0,
             last: Last::Nothing,
+        }
+    }
+
+    /// An equal machine, in memory of its own.
+    pub fn copy(&self) -> Result<Self, AllocError>
+        ensures { IfOk result (λ machine. machine ≡ self.now) }
+    {
+        Ok(Machine {
+            state: self.state.copy()?,
+            step: self.step,
+            depth: self.depth,
+            last: self.last,
         })
     }
 
@@ -58,13 +70,11 @@ impl Machine {
         ensures performs { Performs self.old (token command.entry) tag result self.new
             (both (S.told sheets.old) (R.told replies.old)) (both (S.told sheets.new) (R.told replies.new)) }
         ensures memory { IsErrOf result EngineError.NoMemory
-            → TakesMemory (effect_on (token command.entry) self.old.state) }
+            → TakesMemory self.old.state (effect_on (token command.entry) self.old.state) }
     {
         let kind = kind(&command);
-        let effect = self.state.row(command);
-        let sent = match self.state.settle(alloc, effect) {
-            Ok(sent) => sent,
-            Err(AllocError) => return Err(EngineError::NoMemory),
+        let Ok(sent) = self.state.whole_row(alloc, command) else {
+            return Err(EngineError::NoMemory);
         };
         self.step = self.step.saturating_add(1);
         self.last = Last::Ran(kind);

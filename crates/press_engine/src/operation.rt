@@ -1,5 +1,5 @@
 ghost use Rattle.std.specs.Prelude.{◌≡◌};
-ghost use Rattle.press_engine.specs.Operation.{operation_of, grouped_operation, row_at, star_p_rows, star_c_rows};
+ghost use Rattle.press_engine.specs.Operation.{operation_of, row_at, escape_rows, control_rows, percent_rows, and_a_rows, and_f_rows, and_k_rows, and_l_rows, and_u_rows, star_c_rows, star_p_rows, grouped_operation, parameter_operation};
 
 use press_cmd::Kind;
 
@@ -8,20 +8,74 @@ use press_cmd::Kind;
 pub enum Operation {
     /// The command has no row, and no effect.
     Nothing,
-    /// `ESC E` and the universal exit.
-    Reset,
+    /// CR.
+    CarriageReturn,
+    /// LF.
+    LineFeed,
     /// FF.
     FormFeed,
-    /// `*p#X`.
-    MoveX,
-    /// `*p#Y`.
-    MoveY,
-    /// `*c#A`.
+    /// `ESC =`.
+    HalfLineFeed,
+    /// `ESC 9`.
+    ClearMargins,
+    /// `ESC E` and the universal exit.
+    Reset,
+    /// `ESC % # B`: HP-GL/2 on.
+    EnterHpGl,
+    /// `ESC % # A`: HP-GL/2 off.
+    LeaveHpGl,
+    /// `ESC & u # D`.
+    UnitOfMeasure,
+    /// `ESC & a # C`.
+    MoveColumns,
+    /// `ESC & a # R`.
+    MoveRows,
+    /// `ESC & a # H`, in decipoints.
+    MoveHorizontally,
+    /// `ESC & a # V`, in decipoints.
+    MoveVertically,
+    /// `ESC & a # G`.
+    SelectSide,
+    /// `ESC & a # L`.
+    LeftMargin,
+    /// `ESC & a # M`.
+    RightMargin,
+    /// `ESC & f # S`.
+    PushOrPop,
+    /// `ESC & k # G`.
+    LineTermination,
+    /// `ESC & k # H`.
+    HorizontalMotion,
+    /// `ESC & l # A`.
+    SelectPageSize,
+    /// `ESC & l # C`.
+    VerticalMotion,
+    /// `ESC & l # D`.
+    LineSpacing,
+    /// `ESC & l # E`.
+    TopMargin,
+    /// `ESC & l # F`.
+    TextLength,
+    /// `ESC & l # H`.
+    EjectPage,
+    /// `ESC & l # L`.
+    PerforationSkip,
+    /// `ESC & l # O`.
+    SelectOrientation,
+    /// `ESC & l # S`.
+    SelectSides,
+    /// `ESC & l # X`.
+    Copies,
+    /// `ESC * c # A`.
     RectangleWidth,
-    /// `*c#B`.
+    /// `ESC * c # B`.
     RectangleHeight,
-    /// `*c#P`.
+    /// `ESC * c # P`.
     Fill,
+    /// `ESC * p # X`, in PCL units.
+    MoveX,
+    /// `ESC * p # Y`, in PCL units.
+    MoveY,
 }
 
 /// The row of a command's kind in the command table.
@@ -29,40 +83,147 @@ pub fn operation_of(kind: Kind) -> Operation
     ensures { result ≡ operation_of kind }
 {
     match kind {
-        Kind::Escape(b'E') | Kind::Uel => Operation::Reset,
-        Kind::Control(0x0C) => Operation::FormFeed,
+        Kind::Escape(byte) => escape_operation(byte),
+        Kind::Uel => Operation::Reset,
+        Kind::Control(byte) => control_operation(byte),
         Kind::Param {
             character,
-            group: Some(group),
+            group,
             end,
-        } => grouped_operation(character, group, end),
+        } => parameter_operation(character, group, end),
         _ => Operation::Nothing,
     }
 }
 
-/// The rows of the sequences of a parameterized character, a group character and a termination character.
+/// Two-character escape sequences.
+fn escape_operation(byte: u8) -> Operation
+    ensures { result ≡ row_at byte escape_rows }
+{
+    match byte {
+        b'=' => Operation::HalfLineFeed,
+        b'9' => Operation::ClearMargins,
+        b'E' => Operation::Reset,
+        _ => Operation::Nothing,
+    }
+}
+
+/// Control codes.
+fn control_operation(byte: u8) -> Operation
+    ensures { result ≡ row_at byte control_rows }
+{
+    match byte {
+        b'\n' => Operation::LineFeed,
+        0x0C => Operation::FormFeed,
+        b'\r' => Operation::CarriageReturn,
+        _ => Operation::Nothing,
+    }
+}
+
+/// Parameterized sequences, with or without a group character.
+fn parameter_operation(character: u8, group: Option<u8>, end: u8) -> Operation
+    ensures { result ≡ parameter_operation character group end }
+{
+    match group {
+        Some(group) => grouped_operation(character, group, end),
+        None if character == b'%' => percent_operation(end),
+        None => Operation::Nothing,
+    }
+}
+
+/// `ESC %`.
+fn percent_operation(end: u8) -> Operation
+    ensures { result ≡ row_at end percent_rows }
+{
+    match end {
+        b'A' => Operation::LeaveHpGl,
+        b'B' => Operation::EnterHpGl,
+        _ => Operation::Nothing,
+    }
+}
+
+/// The sequences of a parameterized character, a group character and a termination character.
 fn grouped_operation(character: u8, group: u8, end: u8) -> Operation
     ensures { result ≡ grouped_operation character group end }
 {
     match (character, group) {
-        (b'*', b'p') => star_p_operation(end),
+        (b'&', b'a') => and_a_operation(end),
+        (b'&', b'f') => and_f_operation(end),
+        (b'&', b'k') => and_k_operation(end),
+        (b'&', b'l') => and_l_operation(end),
+        (b'&', b'u') => and_u_operation(end),
         (b'*', b'c') => star_c_operation(end),
+        (b'*', b'p') => star_p_operation(end),
         _ => Operation::Nothing,
     }
 }
 
-/// `ESC*p#`.
-fn star_p_operation(end: u8) -> Operation
-    ensures { result ≡ row_at end star_p_rows }
+/// `ESC & a`: cursor and margins.
+fn and_a_operation(end: u8) -> Operation
+    ensures { result ≡ row_at end and_a_rows }
 {
     match end {
-        b'X' => Operation::MoveX,
-        b'Y' => Operation::MoveY,
+        b'C' => Operation::MoveColumns,
+        b'G' => Operation::SelectSide,
+        b'H' => Operation::MoveHorizontally,
+        b'L' => Operation::LeftMargin,
+        b'M' => Operation::RightMargin,
+        b'R' => Operation::MoveRows,
+        b'V' => Operation::MoveVertically,
         _ => Operation::Nothing,
     }
 }
 
-/// `ESC*c#`.
+/// `ESC & f`: the cursor's stack.
+fn and_f_operation(end: u8) -> Operation
+    ensures { result ≡ row_at end and_f_rows }
+{
+    match end {
+        b'S' => Operation::PushOrPop,
+        _ => Operation::Nothing,
+    }
+}
+
+/// `ESC & k`: line termination and columns.
+fn and_k_operation(end: u8) -> Operation
+    ensures { result ≡ row_at end and_k_rows }
+{
+    match end {
+        b'G' => Operation::LineTermination,
+        b'H' => Operation::HorizontalMotion,
+        _ => Operation::Nothing,
+    }
+}
+
+/// `ESC & l`: page control.
+fn and_l_operation(end: u8) -> Operation
+    ensures { result ≡ row_at end and_l_rows }
+{
+    match end {
+        b'A' => Operation::SelectPageSize,
+        b'C' => Operation::VerticalMotion,
+        b'D' => Operation::LineSpacing,
+        b'E' => Operation::TopMargin,
+        b'F' => Operation::TextLength,
+        b'H' => Operation::EjectPage,
+        b'L' => Operation::PerforationSkip,
+        b'O' => Operation::SelectOrientation,
+        b'S' => Operation::SelectSides,
+        b'X' => Operation::Copies,
+        _ => Operation::Nothing,
+    }
+}
+
+/// `ESC & u`: units.
+fn and_u_operation(end: u8) -> Operation
+    ensures { result ≡ row_at end and_u_rows }
+{
+    match end {
+        b'D' => Operation::UnitOfMeasure,
+        _ => Operation::Nothing,
+    }
+}
+
+/// `ESC * c`: rectangles.
 fn star_c_operation(end: u8) -> Operation
     ensures { result ≡ row_at end star_c_rows }
 {
@@ -70,6 +231,17 @@ fn star_c_operation(end: u8) -> Operation
         b'A' => Operation::RectangleWidth,
         b'B' => Operation::RectangleHeight,
         b'P' => Operation::Fill,
+        _ => Operation::Nothing,
+    }
+}
+
+/// `ESC * p`: the cursor in PCL units.
+fn star_p_operation(end: u8) -> Operation
+    ensures { result ≡ row_at end star_p_rows }
+{
+    match end {
+        b'X' => Operation::MoveX,
+        b'Y' => Operation::MoveY,
         _ => Operation::Nothing,
     }
 }

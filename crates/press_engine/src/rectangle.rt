@@ -1,18 +1,29 @@
 ghost use Rattle.std.specs.Prelude.{◌≡◌};
-ghost use Rattle.press_engine.specs.Rectangle.{size_of, dots_up};
+ghost use Rattle.press_engine.specs.Rectangle.{no_rectangle, size_of, dots_up};
 
-use crate::place::DOT;
-use press_units::{Unit, Value, to_pos};
+use press_units::{POSITIONS_PER_DOT, Unit, Value, to_pos};
 
 /// The size of the rectangle that a fill paints, in positions (1/7200 inch).
-#[derive(Clone, Copy, Debug)]
+#[derive(Clone, Copy, Debug, PartialEq, Eq)]
 pub struct Rectangle {
     pub width: u32,
     pub height: u32,
 }
 
+impl Rectangle {
+    /// No rectangle: both sizes are 0.
+    pub(crate) fn none() -> Self
+        ensures { result ≡ no_rectangle }
+    {
+        Rectangle {
+            width: 0,
+            height: 0,
+        }
+    }
+}
+
 /// The size that a value of so many units stands for, unless the value is negative.
-pub fn size_of(value: Value, unit: Unit) -> Option<u32>
+pub(crate) fn size_of(value: Value, unit: Unit) -> Option<u32>
     ensures { result ≡ size_of value.tenthousandths unit.positions }
 {
     if value.tenthousandths < 0 {
@@ -23,8 +34,8 @@ pub fn size_of(value: Value, unit: Unit) -> Option<u32>
 }
 
 /// How many dots a size takes, a begun one as a whole one.
-pub fn dots_up(size: u32) -> u32
+pub(crate) fn dots_up(size: u32) -> u32
     ensures { result ≡ dots_up size }
 {
-    size.div_ceil(DOT)
+    size.div_ceil(u32::from(POSITIONS_PER_DOT))
 }

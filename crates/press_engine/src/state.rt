@@ -1,225 +1,119 @@
+ghost use Rattle.std.specs.Prelude.{◌≡◌, IfOk};
+
 use crate::canvas::Canvas;
-use crate::cursor::{Cursor, LogicalPage};
-use crate::effect::{Closer, Effect, Finished, Sent};
-use crate::environment::{Environment, Margins};
-use crate::fill::fill_box;
-use crate::operation::{Operation, operation_of};
-use crate::place::{frame_column, frame_line, logical_page};
-use crate::rectangle::{dots_up, size_of};
-use press_cmd::{Command, kind};
-use press_sink::Sheet;
-use press_units::{Value, to_pos};
-use std::alloc::{AllocError, Global};
-use std::mem;
+use crate::rectangle::Rectangle;
+use press_cursor::{Cursor, LogicalPage};
+use press_page::{Defaults, PageEnv};
+use press_units::Unit;
+use std::alloc::AllocError;
 
 /// All that the command table reads and changes.
 #[derive(Drop)]
 pub struct State {
-    pub environment: Environment,
-    pub margins: Margins,
+    /// Settings, margins and paper.
+    pub environment: PageEnv,
+    /// The rectangle that a fill paints.
+    pub rectangle: Rectangle,
     pub cursor: Cursor,
-    /// Whether a mark was made on the page.
-    pub marked: bool,
+    /// Whether HP-GL/2 is on, which this press skips.
+    pub hp_gl: bool,
     /// How many sheets went out, each copy counted; the greatest number stays.
     pub sheets: u64,
-    /// The page that is being printed.
-    pub page: Canvas,
+    /// The page that is being printed, from its first mark on; none is a blank page without a mark.
+    pub page: Option<Canvas>,
+    /// The front that waits for its back.
+    pub pending: Option<Canvas>,
+}
+
+/// An equal page, where there is one, in memory of its own.
+fn copy_page(page: &Option<Canvas>) -> Result<Option<Canvas>, AllocError>
+    ensures { IfOk result (λ copy. copy ≡ page.now) }
+{
+    match page {
+        Some(page) => Ok(Some(page.copy()?)),
+        None => Ok(None),
+    }
 }
 
 impl State {
-    ghost use Rattle.std.specs.Prelude.{◌≡◌, IfOk, IsErr};
-    ghost use Rattle.press_cmd.specs.View.{token};
-    ghost use Rattle.press_engine.specs.Effects.{effect_of};
-    ghost use Rattle.press_engine.specs.Outputs.{outputs_of, finished_of};
-    ghost use Rattle.press_engine.specs.Place.{logical_page};
-    ghost use Rattle.press_engine.specs.Table.{power_on_state, move_x, move_y, set_rectangle_width, set_rectangle_height, fill, close, reset, reset_fields, to_first_line, ended, settle, effect_on, after_outputs, counted};
-    ghost use Rattle.press_engine.specs.Engine.{TakesMemory};
+    ghost use Rattle.std.specs.Prelude.{◌≡◌, ℕ, pos, IfOk};
+    ghost use Rattle.press_engine.specs.Motion.{column, pcl_unit_of};
+    ghost use Rattle.press_engine.specs.Outcome.{power_on_state, reset_fields, bounds};
 
     /// The state after power on.
-    pub fn power_on(alloc: Global) -> Result<Self, AllocError>
-        ensures { IfOk result (λ state. state ≡ power_on_state) }
+    pub fn power_on() -> Self
+        ensures { result ≡ power_on_state }
     {
-        let environment = Environment::defaults();
-        let margins = Margins::defaults();
-        Ok(State {
+        let environment = PageEnv::reset_from(&Defaults::factory());
+        let page = environment.logical_page();
+        let line = environment.settings.vertical_motion;
+        State {
             environment,
-            margins,
-            cursor: Cursor::at_home(
-                margins.left,
-                environment.vertical_motion,
-                logical_page(margins),
-            ),
-            marked: false,
+            rectangle: Rectangle::none(),
+            cursor: Cursor::at_home(environment.margins.left, line, page),
+            hp_gl: false,
             sheets: 0,
-            page: Canvas::blank(alloc)?,
+            page: None,
+            pending: None,
+        }
+    }
+
+    /// An equal state, in memory of its own.
+    pub fn copy(&self) -> Result<Self, AllocError>
+        ensures { IfOk result (λ state. state ≡ self.now) }
+    {
+        Ok(State {
+            environment: self.environment,
+            rectangle: self.rectangle,
+            cursor: self.cursor.clone()?,
+            hp_gl: self.hp_gl,
+            sheets: self.sheets,
+            page: copy_page(&self.page)?,
+            pending: copy_page(&self.pending)?,
         })
     }
 
-    /// The logical page, with the top margin.
-    fn logical_page(&self) -> LogicalPage
-        ensures { result ≡ logical_page self.now.margins }
-    {
-        logical_page(self.margins)
-    }
-
-    /// `*p#X`: moves the cursor along the line.
-    fn move_x(&mut self, value: Value)
-        ensures { self.new ≡ move_x value.tenthousandths value.signed self.old }
-    {
-        let distance = to_pos(value, self.environment.pcl_unit());
-        let page = self.logical_page();
-        self.cursor.move_x(distance, value.signed, page);
-    }
-
-    /// `*p#Y`: moves the cursor down or up.
-    fn move_y(&mut self, value: Value)
-        ensures { self.new ≡ move_y value.tenthousandths value.signed self.old }
-    {
-        let distance = to_pos(value, self.environment.pcl_unit());
-        let page = self.logical_page();
-        self.cursor.move_y(distance, value.signed, page);
-    }
-
-    /// `*c#A`: the width of the rectangle.
-    fn set_rectangle_width(&mut self, value: Value)
-        ensures { self.new ≡ set_rectangle_width value.tenthousandths self.old }
-    {
-        if let Some(width) = size_of(value, self.environment.pcl_unit()) {
-            self.environment.rectangle.width = width;
-        }
-    }
-
-    /// `*c#B`: the height of the rectangle.
-    fn set_rectangle_height(&mut self, value: Value)
-        ensures { self.new ≡ set_rectangle_height value.tenthousandths self.old }
-    {
-        if let Some(height) = size_of(value, self.environment.pcl_unit()) {
-            self.environment.rectangle.height = height;
-        }
-    }
-
-    /// `*c#P`: fills the rectangle at the cursor, where the value is 0.
-    fn fill(&mut self, value: Value)
-        ensures { self.new ≡ fill value.tenthousandths self.old }
-    {
-        if value.whole() != 0 {
-            return;
-        }
-        let columns = dots_up(self.environment.rectangle.width);
-        let lines = dots_up(self.environment.rectangle.height);
-        let x = frame_column(&self.cursor);
-        let y = frame_line(&self.cursor, self.margins);
-        self.page.fill_box(x, y, columns, lines);
-        self.marked = self.marked || (columns > 0 && lines > 0);
-    }
-
-    /// Finishes a sheet: it goes out in the copies of now, and is counted in each.
-    fn finish(&mut self, sheet: Sheet) -> Finished
-        ensures state { self.new
-            ≡ record self.old { sheets = counted self.old.sheets self.old.environment.copies } }
-        ensures sheet { result.sheet ≡ sheet }
-        ensures copies { result.copies ≡ self.old.environment.copies }
-    {
-        let copies = self.environment.copies;
-        self.sheets = self.sheets.saturating_add(u64::from(copies));
-        Finished { sheet, copies }
-    }
-
-    /// Closes the page: it is a sheet without back, and the next page is blank.
-    fn close(&mut self, alloc: Global) -> Result<Option<Finished>, AllocError>
-        ensures { IfOk result (λ finished.
-            record { state = self.new; outputs = finished_of finished } ≡ close self.old) }
-    {
-        let blank = Canvas::blank(alloc)?;
-        let page = mem::replace(&mut self.page, blank);
-        self.marked = false;
-        Ok(Some(self.finish(Sheet {
-            front: page.bitmap,
-            back: None,
-        })))
-    }
-
-    /// Moves the cursor to the line of home.
-    fn move_to_first_line(&mut self)
-        ensures { self.new ≡ to_first_line self.old }
-    {
-        let page = self.logical_page();
-        self.cursor
-            .move_to_first_line(self.environment.vertical_motion, page);
-    }
-
-    /// Environment, margins and cursor as after power on.
-    fn reset_fields(&mut self)
+    /// Page environment, rectangle and cursor as after power on.
+    pub fn reset_fields(&mut self)
         ensures { self.new ≡ reset_fields self.old }
     {
-        self.environment = Environment::defaults();
-        self.margins = Margins::defaults();
-        self.cursor = Cursor::at_home(
-            self.margins.left,
-            self.environment.vertical_motion,
-            self.logical_page(),
-        );
+        let environment = PageEnv::reset_from(&Defaults::factory());
+        let page = environment.logical_page();
+        let line = environment.settings.vertical_motion;
+        self.environment = environment;
+        self.rectangle = Rectangle::none();
+        self.cursor = Cursor::at_home(environment.margins.left, line, page);
     }
 
-    /// What a command that closes the page does after the close that finished a sheet.
-    fn end(&mut self, closer: Closer, closed: Option<Finished>) -> Sent
-        ensures { record { state = self.new; outputs = outputs_of result }
-            ≡ after_outputs (finished_of closed) (ended closer self.old) }
+    /// The logical page, which bounds the cursor.
+    pub fn bounds(&self) -> LogicalPage
+        ensures { result ≡ bounds self.now }
     {
-        match closer {
-            Closer::FormFeed => self.move_to_first_line(),
-            Closer::Reset => self.reset_fields(),
-        }
-        Sent::Sheets {
-            closed,
-            alone: None,
-        }
+        self.environment.logical_page()
     }
 
-    /// `ESC E` and the universal exit: a page without a mark does not close.
-    fn reset(&mut self) -> Effect
-        ensures { effect_of self.new result ≡ reset self.old }
+    /// The distance from one column to the next.
+    pub fn column(&self) -> Unit
+        ensures { result.positions ≡ column self.now }
     {
-        if self.marked {
-            Effect::Closes(Closer::Reset)
-        } else {
-            Effect::Done(self.end(Closer::Reset, None))
+        Unit {
+            positions: self.environment.settings.horizontal_motion,
         }
     }
 
-    /// The row of a command.
-    pub fn row(&mut self, command: Command<'_>) -> Effect
-        ensures { effect_of self.new result ≡ effect_on (token command.entry) self.old }
+    /// The distance from one line to the next.
+    pub fn line(&self) -> Unit
+        ensures { result.positions ≡ self.now.environment.settings.vertical_motion }
     {
-        let value = command.value();
-        match operation_of(kind(&command)) {
-            Operation::Nothing => {}
-            Operation::Reset => return self.reset(),
-            Operation::FormFeed => return Effect::Closes(Closer::FormFeed),
-            Operation::MoveX => self.move_x(value),
-            Operation::MoveY => self.move_y(value),
-            Operation::RectangleWidth => self.set_rectangle_width(value),
-            Operation::RectangleHeight => self.set_rectangle_height(value),
-            Operation::Fill => self.fill(value),
+        Unit {
+            positions: self.environment.settings.vertical_motion,
         }
-        Effect::Done(Sent::Sheets {
-            closed: None,
-            alone: None,
-        })
     }
 
-    /// What a row leaves: where it closes the page, the close and then what the closing command does after it.
-    pub fn settle(&mut self, alloc: Global, effect: Effect) -> Result<Sent, AllocError>
-        ensures settled { IfOk result (λ sent. record { state = self.new; outputs = outputs_of sent }
-            ≡ settle (effect_of self.old effect)) }
-        ensures memory { IsErr result → TakesMemory (effect_of self.old effect) }
+    /// A PCL unit.
+    pub fn pcl_unit(&self) -> Unit
+        ensures { result.positions ≡ pcl_unit_of self.now }
     {
-        match effect {
-            Effect::Done(sent) => Ok(sent),
-            Effect::Closes(closer) => {
-                let closed = self.close(alloc)?;
-                Ok(self.end(closer, closed))
-            }
-        }
+        self.environment.settings.unit_of_measure.unit()
     }
 }

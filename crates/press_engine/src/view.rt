@@ -1,10 +1,12 @@
-use crate::environment::{Environment, Margins};
 use crate::machine::Last;
+use crate::rectangle::Rectangle;
+use press_cursor::CursorPosition;
+use press_page::PageEnv;
 use press_units::Pos;
 
 /// What can be seen of an engine.
 #[derive(Clone, Copy, Debug)]
-pub struct View {
+pub struct View<'a> {
     /// How many steps it took; the greatest number stays.
     pub step: u64,
     /// How many macro bodies run.
@@ -15,10 +17,16 @@ pub struct View {
     pub x: Pos,
     /// The cursor's distance below the top margin; above it, it is negative.
     pub y: Pos,
+    /// The positions of the cursor that were pushed, the newest last.
+    pub stack: &'a [CursorPosition],
     /// How many sheets were handed out, each copy counted; the greatest number stays.
     pub sheets: u64,
-    pub environment: Environment,
-    pub margins: Margins,
+    /// Settings, margins and paper.
+    pub environment: PageEnv,
+    /// The rectangle that a fill paints.
+    pub rectangle: Rectangle,
+    /// Whether HP-GL/2 is on.
+    pub hp_gl: bool,
     /// Whether a mark was made on the page.
     pub marked: bool,
 }

@@ -1,0 +1,130 @@
+-- Rows that close the page (PCL 5 Printer Language Technical Reference Manual, Page Control Commands). A page that closes is
+-- a side of a sheet: in simplex a sheet without back; in duplex it waits for its back, or is the back of the front that
+-- waits. A finished sheet goes out in the copies of now.
+use Rattle.std.specs.Prelude.{ℤ, ◌&&◌, not, false, is_some, unwrap_or, if◌then◌else◌, [], ◌∷◌, Option, Some, None, option_map}
+use Rattle.press_bits.specs.Page.{Page}
+use Rattle.press_page.specs.Environment.{set_page_size, set_orientation, set_sides}
+use Rattle.press_page.specs.Numbers.{named}
+use Rattle.press_page.specs.Paper.{page_size_of, orientation_of, sides_of}
+use Rattle.press_sink.specs.Sides as sheets
+use Rattle.press_engine.specs.declared.effect.Closer.{Closer}
+use Rattle.press_engine.specs.declared.effect.Closer.TheVariants as closers
+use Rattle.press_engine.specs.declared.effect.PageChange.{PageChange}
+use Rattle.press_engine.specs.declared.effect.PageChange.TheVariants as page_changes
+use Rattle.press_engine.specs.declared.effect.Selection.{Selection}
+use Rattle.press_engine.specs.declared.effect.Selection.TheVariants.{NextSide, Front, Back}
+use Rattle.press_engine.specs.declared.state.State.{State}
+use Rattle.press_engine.specs.Motion.{to_first_line, to_home}
+use Rattle.press_engine.specs.Outcome.{Outcome, done, after_outputs, counted, Effect, Done, Closes, changes, reset_fields, is_marked, with_environment}
+use Rattle.press_engine.specs.Outputs.{copies_of}
+use Rattle.press_engine.specs.Place.{blank_page}
+
+-- the page as it is: blank where no mark was made
+abbrev pub page_now : State → Page
+page_now state = unwrap_or state.page (blank_page state.environment.paper)
+
+-- A finished sheet goes out in the copies of now, and is counted in each.
+abbrev pub finish : sheets.Sides → State → Outcome
+finish sheet state = record {
+  state = record state { sheets = counted state.sheets state.environment.settings.copies };
+  outputs = copies_of sheet state.environment.settings.copies;
+}
+
+-- A side of a sheet in duplex: the front of the next sheet, which waits, or the back of the front that waits.
+abbrev pub close_duplex : Option Page → Page → State → Outcome
+close_duplex None page state = done (record state { pending = Some page })
+close_duplex (Some front) page state =
+    finish (record { front = front; back = Some page }) (record state { pending = None })
+
+-- A page closes; the next one is blank and has no mark.
+abbrev pub close : State → Outcome
+close state =
+    let next = record state { page = None } in
+    if state.environment.paper.duplex then close_duplex state.pending (page_now state) next
+    else finish (record { front = page_now state; back = None }) next
+
+-- A front that waits for its back goes out alone.
+abbrev pub alone : Option Page → State → Outcome
+alone None state = done state
+alone (Some front) state = finish (record { front = front; back = None }) (record state { pending = None })
+
+abbrev pub front_alone : State → Outcome
+front_alone state = alone state.pending state
+
+-- an outcome whose state is changed then
+abbrev pub then_change : (State → State) → Outcome → Outcome
+then_change change outcome = record outcome { state = change outcome.state }
+
+-- ESC&a#G, duplex page side selection
+abbrev pub selection_of : ℤ → Option Selection
+selection_of = named ((0, NextSide) ∷ (1, Front) ∷ (2, Back) ∷ [])
+
+-- the front of the next sheet is blank, where one can wait and none does
+abbrev pub blank_front : State → State
+blank_front state =
+    if state.environment.paper.duplex && not (is_some state.pending)
+    then record state { pending = Some (blank_page state.environment.paper) } else state
+
+-- The side that is selected comes next: a front that waits goes out alone, or a blank front waits for the back.
+abbrev pub turn_to : Selection → State → Outcome
+turn_to NextSide state = done state
+turn_to Front state = front_alone state
+turn_to Back state = done (blank_front state)
+
+-- A change of the page: where another size or other sides come, and at a reset, a front that waits goes out alone before.
+abbrev pub change_page : PageChange → State → Outcome
+change_page page_changes.Reset state = then_change reset_fields (front_alone state)
+change_page (page_changes.Size size) state =
+    then_change (λ after. to_home (with_environment (set_page_size size) after)) (front_alone state)
+change_page (page_changes.Orientation orientation) state =
+    done (to_home (with_environment (set_orientation orientation) state))
+change_page (page_changes.Sides sides) state =
+    then_change (λ after. to_home (with_environment (set_sides sides) after)) (front_alone state)
+
+-- What a command that closes the page does after the close.
+abbrev pub ended : Closer → State → Outcome
+ended closers.Feed state = done (to_first_line state)
+ended (closers.Side selection) state = turn_to selection (to_first_line state)
+ended (closers.Change change) state = change_page change state
+
+-- What a row leaves: where it closes the page, the close and then what the closing command does after it.
+abbrev pub settle : Effect → Outcome
+settle (Done outcome) = outcome
+settle (Closes closer state) = after_outputs (close state).outputs (ended closer (close state).state)
+
+-- A page with a mark closes before the page changes.
+abbrev pub close_and_change : PageChange → State → Effect
+close_and_change change state =
+    if is_marked state then Closes (closers.Change change) state else Done (change_page change state)
+
+-- ESC E, printer reset, and the universal exit: HP-GL/2 is off first
+abbrev pub reset : State → Effect
+reset state = close_and_change page_changes.Reset (record state { hp_gl = false })
+
+-- ESC&l#A, page size; ESC&l#O, logical page orientation; ESC&l#S, simplex/duplex print: a number that is none of theirs has
+-- no effect
+abbrev pub page_change_or_none : Option PageChange → State → Effect
+page_change_or_none None state = changes state
+page_change_or_none (Some change) state = close_and_change change state
+
+abbrev pub select_page_size : (number : ℤ) → State → Effect
+select_page_size number = page_change_or_none (option_map page_changes.Size (page_size_of number))
+
+abbrev pub select_orientation : (number : ℤ) → State → Effect
+select_orientation number = page_change_or_none (option_map page_changes.Orientation (orientation_of number))
+
+abbrev pub select_sides : (number : ℤ) → State → Effect
+select_sides number = page_change_or_none (option_map page_changes.Sides (sides_of number))
+
+-- ESC&l#H, paper source (this profile: for every value, a page with a mark is ejected)
+abbrev pub eject_page : State → Effect
+eject_page state = if is_marked state then Closes closers.Feed state else changes state
+
+-- ESC&a#G: a page without a mark stays, and so does the cursor
+abbrev pub turn_or_close : Option Selection → State → Effect
+turn_or_close None state = changes state
+turn_or_close (Some selection) state =
+    if is_marked state then Closes (closers.Side selection) state else Done (turn_to selection state)
+
+abbrev pub select_side : (number : ℤ) → State → Effect
+select_side number = turn_or_close (selection_of number)

@@ -1,0 +1,74 @@
+-- What rows of the command table give, and the state after power on.
+use Rattle.std.specs.Prelude.{ℕ, ◌+◌, Bool, false, min, is_some, List, [], ◌++◌, None}
+use Rattle.press_cursor.specs.Cursor.{home}
+use Rattle.press_cursor.specs.declared.logical_page.LogicalPage.{LogicalPage}
+use Rattle.press_page.specs.Environment.{factory, reset_environment, logical_page_of}
+use Rattle.press_page.specs.declared.environment.PageEnv.{PageEnv}
+use Rattle.press_units.specs.Limits.{greatest_of_64_bits}
+use Rattle.press_sink.specs.Sending.{Output}
+use Rattle.press_engine.specs.declared.effect.Closer.{Closer}
+use Rattle.press_engine.specs.declared.state.State.{State}
+use Rattle.press_engine.specs.Rectangle.{no_rectangle}
+
+-- What a part of a command leaves: the state, and the outputs in order.
+pub record Outcome : Type 0 where
+  pub state : State
+  pub outputs : List Output
+
+-- the state, and nothing goes out
+abbrev pub done : State → Outcome
+done state = record { state = state; outputs = [] }
+
+-- an outcome after earlier outputs
+abbrev pub after_outputs : List Output → Outcome → Outcome
+after_outputs outputs outcome = record { state = outcome.state; outputs = outputs ++ outcome.outputs }
+
+-- a count that stays at the greatest number of 64 bits once it is there
+abbrev pub counted : ℕ → ℕ → ℕ
+counted count more = min (count + more) greatest_of_64_bits
+
+-- What a row gives: an outcome, or that the page closes, and by which command.
+pub data Effect : Type 0 where
+  Done : Outcome → Effect
+  Closes : Closer → State → Effect
+
+-- a row without outputs
+abbrev pub changes : State → Effect
+changes state = Done (done state)
+
+-- the page environment after a reset: by the factory values of the job language's variables
+abbrev pub default_environment : PageEnv
+default_environment = reset_environment factory
+
+-- The fields that a reset sets: page environment, rectangle, and the cursor at home with nothing pushed.
+abbrev pub reset_fields : State → State
+reset_fields state =
+    record state {
+      environment = default_environment;
+      rectangle = no_rectangle;
+      cursor = home default_environment.margins.left default_environment.settings.vertical_motion (logical_page_of default_environment);
+    }
+
+-- After power on: what a reset sets, HP-GL/2 off, no sheet, and a blank page without a mark.
+abbrev pub power_on_state : State
+power_on_state = record {
+  environment = default_environment;
+  rectangle = no_rectangle;
+  cursor = home default_environment.margins.left default_environment.settings.vertical_motion (logical_page_of default_environment);
+  hp_gl = false;
+  sheets = 0;
+  page = None;
+  pending = None;
+}
+
+-- whether a mark was made on the page
+abbrev pub is_marked : State → Bool
+is_marked state = is_some state.page
+
+-- the logical page, which bounds the cursor
+abbrev pub bounds : State → LogicalPage
+bounds state = logical_page_of state.environment
+
+-- a change of the page environment alone
+abbrev pub with_environment : (PageEnv → PageEnv) → State → State
+with_environment change state = record state { environment = change state.environment }

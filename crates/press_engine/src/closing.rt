@@ -1,0 +1,294 @@
+//! The rows that close the page, and what a page close does.
+
+use crate::canvas::Canvas;
+use crate::effect::{Closer, Effect, Finished, PageChange, Selection, Sent};
+use crate::state::State;
+use press_page::{Orientation, PageSize, Sides};
+use press_sink::Sheet;
+use press_units::Value;
+use std::alloc::{AllocError, Global};
+
+impl State {
+    ghost use Rattle.std.specs.Prelude.{◌≡◌, ◌≢◌, IfOk, IsErr, None};
+    ghost use Rattle.press_units.specs.Value.{whole_part};
+    ghost use Rattle.press_page.specs.Environment.{set_page_size, set_orientation, set_sides};
+    ghost use Rattle.press_engine.specs.Effects.{effect_of};
+    ghost use Rattle.press_engine.specs.Engine.{TakesMemory, IsClosing};
+    ghost use Rattle.press_engine.specs.Motion.{to_home};
+    ghost use Rattle.press_engine.specs.Outcome.{after_outputs, counted, is_marked, with_environment};
+    ghost use Rattle.press_engine.specs.Outputs.{outputs_of, finished_of};
+    ghost use Rattle.press_engine.specs.Closing.{page_now, close, front_alone, blank_front, turn_to, change_page, ended, settle, close_and_change, reset, select_page_size, select_orientation, select_sides, eject_page, select_side};
+
+    /// Whether a mark was made on the page.
+    pub fn is_marked(&self) -> bool
+        ensures { result ≡ is_marked self.now }
+    {
+        self.page.is_some()
+    }
+
+    /// Takes the page out, blank where no mark was made.
+    pub fn take_page(&mut self, alloc: Global) -> Result<Canvas, AllocError>
+        ensures page { IfOk result (λ page. page ≡ page_now self.old) }
+        ensures left { self.new ≡ record self.old { page = None } }
+        ensures memory { IsErr result → self.old.page ≡ None }
+    {
+        match self.page.take() {
+            Some(page) => Ok(page),
+            None => Canvas::blank(alloc, self.environment.paper),
+        }
+    }
+
+    /// Finishes a sheet: it goes out in the copies of now, and is counted in each.
+    fn finish(&mut self, front: Canvas, back: Option<Canvas>) -> Finished
+        ensures state { self.new ≡ record self.old {
+          sheets = counted self.old.sheets self.old.environment.settings.copies;
+        } }
+        ensures front { result.sheet.front ≡ front }
+        ensures back { result.sheet.back ≡ back }
+        ensures copies { result.copies ≡ self.old.environment.settings.copies }
+    {
+        let copies = self.environment.settings.copies;
+        self.sheets = self.sheets.saturating_add(u64::from(copies));
+        let back = match back {
+            Some(back) => Some(back.bitmap),
+            None => None,
+        };
+        Finished {
+            sheet: Sheet {
+                front: front.bitmap,
+                back,
+            },
+            copies,
+        }
+    }
+
+    /// Closes the page: it is a side of a sheet, which is finished unless it is a front in duplex.
+    fn close(&mut self, alloc: Global) -> Result<Option<Finished>, AllocError>
+        ensures { IfOk result (λ finished.
+            record { state = self.new; outputs = finished_of finished } ≡ close self.old) }
+    {
+        let page = self.take_page(alloc)?;
+        if !self.environment.paper.duplex {
+            return Ok(Some(self.finish(page, None)));
+        }
+        match self.pending.take() {
+            Some(front) => Ok(Some(self.finish(front, Some(page)))),
+            None => {
+                self.pending = Some(page);
+                Ok(None)
+            }
+        }
+    }
+
+    /// Takes out the front that waits for its back: it goes out alone.
+    fn front_alone(&mut self) -> Option<Finished>
+        ensures { record { state = self.new; outputs = finished_of result } ≡ front_alone self.old }
+    {
+        let front = self.pending.take()?;
+        Some(self.finish(front, None))
+    }
+
+    /// Has a blank front wait for the back, where one can wait and none does.
+    fn begin_back(&mut self, alloc: Global) -> Result<(), AllocError>
+        ensures front { IfOk result (λ _. self.new ≡ blank_front self.old) }
+        ensures memory { IsErr result → (blank_front self.old).pending ≢ self.old.pending }
+    {
+        if self.environment.paper.duplex && self.pending.is_none() {
+            self.pending = Some(Canvas::blank(alloc, self.environment.paper)?);
+        }
+        Ok(())
+    }
+
+    /// Turns to the side that is selected; answers a front that goes out alone.
+    fn turn_to(
+        &mut self,
+        alloc: Global,
+        selection: Selection,
+    ) -> Result<Option<Finished>, AllocError>
+        ensures turned { IfOk result (λ alone.
+            record { state = self.new; outputs = finished_of alone } ≡ turn_to selection self.old) }
+        ensures memory { IsErr result
+            → (turn_to selection self.old).state.pending ≢ self.old.pending }
+    {
+        match selection {
+            Selection::NextSide => Ok(None),
+            Selection::Front => Ok(self.front_alone()),
+            Selection::Back => {
+                self.begin_back(alloc)?;
+                Ok(None)
+            }
+        }
+    }
+
+    /// Another page size; the cursor goes home.
+    fn change_page_size(&mut self, size: PageSize)
+        ensures { self.new ≡ to_home (with_environment (set_page_size size) self.old) }
+    {
+        self.environment.set_page_size(size);
+        self.move_home();
+    }
+
+    /// Another orientation; the cursor goes home.
+    fn change_orientation(&mut self, orientation: Orientation)
+        ensures { self.new ≡ to_home (with_environment (set_orientation orientation) self.old) }
+    {
+        self.environment.set_orientation(orientation);
+        self.move_home();
+    }
+
+    /// Other sides to print; the cursor goes home.
+    fn change_sides(&mut self, sides: Sides)
+        ensures { self.new ≡ to_home (with_environment (set_sides sides) self.old) }
+    {
+        self.environment.set_sides(sides);
+        self.move_home();
+    }
+
+    /// Changes the page, which has no mark; answers a front that goes out alone.
+    fn change_page(&mut self, change: PageChange) -> Option<Finished>
+        ensures { record { state = self.new; outputs = finished_of result }
+            ≡ change_page change self.old }
+    {
+        match change {
+            PageChange::Reset => {
+                let alone = self.front_alone();
+                self.reset_fields();
+                alone
+            }
+            PageChange::Size(size) => {
+                let alone = self.front_alone();
+                self.change_page_size(size);
+                alone
+            }
+            PageChange::Orientation(orientation) => {
+                self.change_orientation(orientation);
+                None
+            }
+            PageChange::Sides(sides) => {
+                let alone = self.front_alone();
+                self.change_sides(sides);
+                alone
+            }
+        }
+    }
+
+    /// What a command that closes the page does after the close; answers a front that goes out alone.
+    fn end(&mut self, alloc: Global, closer: Closer) -> Result<Option<Finished>, AllocError>
+        ensures { IfOk result (λ alone.
+            record { state = self.new; outputs = finished_of alone } ≡ ended closer self.old) }
+    {
+        match closer {
+            Closer::Feed => {
+                self.move_to_first_line();
+                Ok(None)
+            }
+            Closer::Side(selection) => {
+                self.move_to_first_line();
+                self.turn_to(alloc, selection)
+            }
+            Closer::Change(change) => Ok(self.change_page(change)),
+        }
+    }
+
+    /// What a row leaves: where it closes the page, the close and then what the closing command does after it.
+    pub fn settle(&mut self, alloc: Global, effect: Effect) -> Result<Sent, AllocError>
+        ensures settled { IfOk result (λ sent. record { state = self.new; outputs = outputs_of sent }
+            ≡ settle (effect_of self.old effect)) }
+        ensures memory { IsErr result → IsClosing (effect_of self.old effect) }
+    {
+        match effect {
+            Effect::Done(sent) => Ok(sent),
+            Effect::Closes(closer) => {
+                let closed = self.close(alloc)?;
+                let alone = self.end(alloc, closer)?;
+                Ok(Sent::Sheets { closed, alone })
+            }
+        }
+    }
+
+    /// A page with a mark closes before the page changes.
+    fn close_and_change(&mut self, change: PageChange) -> Effect
+        ensures { effect_of self.new result ≡ close_and_change change self.old }
+    {
+        if self.is_marked() {
+            return Effect::Closes(Closer::Change(change));
+        }
+        let alone = self.change_page(change);
+        Effect::Done(Sent::Sheets {
+            closed: None,
+            alone,
+        })
+    }
+
+    /// `ESC E` and the universal exit.
+    pub fn reset(&mut self) -> Effect
+        ensures { effect_of self.new result ≡ reset self.old }
+    {
+        self.hp_gl = false;
+        self.close_and_change(PageChange::Reset)
+    }
+
+    /// `&l#A`: the page size.
+    pub fn select_page_size(&mut self, value: Value) -> Effect
+        ensures { effect_of self.new result
+            ≡ select_page_size (whole_part value.tenthousandths) self.old }
+    {
+        match PageSize::of_number(value.whole()) {
+            Some(size) => self.close_and_change(PageChange::Size(size)),
+            None => Effect::Done(Sent::nothing()),
+        }
+    }
+
+    /// `&l#O`: the orientation.
+    pub fn select_orientation(&mut self, value: Value) -> Effect
+        ensures { effect_of self.new result
+            ≡ select_orientation (whole_part value.tenthousandths) self.old }
+    {
+        match Orientation::of_number(value.whole()) {
+            Some(orientation) => self.close_and_change(PageChange::Orientation(orientation)),
+            None => Effect::Done(Sent::nothing()),
+        }
+    }
+
+    /// `&l#S`: the sides that are printed.
+    pub fn select_sides(&mut self, value: Value) -> Effect
+        ensures { effect_of self.new result
+            ≡ select_sides (whole_part value.tenthousandths) self.old }
+    {
+        match Sides::of_number(value.whole()) {
+            Some(sides) => self.close_and_change(PageChange::Sides(sides)),
+            None => Effect::Done(Sent::nothing()),
+        }
+    }
+
+    /// `&l#H`: ejects a page with a mark.
+    pub fn eject_page(&mut self) -> Effect
+        ensures { effect_of self.new result ≡ eject_page self.old }
+    {
+        if self.is_marked() {
+            Effect::Closes(Closer::Feed)
+        } else {
+            Effect::Done(Sent::nothing())
+        }
+    }
+
+    /// `&a#G`: selects a side.
+    pub fn select_side(&mut self, alloc: Global, value: Value) -> Result<Effect, AllocError>
+        ensures effect { IfOk result (λ effect. effect_of self.new effect
+            ≡ select_side (whole_part value.tenthousandths) self.old) }
+        ensures memory { IsErr result
+            → TakesMemory self.old (select_side (whole_part value.tenthousandths) self.old) }
+    {
+        let Some(selection) = Selection::of_number(value.whole()) else {
+            return Ok(Effect::Done(Sent::nothing()));
+        };
+        if self.is_marked() {
+            return Ok(Effect::Closes(Closer::Side(selection)));
+        }
+        let alone = self.turn_to(alloc, selection)?;
+        Ok(Effect::Done(Sent::Sheets {
+            closed: None,
+            alone,
+        }))
+    }
+}

@@ -1,0 +1,182 @@
+//! The rows that move the cursor.
+
+use crate::effect::{Closer, Effect, Sent};
+use crate::state::State;
+use press_units::{Pos, Unit, Value, to_pos};
+
+impl State {
+    ghost use Rattle.std.specs.Prelude.{◌≡◌};
+    ghost use Rattle.press_units.specs.Value.{whole_part};
+    ghost use Rattle.press_engine.specs.Effects.{effect_of};
+    ghost use Rattle.press_engine.specs.Motion.{move_along, move_down, move_rows, to_left_margin, to_first_line, to_home, feed, returned, line_feed, carriage_return, form_feed, half_line_feed, push_or_pop, change_top_margin, change_perforation_skip, change_left_margin, change_right_margin};
+
+    /// Moves along the line by a value of so many units.
+    pub fn move_along(&mut self, unit: Unit, value: Value)
+        ensures { self.new ≡ move_along unit.positions value.tenthousandths value.signed self.old }
+    {
+        let page = self.bounds();
+        self.cursor.move_x(to_pos(value, unit), value.signed, page);
+    }
+
+    /// Moves down or up by a value of so many units.
+    pub fn move_down(&mut self, unit: Unit, value: Value)
+        ensures { self.new ≡ move_down unit.positions value.tenthousandths value.signed self.old }
+    {
+        let page = self.bounds();
+        self.cursor.move_y(to_pos(value, unit), value.signed, page);
+    }
+
+    /// `&a#R`: moves down or up by rows.
+    pub fn move_rows(&mut self, value: Value)
+        ensures { self.new ≡ move_rows value.tenthousandths value.signed self.old }
+    {
+        let page = self.bounds();
+        let line = self.line();
+        let distance = to_pos(value, line);
+        self.cursor
+            .move_rows(distance, value.signed, line.positions, page);
+    }
+
+    /// Moves to the left margin.
+    fn move_to_left_margin(&mut self)
+        ensures { self.new ≡ to_left_margin self.old }
+    {
+        let page = self.bounds();
+        let margin = Pos(i64::from(self.environment.margins.left));
+        self.cursor.move_x(margin, false, page);
+    }
+
+    /// Moves to the first line.
+    pub fn move_to_first_line(&mut self)
+        ensures { self.new ≡ to_first_line self.old }
+    {
+        let page = self.bounds();
+        let line = self.environment.settings.vertical_motion;
+        self.cursor.move_to_first_line(line, page);
+    }
+
+    /// Moves home.
+    pub fn move_home(&mut self)
+        ensures { self.new ≡ to_home self.old }
+    {
+        let page = self.bounds();
+        let line = self.environment.settings.vertical_motion;
+        self.cursor
+            .move_home(self.environment.margins.left, line, page);
+    }
+
+    /// Moves down by a distance, or asks for the close of the page where the end of the text would be passed.
+    fn feed(&mut self, distance: u16) -> Effect
+        ensures { effect_of self.new result ≡ feed distance self.old }
+    {
+        if self.environment.passes_text(self.cursor.y(), distance) {
+            return Effect::Closes(Closer::Feed);
+        }
+        let page = self.bounds();
+        self.cursor.move_down(distance, page);
+        Effect::Done(Sent::nothing())
+    }
+
+    /// The carriage return before a line feed or a form feed, where line termination says so.
+    fn return_before_feed(&mut self)
+        ensures { self.new ≡ returned self.old }
+    {
+        if self
+            .environment
+            .settings
+            .line_termination
+            .return_before_feed
+        {
+            self.move_to_left_margin();
+        }
+    }
+
+    /// LF.
+    pub fn line_feed(&mut self) -> Effect
+        ensures { effect_of self.new result ≡ line_feed self.old }
+    {
+        self.return_before_feed();
+        self.feed(self.environment.settings.vertical_motion)
+    }
+
+    /// CR.
+    pub fn carriage_return(&mut self) -> Effect
+        ensures { effect_of self.new result ≡ carriage_return self.old }
+    {
+        let feeds = self.environment.settings.line_termination.feed_after_return;
+        self.move_to_left_margin();
+        if feeds {
+            self.line_feed()
+        } else {
+            Effect::Done(Sent::nothing())
+        }
+    }
+
+    /// FF.
+    pub fn form_feed(&mut self) -> Effect
+        ensures { effect_of self.new result ≡ form_feed self.old }
+    {
+        self.return_before_feed();
+        Effect::Closes(Closer::Feed)
+    }
+
+    /// `ESC =`.
+    pub fn half_line_feed(&mut self) -> Effect
+        ensures { effect_of self.new result ≡ half_line_feed self.old }
+    {
+        let settings = self.environment.settings;
+        self.feed(settings.half_line())
+    }
+
+    /// `&f#S`: pushes the position of the cursor, or pops one.
+    pub fn push_or_pop(&mut self, value: Value)
+        ensures { self.new ≡ push_or_pop (whole_part value.tenthousandths) self.old }
+    {
+        let page = self.bounds();
+        match value.whole() {
+            0 => {
+                self.cursor.push();
+            }
+            1 => {
+                self.cursor.pop(page);
+            }
+            _ => {}
+        }
+    }
+
+    /// `&l#E`: the top margin.
+    pub fn change_top_margin(&mut self, value: Value)
+        ensures { self.new ≡ change_top_margin value.tenthousandths self.old }
+    {
+        if self.environment.set_top_margin(value) {
+            self.move_to_first_line();
+        }
+    }
+
+    /// `&l#L`: perforation skip.
+    pub fn change_perforation_skip(&mut self, value: Value)
+        ensures { self.new ≡ change_perforation_skip value.tenthousandths self.old }
+    {
+        self.environment.set_perforation_skip(value);
+        let page = self.bounds();
+        self.cursor.clamp(page);
+    }
+
+    /// `&a#L`: the left margin.
+    pub fn change_left_margin(&mut self, value: Value)
+        ensures { self.new ≡ change_left_margin value.tenthousandths self.old }
+    {
+        if self.environment.set_left_margin(value) {
+            self.cursor.at_least_x(self.environment.margins.left);
+        }
+    }
+
+    /// `&a#M`: the right margin.
+    pub fn change_right_margin(&mut self, value: Value)
+        ensures { self.new ≡ change_right_margin value.tenthousandths self.old }
+    {
+        if self.environment.set_right_margin(value) {
+            self.cursor.at_most_x(self.environment.margins.right);
+        }
+    }
+}

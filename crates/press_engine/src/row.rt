@@ -1,0 +1,108 @@
+//! The row of a command.
+
+use crate::effect::{Effect, Sent};
+use crate::operation::{Operation, operation_of};
+use crate::state::State;
+use press_cmd::{Command, kind};
+use press_units::Unit;
+use std::alloc::{AllocError, Global};
+
+impl Operation {
+    ghost use Rattle.std.specs.Prelude.{◌≡◌};
+    ghost use Rattle.press_engine.specs.Table.{works_in_hp_gl};
+
+    /// Whether the row has effect while HP-GL/2 is on.
+    fn works_in_hp_gl(self) -> bool
+        ensures { result ≡ works_in_hp_gl self }
+    {
+        matches!(self, Operation::Reset | Operation::LeaveHpGl)
+    }
+}
+
+impl State {
+    ghost use Rattle.std.specs.Prelude.{◌≡◌, IfOk, IsErr};
+    ghost use Rattle.press_cmd.specs.View.{token};
+    ghost use Rattle.press_engine.specs.Effects.{effect_of};
+    ghost use Rattle.press_engine.specs.Closing.{settle};
+    ghost use Rattle.press_engine.specs.Engine.{TakesMemory};
+    ghost use Rattle.press_engine.specs.Outputs.{outputs_of};
+    ghost use Rattle.press_engine.specs.Table.{row, effect_on};
+
+    /// What a row does with a command.
+    fn carry_out(
+        &mut self,
+        alloc: Global,
+        operation: Operation,
+        command: &Command<'_>,
+    ) -> Result<Effect, AllocError>
+        ensures effect { IfOk result (λ effect.
+            effect_of self.new effect ≡ row operation (token command.now) self.old) }
+        ensures memory { IsErr result
+            → TakesMemory self.old (row operation (token command.now) self.old) }
+    {
+        let value = command.value();
+        match operation {
+            Operation::Nothing => {}
+            Operation::CarriageReturn => return Ok(self.carriage_return()),
+            Operation::LineFeed => return Ok(self.line_feed()),
+            Operation::FormFeed => return Ok(self.form_feed()),
+            Operation::HalfLineFeed => return Ok(self.half_line_feed()),
+            Operation::ClearMargins => self.environment.clear_margins(),
+            Operation::Reset => return Ok(self.reset()),
+            Operation::EnterHpGl => self.hp_gl = true,
+            Operation::LeaveHpGl => self.hp_gl = false,
+            Operation::UnitOfMeasure => self.environment.set_unit_of_measure(value),
+            Operation::MoveColumns => self.move_along(self.column(), value),
+            Operation::MoveRows => self.move_rows(value),
+            Operation::MoveHorizontally => self.move_along(Unit::decipoint(), value),
+            Operation::MoveVertically => self.move_down(Unit::decipoint(), value),
+            Operation::SelectSide => return self.select_side(alloc, value),
+            Operation::LeftMargin => self.change_left_margin(value),
+            Operation::RightMargin => self.change_right_margin(value),
+            Operation::PushOrPop => self.push_or_pop(value),
+            Operation::LineTermination => self.environment.set_line_termination(value),
+            Operation::HorizontalMotion => self.environment.set_horizontal_motion(value),
+            Operation::SelectPageSize => return Ok(self.select_page_size(value)),
+            Operation::VerticalMotion => self.environment.set_vertical_motion(value),
+            Operation::LineSpacing => self.environment.set_line_spacing(value),
+            Operation::TopMargin => self.change_top_margin(value),
+            Operation::TextLength => self.environment.set_text_length(value),
+            Operation::EjectPage => return Ok(self.eject_page()),
+            Operation::PerforationSkip => self.change_perforation_skip(value),
+            Operation::SelectOrientation => return Ok(self.select_orientation(value)),
+            Operation::SelectSides => return Ok(self.select_sides(value)),
+            Operation::Copies => self.environment.set_copies(value),
+            Operation::RectangleWidth => self.set_rectangle_width(value),
+            Operation::RectangleHeight => self.set_rectangle_height(value),
+            Operation::Fill => self.fill(alloc, value)?,
+            Operation::MoveX => self.move_along(self.pcl_unit(), value),
+            Operation::MoveY => self.move_down(self.pcl_unit(), value),
+        }
+        Ok(Effect::Done(Sent::nothing()))
+    }
+
+    /// What the row of a command's kind gives.
+    fn row(&mut self, alloc: Global, command: Command<'_>) -> Result<Effect, AllocError>
+        ensures effect { IfOk result (λ effect.
+            effect_of self.new effect ≡ effect_on (token command.entry) self.old) }
+        ensures memory { IsErr result
+            → TakesMemory self.old (effect_on (token command.entry) self.old) }
+    {
+        let operation = operation_of(kind(&command));
+        if self.hp_gl && !operation.works_in_hp_gl() {
+            return Ok(Effect::Done(Sent::nothing()));
+        }
+        self.carry_out(alloc, operation, &command)
+    }
+
+    /// The row of a command's kind, and the page close that it may ask for.
+    pub fn whole_row(&mut self, alloc: Global, command: Command<'_>) -> Result<Sent, AllocError>
+        ensures settled { IfOk result (λ sent. record { state = self.new; outputs = outputs_of sent }
+            ≡ settle (effect_on (token command.entry) self.old)) }
+        ensures memory { IsErr result
+            → TakesMemory self.old (effect_on (token command.entry) self.old) }
+    {
+        let effect = self.row(alloc, command)?;
+        self.settle(alloc, effect)
+    }
+}
