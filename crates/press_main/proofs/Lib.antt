@@ -1,3 +1,5 @@
 pub mod Carrying
 pub mod Lines
 pub mod PrintedLemmas
+mod WordsLemmas
+pub mod WorkedWords

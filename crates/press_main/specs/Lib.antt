@@ -1,2 +1,5 @@
+pub mod Files
 pub mod Listing
 pub mod Printing
+pub mod View
+pub mod Words

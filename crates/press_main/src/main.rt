@@ -1,35 +1,46 @@
-//! The program: it reads a print stream from standard input and lists its sheets.
+//! The program: it reads a print stream, and lists its sheets or writes them to files.
 #![tactic(auto)]
 
+#[cfg(test)]
+mod file_tests;
+mod files;
 mod listing;
 mod printing;
+mod program;
 mod reading;
+#[cfg(test)]
+mod row_tests;
 #[cfg(test)]
 mod tests;
 mod words;
 
-use listing::print_list;
 use press_units::NO_MEMORY;
+use program::run_words;
 use std::env;
 use std::io::{self, ErrorKind};
 use std::process::ExitCode;
-use words::refusal;
 
 fn main(rt: HostRuntime) -> ExitCode {
-    let words = match env::args(&rt) {
-        Ok(words) => words.count(),
-        Err(error) if error.kind() == ErrorKind::OutOfMemory => {
-            let _ = eprintln!(rt; "{NO_MEMORY}");
-            return ExitCode::from(1);
+    let words = match words_of(&rt) {
+        Ok(words) => words,
+        Err(error) => {
+            let no_memory = error.kind() == ErrorKind::OutOfMemory;
+            let told = if no_memory {
+                NO_MEMORY
+            } else {
+                "press: a word is no text"
+            };
+            let _ = eprintln!(rt; "{told}");
+            return ExitCode::from(if no_memory { 1 } else { 2 });
         }
-        Err(_) => usize::MAX,
     };
-    if let Some(status) = refusal(words) {
-        let _ = eprintln!(rt; "usage: press < STREAM");
-        return ExitCode::from(status);
-    }
     let mut input = rt.stdin();
     let mut out = io::writer(&rt);
     let mut err = rt.stderr();
-    ExitCode::from(print_list(rt.alloc(), &mut input, &mut out, &mut err))
+    ExitCode::from(run_words(rt.alloc(), &rt, &words, &mut input, &mut out, &mut err))
+}
+
+/// The words of the command line, the program's name among them.
+fn words_of(rt: &HostRuntime) -> io::Result<Vec<String>> {
+    Ok(env::args(rt)?.collect(rt.alloc())?)
 }

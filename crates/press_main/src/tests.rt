@@ -1,7 +1,6 @@
 //! Streams that are printed whole, with the pages that they must give.
 use crate::listing::print_list;
 use crate::printing::{RunError, run};
-use crate::words::refusal;
 use press_bits::{Bitmap, BlankError};
 use press_cmd::{Command, ControlByte};
 use press_engine::{Engine, EngineError, Last};
@@ -36,7 +35,7 @@ impl Read for Reluctant<'_> {
 }
 
 /// Whether a page's black dots are those of the box, which lies on the page.
-fn is_box(page: &Bitmap, x: u32, y: u32, width: u32, height: u32) -> bool {
+pub fn is_box(page: &Bitmap, x: u32, y: u32, width: u32, height: u32) -> bool {
     let mut all = page.count_black() == width.saturating_mul(height);
     for line in y..y.saturating_add(height) {
         for column in x..x.saturating_add(width) {
@@ -298,10 +297,4 @@ fn the_listing_is_flushed(rt: HostRuntime) -> Result<(), Fail> {
         assert_eq!(rt; err.as_slice(), wanted.2);
     }
     Ok(())
-}
-
-#[test]
-fn the_program_takes_no_words(rt: HostRuntime) {
-    assert_eq!(rt; refusal(1), None);
-    assert_eq!(rt; refusal(2), Some(2));
 }

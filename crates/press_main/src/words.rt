@@ -1,10 +1,221 @@
-ghost use Rattle.std.specs.Prelude.{◌≡◌, ◌≤◌, ◌↔◌, IsNone, IfSome};
+ghost use Rattle.std.specs.Prelude.{◌≡◌, ◌↔◌, ◌⊎◌, IfOk, IfErr, IsTrue, Some, None, map, option_map, option_and_then, codes, false};
+ghost use Rattle.clap.specs.Words.{app_of, rule_of, new_rule, kind_of, first_of, rows_of, found_of, subcommand_of, subcommand_rows_of, fault_of, FailsBy};
+ghost use Rattle.clap.specs.declared.builder.command.Command.TheViews.{out-Command};
+ghost use Rattle.press_main.specs.Words.{list_rule, needed_rule, print_app, press_app, source_of, made_of, asked_by, asked, is_set};
+ghost use Rattle.press_main.specs.View.{source_seen, made_seen, request_seen, status_of, IsForMemory};
 
-/// The status with which the program ends where it does not take its words, its own name among them: it takes no others
-/// yet. Where it takes them, there is none.
-pub fn refusal(words: usize) -> Option<u8>
-    ensures taken { IsNone result ↔ (words ≤ 1) }
-    ensures refused { IfSome result (λ status. status ≡ 2) }
+use clap::error::ErrorKind;
+use clap::{Arg, ArgAction, ArgMatches, Command, Error};
+use press_units::NO_MEMORY;
+use std::alloc::{AllocError, Global};
+use std::fmt;
+
+/// An example of each subcommand, for help.
+const EXAMPLES: &str = "Examples:\n  press print page.pcl page-%d.pbm";
+
+/// Where a stream is read.
+#[derive(Debug, Drop)]
+pub enum Input<'a> {
+    /// From standard input.
+    Standard,
+    /// From the file of this name.
+    File(&'a str),
+}
+
+/// What is made of a stream.
+#[derive(Debug, Drop)]
+pub enum Output<'a> {
+    /// A listing of its sheets and its replies.
+    Listing,
+    /// A file for each side, by this template.
+    Files(&'a str),
+}
+
+/// What the program is asked to do.
+#[derive(Debug, Drop)]
+pub struct Request<'a> {
+    pub input: Input<'a>,
+    pub output: Output<'a>,
+}
+
+/// Why the words ask for nothing.
+#[derive(Debug, Drop)]
+pub enum Refusal {
+    /// The command line is refused, or asks for help; or memory ran out.
+    Words(Error),
+    /// Neither a listing is asked for nor a template given.
+    NoTemplate,
+}
+
+impl From<Error> for Refusal {
+    ghost use Rattle.std.specs.Prelude.{◌≡◌};
+    ghost use Rattle.press_main.specs.declared.words.Refusal.TheVariants.{Words};
+
+    ghost from_gives = { λ error refusal. refusal ≡ Words error };
+
+    fn from(error: Error) -> Refusal {
+        Refusal::Words(error)
+    }
+}
+
+impl Refusal {
+    /// The status with which the program ends: 0 after help, 1 where memory ran out, else 2.
+    pub fn status(&self) -> u8
+        ensures { result ≡ status_of self.now }
+    {
+        match self {
+            Refusal::Words(error) if error.kind() == ErrorKind::OutOfMemory => 1,
+            Refusal::Words(error) if !error.use_stderr() => 0,
+            _ => 2,
+        }
+    }
+}
+
+impl fmt::Display for Refusal {
+    fn fmt<W: fmt::Write>(&self, f: &mut fmt::Formatter<W>) -> fmt::Result {
+        match self {
+            Refusal::Words(error) if error.kind() == ErrorKind::OutOfMemory => {
+                writeln!(f, "{NO_MEMORY}")
+            }
+            Refusal::Words(error) => write!(f, "{error}"),
+            Refusal::NoTemplate => writeln!(
+                f,
+                "usage: press print IN OUT, or press print --list IN"
+            ),
+        }
+    }
+}
+
+/// The flag that asks for a listing.
+fn list_flag<'a>(alloc: Global) -> Arg<'a>
+    ensures rule { rule_of result ≡ list_rule }
+    ensures local { result.global ≡ false }
 {
-    if words <= 1 { None } else { Some(2) }
+    Arg::new(alloc, "list")
+        .long("list")
+        .action(ArgAction::SetTrue)
+        .help("Lists the sheets and writes no file")
+}
+
+/// The word for the stream.
+fn input_word<'a>(alloc: Global) -> Arg<'a>
+    ensures rule { rule_of result ≡ needed_rule (codes "in") }
+    ensures local { result.global ≡ false }
+{
+    Arg::new(alloc, "in")
+        .required(true)
+        .help("The file of the stream, or - for standard input")
+}
+
+/// The word for the template.
+fn output_word<'a>(alloc: Global) -> Arg<'a>
+    ensures rule { rule_of result ≡ new_rule (codes "out") }
+    ensures local { result.global ≡ false }
+{
+    Arg::new(alloc, "out").help("The names of the files, with %d for the number of the side")
+}
+
+/// The subcommand `print`.
+fn print_command<'a>(alloc: Global) -> Result<Command<'a>, AllocError>
+    ensures app { IfOk result (λ command. app_of command ≡ print_app) }
+    ensures local { IfOk result (λ command. (out-Command command).has_globals ≡ false) }
+{
+    Command::new(alloc, "print")
+        .about("Prints a stream to files, or lists its sheets")
+        .arg(list_flag(alloc))?
+        .arg(input_word(alloc))?
+        .arg(output_word(alloc))
+}
+
+/// The command line that is taken.
+fn command<'a>(alloc: Global) -> Result<Command<'a>, AllocError>
+    ensures { IfOk result (λ command. app_of command ≡ press_app) }
+{
+    Command::new(alloc, "press")
+        .about("A digital press: it prints PJL and PCL 5")
+        .after_help(EXAMPLES)
+        .subcommand(print_command(alloc)?)
+}
+
+/// The matches of words, the program's name among them.
+fn parse<'a>(alloc: Global, words: &'a [&'a str]) -> Result<ArgMatches<'a>, Error>
+    ensures rows { IfOk result (λ matches.
+        subcommand_rows_of matches ≡ subcommand_of press_app (map (λ word. word.now) words.entry.now)) }
+    ensures fault { FailsBy (fault_of press_app (map (λ word. word.now) words.entry.now)) result }
+{
+    command(alloc)?.try_get_matches_from(words)
+}
+
+/// Whether a flag is set: its value is then `true`.
+#[tactic(auto, using(crate::proofs::WordsLemmas::value_by_rows))]
+fn has_flag(matches: &ArgMatches<'_>, flag: &str) -> bool
+    ensures { result ≡ is_set flag.now (rows_of (found_of matches.now)) }
+{
+    matches.get_str(flag).is_some_and(|value| value == "true")
+}
+
+/// The input of this name.
+fn input_named(name: &str) -> Input<'_>
+    ensures { source_seen result ≡ source_of name.now }
+{
+    if name == "-" {
+        Input::Standard
+    } else {
+        Input::File(name)
+    }
+}
+
+/// What the matches of `print` ask to be made.
+#[tactic(auto, using(crate::proofs::WordsLemmas::value_by_rows))]
+fn output_of<'a>(matches: &ArgMatches<'a>) -> Option<Output<'a>>
+    ensures { option_map made_seen result ≡ made_of (rows_of (found_of matches.now)) }
+{
+    if has_flag(matches, "list") {
+        return Some(Output::Listing);
+    }
+    let template = matches.get_str("out")?;
+    Some(Output::Files(template))
+}
+
+/// What the matches of `print` ask for.
+#[tactic(auto, using(crate::proofs::WordsLemmas::value_by_rows))]
+fn print_request<'a>(matches: &ArgMatches<'a>) -> Option<Request<'a>>
+    ensures { option_map request_seen result ≡ asked_by (rows_of (found_of matches.now)) }
+{
+    let name = matches.get_str("in")?;
+    let output = output_of(matches)?;
+    Some(Request {
+        input: input_named(name),
+        output,
+    })
+}
+
+/// What the matches of the command line ask for.
+fn request_in<'a>(matches: &ArgMatches<'a>) -> Option<Request<'a>>
+    ensures { option_map request_seen result
+        ≡ option_and_then (λ found. asked_by found.1) (subcommand_rows_of matches.now) }
+{
+    let (_, print) = matches.subcommand()?;
+    print_request(print)
+}
+
+/// What the words ask for, the program's name among them. Without words it is the listing of standard input.
+///
+/// # Errors
+///
+/// Where the words are refused or ask for help, or memory ran out.
+pub fn request_of<'a>(alloc: Global, words: &'a [&'a str]) -> Result<Request<'a>, Refusal>
+    ensures ok { IfOk result (λ request.
+        asked (map (λ word. word.now) words.entry.now) ≡ Some (request_seen request)) }
+    ensures refused { IfErr result (λ refusal. (IsForMemory refusal)
+        ⊎ (asked (map (λ word. word.now) words.entry.now) ≡ None)) }
+{
+    if words.len() <= 1 {
+        return Ok(Request {
+            input: Input::Standard,
+            output: Output::Listing,
+        });
+    }
+    let matches = parse(alloc, words)?;
+    request_in(&matches).ok_or(Refusal::NoTemplate)
 }

@@ -1,4 +1,4 @@
-use Rattle.std.proofs.Common.{◌∙◌, List, [], Option, is_err, sym, ap, subst}
+use Rattle.std.proofs.Common.{◌∙◌, [], Option, is_err, sym, ap, subst}
 use Rattle.std.proofs.lemmas.Result.{err_from_is_err_and}
 use Rattle.press_scan.specs.Held.{Held}
 use Rattle.press_sink.specs.Told.{both}

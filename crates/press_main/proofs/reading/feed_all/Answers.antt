@@ -1,9 +1,8 @@
-use Rattle.std.proofs.Common.{◌∙◌, List, ℕ, Option, Some, Err, ap, sym, subst, take}
+use Rattle.std.proofs.Common.{◌∙◌, Option, Err, ap, sym, subst, take}
 use Rattle.std.proofs.KnownBytes.{Consumes-trans}
 use Rattle.std.proofs.lemmas.Result.{err_from_is_err_and}
 use Rattle.press_scan.specs.Held.{Held}
 use Rattle.press_main.specs.declared.printing.RunError.{RunError}
-use Rattle.press_main.specs.declared.printing.RunError.TheVariants.{NoMemory}
 use Rattle.press_main.specs.Printing.{Feeds, fault_of}
 use Rattle.press_main.proofs.reading.feed_all.Goals as goal
 

@@ -1,0 +1,51 @@
+-- What the words of the command line come to.
+use Rattle.std.proofs.Common.{◌≡◌, ◌∙◌, ◌⊎◌, ◌<◌, List, [], ◌∷◌, length, Option, Some, None, option_map, Result, Ok, Err, IfOk, IfErr, IsErrAnd, refl, sym, ap, inl, inr, arith}
+use Rattle.std.specs.Prelude.{option_and_then, ok_or}
+use Rattle.clap.specs.Words.{Row, Text, first_of, first_value, rows_of, fault_of, subcommand_of, IsAmong, HasKind, kind_of}
+use Rattle.clap.specs.declared.error.Error.{Error}
+use Rattle.clap.specs.declared.error.kind.ErrorKind.{ErrorKind}
+use Rattle.clap.specs.declared.parser.matches.Found.{Found}
+use Rattle.clap.proofs.WalkLemmas.{first_value-rows}
+use Rattle.press_main.specs.declared.words.Request.{Request}
+use Rattle.press_main.specs.declared.words.Refusal.{Refusal}
+use Rattle.press_main.specs.declared.words.Refusal.TheVariants.{Words, NoTemplate}
+use Rattle.press_main.specs.View.{request_seen, IsForMemory}
+use Rattle.press_main.specs.Words.{Asked, asked, asked_by, asked_without, press_app}
+
+-- the first value of a word, as the rows of the matches have it
+pub value_by_rows : (found : Found) (id : Text) → first_value found id ≡ first_of id (rows_of found)
+value_by_rows found id = first_value-rows found id
+
+-- with a word behind the program's name, what the command line makes of them
+asked_with_words : (words : List Text) → 1 < length words → asked words ≡ asked_without (fault_of press_app words) words
+asked_with_words [] more = absurd (omega arith)
+asked_with_words (program ∷ []) more = absurd (omega arith)
+asked_with_words (program ∷ word ∷ words) more = refl
+
+-- words in which the command line finds no fault ask for what its matches do
+pub asked-matches : (words : List Text) (rows : Option (Text × List Row)) (seen : Option Asked) → 1 < length words → fault_of press_app words ≡ [] → rows ≡ subcommand_of press_app words → seen ≡ option_and_then (λ found. asked_by found.1) rows → asked words ≡ seen
+asked-matches words rows seen more no_fault same sees =
+    asked_with_words words more ∙ ap (λ (faults : List ErrorKind). asked_without faults words) no_fault
+    ∙ sym (sees ∙ ap (λ (all : Option (Text × List Row)). option_and_then (λ found. asked_by found.1) all) same)
+
+-- words in which it finds a fault ask for nothing
+asked-faulty : (words : List Text) (kind : ErrorKind) → 1 < length words → IsAmong kind (fault_of press_app words) → asked words ≡ None
+asked-faulty words kind more fault = asked_with_words words more ∙ nothing (fault_of press_app words) fault where
+  nothing : (faults : List ErrorKind) → IsAmong kind faults → asked_without faults words ≡ None
+  nothing [] among = absurd among
+  nothing (first ∷ faults) among = refl
+
+-- an answer by an option, where words ask for what it shows
+pub asked-ok : (words : List Text) (found : Option Request) (result : Result Request Refusal) → result ≡ ok_or found NoTemplate → asked words ≡ option_map request_seen found → IfOk result (λ request. asked words ≡ Some (request_seen request))
+asked-ok words None result is asks = rw is tt
+asked-ok words (Some request) result is asks = rw is asks
+
+pub asked-err : (words : List Text) (found : Option Request) (result : Result Request Refusal) → result ≡ ok_or found NoTemplate → asked words ≡ option_map request_seen found → IfErr result (λ refusal. IsForMemory refusal ⊎ (asked words ≡ None))
+asked-err words None result is asks = rw is (inr asks)
+asked-err words (Some request) result is asks = rw is tt
+
+-- an answer that is the error of the command line
+pub asked-err-kinds : (words : List Text) (result : Result Request Refusal) (error : Error) → 1 < length words → HasKind (fault_of press_app words) error → IsErrAnd result (λ refusal. refusal ≡ Words error) → IfErr result (λ refusal. IsForMemory refusal ⊎ (asked words ≡ None))
+asked-err-kinds words (Ok request) error more kinds is = tt
+asked-err-kinds words (Err refusal) error more kinds is =
+    rw is (elim kinds [ inl memory ↦ inl memory | inr among ↦ inr (asked-faulty words (kind_of error) more among) ])

@@ -1,0 +1,35 @@
+-- What some words ask for.
+use Rattle.std.specs.Prelude.{◌≡◌, [], ◌∷◌, Some, None, codes, refl}
+use Rattle.clap.proofs.OnLiterals.{clap_on_literals}
+use Rattle.press_main.specs.Words.{Standard, FileNamed, Listed, FilesBy, asked}
+
+nothing : asked (codes "press" ∷ []) ≡ Some (record { source = Standard; made = Listed })
+nothing = refl
+
+listing : asked (codes "press" ∷ codes "print" ∷ codes "--list" ∷ codes "-" ∷ []) ≡ Some (record { source = Standard; made = Listed })
+unfolding clap_on_literals
+listing = refl
+
+listing_with_template : asked (codes "press" ∷ codes "print" ∷ codes "a.pcl" ∷ codes "b" ∷ codes "--list" ∷ []) ≡ Some (record { source = FileNamed (codes "a.pcl"); made = Listed })
+unfolding clap_on_literals
+listing_with_template = refl
+
+files : asked (codes "press" ∷ codes "print" ∷ codes "a.pcl" ∷ codes "page-%d.pbm" ∷ []) ≡ Some (record { source = FileNamed (codes "a.pcl"); made = FilesBy (codes "page-%d.pbm") })
+unfolding clap_on_literals
+files = refl
+
+no_template : asked (codes "press" ∷ codes "print" ∷ codes "a.pcl" ∷ []) ≡ None
+unfolding clap_on_literals
+no_template = refl
+
+no_input : asked (codes "press" ∷ codes "print" ∷ []) ≡ None
+unfolding clap_on_literals
+no_input = refl
+
+other_subcommand : asked (codes "press" ∷ codes "asm" ∷ codes "a" ∷ codes "b" ∷ []) ≡ None
+unfolding clap_on_literals
+other_subcommand = refl
+
+help : asked (codes "press" ∷ codes "--help" ∷ []) ≡ None
+unfolding clap_on_literals
+help = refl

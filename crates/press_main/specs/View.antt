@@ -1,0 +1,44 @@
+-- The code's requests and refusals as contracts see them.
+use Rattle.std.specs.Prelude.{◌≡◌, ℕ}
+use Rattle.clap.specs.Words.{kind_of}
+use Rattle.clap.specs.declared.error.kind.ErrorKind.{ErrorKind}
+use Rattle.clap.specs.declared.error.kind.ErrorKind.TheVariants.{DisplayHelp, DisplayVersion, OutOfMemory}
+use Rattle.press_main.specs.declared.words.Input.{Input}
+use Rattle.press_main.specs.declared.words.Input.TheVariants as inputs
+use Rattle.press_main.specs.declared.words.Output.{Output}
+use Rattle.press_main.specs.declared.words.Output.TheVariants as outputs
+use Rattle.press_main.specs.declared.words.Request.{Request}
+use Rattle.press_main.specs.declared.words.Refusal.{Refusal}
+use Rattle.press_main.specs.declared.words.Refusal.TheVariants.{Words, NoTemplate}
+use Rattle.press_main.specs.Words.{Source, Standard, FileNamed, Made, Listed, FilesBy, Asked}
+
+-- an input by the text of its name
+abbrev pub source_seen : Input → Source
+source_seen inputs.Standard = Standard
+source_seen (inputs.File name) = FileNamed name.now
+
+-- an output by the text of its template
+abbrev pub made_seen : Output → Made
+made_seen outputs.Listing = Listed
+made_seen (outputs.Files template) = FilesBy template.now
+
+-- a request by its texts
+abbrev pub request_seen : Request → Asked
+request_seen request = record { source = source_seen request.input; made = made_seen request.output }
+
+-- memory ran out
+abbrev pub IsForMemory : Refusal → Type 0
+IsForMemory (Words error) = kind_of error ≡ OutOfMemory
+IsForMemory NoTemplate = ⊥
+
+-- the status after an error of the command line, by its kind
+abbrev pub status_of_kind : ErrorKind → ℕ
+status_of_kind OutOfMemory = 1
+status_of_kind DisplayHelp = 0
+status_of_kind DisplayVersion = 0
+status_of_kind _ = 2
+
+-- The status after a refusal: 0 after help, 1 where memory ran out, else 2.
+abbrev pub status_of : Refusal → ℕ
+status_of (Words error) = status_of_kind (kind_of error)
+status_of NoTemplate = 2

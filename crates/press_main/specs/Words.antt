@@ -1,0 +1,64 @@
+-- What the words of the command line ask for.
+use Rattle.std.specs.Prelude.{List, [], ◌∷◌, Option, Some, None, Bool, true, false, codes, option_map, option_and_then, if◌then◌else◌}
+use Rattle.std.specs.Option.{option_map_or}
+use Rattle.std.specs.Str.{bytes_eq}
+use Rattle.clap.specs.Words.{App, Row, Rule, Text, new_app, new_rule, with_rule, with_subcommand, subcommand_of, first_of, fault_of}
+use Rattle.clap.specs.declared.builder.action.ArgAction.TheVariants.{SetTrue}
+
+-- Where a stream is read: from standard input, or from the file of this name.
+pub data Source : Type 0 where
+  Standard : Source
+  FileNamed : Text → Source
+
+-- What is made of a stream: a listing, or files by this template.
+pub data Made : Type 0 where
+  Listed : Made
+  FilesBy : Text → Made
+
+-- What the program is asked to do.
+pub record Asked : Type 0 where
+  pub source : Source
+  pub made : Made
+
+-- The words of `print`: the flag of a listing, the input, and the template.
+abbrev pub list_rule : Rule
+list_rule = record (new_rule (codes "list")) { long = Some (codes "list"); action = Some SetTrue }
+
+abbrev pub needed_rule : Text → Rule
+needed_rule id = record (new_rule id) { required = true }
+
+abbrev pub print_app : App
+print_app = with_rule (with_rule (with_rule (new_app (codes "print")) list_rule) (needed_rule (codes "in"))) (new_rule (codes "out"))
+
+-- the subcommands of the program
+abbrev pub press_app : App
+press_app = with_subcommand (new_app (codes "press")) print_app.top
+
+-- a flag is set where its value is `true`
+abbrev pub is_set : Text → List Row → Bool
+is_set flag rows = option_map_or (λ value. bytes_eq value (codes "true")) (first_of flag rows) false
+
+-- `-` is standard input
+abbrev pub source_of : Text → Source
+source_of name = if bytes_eq name (codes "-") then Standard else FileNamed name
+
+-- with the flag a listing, whatever the template; without it there has to be a template
+abbrev pub made_of : List Row → Option Made
+made_of rows = if is_set (codes "list") rows then Some Listed else option_map FilesBy (first_of (codes "out") rows)
+
+-- what the values of the words of `print` ask for
+abbrev pub asked_by : List Row → Option Asked
+asked_by rows =
+    option_and_then (λ name. option_map (λ made. record { source = source_of name; made = made }) (made_of rows)) (first_of (codes "in") rows)
+
+-- what words ask for in which the command line finds these faults
+abbrev pub asked_without : {K : Type 0} → List K → List Text → Option Asked
+asked_without [] words = option_and_then (λ found. asked_by found.1) (subcommand_of press_app words)
+asked_without (fault ∷ faults) words = None
+
+-- What words ask for, the program's name among them: without any, the listing of standard input; nothing where they are
+-- refused.
+abbrev pub asked : List Text → Option Asked
+asked [] = Some (record { source = Standard; made = Listed })
+asked (program ∷ []) = Some (record { source = Standard; made = Listed })
+asked (program ∷ word ∷ words) = asked_without (fault_of press_app (program ∷ word ∷ words)) (program ∷ word ∷ words)

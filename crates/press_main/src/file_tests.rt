@@ -1,0 +1,199 @@
+//! Streams that are printed to files, and the words of the program.
+use crate::files::print_files;
+use crate::program::run_words;
+use press_bits::Bitmap;
+use press_sink::{FolderSink, Sheet, SheetSink};
+use std::fs::Files;
+use std::test::Fail;
+use std::{env, fs, process};
+
+/// A new folder for a test, which removes it at its end.
+fn new_folder(rt: &HostRuntime, name: &str) -> Result<String, Fail> {
+    let parent = env::temp_dir(rt)?;
+    let id = process::id(rt.process());
+    let folder = format!(in rt.alloc(); "{}/press-{id}-{name}", parent.as_str())?;
+    fs::create_dir(rt, folder.as_str())?;
+    Ok(folder)
+}
+
+/// The path of a file of a folder.
+fn path(rt: &HostRuntime, folder: &String, name: &str) -> Result<String, Fail> {
+    Ok(format!(in rt.alloc(); "{folder}/{name}")?)
+}
+
+/// Prints a stream to files, and gives the status and what stands on standard error.
+fn printed(rt: &HostRuntime, mut stream: &[u8], template: &str) -> Result<(u8, String), Fail> {
+    let mut out = Vec::new(rt.alloc());
+    let mut err = Vec::new(rt.alloc());
+    let status = print_files(rt.alloc(), rt, &mut stream, template, &mut out, &mut err);
+    Ok((status, String::from_utf8(err).ok().ok_or("text")?))
+}
+
+/// How many of the bytes are not zero.
+fn count_marks(bytes: &[u8]) -> usize {
+    bytes.iter().filter(|byte| **byte != 0).count()
+}
+
+#[test]
+fn a_stream_gives_a_file_a_side(rt: HostRuntime) -> Result<(), Fail> {
+    let folder = new_folder(&rt, "sides")?;
+    let template = path(&rt, &folder, "page-%d.pbm")?;
+    let stream = b"\x1B*p0x0Y\x1B*c3a2b0P\x0C\x0C";
+    let (status, err) = printed(&rt, stream, template.as_str())?;
+    assert_eq!(rt; status, 0, "{err}");
+    let header = b"P4\n2550 3300\n";
+    for (name, marked) in [("page-1.pbm", true), ("page-2.pbm", false)] {
+        let bytes = fs::read(&rt, path(&rt, &folder, name)?.as_str())?;
+        let (front, dots) = bytes.split_first_chunk::<13>().ok_or("no header")?;
+        assert_eq!(rt; front.as_slice(), header.as_slice());
+        assert_eq!(rt; dots.len(), 319 * 3300);
+        assert_eq!(rt; count_marks(dots), if marked { 2 } else { 0 });
+        // dots 75 to 77 of lines 150 and 151
+        for line in [150, 151] {
+            let byte = dots.get(319 * line + 9).copied();
+            assert_eq!(rt; byte, Some(if marked { 0x1C } else { 0 }));
+        }
+    }
+    assert!(rt; !fs::exists(&rt, path(&rt, &folder, "page-3.pbm")?.as_str())?);
+    fs::remove_dir_all(&rt, folder.as_str())?;
+    Ok(())
+}
+
+#[test]
+fn fronts_come_before_backs(rt: HostRuntime) -> Result<(), Fail> {
+    let folder = new_folder(&rt, "backs")?;
+    let template = path(&rt, &folder, "%d")?;
+    let mut front = Bitmap::blank(rt.alloc(), 9, 1)?;
+    front.paint_row(8, 0, &[0x80], 1);
+    let back = Some(Bitmap::blank(rt.alloc(), 3, 2)?);
+    let sheet = Sheet { front, back };
+    let mut sink = FolderSink::open(rt.alloc(), &rt, template.as_str())?;
+    sink.deliver(0, &sheet)?;
+    sink.deliver(0, &sheet)?;
+    assert_eq!(rt; sink.faults(), 0);
+    let wanted: [(&str, &[u8]); 4] = [
+        ("1", b"P4\n9 1\n\x00\x80"),
+        ("2", b"P4\n3 2\n\x00\x00"),
+        ("3", b"P4\n9 1\n\x00\x80"),
+        ("4", b"P4\n3 2\n\x00\x00"),
+    ];
+    for (name, bytes) in wanted {
+        let file = fs::read(&rt, path(&rt, &folder, name)?.as_str())?;
+        assert_eq!(rt; file.as_slice(), bytes, "{name}");
+    }
+    fs::remove_dir_all(&rt, folder.as_str())?;
+    Ok(())
+}
+
+#[test]
+fn a_file_that_fails_ends_the_run(rt: HostRuntime) -> Result<(), Fail> {
+    for written in [false, true] {
+        let folder = new_folder(&rt, "faults")?;
+        let template = path(&rt, &folder, "%d.pbm")?;
+        let second = path(&rt, &folder, "2.pbm")?;
+        if written {
+            // it can be opened, and takes no byte
+            rt.symlink("/dev/full", second.as_str())?;
+        } else {
+            fs::create_dir(&rt, second.as_str())?;
+        }
+        let (status, err) = printed(&rt, b"\x0C\x0C\x0C", template.as_str())?;
+        assert_eq!(rt; status, 1);
+        assert_eq!(rt; err.as_str(), "fault 301\n");
+        let first = fs::read(&rt, path(&rt, &folder, "1.pbm")?.as_str())?;
+        assert_eq!(rt; first.len(), 13 + 319 * 3300);
+        assert!(rt; !fs::exists(&rt, path(&rt, &folder, "3.pbm")?.as_str())?);
+        fs::remove_dir_all(&rt, folder.as_str())?;
+    }
+    Ok(())
+}
+
+#[test]
+fn a_bad_template_is_told_before_the_stream_is_read(rt: HostRuntime) -> Result<(), Fail> {
+    for template in ["a.pbm", "%d%d"] {
+        let mut stream: &[u8] = b"\x0C";
+        let mut out = Vec::new(rt.alloc());
+        let mut err = Vec::new(rt.alloc());
+        let status = print_files(rt.alloc(), &rt, &mut stream, template, &mut out, &mut err);
+        assert_eq!(rt; status, 1);
+        assert_eq!(rt; stream.len(), 1);
+        assert_eq!(rt; err.as_slice(), b"fault 121\n".as_slice());
+    }
+    Ok(())
+}
+
+/// What the program writes for its words, with a form feed on standard input, and its status.
+fn answered(rt: &HostRuntime, words: &[&str]) -> Result<(u8, String, String), Fail> {
+    let mut all = Vec::new(rt.alloc());
+    for word in words {
+        all.push(String::from_str(rt.alloc(), word)?)?;
+    }
+    let mut input: &[u8] = b"\x0C";
+    let mut out = Vec::new(rt.alloc());
+    let mut err = Vec::new(rt.alloc());
+    let status = run_words(rt.alloc(), rt, &all, &mut input, &mut out, &mut err);
+    let out = String::from_utf8(out).ok().ok_or("text")?;
+    let err = String::from_utf8(err).ok().ok_or("text")?;
+    Ok((status, out, err))
+}
+
+#[test]
+fn words_have_their_answers(rt: HostRuntime) -> Result<(), Fail> {
+    let blank = "sheet 1 front 2550x3300 black 0\n";
+    let cases: [(&[&str], u8, &str, &str); 8] = [
+        (&["press"], 0, blank, ""),
+        (&["press", "print", "--list", "-"], 0, blank, ""),
+        (&["press", "print", "-", "a.pbm", "--list"], 0, blank, ""),
+        (
+            &["press", "print", "--list", "no/such"],
+            1,
+            "",
+            "fault 304\n",
+        ),
+        // the input is opened before the template is judged
+        (
+            &["press", "print", "no/such", "a.pbm"],
+            1,
+            "",
+            "fault 304\n",
+        ),
+        (&["press", "print", "/", "a%d.pbm"], 1, "", "fault 304\n"),
+        (&["press", "print", "-", "a.pbm"], 1, "", "fault 121\n"),
+        (
+            &["press", "print", "-", "no/such/%d.pbm"],
+            1,
+            "",
+            "fault 301\n",
+        ),
+    ];
+    for (words, wanted_status, wanted_out, wanted_err) in cases {
+        let (status, out, err) = answered(&rt, words)?;
+        assert_eq!(rt; status, wanted_status, "{err}");
+        assert_eq!(rt; out.as_str(), wanted_out);
+        assert_eq!(rt; err.as_str(), wanted_err);
+    }
+    Ok(())
+}
+
+#[test]
+fn other_words_are_refused_and_help_is_given(rt: HostRuntime) -> Result<(), Fail> {
+    let refused: [&[&str]; 5] = [
+        &["press", "print"],
+        &["press", "print", "-"],
+        &["press", "print", "--all", "-"],
+        &["press", "print", "a", "b", "c"],
+        &["press", "asm", "a", "b"],
+    ];
+    for words in refused {
+        let (status, out, err) = answered(&rt, words)?;
+        assert_eq!(rt; status, 2);
+        assert!(rt; out.is_empty() && !err.is_empty());
+    }
+    for words in [["press", "--help"], ["press", "help"]] {
+        let (status, out, err) = answered(&rt, &words)?;
+        assert_eq!(rt; status, 0);
+        assert!(rt; out.contains("press print page.pcl page-%d.pbm"), "{out}");
+        assert!(rt; err.is_empty());
+    }
+    Ok(())
+}

@@ -1,0 +1,80 @@
+use crate::files::print_files;
+use crate::listing::print_list;
+use crate::printing::RunError;
+use crate::words::{Input, Output, Refusal, Request, request_of};
+use press_units::NO_MEMORY;
+use std::alloc::Global;
+use std::fs;
+use std::fs::Files;
+use std::io::{Read, Write};
+
+/// Does what the words ask for, the program's name among them. The answer is the status.
+pub fn run_words<F: Files, S: Read, W: Write, E: Write>(
+    alloc: Global,
+    files: &F,
+    words: &[String],
+    input: &mut S,
+    out: &mut W,
+    err: &mut E,
+) -> u8 {
+    let Ok(texts) = words
+        .iter()
+        .map(|word| word.as_str())
+        .collect::<Vec<&str>>(alloc)
+    else {
+        let _ = writeln!(err, "{NO_MEMORY}");
+        return 1;
+    };
+    match request_of(alloc, &texts) {
+        Ok(request) => print(alloc, files, &request, input, out, err),
+        Err(refusal) => refuse(&refusal, out, err),
+    }
+}
+
+/// Tells why the words ask for nothing: help on `out`, all else on `err`. The answer is the status.
+fn refuse<W: Write, E: Write>(refusal: &Refusal, out: &mut W, err: &mut E) -> u8 {
+    let status = refusal.status();
+    if status == 0 {
+        let _ = write!(out, "{refusal}");
+        let _ = out.flush();
+    } else {
+        let _ = write!(err, "{refusal}");
+    }
+    status
+}
+
+/// Opens the input and prints it.
+fn print<F: Files, S: Read, W: Write, E: Write>(
+    alloc: Global,
+    files: &F,
+    request: &Request<'_>,
+    input: &mut S,
+    out: &mut W,
+    err: &mut E,
+) -> u8 {
+    let Input::File(name) = request.input else {
+        return print_from(alloc, files, input, &request.output, out, err);
+    };
+    match fs::open(files, name) {
+        Ok(mut file) => print_from(alloc, files, &mut file, &request.output, out, err),
+        Err(_) => {
+            let _ = writeln!(err, "{}", RunError::ReadFault);
+            1
+        }
+    }
+}
+
+/// Prints the stream that a reader has.
+fn print_from<F: Files, R: Read, W: Write, E: Write>(
+    alloc: Global,
+    files: &F,
+    reader: &mut R,
+    output: &Output<'_>,
+    out: &mut W,
+    err: &mut E,
+) -> u8 {
+    match output {
+        Output::Listing => print_list(alloc, reader, out, err),
+        Output::Files(template) => print_files(alloc, files, reader, template, out, err),
+    }
+}
