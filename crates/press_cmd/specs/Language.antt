@@ -55,18 +55,18 @@ is_equals byte = byte == 61
 abbrev pub name_of : List ℕ → List ℕ
 name_of line = trimmed (before_first is_equals (command_rest line))
 
-abbrev pub value_of : List ℕ → List ℕ
-value_of line = trimmed (after_first is_equals (command_rest line))
+abbrev pub assigned_value : List ℕ → List ℕ
+assigned_value line = trimmed (after_first is_equals (command_rest line))
 
 -- whether the line is ENTER LANGUAGE=x with x not empty, in letters of either case
 abbrev pub enters_language : List ℕ → Bool
 enters_language line =
     begins_white (line_text line) && (bytes_eq (raised (command_word line)) (codes "ENTER")
-    && (bytes_eq (raised (name_of line)) (codes "LANGUAGE") && not (length (value_of line) == 0)))
+    && (bytes_eq (raised (name_of line)) (codes "LANGUAGE") && not (length (assigned_value line) == 0)))
 
 -- The mode after a line: Pcl or Foreign where it enters PCL or another language, else Exit.
 abbrev pub mode_after : List ℕ → Mode
 mode_after line =
     if enters_language line
-    then (if bytes_eq (raised (value_of line)) (codes "PCL") then Pcl else Foreign)
+    then (if bytes_eq (raised (assigned_value line)) (codes "PCL") then Pcl else Foreign)
     else Exit

@@ -3,7 +3,7 @@
 //! Source: PJL Technical Reference Manual, the syntax of PJL commands.
 ghost use Rattle.std.specs.Prelude.{◌≡◌, ◌↔◌, true, false, IsTrue, MatchOption, position, bytes_eq};
 ghost use Rattle.std.specs.List.{before_first, after_first, list_all};
-ghost use Rattle.press_cmd.specs.Language.{is_white, is_equals, begins_white, trimmed_front, trimmed_end, trimmed, without_end, line_text, command_word, command_rest, name_of, value_of, raised, enters_language};
+ghost use Rattle.press_cmd.specs.Language.{is_white, is_equals, begins_white, trimmed_front, trimmed_end, trimmed, without_end, line_text, command_word, command_rest, name_of, assigned_value, raised, enters_language};
 ghost use Rattle.press_cmd.specs.Grammar.{BeginsLine, IsLine, is_line_byte};
 
 use crate::marks::{ESCAPE, LINE_FEED, LONGEST_LINE, PJL_MARK, differs};
@@ -136,7 +136,7 @@ pub fn command_of(line: &[u8]) -> (&[u8], &[u8])
 /// round them; all and nothing where no equals sign stands.
 pub fn assignment_of(line: &[u8]) -> (&[u8], &[u8])
     ensures name { result.0.now ≡ name_of line.now }
-    ensures value { result.1.now ≡ value_of line.now }
+    ensures value { result.1.now ≡ assigned_value line.now }
 {
     let (_, rest) = command_of(line);
     let (name, value) = split_name(rest);
@@ -148,7 +148,7 @@ pub fn assignment_of(line: &[u8]) -> (&[u8], &[u8])
 /// Source: PJL Technical Reference Manual, the ENTER command.
 pub fn language(line: &[u8]) -> Option<&[u8]>
     ensures { MatchOption result (enters_language line.now ≡ false)
-        (λ language. (enters_language line.now ≡ true) × (language.now ≡ value_of line.now)) }
+        (λ language. (enters_language line.now ≡ true) × (language.now ≡ assigned_value line.now)) }
 {
     let (word, _) = command_of(line);
     let (name, value) = assignment_of(line);

@@ -7,16 +7,16 @@ use Rattle.press_sink.specs.declared.fault.SinkError.TheVariants as sink_errors
 use Rattle.press_sink.specs.declared.fault.ReplyError.{ReplyError}
 use Rattle.press_sink.specs.declared.fault.ReplyError.TheVariants as reply_errors
 use Rattle.press_sink.specs.Told.{SheetsTold, RepliesTold, Told, both, most_faults, CanCount, Delivers, Replies}
-use Rattle.press_sink.specs.Sending.{Output, Deliver, Reply, AtSheet, AtReply, ForMemory, Whole, TookAll, StoppedAtSheet, StoppedAtReply}
+use Rattle.press_sink.specs.Sending.{Output, Deliver, Reply, AtSheet, AtReply, ForMemory, Complete, TookAll, StoppedAtSheet, StoppedAtReply}
 use Rattle.press_sink.proofs.SendingLemmas.{told-nothing, TookAll-none, WentOut-then, WentOut-stopped}
 use Rattle.press_engine.specs.declared.fault.EngineError.{EngineError}
 use Rattle.press_engine.specs.declared.fault.EngineError.TheVariants as engine_errors
 use Rattle.press_engine.specs.Engine.{Sends}
-use Rattle.press_engine.specs.Outputs.{copies_of}
+use Rattle.press_engine.specs.Outputs.{copies_out}
 
 -- all of the outputs went out, and then others so far
 pub Sends-then : (tag : ℕ) (outputs others : List Output) (result : Result (Unit {0}) EngineError) (before between after : Told) → TookAll tag outputs before between → Sends tag others result between after → Sends tag (outputs ++ others) result before after
-Sends-then tag outputs others (Ok done) before between after first then = WentOut-then tag outputs others Whole before between after first then
+Sends-then tag outputs others (Ok done) before between after first then = WentOut-then tag outputs others Complete before between after first then
 Sends-then tag outputs others (Err engine_errors.SinkFault) before between after first then = WentOut-then tag outputs others AtSheet before between after first then
 Sends-then tag outputs others (Err engine_errors.ReplyFault) before between after first then = WentOut-then tag outputs others AtReply before between after first then
 Sends-then tag outputs others (Err engine_errors.NoMemory) before between after first then = WentOut-then tag outputs others ForMemory before between after first then
@@ -77,32 +77,32 @@ can_count-then tag outputs before after took can = record {
 }
 
 -- a copy went out, and then of the others so much
-pub Sends-copy : (sheet : Sides) (tag done copies : ℕ) (result : Result (Unit {0}) EngineError) (before between after : Told) → done < copies → TookAll tag (Deliver sheet ∷ []) before between → Sends tag (copies_of sheet (copies - (done + 1))) result between after → Sends tag (copies_of sheet (copies - done)) result before after
+pub Sends-copy : (sheet : Sides) (tag done copies : ℕ) (result : Result (Unit {0}) EngineError) (before between after : Told) → done < copies → TookAll tag (Deliver sheet ∷ []) before between → Sends tag (copies_out sheet (copies - (done + 1))) result between after → Sends tag (copies_out sheet (copies - done)) result before after
 Sends-copy sheet tag done copies result before between after below first then =
     let e : copies - done ≡ suc (copies - (done + 1)) = omega arith in
-    let P : ℕ → Type 0 = λ n. Sends tag (copies_of sheet n) result before after in
-    subst P (sym e) (Sends-then tag (Deliver sheet ∷ []) (copies_of sheet (copies - (done + 1))) result before between after first then)
+    let P : ℕ → Type 0 = λ n. Sends tag (copies_out sheet n) result before after in
+    subst P (sym e) (Sends-then tag (Deliver sheet ∷ []) (copies_out sheet (copies - (done + 1))) result before between after first then)
 
 -- a copy that did not go out
-pub Sends-stopped_copy : (sheet : Sides) (tag done copies : ℕ) (first result : Result (Unit {0}) EngineError) (error : EngineError) (before after : Told) → done < copies → Sends tag (Deliver sheet ∷ []) first before after → first ≡ Err error → result ≡ Err error → Sends tag (copies_of sheet (copies - done)) result before after
+pub Sends-stopped_copy : (sheet : Sides) (tag done copies : ℕ) (first result : Result (Unit {0}) EngineError) (error : EngineError) (before after : Told) → done < copies → Sends tag (Deliver sheet ∷ []) first before after → first ≡ Err error → result ≡ Err error → Sends tag (copies_out sheet (copies - done)) result before after
 Sends-stopped_copy sheet tag done copies first result error before after below sends stops exits =
     let e : copies - done ≡ suc (copies - (done + 1)) = omega arith in
-    let P : ℕ → Type 0 = λ n. Sends tag (copies_of sheet n) result before after in
-    subst P (sym e) (Sends-exit tag (Deliver sheet ∷ []) (copies_of sheet (copies - (done + 1))) first result error before after sends stops exits)
+    let P : ℕ → Type 0 = λ n. Sends tag (copies_out sheet n) result before after in
+    subst P (sym e) (Sends-exit tag (Deliver sheet ∷ []) (copies_out sheet (copies - (done + 1))) first result error before after sends stops exits)
 
 -- no copy is left
-pub Sends-no_copy : (sheet : Sides) (tag done copies : ℕ) (told : Told) → copies ≤ done → Sends tag (copies_of sheet (copies - done)) (Ok tt) told told
+pub Sends-no_copy : (sheet : Sides) (tag done copies : ℕ) (told : Told) → copies ≤ done → Sends tag (copies_out sheet (copies - done)) (Ok tt) told told
 Sends-no_copy sheet tag done copies told past =
     let e : copies - done ≡ 0 = omega arith in
-    let P : ℕ → Type 0 = λ n. Sends tag (copies_of sheet n) (Ok tt) told told in
+    let P : ℕ → Type 0 = λ n. Sends tag (copies_out sheet n) (Ok tt) told told in
     subst P (sym e) (TookAll-none tag told)
 
 -- where there is a copy, something goes out
-pub copies_of-some : (sheet : Sides) (done copies : ℕ) → done < copies → copies_of sheet copies ≢ []
-copies_of-some sheet done copies below =
+pub copies_out-some : (sheet : Sides) (done copies : ℕ) → done < copies → copies_out sheet copies ≢ []
+copies_out-some sheet done copies below =
     let e : copies ≡ suc (copies - 1) = omega arith in
-    let P : ℕ → Type 0 = λ n. copies_of sheet n ≢ [] in
-    subst P (sym e) (λ (nothing : copies_of sheet (suc (copies - 1)) ≡ []). cc)
+    let P : ℕ → Type 0 = λ n. copies_out sheet n ≢ [] in
+    subst P (sym e) (λ (nothing : copies_out sheet (suc (copies - 1)) ≡ []). cc)
 
 -- where a part of the outputs is not empty, they are not
 pub some-before : (outputs others : List Output) → outputs ≢ [] → outputs ++ others ≢ []

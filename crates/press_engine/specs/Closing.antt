@@ -16,7 +16,7 @@ use Rattle.press_engine.specs.declared.effect.Selection.TheVariants.{NextSide, F
 use Rattle.press_engine.specs.declared.state.State.{State}
 use Rattle.press_engine.specs.Motion.{to_first_line, to_home}
 use Rattle.press_engine.specs.Outcome.{Outcome, done, after_outputs, counted, Effect, Done, Closes, changes, reset_fields, is_marked, with_environment}
-use Rattle.press_engine.specs.Outputs.{copies_of}
+use Rattle.press_engine.specs.Outputs.{copies_out}
 use Rattle.press_engine.specs.Place.{blank_page}
 
 -- the page as it is: blank where no mark was made
@@ -27,7 +27,7 @@ page_now state = unwrap_or state.page (blank_page state.environment.paper)
 abbrev pub finish : sheets.Sides → State → Outcome
 finish sheet state = record {
   state = record state { sheets = counted state.sheets state.environment.settings.copies };
-  outputs = copies_of sheet state.environment.settings.copies;
+  outputs = copies_out sheet state.environment.settings.copies;
 }
 
 -- A side of a sheet in duplex: the front of the next sheet, which waits, or the back of the front that waits.

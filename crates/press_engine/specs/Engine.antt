@@ -4,7 +4,7 @@ use Rattle.std.specs.Borrow.{Bor}
 use Rattle.press_cmd.specs.Token.{Token}
 use Rattle.press_cursor.specs.declared.stack.CursorPosition.{CursorPosition}
 use Rattle.press_sink.specs.Told.{Told}
-use Rattle.press_sink.specs.Sending.{Output, Whole, AtSheet, AtReply, ForMemory, WentOut}
+use Rattle.press_sink.specs.Sending.{Output, Complete, AtSheet, AtReply, ForMemory, WentOut}
 use Rattle.press_engine.specs.declared.engine.Engine.{Engine}
 use Rattle.press_engine.specs.declared.fault.EngineError.{EngineError}
 use Rattle.press_engine.specs.declared.fault.EngineError.TheVariants as engine_errors
@@ -21,7 +21,7 @@ live engine = if engine.failed then None else Some engine.machine
 
 -- How far outputs went out, by what was answered.
 abbrev pub Sends : ℕ → List Output → Result (Unit {0}) EngineError → Told → Told → Type 0
-Sends tag outputs (Ok _) before after = WentOut tag outputs Whole before after
+Sends tag outputs (Ok _) before after = WentOut tag outputs Complete before after
 Sends tag outputs (Err engine_errors.SinkFault) before after = WentOut tag outputs AtSheet before after
 Sends tag outputs (Err engine_errors.ReplyFault) before after = WentOut tag outputs AtReply before after
 Sends tag outputs (Err engine_errors.NoMemory) before after = WentOut tag outputs ForMemory before after

@@ -1,7 +1,7 @@
 //! The rows that close the page, and what a page close does.
 
 use crate::canvas::Canvas;
-use crate::effect::{Closer, Effect, Finished, PageChange, Selection, Sent};
+use crate::effect::{Closer, Effect, FinishedSheet, PageChange, Selection, Sent};
 use crate::state::State;
 use press_page::{Orientation, PageSize, Sides};
 use press_sink::Sheet;
@@ -39,7 +39,7 @@ impl State {
     }
 
     /// Finishes a sheet: it goes out in the copies of now, and is counted in each.
-    fn finish(&mut self, front: Canvas, back: Option<Canvas>) -> Finished
+    fn finish(&mut self, front: Canvas, back: Option<Canvas>) -> FinishedSheet
         ensures state { self.new ≡ record self.old {
           sheets = counted self.old.sheets self.old.environment.settings.copies;
         } }
@@ -53,7 +53,7 @@ impl State {
             Some(back) => Some(back.bitmap),
             None => None,
         };
-        Finished {
+        FinishedSheet {
             sheet: Sheet {
                 front: front.bitmap,
                 back,
@@ -63,7 +63,7 @@ impl State {
     }
 
     /// Closes the page: it is a side of a sheet, which is finished unless it is a front in duplex.
-    fn close(&mut self, alloc: Global) -> Result<Option<Finished>, AllocError>
+    fn close(&mut self, alloc: Global) -> Result<Option<FinishedSheet>, AllocError>
         ensures { IfOk result (λ finished.
             record { state = self.new; outputs = finished_of finished } ≡ close self.old) }
     {
@@ -81,7 +81,7 @@ impl State {
     }
 
     /// Takes out the front that waits for its back: it goes out alone.
-    fn front_alone(&mut self) -> Option<Finished>
+    fn front_alone(&mut self) -> Option<FinishedSheet>
         ensures { record { state = self.new; outputs = finished_of result } ≡ front_alone self.old }
     {
         let front = self.pending.take()?;
@@ -104,7 +104,7 @@ impl State {
         &mut self,
         alloc: Global,
         selection: Selection,
-    ) -> Result<Option<Finished>, AllocError>
+    ) -> Result<Option<FinishedSheet>, AllocError>
         ensures turned { IfOk result (λ alone.
             record { state = self.new; outputs = finished_of alone } ≡ turn_to selection self.old) }
         ensures memory { IsErr result
@@ -145,7 +145,7 @@ impl State {
     }
 
     /// Changes the page, which has no mark; answers a front that goes out alone.
-    fn change_page(&mut self, change: PageChange) -> Option<Finished>
+    fn change_page(&mut self, change: PageChange) -> Option<FinishedSheet>
         ensures { record { state = self.new; outputs = finished_of result }
             ≡ change_page change self.old }
     {
@@ -173,7 +173,7 @@ impl State {
     }
 
     /// What a command that closes the page does after the close; answers a front that goes out alone.
-    fn end(&mut self, alloc: Global, closer: Closer) -> Result<Option<Finished>, AllocError>
+    fn end(&mut self, alloc: Global, closer: Closer) -> Result<Option<FinishedSheet>, AllocError>
         ensures { IfOk result (λ alone.
             record { state = self.new; outputs = finished_of alone } ≡ ended closer self.old) }
     {

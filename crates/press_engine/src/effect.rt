@@ -6,7 +6,7 @@ use press_sink::Sheet;
 
 /// A finished sheet, and how many times it goes out.
 #[derive(Drop)]
-pub struct Finished {
+pub struct FinishedSheet {
     pub sheet: Sheet,
     pub copies: u16,
 }
@@ -16,8 +16,8 @@ pub struct Finished {
 pub enum Sent {
     /// The sheet that a page close finished, and then a front that waited for its back and goes out alone.
     Sheets {
-        closed: Option<Finished>,
-        alone: Option<Finished>,
+        closed: Option<FinishedSheet>,
+        alone: Option<FinishedSheet>,
     },
     /// The bytes of a reply.
     Reply(Vec<u8>),

@@ -29,7 +29,7 @@ impl State {
     ghost use Rattle.press_engine.specs.Table.{row, effect_on};
 
     /// What a row does with a command.
-    fn carry_out(
+    fn apply(
         &mut self,
         alloc: Global,
         operation: Operation,
@@ -92,7 +92,7 @@ impl State {
         if self.hp_gl && !operation.works_in_hp_gl() {
             return Ok(Effect::Done(Sent::nothing()));
         }
-        self.carry_out(alloc, operation, &command)
+        self.apply(alloc, operation, &command)
     }
 
     /// The row of a command's kind, and the page close that it may ask for.

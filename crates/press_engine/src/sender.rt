@@ -2,9 +2,9 @@ ghost use Rattle.std.specs.Prelude.{◌≢◌, [], ◌∷◌, IsErrOf};
 ghost use Rattle.press_sink.specs.Told.{both, CanCount};
 ghost use Rattle.press_sink.specs.Sending.{Deliver, Reply};
 ghost use Rattle.press_engine.specs.Engine.{Sends};
-ghost use Rattle.press_engine.specs.Outputs.{outputs_of, finished_of, copies_of};
+ghost use Rattle.press_engine.specs.Outputs.{outputs_of, finished_of, copies_out};
 
-use crate::effect::{Finished, Sent};
+use crate::effect::{FinishedSheet, Sent};
 use crate::fault::EngineError;
 use press_sink::{ReplyError, ReplySink, Sheet, SheetSink, SinkError};
 
@@ -31,7 +31,7 @@ pub fn send<S: SheetSink, R: ReplySink>(
 
 /// Delivers the copies of a finished sheet, where there is one.
 fn send_finished<S: SheetSink, R: ReplySink>(
-    finished: &Option<Finished>,
+    finished: &Option<FinishedSheet>,
     tag: u64,
     sheets: &mut S,
     replies: &mut R,
@@ -56,9 +56,9 @@ fn send_copies<S: SheetSink, R: ReplySink>(
     replies: &mut R,
 ) -> Result<(), EngineError>
     requires { CanCount (both (S.told sheets.old) (R.told replies.old)) }
-    ensures sends { Sends tag (copies_of sheet.now copies) result
+    ensures sends { Sends tag (copies_out sheet.now copies) result
         (both (S.told sheets.old) (R.told replies.old)) (both (S.told sheets.new) (R.told replies.new)) }
-    ensures memory { IsErrOf result EngineError.NoMemory → copies_of sheet.now copies ≢ [] }
+    ensures memory { IsErrOf result EngineError.NoMemory → copies_out sheet.now copies ≢ [] }
 {
     for _copy in 0..copies {
         deliver(sheet, tag, sheets, replies)?;

@@ -10,7 +10,7 @@ use Rattle.press_cmd.specs.declared.command.Command.{Command}
 use Rattle.press_scan.specs.Gives.{Passes, IsDone, Leaves}
 use Rattle.press_scan.specs.Held.{Held}
 use Rattle.press_sink.specs.Told.{Told, CanCount, most_faults}
-use Rattle.press_sink.specs.Sending.{Ending, Whole, AtSheet, AtReply, ForMemory, WentOut}
+use Rattle.press_sink.specs.Sending.{Ending, Complete, AtSheet, AtReply, ForMemory, WentOut}
 use Rattle.press_sink.proofs.SendingLemmas.{TookAll-none, WentOut-then, WentOut-stopped}
 use Rattle.press_engine.specs.declared.fault.EngineError.{EngineError}
 use Rattle.press_engine.specs.declared.fault.EngineError.TheVariants as engine_errors
@@ -22,16 +22,16 @@ use Rattle.press_main.specs.declared.printing.RunError.{RunError}
 use Rattle.press_main.specs.Printing.{SplitsInto, StandsFor, Carried, CarriedOut, Finished, ended_by, ending_of}
 
 -- no command changes nothing
-pub Carried-none : (machine : Machine) (engine : Option Machine) (tag : ℕ) (told : Told) → engine ≡ Some machine → Carried [] machine tag Whole engine told told
+pub Carried-none : (machine : Machine) (engine : Option Machine) (tag : ℕ) (told : Told) → engine ≡ Some machine → Carried [] machine tag Complete engine told told
 Carried-none machine engine tag told is =
-    let P : Run → Type 0 = λ run. WentOut tag run.outputs Whole told told in
+    let P : Run → Type 0 = λ run. WentOut tag run.outputs Complete told told in
     record {
       left = λ e. is ∙ ap (λ (run : Run). Some run.machine) (sym (run_all-none machine));
       went = subst P (sym (run_all-none machine)) (TookAll-none tag told);
     }
 
 -- commands that went out whole, and then others
-pub Carried-then : (commands others : List Token) (from : Machine) (tag : ℕ) (ending : Ending) (between new : Option Machine) (before middle after : Told) → Carried commands from tag Whole between before middle → Carried others (run_all commands from).machine tag ending new middle after → Carried (commands ++ others) from tag ending new before after
+pub Carried-then : (commands others : List Token) (from : Machine) (tag : ℕ) (ending : Ending) (between new : Option Machine) (before middle after : Told) → Carried commands from tag Complete between before middle → Carried others (run_all commands from).machine tag ending new middle after → Carried (commands ++ others) from tag ending new before after
 Carried-then commands others from tag ending between new before middle after first then =
     let joined = run_all-append commands others from in
     let P : Run → Type 0 = λ run. WentOut tag run.outputs ending before after in
@@ -41,7 +41,7 @@ Carried-then commands others from tag ending between new before middle after fir
     }
 
 -- commands of which not all went out, and others behind them
-pub Carried-stopped : (commands others : List Token) (from : Machine) (tag : ℕ) (ending : Ending) (new : Option Machine) (before after : Told) → (ending ≡ Whole → ⊥) → Carried commands from tag ending new before after → Carried (commands ++ others) from tag ending new before after
+pub Carried-stopped : (commands others : List Token) (from : Machine) (tag : ℕ) (ending : Ending) (new : Option Machine) (before after : Told) → (ending ≡ Complete → ⊥) → Carried commands from tag ending new before after → Carried (commands ++ others) from tag ending new before after
 Carried-stopped commands others from tag ending new before after stops stopped =
     let joined = run_all-append commands others from in
     let P : Run → Type 0 = λ run. WentOut tag run.outputs ending before after in
@@ -77,14 +77,14 @@ StandsFor-some held = stands held.ended where
 
 -- how outputs ended, by what the engine answered
 abbrev pub engine_ending : Result (Unit {0}) EngineError → Ending
-engine_ending (Ok _) = Whole
+engine_ending (Ok _) = Complete
 engine_ending (Err engine_errors.SinkFault) = AtSheet
 engine_ending (Err engine_errors.ReplyFault) = AtReply
 engine_ending (Err engine_errors.NoMemory) = ForMemory
-engine_ending (Err engine_errors.Failed) = Whole
+engine_ending (Err engine_errors.Failed) = Complete
 
 -- one command that was handed to an engine
-carried_by : (command : Token) (machine : Machine) (tag : ℕ) (ending : Ending) (new : Option Machine) (before after : Told) → (ending ≡ Whole → new ≡ Some (run command machine).machine) → WentOut tag (run command machine).outputs ending before after → Carried (command ∷ []) machine tag ending new before after
+carried_by : (command : Token) (machine : Machine) (tag : ℕ) (ending : Ending) (new : Option Machine) (before after : Told) → (ending ≡ Complete → new ≡ Some (run command machine).machine) → WentOut tag (run command machine).outputs ending before after → Carried (command ∷ []) machine tag ending new before after
 carried_by command machine tag ending new before after left went =
     let same = run_all-one command machine in
     let P : Run → Type 0 = λ run. WentOut tag run.outputs ending before after in
@@ -95,7 +95,7 @@ Carried-one command old new tag result answer before after e runs =
     subst (λ (one : Result (Unit {0}) EngineError). IfSome old (λ machine. Carried (command ∷ []) machine tag (engine_ending one) new before after)) e (carried old result runs) where
       carried : (old : Option Machine) (result : Result (Unit {0}) EngineError) → Runs old command tag result new before after → IfSome old (λ machine. Carried (command ∷ []) machine tag (engine_ending result) new before after)
       carried None result runs = tt
-      carried (Some machine) (Ok done) runs = carried_by command machine tag Whole new before after (λ _. runs.left) runs.sends
+      carried (Some machine) (Ok done) runs = carried_by command machine tag Complete new before after (λ _. runs.left) runs.sends
       carried (Some machine) (Err engine_errors.SinkFault) runs = carried_by command machine tag AtSheet new before after (λ e. cc) runs.sends
       carried (Some machine) (Err engine_errors.ReplyFault) runs = carried_by command machine tag AtReply new before after (λ e. cc) runs.sends
       carried (Some machine) (Err engine_errors.NoMemory) runs = carried_by command machine tag ForMemory new before after (λ e. cc) runs.sends
@@ -121,7 +121,7 @@ GoesOn first now from machine tag before told =
     (ending : Ending) (new : Option Machine) (after : Told) → CarriedOut now machine tag ending new told after → CarriedOut first from tag ending new before after
 
 -- the first command of what a scanner holds, and then the others
-pub CarriedOut-next : (held next : Held) (command : Token) (from : Machine) (tag : ℕ) (between : Option Machine) (before middle : Told) → Passes held command next → Carried (command ∷ []) from tag Whole between before middle → GoesOn held next from (run_all (command ∷ []) from).machine tag before middle
+pub CarriedOut-next : (held next : Held) (command : Token) (from : Machine) (tag : ℕ) (between : Option Machine) (before middle : Told) → Passes held command next → Carried (command ∷ []) from tag Complete between before middle → GoesOn held next from (run_all (command ∷ []) from).machine tag before middle
 CarriedOut-next held next command from tag between before middle passes first ending new after out = record {
   commands = command ∷ out.commands;
   stands = StandsFor-next held next command out.commands passes out.stands;
@@ -129,7 +129,7 @@ CarriedOut-next held next command from tag between before middle passes first en
 }
 
 -- the first command of what a scanner holds, where it stopped
-pub CarriedOut-stopped : (held next : Held) (command : Token) (from : Machine) (tag : ℕ) (ending : Ending) (new : Option Machine) (before after : Told) → Passes held command next → (ending ≡ Whole → ⊥) → Carried (command ∷ []) from tag ending new before after → CarriedOut held from tag ending new before after
+pub CarriedOut-stopped : (held next : Held) (command : Token) (from : Machine) (tag : ℕ) (ending : Ending) (new : Option Machine) (before after : Told) → Passes held command next → (ending ≡ Complete → ⊥) → Carried (command ∷ []) from tag ending new before after → CarriedOut held from tag ending new before after
 CarriedOut-stopped held next command from tag ending new before after passes stops carried =
     let others = StandsFor-some next in
     record {
@@ -139,7 +139,7 @@ CarriedOut-stopped held next command from tag ending new before after passes sto
     }
 
 -- nothing is left
-pub CarriedOut-none : (held : Held) (from : Machine) (tag : ℕ) (engine : Option Machine) (told : Told) → IsDone held → engine ≡ Some from → CarriedOut held from tag Whole engine told told
+pub CarriedOut-none : (held : Held) (from : Machine) (tag : ℕ) (engine : Option Machine) (told : Told) → IsDone held → engine ≡ Some from → CarriedOut held from tag Complete engine told told
 CarriedOut-none held from tag engine told done is = record {
   commands = [];
   stands = StandsFor-none held done;
@@ -147,7 +147,7 @@ CarriedOut-none held from tag engine told done is = record {
 }
 
 -- where all went out, the sinks can count as before
-pub can_count-then : (commands : List Token) (from : Machine) (tag : ℕ) (new : Option Machine) (before after : Told) → Carried commands from tag Whole new before after → CanCount before → CanCount after
+pub can_count-then : (commands : List Token) (from : Machine) (tag : ℕ) (new : Option Machine) (before after : Told) → Carried commands from tag Complete new before after → CanCount before → CanCount after
 can_count-then commands from tag new before after carried can = record {
   sheets = subst (λ (n : ℕ). n < most_faults) (sym carried.went.sheet_faults) can.sheets;
   replies = subst (λ (n : ℕ). n < most_faults) (sym carried.went.reply_faults) can.replies;
@@ -184,7 +184,7 @@ same_ending {X} {Y} first result error one p q e =
     ap (λ (answer : Result X RunError). ended_by answer) p ∙ ap ending_of (sym e) ∙ sym (ap (λ (answer : Result Y RunError). ended_by answer) q)
 
 -- what a scanner held was carried out after the end of input, and then one more universal exit
-pub Finished-then : (held : Held) (from : Machine) (tag : ℕ) (ending : Ending) (between new : Option Machine) (before middle after : Told) → CarriedOut (record held { ended = true }) from tag Whole between before middle → ((machine : Machine) → between ≡ Some machine → Carried (Uel ∷ []) machine tag ending new middle after) → Finished held.mode held.bytes from tag ending new before after
+pub Finished-then : (held : Held) (from : Machine) (tag : ℕ) (ending : Ending) (between new : Option Machine) (before middle after : Told) → CarriedOut (record held { ended = true }) from tag Complete between before middle → ((machine : Machine) → between ≡ Some machine → Carried (Uel ∷ []) machine tag ending new middle after) → Finished held.mode held.bytes from tag ending new before after
 Finished-then held from tag ending between new before middle after out exit = record {
   commands = out.commands;
   closed = out.stands;
@@ -192,7 +192,7 @@ Finished-then held from tag ending between new before middle after out exit = re
 }
 
 -- what a scanner held was not all carried out
-pub Finished-stopped : (held : Held) (from : Machine) (tag : ℕ) (ending : Ending) (new : Option Machine) (before after : Told) → (ending ≡ Whole → ⊥) → CarriedOut (record held { ended = true }) from tag ending new before after → Finished held.mode held.bytes from tag ending new before after
+pub Finished-stopped : (held : Held) (from : Machine) (tag : ℕ) (ending : Ending) (new : Option Machine) (before after : Told) → (ending ≡ Complete → ⊥) → CarriedOut (record held { ended = true }) from tag ending new before after → Finished held.mode held.bytes from tag ending new before after
 Finished-stopped held from tag ending new before after stops out = record {
   commands = out.commands;
   closed = out.stands;

@@ -7,7 +7,7 @@ use Rattle.press_cmd.specs.Split.{ClosedFrom, closing}
 use Rattle.press_cmd.specs.Token.{Token, Uel}
 use Rattle.press_scan.specs.Held.{Held}
 use Rattle.press_sink.specs.Told.{Told}
-use Rattle.press_sink.specs.Sending.{Ending, Whole, ForMemory, WentOut}
+use Rattle.press_sink.specs.Sending.{Ending, Complete, ForMemory, WentOut}
 use Rattle.press_sink.proofs.SendingLemmas.{TookAll-none, WentOut-then}
 use Rattle.press_engine.specs.declared.machine.Machine.{Machine}
 use Rattle.press_engine.specs.Machine.{Run, power_on, run_all}
@@ -18,21 +18,21 @@ use Rattle.press_main.specs.Printing.{SplitsInto, CarriedOut, Carried, Finished,
 use Rattle.press_main.proofs.Carrying.{StandsFor-some, Carried-stopped}
 
 -- a fault after which not all of what was read went out
-stopped_at : (left : Option Machine) (bytes : List ℕ) (tag : ℕ) (error : RunError) (before after : Told) → (ending_of error ≡ Whole → ⊥) → Prints bytes tag (ending_of error) None before after → PrintedTo (Some error) bytes tag left before after
+stopped_at : (left : Option Machine) (bytes : List ℕ) (tag : ℕ) (error : RunError) (before after : Told) → (ending_of error ≡ Complete → ⊥) → Prints bytes tag (ending_of error) None before after → PrintedTo (Some error) bytes tag left before after
 stopped_at left bytes tag run_errors.SinkFault before after stops prints = prints
 stopped_at left bytes tag run_errors.ReplyFault before after stops prints = prints
 stopped_at left bytes tag run_errors.NoMemory before after stops prints = prints
 stopped_at left bytes tag run_errors.ReadFault before after stops prints = absurd (stops refl)
 
 -- what was read, where a sink had a fault after it or memory ran out
-read_before : (had left : Option (List ℕ)) (first : Option RunError) (error : RunError) (bytes : List ℕ) → (ending_of error ≡ Whole → ⊥) → Reads had left first bytes → Reads had left (Some error) bytes
+read_before : (had left : Option (List ℕ)) (first : Option RunError) (error : RunError) (bytes : List ℕ) → (ending_of error ≡ Complete → ⊥) → Reads had left first bytes → Reads had left (Some error) bytes
 read_before had left first run_errors.SinkFault bytes stops read = record { more = read.more; lost = read.lost; behind = tt }
 read_before had left first run_errors.ReplyFault bytes stops read = record { more = read.more; lost = read.lost; behind = tt }
 read_before had left first run_errors.NoMemory bytes stops read = record { more = read.more; lost = read.lost; behind = tt }
 read_before had left first run_errors.ReadFault bytes stops read = absurd (stops refl)
 
 -- an engine that stopped is not spoken of
-stopped : (commands : List Token) (from : Machine) (tag : ℕ) (ending : Ending) (new : Option Machine) (before after : Told) → (ending ≡ Whole → ⊥) → Carried commands from tag ending new before after → Carried commands from tag ending None before after
+stopped : (commands : List Token) (from : Machine) (tag : ℕ) (ending : Ending) (new : Option Machine) (before after : Told) → (ending ≡ Complete → ⊥) → Carried commands from tag ending new before after → Carried commands from tag ending None before after
 stopped commands from tag ending new before after stops carried = record { left = λ e. absurd (stops e); went = carried.went }
 
 -- the split of bytes, and what closes their rest
@@ -62,7 +62,7 @@ fed : (held : Held) (bytes : List ℕ) → held.mode ≡ Exit → held.ended ≡
 fed held bytes from_exit not_ended grown = ap (λ (mode : Mode). record { mode = mode; bytes = held.bytes; ended = held.ended }) from_exit ∙ ap (λ (all : List ℕ). record { mode = Exit; bytes = all; ended = held.ended }) grown ∙ ap (λ flag. record { mode = Exit; bytes = bytes; ended = flag }) not_ended
 
 -- what a scanner at the beginning held was not all carried out
-pub Printed-stopped : (machine : Option Machine) (had left : Option (List ℕ)) (held : Held) (tag : ℕ) (first : Option RunError) (error : RunError) (new : Option Machine) (before after : Told) → held.mode ≡ Exit → held.ended ≡ false → Feeds [] held.bytes had left first → (ending_of error ≡ Whole → ⊥) → CarriedOut held power_on tag (ending_of error) new before after → Printed had left tag (Some error) machine before after
+pub Printed-stopped : (machine : Option Machine) (had left : Option (List ℕ)) (held : Held) (tag : ℕ) (first : Option RunError) (error : RunError) (new : Option Machine) (before after : Told) → held.mode ≡ Exit → held.ended ≡ false → Feeds [] held.bytes had left first → (ending_of error ≡ Complete → ⊥) → CarriedOut held power_on tag (ending_of error) new before after → Printed had left tag (Some error) machine before after
 Printed-stopped machine had left held tag first error new before after from_exit not_ended feeds stops out =
     let P : Held → Type 0 = λ one. CarriedOut one power_on tag (ending_of error) new before after in
     let carried = subst P (fed held feeds.bytes from_exit not_ended feeds.grown) out in
@@ -80,11 +80,11 @@ Printed-stopped machine had left held tag first error new before after from_exit
     }
 
 -- a read failed, or memory ran out while reading, and what was held before that was carried out
-pub Printed-unread : (machine : Option Machine) (had left : Option (List ℕ)) (held : Held) (tag : ℕ) (error : RunError) (new : Option Machine) (before after : Told) → held.mode ≡ Exit → held.ended ≡ false → Feeds [] held.bytes had left (Some error) → (error ≡ run_errors.ReadFault) ⊎ (error ≡ run_errors.NoMemory) → CarriedOut held power_on tag Whole new before after → Printed had left tag (Some error) machine before after
+pub Printed-unread : (machine : Option Machine) (had left : Option (List ℕ)) (held : Held) (tag : ℕ) (error : RunError) (new : Option Machine) (before after : Told) → held.mode ≡ Exit → held.ended ≡ false → Feeds [] held.bytes had left (Some error) → (error ≡ run_errors.ReadFault) ⊎ (error ≡ run_errors.NoMemory) → CarriedOut held power_on tag Complete new before after → Printed had left tag (Some error) machine before after
 Printed-unread machine had left held tag error new before after from_exit not_ended feeds cause out =
-    let P : Held → Type 0 = λ one. CarriedOut one power_on tag Whole new before after in
+    let P : Held → Type 0 = λ one. CarriedOut one power_on tag Complete new before after in
     record { bytes = feeds.bytes; read = feeds.read; printed = unread error cause (subst P (fed held feeds.bytes from_exit not_ended feeds.grown) out) } where
-      unread : (error : RunError) → (error ≡ run_errors.ReadFault) ⊎ (error ≡ run_errors.NoMemory) → CarriedOut (record { mode = Exit; bytes = feeds.bytes; ended = false }) power_on tag Whole new before after → PrintedTo (Some error) feeds.bytes tag machine before after
+      unread : (error : RunError) → (error ≡ run_errors.ReadFault) ⊎ (error ≡ run_errors.NoMemory) → CarriedOut (record { mode = Exit; bytes = feeds.bytes; ended = false }) power_on tag Complete new before after → PrintedTo (Some error) feeds.bytes tag machine before after
       unread run_errors.ReadFault cause carried = record { commands = carried.commands; split = carried.stands; went = carried.carried.went }
       unread run_errors.NoMemory cause carried =
           let closed = closed_from Exit feeds.bytes carried.commands carried.stands in
@@ -103,12 +103,12 @@ Printed-unread machine had left held tag error new before after from_exit not_en
       unread run_errors.ReplyFault cause carried = elim cause [ inl e ↦ cc | inr e ↦ cc ]
 
 -- the end of the stream was given, and it was carried out as far as was answered
-pub Printed-finished : (had left : Option (List ℕ)) (held : Held) (tag : ℕ) (result : Result (Unit {0}) RunError) (new : Option Machine) (before after : Told) → held.mode ≡ Exit → Feeds [] held.bytes had left None → (is_err result ≡ true → ended_by result ≡ Whole → ⊥) → Finished held.mode held.bytes power_on tag (ended_by result) new before after → Printed had left tag (fault_of result) new before after
+pub Printed-finished : (had left : Option (List ℕ)) (held : Held) (tag : ℕ) (result : Result (Unit {0}) RunError) (new : Option Machine) (before after : Told) → held.mode ≡ Exit → Feeds [] held.bytes had left None → (is_err result ≡ true → ended_by result ≡ Complete → ⊥) → Finished held.mode held.bytes power_on tag (ended_by result) new before after → Printed had left tag (fault_of result) new before after
 Printed-finished had left held tag result new before after from_exit feeds stops finished =
     let P : Mode → Type 0 = λ mode. Finished mode held.bytes power_on tag (ended_by result) new before after in
     let Q : List ℕ → Type 0 = λ all. Finished Exit all power_on tag (ended_by result) new before after in
     printed result stops (subst Q feeds.grown (subst P from_exit finished)) where
-      printed : (result : Result (Unit {0}) RunError) → (is_err result ≡ true → ended_by result ≡ Whole → ⊥) → Finished Exit feeds.bytes power_on tag (ended_by result) new before after → Printed had left tag (fault_of result) new before after
+      printed : (result : Result (Unit {0}) RunError) → (is_err result ≡ true → ended_by result ≡ Complete → ⊥) → Finished Exit feeds.bytes power_on tag (ended_by result) new before after → Printed had left tag (fault_of result) new before after
       printed (Ok done) stops whole = record { bytes = feeds.bytes; read = feeds.read; printed = whole }
       printed (Err error) stops whole = record {
         bytes = feeds.bytes;

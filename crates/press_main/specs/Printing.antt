@@ -6,7 +6,7 @@ use Rattle.press_cmd.specs.Mode.{Mode, Exit}
 use Rattle.press_cmd.specs.Split.{SplitFrom, ClosedFrom}
 use Rattle.press_scan.specs.Held.{Held}
 use Rattle.press_sink.specs.Told.{Told}
-use Rattle.press_sink.specs.Sending.{Ending, Whole, AtSheet, AtReply, ForMemory, WentOut}
+use Rattle.press_sink.specs.Sending.{Ending, Complete, AtSheet, AtReply, ForMemory, WentOut}
 use Rattle.press_engine.specs.declared.engine.Engine.{Engine}
 use Rattle.press_engine.specs.declared.machine.Machine.{Machine}
 use Rattle.press_engine.specs.Engine.{live}
@@ -35,17 +35,17 @@ at_end commands = commands ++ Uel ∷ []
 abbrev pub ending_of : RunError → Ending
 ending_of run_errors.SinkFault = AtSheet
 ending_of run_errors.ReplyFault = AtReply
-ending_of run_errors.ReadFault = Whole
+ending_of run_errors.ReadFault = Complete
 ending_of run_errors.NoMemory = ForMemory
 
 abbrev pub ended_by : {X : Type 0} → Result X RunError → Ending
-ended_by (Ok _) = Whole
+ended_by (Ok _) = Complete
 ended_by (Err error) = ending_of error
 
 -- Commands were handed one after another to an engine with this machine, under a tag: their outputs went out as far as the
 -- ending says, and where all of them went out, the new machine is what the commands leave.
 pub record Carried (commands : List Token) (from : Machine) (tag : ℕ) (ending : Ending) (new : Option Machine) (before after : Told) : Type 0 where
-  pub left : ending ≡ Whole → new ≡ Some (run_all commands from).machine
+  pub left : ending ≡ Complete → new ≡ Some (run_all commands from).machine
   pub went : WentOut tag (run_all commands from).outputs ending before after
 
 -- The same of the commands that a scanner held.
@@ -68,7 +68,7 @@ Prints bytes tag ending new before after = Finished Exit bytes power_on tag endi
 pub record PrintsSoFar (bytes : List ℕ) (tag : ℕ) (before after : Told) : Type 0 where
   pub commands : List Token
   pub split : SplitsInto Exit bytes commands
-  pub went : WentOut tag (meaning_of commands).outputs Whole before after
+  pub went : WentOut tag (meaning_of commands).outputs Complete before after
 
 -- Whether a reader has bytes behind those that were kept of it, by the error: none where there was no error; none that were
 -- read where a read failed; where a sink had a fault or memory ran out, more may have been read.
@@ -94,7 +94,7 @@ pub record Feeds (held now : List ℕ) (had left : Option (List ℕ)) (error : O
 -- What went out of the bytes that were read, by what was answered: all is printed; or a read failed, and the bytes are
 -- printed so far; or a sink had a fault or memory ran out, and they are printed as far as the answer says.
 abbrev pub PrintedTo : Option RunError → List ℕ → ℕ → Option Machine → Told → Told → Type 0
-PrintedTo None bytes tag new before after = Prints bytes tag Whole new before after
+PrintedTo None bytes tag new before after = Prints bytes tag Complete new before after
 PrintedTo (Some run_errors.ReadFault) bytes tag new before after = PrintsSoFar bytes tag before after
 PrintedTo (Some run_errors.SinkFault) bytes tag new before after = Prints bytes tag AtSheet None before after
 PrintedTo (Some run_errors.ReplyFault) bytes tag new before after = Prints bytes tag AtReply None before after

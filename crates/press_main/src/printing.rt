@@ -1,7 +1,7 @@
 ghost use Rattle.std.specs.Prelude.{◌≡◌, ◌≢◌, [], ◌∷◌, IsErr, IsSome, IfSome, Some};
 ghost use Rattle.press_cmd.specs.View.{token};
 ghost use Rattle.press_sink.specs.Told.{both, CanCount};
-ghost use Rattle.press_sink.specs.Sending.{Whole};
+ghost use Rattle.press_sink.specs.Sending.{Complete};
 ghost use Rattle.press_engine.specs.Engine.{live};
 ghost use Rattle.press_engine.specs.Machine.{power_on};
 ghost use Rattle.press_main.specs.Printing.{beginning, machine_of, fault_of, ended_by, Carried, CarriedOut, Finished, Printed};
@@ -56,7 +56,7 @@ fn carry<S: SheetSink, P: ReplySink>(
     ensures carried { IfSome (live engine.old) (λ machine.
         Carried (token command.entry ∷ []) machine tag (ended_by result) (live engine.new)
         (both (S.told sheets.old) (P.told replies.old)) (both (S.told sheets.new) (P.told replies.new))) }
-    ensures stops { IsErr result → ended_by result ≢ Whole }
+    ensures stops { IsErr result → ended_by result ≢ Complete }
 {
     match engine.run_command(command, tag, sheets, replies) {
         Ok(()) => Ok(()),
@@ -80,7 +80,7 @@ fn carry_out<S: SheetSink, P: ReplySink>(
     ensures carried { IfSome (live engine.old) (λ machine.
         CarriedOut scanner.old machine tag (ended_by result) (live engine.new)
         (both (S.told sheets.old) (P.told replies.old)) (both (S.told sheets.new) (P.told replies.new))) }
-    ensures stops { IsErr result → ended_by result ≢ Whole }
+    ensures stops { IsErr result → ended_by result ≢ Complete }
 {
     while let Some(command) = scanner.next()? {
         carry(engine, command, tag, sheets, replies)?;
@@ -102,7 +102,7 @@ fn finish<S: SheetSink, P: ReplySink>(
     ensures finished { IfSome (live engine.old) (λ machine.
         Finished scanner.old.mode scanner.old.bytes machine tag (ended_by result) (live engine.new)
         (both (S.told sheets.old) (P.told replies.old)) (both (S.told sheets.new) (P.told replies.new))) }
-    ensures stops { IsErr result → ended_by result ≢ Whole }
+    ensures stops { IsErr result → ended_by result ≢ Complete }
 {
     scanner.end_input();
     carry_out(scanner, engine, tag, sheets, replies)?;

@@ -2,7 +2,7 @@
 
 ghost use Rattle.std.specs.Prelude.{◌≡◌, ◌≤◌, ◌<◌, ◌+◌, ◌++◌, [], All, IfOk, OnOk, OnErr, if◌then◌else◌, length, nat_lt, vec_capacity, vec_len};
 ghost use Rattle.press_rows.specs.Row.{raster_row};
-ghost use Rattle.press_rows.specs.Encoding.{best_method, encoded, encoding, trimmed};
+ghost use Rattle.press_rows.specs.Encoding.{best_method, encoded, encoding, without_white_end};
 
 use crate::compression::Method;
 use crate::delta_row::{changes_len, write_changes};
@@ -99,7 +99,7 @@ fn shorter_plan(first: Plan, second: Plan) -> Plan
 
 /// The row without the zeros at its end.
 fn trimmed_row(row: &[u8]) -> &[u8]
-    ensures { result.now ≡ trimmed row.now }
+    ensures { result.now ≡ without_white_end row.now }
 {
     let mut len = row.len();
     while len > 0 && row[len - 1] == 0 {

@@ -16,7 +16,7 @@ use Rattle.press_scan.specs.declared.reading.Found.{Found}
 use Rattle.press_scan.specs.Modes.{mode_of}
 use Rattle.press_scan.specs.Stands.{IsFound, IsShort, IsRest}
 use Rattle.press_scan.specs.Closings.{IsClosing}
-use Rattle.press_scan.specs.Gives.{Closes, IsDone}
+use Rattle.press_scan.specs.Gives.{ClosesAs, IsDone}
 use Rattle.press_scan.specs.Peeks.{held, IsNextFound, Peeks}
 use Rattle.press_cmd.proofs.LineTest.{equal_and}
 
@@ -106,17 +106,17 @@ stays_exit false h = refl
 
 -- a rest that is one broken command
 whole_text : (byte : ℕ) (rest : List ℕ) (command : Token) (next : Mode) (few : Bool) → nat_lt (length (byte ∷ rest)) 4 ≡ few
-    → cond few (map Text (byte ∷ rest)) (Broken (byte ∷ rest) ∷ []) ≡ command ∷ [] → kind_of command ≡ kinds.Broken → next ≡ Pcl → Closes Exit (byte ∷ rest) [] command next
+    → cond few (map Text (byte ∷ rest)) (Broken (byte ∷ rest) ∷ []) ≡ command ∷ [] → kind_of command ≡ kinds.Broken → next ≡ Pcl → ClosesAs Exit (byte ∷ rest) [] command next
 whole_text byte rest command next true few closes broken then =
     let is_text : Text byte ≡ command = cc in
     let same : kinds.Text byte ≡ kinds.Broken = ap kind_of is_text ∙ broken in
     cc
 whole_text byte rest command next false few closes broken then =
     let is_broken : Broken (byte ∷ rest) ≡ command = cc in
-    subst (λ (c : Token). Closes Exit (byte ∷ rest) [] c next) is_broken (ltb-false (length (byte ∷ rest)) 4 few, refl, refl, then)
+    subst (λ (c : Token). ClosesAs Exit (byte ∷ rest) [] c next) is_broken (ltb-false (length (byte ∷ rest)) 4 few, refl, refl, then)
 
 whole_rest : (scanned : Mode) (bytes : List ℕ) (command : Token) (next : Mode) → (bytes ≡ [] → ⊥) → IsRest scanned bytes
-    → closing_in scanned bytes ≡ command ∷ [] → kind_of command ≡ kinds.Broken → next ≡ Pcl → Closes scanned bytes [] command next
+    → closing_in scanned bytes ≡ command ∷ [] → kind_of command ≡ kinds.Broken → next ≡ Pcl → ClosesAs scanned bytes [] command next
 whole_rest scanned [] command next some rest closes broken then = absurd (some refl)
 whole_rest Exit (byte ∷ bytes) command next some rest closes broken then = whole_text byte bytes command next (nat_lt (length (byte ∷ bytes)) 4) refl closes broken then
 whole_rest Tail (byte ∷ bytes) command next some rest closes broken then = absurd (some rest)
@@ -126,10 +126,10 @@ whole_rest Foreign (byte ∷ bytes) command next some rest closes broken then =
     cc
 whole_rest Pcl (byte ∷ bytes) command next some rest closes broken then =
     let is_broken : Broken (byte ∷ bytes) ≡ command = cc in
-    subst (λ (c : Token). Closes Pcl (byte ∷ bytes) [] c next) is_broken (refl, refl, then)
+    subst (λ (c : Token). ClosesAs Pcl (byte ∷ bytes) [] c next) is_broken (refl, refl, then)
 whole_rest (Open character group) (byte ∷ bytes) command next some rest closes broken then =
     let is_broken : Broken (escape_byte ∷ character ∷ group ∷ byte ∷ bytes) ≡ command = cc in
-    subst (λ (c : Token). Closes (Open character group) (byte ∷ bytes) [] c next) is_broken (refl, refl, then)
+    subst (λ (c : Token). ClosesAs (Open character group) (byte ∷ bytes) [] c next) is_broken (refl, refl, then)
 
 some_bytes : (bytes : List ℕ) (used : ℕ) → 0 < used → used ≤ length bytes → bytes ≡ [] → ⊥
 some_bytes bytes used some within e = omega (arith, ap length e)
@@ -163,7 +163,7 @@ module _ (mode scanned : Mode) (bytes : List ℕ) (found : Found) (lands : scann
       ]
 
   -- and by name what the command closes
-  closes_front : Closes scanned (take found.length bytes) (drop found.length bytes) (token found.command) (mode_of found.mode)
+  closes_front : ClosesAs scanned (take found.length bytes) (drop found.length bytes) (token found.command) (mode_of found.mode)
   closes_front =
       elim at.closes [
         | inl alone ↦
@@ -173,11 +173,11 @@ module _ (mode scanned : Mode) (bytes : List ℕ) (found : Found) (lands : scann
         | inr (inl text) ↦
             let few : length (take found.length bytes ++ drop found.length bytes) < 4 = rw (take-append-drop found.length bytes) text.1 in
             let one : take found.length bytes ≡ text.2 ∷ [] = ap (λ n. take n bytes) text.4 ∙ ap (take 1) text.3 in
-            let closed : Closes Exit (take found.length bytes) (drop found.length bytes) (Text text.2) (mode_of found.mode) = (few, one, text.6) in
+            let closed : ClosesAs Exit (take found.length bytes) (drop found.length bytes) (Text text.2) (mode_of found.mode) = (few, one, text.6) in
             rw (text.0, text.5) closed
         | inr (inr foreign) ↦
             let one : take found.length bytes ≡ foreign.1 ∷ [] = ap (λ n. take n bytes) foreign.3 ∙ ap (take 1) foreign.2 in
-            let closed : Closes Foreign (take found.length bytes) (drop found.length bytes) (ForeignByte foreign.1) (mode_of found.mode) = (one, foreign.5) in
+            let closed : ClosesAs Foreign (take found.length bytes) (drop found.length bytes) (ForeignByte foreign.1) (mode_of found.mode) = (one, foreign.5) in
             rw (foreign.0, foreign.4) closed
       ]
 

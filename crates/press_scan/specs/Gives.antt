@@ -13,14 +13,14 @@ use Rattle.press_scan.specs.Sequences.{longest_rest}
 -- Where the input ends and no command stands at the front of a rest, these bytes at its front are closed as the command,
 -- and leave those bytes and the next mode: part of `@PJL` is text, byte by byte, and then PCL; part of a universal exit
 -- in another language is foreign, byte by byte; and else the whole rest is one broken command, with its sequence.
-abbrev pub Closes : Mode → List ℕ → List ℕ → Token → Mode → Type 0
-Closes Exit used left (Text byte) next = (length (used ++ left) < length pjl_mark) × (used ≡ byte ∷ []) × (next ≡ Pcl)
-Closes Exit used left (Broken bytes) next = (length pjl_mark ≤ length used) × (bytes ≡ used) × (left ≡ []) × (next ≡ Pcl)
-Closes Foreign used left (ForeignByte byte) next = (used ≡ byte ∷ []) × (next ≡ Foreign)
-Closes Pcl used left (Broken bytes) next = (bytes ≡ used) × (left ≡ []) × (next ≡ Pcl)
-Closes (Open character group) used left (Broken bytes) next =
+abbrev pub ClosesAs : Mode → List ℕ → List ℕ → Token → Mode → Type 0
+ClosesAs Exit used left (Text byte) next = (length (used ++ left) < length pjl_mark) × (used ≡ byte ∷ []) × (next ≡ Pcl)
+ClosesAs Exit used left (Broken bytes) next = (length pjl_mark ≤ length used) × (bytes ≡ used) × (left ≡ []) × (next ≡ Pcl)
+ClosesAs Foreign used left (ForeignByte byte) next = (used ≡ byte ∷ []) × (next ≡ Foreign)
+ClosesAs Pcl used left (Broken bytes) next = (bytes ≡ used) × (left ≡ []) × (next ≡ Pcl)
+ClosesAs (Open character group) used left (Broken bytes) next =
     (bytes ≡ escape_byte ∷ character ∷ group ∷ used) × (left ≡ []) × (next ≡ Pcl)
-Closes _ _ _ _ _ = ⊥
+ClosesAs _ _ _ _ _ = ⊥
 
 -- A command was given. Before the end of input, what was held is the command's bytes and what is held now. After it
 -- too where a command stands at the front, and else the command is by name what closes the front; and the command and
@@ -31,7 +31,7 @@ pub record Passes (old : Held) (command : Token) (new : Held) : Type 0 where
   pub head : old.ended ≡ false → (used : List ℕ) × (old.bytes ≡ used ++ new.bytes) × Head old.mode used new.bytes command new.mode
   pub front : old.ended ≡ true → (used : List ℕ) × (old.bytes ≡ used ++ new.bytes)
       × (Head old.mode used new.bytes command new.mode
-      ⊎ (NoHead old.mode old.bytes × Closes (scanned_in old.mode old.bytes) used new.bytes command new.mode))
+      ⊎ (NoHead old.mode old.bytes × ClosesAs (scanned_in old.mode old.bytes) used new.bytes command new.mode))
   pub closes : old.ended ≡ true → (commands : List Token) → ClosedFrom new.mode new.bytes commands → ClosedFrom old.mode old.bytes (command ∷ commands)
 
 -- Nothing is left to give: before the end of input no command stands at the front, and after it nothing is held, and

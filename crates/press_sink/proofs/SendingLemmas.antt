@@ -6,7 +6,7 @@ use Rattle.std.specs.Io.KnownBytes.{Appends}
 use Rattle.press_sink.specs.Sides.{Sides}
 use Rattle.press_sink.specs.declared.sheet.Delivery.{Delivery}
 use Rattle.press_sink.specs.Told.{Told}
-use Rattle.press_sink.specs.Sending.{Output, Deliver, Reply, Ending, Whole, AtSheet, AtReply, ForMemory, sheets_of, under_tag, reply_bytes_of, TookAll, WentOut}
+use Rattle.press_sink.specs.Sending.{Output, Deliver, Reply, Ending, Complete, AtSheet, AtReply, ForMemory, sheets_of, under_tag, reply_bytes_of, TookAll, WentOut}
 
 sheets_of-append : (outputs others : List Output) → sheets_of (outputs ++ others) ≡ sheets_of outputs ++ sheets_of others
 sheets_of-append [] others = refl
@@ -60,7 +60,7 @@ TookAll-append tag outputs others before between after first then = record {
 
 -- all of the outputs went out, and then others so far
 pub WentOut-then : (tag : ℕ) (outputs others : List Output) (ending : Ending) (before between after : Told) → TookAll tag outputs before between → WentOut tag others ending between after → WentOut tag (outputs ++ others) ending before after
-WentOut-then tag outputs others Whole before between after first then = TookAll-append tag outputs others before between after first then
+WentOut-then tag outputs others Complete before between after first then = TookAll-append tag outputs others before between after first then
 WentOut-then tag outputs others AtSheet before between after first then = record {
   taken = outputs ++ then.taken;
   sheet = then.sheet;
@@ -90,8 +90,8 @@ WentOut-then tag outputs others ForMemory before between after first then = reco
 }
 
 -- outputs that did not all go out, and others behind them
-pub WentOut-stopped : (tag : ℕ) (outputs others : List Output) (ending : Ending) (before after : Told) → (ending ≡ Whole → ⊥) → WentOut tag outputs ending before after → WentOut tag (outputs ++ others) ending before after
-WentOut-stopped tag outputs others Whole before after stops stopped = absurd (stops refl)
+pub WentOut-stopped : (tag : ℕ) (outputs others : List Output) (ending : Ending) (before after : Told) → (ending ≡ Complete → ⊥) → WentOut tag outputs ending before after → WentOut tag (outputs ++ others) ending before after
+WentOut-stopped tag outputs others Complete before after stops stopped = absurd (stops refl)
 WentOut-stopped tag outputs others AtSheet before after stops stopped = record {
   taken = stopped.taken;
   sheet = stopped.sheet;

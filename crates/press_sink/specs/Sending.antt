@@ -33,7 +33,7 @@ sheets_in deliveries = map (λ (delivery : Delivery). delivery.sheet) deliveries
 -- How outputs went out: all of them; up to a sheet at which the sheet sink had a fault; up to a reply in which the reply
 -- sink had one; up to where memory ran out.
 pub data Ending : Type 0 where
-  Whole : Ending
+  Complete : Ending
   AtSheet : Ending
   AtReply : Ending
   ForMemory : Ending
@@ -77,7 +77,7 @@ pub record StoppedForMemory (tag : ℕ) (outputs : List Output) (before after : 
 
 -- How far these outputs went out, by how they ended.
 abbrev pub WentOut : ℕ → List Output → Ending → Told → Told → Type 0
-WentOut tag outputs Whole before after = TookAll tag outputs before after
+WentOut tag outputs Complete before after = TookAll tag outputs before after
 WentOut tag outputs AtSheet before after = StoppedAtSheet tag outputs before after
 WentOut tag outputs AtReply before after = StoppedAtReply tag outputs before after
 WentOut tag outputs ForMemory before after = StoppedForMemory tag outputs before after

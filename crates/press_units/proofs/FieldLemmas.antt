@@ -10,7 +10,7 @@ use Rattle.std.proofs.lemmas.List.{take_all, drop_all, take_rest, take_at, drop_
 use Rattle.std.proofs.lemmas.List.Elements.{recursion_from_All, All-nil}
 use Rattle.std.proofs.lemmas.List.Sums.{split_at_first, passes_at_first}
 use Rattle.press_units.specs.Field.{Parts, AreParts, IsSign, spelling, fraction_bytes, longest_field, IsField, is_sign, is_point}
-use Rattle.press_units.specs.Value.{sign_of, unsigned_part, fraction_of, parts_of, number_of_parts, tenthousandths_of, is_signed, StandsFor, number_of, four_digits}
+use Rattle.press_units.specs.Value.{sign_of, unsigned_part, fraction_of, parts_of, number_of_parts, tenthousandths_of, is_signed, IsNumberOf, number_of, four_digits}
 
 -- what stands round the first element that passes
 module _ {X : Type 0} (p : X → Bool) (xs : List X) where
@@ -141,8 +141,8 @@ module _ (parts : Parts) (are : AreParts parts) where
       ∙ ap (λ (whole : List ℕ). record parts { whole = whole; fraction = (parts_of (spelling parts)).fraction }) whole_is
       ∙ ap (λ (fraction : Option (List ℕ)). record parts { fraction = fraction }) fraction_is
 
-pub stands_for : (field : List ℕ) (number : ℤ) (signed : Bool) → number ≡ tenthousandths_of field → signed ≡ is_signed field → StandsFor field number signed
-stands_for field number signed is_number is_flag = λ parts are spelled.
+pub is_number_of : (field : List ℕ) (number : ℤ) (signed : Bool) → number ≡ tenthousandths_of field → signed ≡ is_signed field → IsNumberOf field number signed
+is_number_of field number signed is_number is_flag = λ parts are spelled.
     let same : parts_of field ≡ parts = ap parts_of spelled ∙ parts_of-spelling parts are in
     (is_number ∙ ap number_of_parts same, is_flag ∙ ap (λ (p : Parts). is_some p.sign) same)
 

@@ -74,8 +74,8 @@ abbrev pub is_signed : List ℕ → Bool
 is_signed field = is_some (parts_of field).sign
 
 -- The number and the flag of the sign are those of the parts that spell the field, whichever these are.
-abbrev pub StandsFor : List ℕ → ℤ → Bool → Type 0
-StandsFor field number signed =
+abbrev pub IsNumberOf : List ℕ → ℤ → Bool → Type 0
+IsNumberOf field number signed =
     (parts : Parts) → AreParts parts → field ≡ spelling parts → (number ≡ number_of_parts parts) × (signed ≡ is_some parts.sign)
 
 -- the whole part of a number in ten-thousandths: the fraction is dropped, towards zero

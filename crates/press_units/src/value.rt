@@ -2,7 +2,7 @@ ghost use Rattle.std.specs.Prelude.{◌≡◌, ◌<◌, ◌+◌, ◌-◌, ◌*�
 ghost use Rattle.std.specs.List.{All, slice_index_or, before_first};
 ghost use Rattle.std.specs.Char.{IsAsciiDigit};
 ghost use Rattle.press_units.specs.Field.{IsField, is_value_field, is_point};
-ghost use Rattle.press_units.specs.Value.{StandsFor, is_signed, sign_of, unsigned_part, fraction_of, with_sign, tenthousandths_of, whole_part, number_of, four_digits, lowest, highest};
+ghost use Rattle.press_units.specs.Value.{IsNumberOf, is_signed, sign_of, unsigned_part, fraction_of, with_sign, tenthousandths_of, whole_part, number_of, four_digits, lowest, highest};
 
 /// The most bytes that a value field has.
 pub const LONGEST_FIELD: usize = 32;
@@ -138,7 +138,7 @@ pub fn read_value(field: &[u8]) -> Value
     requires { IsField field.now }
     ensures value { result.tenthousandths ≡ tenthousandths_of field.now }
     ensures signed { result.signed ≡ is_signed field.now }
-    ensures parts { StandsFor field.now result.tenthousandths result.signed }
+    ensures parts { IsNumberOf field.now result.tenthousandths result.signed }
 {
     let (sign, unsigned) = split_sign(field);
     let (whole, fraction) = split_point(unsigned);

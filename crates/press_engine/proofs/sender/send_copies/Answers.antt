@@ -1,6 +1,6 @@
 use Rattle.std.proofs.Common.{◌∙◌, Err, Ok, sym, ap}
 use Rattle.std.proofs.lemmas.Result.{err_from_is_err_and}
-use Rattle.press_engine.proofs.SendsLemmas.{Sends-copy, Sends-stopped_copy, Sends-no_copy, can_count-then, copies_of-some}
+use Rattle.press_engine.proofs.SendsLemmas.{Sends-copy, Sends-stopped_copy, Sends-no_copy, can_count-then, copies_out-some}
 use Rattle.press_engine.proofs.sender.send_copies.Goals as goal
 
 pub returns-in_err-deliver-clause-sends : goal.returns-in_err-deliver-clause-sends
@@ -9,7 +9,7 @@ returns-in_err-deliver-clause-sends g c =
     c.loop-copy.invariant.rest _ _ (Sends-stopped_copy c.args.sheet.now c.args.tag c.loop-copy._copy c.args.copies c.deliver.result _ p.0 _ _ c.loop-copy-test.true c.deliver.ensures (c.in_err-deliver.was ∙ ap Err (sym p.2)) p.1)
 
 pub returns-in_err-deliver-clause-memory : goal.returns-in_err-deliver-clause-memory
-returns-in_err-deliver-clause-memory g c stops = copies_of-some c.args.sheet.now c.loop-copy._copy c.args.copies c.loop-copy-test.true
+returns-in_err-deliver-clause-memory g c stops = copies_out-some c.args.sheet.now c.loop-copy._copy c.args.copies c.loop-copy-test.true
 
 pub loop-copy-preserved : goal.loop-copy-preserved
 loop-copy-preserved g c = record {

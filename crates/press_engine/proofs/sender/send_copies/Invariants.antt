@@ -1,7 +1,7 @@
 use Rattle.std.proofs.Common.{◌-◌, Result}
 use Rattle.press_sink.specs.Told.{Told, both, CanCount}
 use Rattle.press_engine.specs.Engine.{Sends}
-use Rattle.press_engine.specs.Outputs.{copies_of}
+use Rattle.press_engine.specs.Outputs.{copies_out}
 use Rattle.press_engine.specs.declared.fault.EngineError.{EngineError}
 use Rattle.press_engine.proofs.sender.send_copies.Given as goal
 
@@ -10,5 +10,5 @@ abbrev pub invariant-loop-copy : goal.invariant-loop-copy
 invariant-loop-copy g l =
     record {
       can_count : CanCount (both (g.S.SheetSink.told l.sheets) (g.R.ReplySink.told l.replies));
-      rest : (result : Result (Unit {0}) EngineError) (after : Told) → Sends l.tag (copies_of l.sheet (l.copies - l._copy)) result (both (g.S.SheetSink.told l.sheets) (g.R.ReplySink.told l.replies)) after → Sends l.tag (copies_of l.sheet l.copies) result (both (g.S.SheetSink.told l.fn.sheets) (g.R.ReplySink.told l.fn.replies)) after;
+      rest : (result : Result (Unit {0}) EngineError) (after : Told) → Sends l.tag (copies_out l.sheet (l.copies - l._copy)) result (both (g.S.SheetSink.told l.sheets) (g.R.ReplySink.told l.replies)) after → Sends l.tag (copies_out l.sheet l.copies) result (both (g.S.SheetSink.told l.fn.sheets) (g.R.ReplySink.told l.fn.replies)) after;
     }

@@ -3,7 +3,7 @@ use Rattle.std.proofs.lemmas.Result.{err_from_is_err_and}
 use Rattle.press_cmd.specs.View.{token}
 use Rattle.press_scan.specs.Gives.{IsDone}
 use Rattle.press_sink.specs.Told.{both}
-use Rattle.press_sink.specs.Sending.{Ending, Whole}
+use Rattle.press_sink.specs.Sending.{Ending, Complete}
 use Rattle.press_engine.specs.Engine.{live}
 use Rattle.press_engine.specs.Machine.{run_all}
 use Rattle.press_main.specs.Printing.{CarriedOut, ended_by}
@@ -52,4 +52,4 @@ pub returns-clause-carried : goal.returns-clause-carried
 returns-clause-carried g c =
     let held = c.loop-command.scanner in
     let is_done = at_none (IsDone held) c.next.result c.in_ok-command.field-0 c.next.ensures.none c.in_ok-command.was c.in_default.is in
-    if_some (live c.args.engine.now) _ (λ from e. c.loop-command.invariant.rest from e Whole _ _ (CarriedOut-none held c.loop-command.invariant.machine c.args.tag (live c.loop-command.engine) _ is_done c.loop-command.invariant.running))
+    if_some (live c.args.engine.now) _ (λ from e. c.loop-command.invariant.rest from e Complete _ _ (CarriedOut-none held c.loop-command.invariant.machine c.args.tag (live c.loop-command.engine) _ is_done c.loop-command.invariant.running))

@@ -2,7 +2,7 @@ use Rattle.std.proofs.Common.{IfSome, is_err, ap, subst}
 use Rattle.std.proofs.lemmas.Result.{err_from_is_err_and}
 use Rattle.press_scan.specs.Held.{Held}
 use Rattle.press_sink.specs.Told.{both}
-use Rattle.press_sink.specs.Sending.{Ending, Whole}
+use Rattle.press_sink.specs.Sending.{Ending, Complete}
 use Rattle.press_engine.specs.Engine.{live}
 use Rattle.press_main.specs.Printing.{CarriedOut, Finished, ended_by}
 use Rattle.press_main.proofs.Carrying.{Finished-then, Finished-stopped, if_some, at_some, same_ending}
@@ -28,6 +28,6 @@ returns-clause-finished g c =
     let middle = both (g.S.SheetSink.told c.carry_out.new.sheets) (g.P.ReplySink.told c.carry_out.new.replies) in
     let after = both (g.S.SheetSink.told c.carry.new.sheets) (g.P.ReplySink.told c.carry.new.replies) in
     let between = live c.carry_out.new.engine in
-    let Q : Held → Type 0 = λ one. IfSome (live c.args.engine.now) (λ from. CarriedOut one from c.args.tag Whole between before middle) in
+    let Q : Held → Type 0 = λ one. IfSome (live c.args.engine.now) (λ from. CarriedOut one from c.args.tag Complete between before middle) in
     let out = subst Q c.end_input.ensures c.in_ok-carry_out.ensures.carried in
     if_some (live c.args.engine.now) _ (λ from e. Finished-then held from c.args.tag (ended_by c.carry.result) between (live c.carry.new.engine) before middle after (at_some (live c.args.engine.now) _ from e out) (λ machine is. at_some between _ machine is c.carry.ensures.carried))

@@ -2,7 +2,7 @@ use Rattle.std.proofs.Common.{◌∙◌, [], Option, is_err, sym, ap, subst}
 use Rattle.std.proofs.lemmas.Result.{err_from_is_err_and}
 use Rattle.press_scan.specs.Held.{Held}
 use Rattle.press_sink.specs.Told.{both}
-use Rattle.press_sink.specs.Sending.{Ending, Whole}
+use Rattle.press_sink.specs.Sending.{Ending, Complete}
 use Rattle.press_engine.specs.Engine.{live}
 use Rattle.press_engine.specs.Machine.{power_on}
 use Rattle.press_main.specs.declared.printing.RunError.{RunError}
@@ -37,7 +37,7 @@ returns-in-Err g c =
     let left = g.R.Read.remaining c.feed_all.new.reader in
     let held = c.feed_all.new.scanner in
     let new = live c.carry_out.new.engine in
-    let out = at_some (live c.args.engine.now) (λ machine. CarriedOut held machine c.args.tag Whole new before after) power_on c.requires.power_on c.in_ok-carry_out.ensures.carried in
+    let out = at_some (live c.args.engine.now) (λ machine. CarriedOut held machine c.args.tag Complete new before after) power_on c.requires.power_on c.in_ok-carry_out.ensures.carried in
     let R : Held → Type 0 = λ first. Feeds first.bytes held.bytes had left (fault_of c.feed_all.result) in
     let feeds = subst R c.requires.beginning c.feed_all.ensures.feeds in
     let S : Option RunError → Type 0 = λ fault. Feeds [] held.bytes had left fault in

@@ -1,7 +1,7 @@
 use Rattle.std.proofs.Common.{◌≡◌, ◌<◌, ℕ, List, refl, sym, ap, subst, length, ◌∙◌}
 use Rattle.std.proofs.lemmas.Bool.{eqb-true}
 use Rattle.std.proofs.lemmas.Slice.Eq.{bytes_eq-Decides}
-use Rattle.press_rows.specs.Encoding.{encoding, trimmed}
+use Rattle.press_rows.specs.Encoding.{encoding, without_white_end}
 use Rattle.press_rows.specs.declared.compression.Method.TheVariants.{Unencoded}
 use Rattle.press_rows.proofs.EarlyLemmas.{best_plain, best_delta, delta_of_same, not_empty}
 use Rattle.press_rows.specs.RunLengthEncoding.{run_pairs}
@@ -28,7 +28,7 @@ returns-clause-len c =
     c.changes_len.ensures).1
 
 -- the data of the row by itself is the row without the zeros at its end
-plain_data : (row seed inked : List ℕ) → inked ≡ trimmed row → length inked ≡ length (encoding Unencoded row seed)
+plain_data : (row seed inked : List ℕ) → inked ≡ without_white_end row → length inked ≡ length (encoding Unencoded row seed)
 unfolding encoding
 plain_data row seed inked is = ap length is
 
