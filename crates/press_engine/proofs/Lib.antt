@@ -1,3 +1,4 @@
+pub mod ChangeLemmas
 pub mod PlaceLemmas
 pub mod Runs
 pub mod SendsLemmas

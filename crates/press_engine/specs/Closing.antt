@@ -3,9 +3,8 @@
 -- waits. A finished sheet goes out in the copies of now.
 use Rattle.std.specs.Prelude.{ℤ, ◌&&◌, not, false, is_some, unwrap_or, if◌then◌else◌, [], ◌∷◌, Option, Some, None, option_map}
 use Rattle.press_bits.specs.Page.{Page}
-use Rattle.press_page.specs.Environment.{set_page_size, set_orientation, set_sides}
+use Rattle.press_page.specs.Environment.{asked_page_size, with_page_size, asked_orientation, with_orientation, asked_sides, with_printed_sides}
 use Rattle.press_page.specs.Numbers.{named}
-use Rattle.press_page.specs.Paper.{page_size_of, orientation_of, sides_of}
 use Rattle.press_sink.specs.Sides as sheets
 use Rattle.press_engine.specs.declared.effect.Closer.{Closer}
 use Rattle.press_engine.specs.declared.effect.Closer.TheVariants as closers
@@ -75,11 +74,11 @@ turn_to Back state = done (blank_front state)
 abbrev pub change_page : PageChange → State → Outcome
 change_page page_changes.Reset state = then_change reset_fields (front_alone state)
 change_page (page_changes.Size size) state =
-    then_change (λ after. to_home (with_environment (set_page_size size) after)) (front_alone state)
+    then_change (λ after. to_home (with_environment (with_page_size size) after)) (front_alone state)
 change_page (page_changes.Orientation orientation) state =
-    done (to_home (with_environment (set_orientation orientation) state))
+    done (to_home (with_environment (with_orientation orientation) state))
 change_page (page_changes.Sides sides) state =
-    then_change (λ after. to_home (with_environment (set_sides sides) after)) (front_alone state)
+    then_change (λ after. to_home (with_environment (with_printed_sides sides) after)) (front_alone state)
 
 -- What a command that closes the page does after the close.
 abbrev pub ended : Closer → State → Outcome
@@ -101,20 +100,20 @@ close_and_change change state =
 abbrev pub reset : State → Effect
 reset state = close_and_change page_changes.Reset (record state { hp_gl = false })
 
--- ESC&l#A, page size; ESC&l#O, logical page orientation; ESC&l#S, simplex/duplex print: a number that is none of theirs has
--- no effect
+-- ESC&l#A, page size; ESC&l#O, logical page orientation; ESC&l#S, simplex/duplex print: a change where a value asks for one,
+-- which is where the page environment says that the page closes
 abbrev pub page_change_or_none : Option PageChange → State → Effect
 page_change_or_none None state = changes state
 page_change_or_none (Some change) state = close_and_change change state
 
-abbrev pub select_page_size : (number : ℤ) → State → Effect
-select_page_size number = page_change_or_none (option_map page_changes.Size (page_size_of number))
+abbrev pub select_page_size : (value : ℤ) → State → Effect
+select_page_size value = page_change_or_none (option_map page_changes.Size (asked_page_size value))
 
-abbrev pub select_orientation : (number : ℤ) → State → Effect
-select_orientation number = page_change_or_none (option_map page_changes.Orientation (orientation_of number))
+abbrev pub select_orientation : (value : ℤ) → State → Effect
+select_orientation value = page_change_or_none (option_map page_changes.Orientation (asked_orientation value))
 
-abbrev pub select_sides : (number : ℤ) → State → Effect
-select_sides number = page_change_or_none (option_map page_changes.Sides (sides_of number))
+abbrev pub select_sides : (value : ℤ) → State → Effect
+select_sides value = page_change_or_none (option_map page_changes.Sides (asked_sides value))
 
 -- ESC&l#H, paper source (this profile: for every value, a page with a mark is ejected)
 abbrev pub eject_page : State → Effect

@@ -11,7 +11,7 @@ use std::alloc::{AllocError, Global};
 impl State {
     ghost use Rattle.std.specs.Prelude.{◌≡◌, ◌≢◌, IfOk, IsErr, None};
     ghost use Rattle.press_units.specs.Value.{whole_part};
-    ghost use Rattle.press_page.specs.Environment.{set_page_size, set_orientation, set_sides};
+    ghost use Rattle.press_page.specs.Environment.{with_page_size, with_orientation, with_printed_sides};
     ghost use Rattle.press_engine.specs.Effects.{effect_of};
     ghost use Rattle.press_engine.specs.Engine.{TakesMemory, IsClosing};
     ghost use Rattle.press_engine.specs.Motion.{to_home};
@@ -122,25 +122,25 @@ impl State {
 
     /// Another page size; the cursor goes home.
     fn change_page_size(&mut self, size: PageSize)
-        ensures { self.new ≡ to_home (with_environment (set_page_size size) self.old) }
+        ensures { self.new ≡ to_home (with_environment (with_page_size size) self.old) }
     {
-        self.environment.set_page_size(size);
+        self.environment.change_page_size(size);
         self.move_home();
     }
 
     /// Another orientation; the cursor goes home.
     fn change_orientation(&mut self, orientation: Orientation)
-        ensures { self.new ≡ to_home (with_environment (set_orientation orientation) self.old) }
+        ensures { self.new ≡ to_home (with_environment (with_orientation orientation) self.old) }
     {
-        self.environment.set_orientation(orientation);
+        self.environment.change_orientation(orientation);
         self.move_home();
     }
 
     /// Other sides to print; the cursor goes home.
     fn change_sides(&mut self, sides: Sides)
-        ensures { self.new ≡ to_home (with_environment (set_sides sides) self.old) }
+        ensures { self.new ≡ to_home (with_environment (with_printed_sides sides) self.old) }
     {
-        self.environment.set_sides(sides);
+        self.environment.change_sides(sides);
         self.move_home();
     }
 
@@ -230,34 +230,37 @@ impl State {
 
     /// `&l#A`: the page size.
     pub fn select_page_size(&mut self, value: Value) -> Effect
-        ensures { effect_of self.new result
-            ≡ select_page_size (whole_part value.tenthousandths) self.old }
+        ensures { effect_of self.new result ≡ select_page_size value.tenthousandths self.old }
     {
-        match PageSize::of_number(value.whole()) {
-            Some(size) => self.close_and_change(PageChange::Size(size)),
-            None => Effect::Done(Sent::nothing()),
+        let mut next = self.environment;
+        if next.set_page_size(value) {
+            self.close_and_change(PageChange::Size(next.paper.size))
+        } else {
+            Effect::Done(Sent::nothing())
         }
     }
 
     /// `&l#O`: the orientation.
     pub fn select_orientation(&mut self, value: Value) -> Effect
-        ensures { effect_of self.new result
-            ≡ select_orientation (whole_part value.tenthousandths) self.old }
+        ensures { effect_of self.new result ≡ select_orientation value.tenthousandths self.old }
     {
-        match Orientation::of_number(value.whole()) {
-            Some(orientation) => self.close_and_change(PageChange::Orientation(orientation)),
-            None => Effect::Done(Sent::nothing()),
+        let mut next = self.environment;
+        if next.set_orientation(value) {
+            self.close_and_change(PageChange::Orientation(next.paper.orientation))
+        } else {
+            Effect::Done(Sent::nothing())
         }
     }
 
     /// `&l#S`: the sides that are printed.
     pub fn select_sides(&mut self, value: Value) -> Effect
-        ensures { effect_of self.new result
-            ≡ select_sides (whole_part value.tenthousandths) self.old }
+        ensures { effect_of self.new result ≡ select_sides value.tenthousandths self.old }
     {
-        match Sides::of_number(value.whole()) {
-            Some(sides) => self.close_and_change(PageChange::Sides(sides)),
-            None => Effect::Done(Sent::nothing()),
+        let mut next = self.environment;
+        if next.set_sides(value) {
+            self.close_and_change(PageChange::Sides(next.paper.printed_sides()))
+        } else {
+            Effect::Done(Sent::nothing())
         }
     }
 

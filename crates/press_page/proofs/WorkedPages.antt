@@ -5,7 +5,7 @@ use Rattle.press_units.specs.declared.position.Resolution.TheVariants.{Dpi300}
 use Rattle.press_cursor.specs.Cursor.{home, position, moved_x, moved_y}
 use Rattle.press_cursor.specs.CursorState.{CursorState}
 use Rattle.std.specs.Prelude.{codes}
-use Rattle.press_page.specs.Environment.{factory, reset_environment, logical_page_of, set_orientation, set_page_size, set_top_margin, set_right_margin, set_line_spacing, set_horizontal_motion, passes_text}
+use Rattle.press_page.specs.Environment.{factory, reset_environment, logical_page_of, closes_page, asked_page_size, set_page_size, with_page_size, set_orientation, with_orientation, set_top_margin, set_right_margin, set_line_spacing, set_horizontal_motion, passes_text}
 use Rattle.press_page.specs.Margins.{default_text_length}
 use Rattle.press_page.specs.Paper.{physical_page, page_size_of}
 use Rattle.press_page.specs.Place.{to_physical, to_frame, cursor_dot}
@@ -20,7 +20,7 @@ letter = reset_environment factory
 
 -- ESC&l1O: landscape
 abbrev landscape : PageEnv
-landscape = set_orientation Landscape letter
+landscape = set_orientation (tenthousandths_of (codes "1")) letter
 
 -- the physical dot of the cursor's frame dot, so many columns and lines on
 abbrev dot : (column line : ℕ) → Dot
@@ -58,10 +58,10 @@ letter-text = refl
 landscape-text : landscape.margins.text_length ≡ 54000
 landscape-text = refl
 
-a4-text : (set_page_size A4 letter).margins.text_length ≡ 76800
+a4-text : (with_page_size A4 letter).margins.text_length ≡ 76800
 a4-text = refl
 
-a3-text : (set_page_size A3 letter).margins.text_length ≡ 111600
+a3-text : (with_page_size A3 letter).margins.text_length ≡ 111600
 a3-text = refl
 
 no_line : default_text_length 79200 3600 0 ≡ 72000
@@ -85,7 +85,7 @@ half_a_column : (set_right_margin (tenthousandths_of (codes "-0.5")) letter).mar
 half_a_column = refl
 
 -- Ledger in landscape, columns of one unit: the greatest value and one is cut to the page
-widest : (set_right_margin (tenthousandths_of (codes "65535")) (set_horizontal_motion (tenthousandths_of (codes "1")) (set_orientation Landscape (set_page_size Ledger letter)))).margins.right ≡ 119520
+widest : (set_right_margin (tenthousandths_of (codes "65535")) (set_horizontal_motion (tenthousandths_of (codes "1")) (with_orientation Landscape (with_page_size Ledger letter)))).margins.right ≡ 119520
 widest = refl
 
 -- the last line of the text, and one position below it
@@ -100,3 +100,13 @@ a4-number = refl
 
 no_size : page_size_of (neg_ℤ (pos 2)) ≡ None
 no_size = refl
+
+-- ESC&l26.9A is A4 and closes the page; ESC&l4A leaves all as it is
+a4-closes : closes_page (asked_page_size (tenthousandths_of (codes "26.9"))) ≡ true
+a4-closes = refl
+
+no_size-stays : set_page_size (tenthousandths_of (codes "4")) landscape ≡ landscape
+no_size-stays = refl
+
+no_size-closes_nothing : closes_page (asked_page_size (tenthousandths_of (codes "4"))) ≡ false
+no_size-closes_nothing = refl

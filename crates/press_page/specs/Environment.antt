@@ -6,7 +6,7 @@ use Rattle.press_units.specs.Value.{whole_part}
 use Rattle.press_units.specs.declared.position.Resolution.TheVariants.{Dpi300}
 use Rattle.press_cursor.specs.declared.logical_page.LogicalPage.{LogicalPage}
 use Rattle.press_page.specs.Margins.{default_top, default_text_length, default_margins, top_margin_of, text_length_of, left_margin_of, right_margin_of}
-use Rattle.press_page.specs.Paper.{logical_width, logical_length, logical_page, with_sides}
+use Rattle.press_page.specs.Paper.{page_size_of, orientation_of, sides_of, logical_width, logical_length, logical_page, with_sides}
 use Rattle.press_page.specs.Settings.{measure_of, line_termination_of, horizontal_motion_of, vertical_motion_of, line_spacing_of, skip_change_of, copies_of, default_vertical_motion, default_horizontal_motion, default_settings}
 use Rattle.press_page.specs.declared.defaults.Defaults.{Defaults}
 use Rattle.press_page.specs.declared.environment.PageEnv.{PageEnv}
@@ -151,19 +151,42 @@ clear_margins env = record env { margins = record env.margins { left = 0; right 
 abbrev pub with_default_margins : PageEnv → PageEnv
 with_default_margins env = record env { margins = default_margins env.paper env.settings.vertical_motion }
 
+-- Whether the page closes, if it has a mark, at ESC&l#A, ESC&l#O and ESC&l#S: where the value asks for something, also for what
+-- holds already. No other setter closes the page.
+abbrev pub closes_page : {Asked : Type 0} → Option Asked → Bool
+closes_page asked = is_some asked
+
 -- ESC&l#A, Page Size: the margins go back to their defaults, also for the size that holds
-abbrev pub set_page_size : PageSize → PageEnv → PageEnv
-set_page_size size env = with_default_margins (record env { paper = record env.paper { size = size } })
+abbrev pub asked_page_size : ℤ → Option PageSize
+asked_page_size value = page_size_of (whole_part value)
+
+abbrev pub with_page_size : PageSize → PageEnv → PageEnv
+with_page_size size env = with_default_margins (record env { paper = record env.paper { size = size } })
+
+abbrev pub set_page_size : ℤ → PageEnv → PageEnv
+set_page_size value = changed_by (asked_page_size value) with_page_size
 
 -- ESC&l#O, Logical Page Orientation: the motion indices go back to their defaults first
-abbrev pub set_orientation : Orientation → PageEnv → PageEnv
-set_orientation orientation env =
+abbrev pub asked_orientation : ℤ → Option Orientation
+asked_orientation value = orientation_of (whole_part value)
+
+abbrev pub with_orientation : Orientation → PageEnv → PageEnv
+with_orientation orientation env =
     with_default_margins (with_vertical_motion default_vertical_motion (with_horizontal_motion default_horizontal_motion
     (record env { paper = record env.paper { orientation = orientation } })))
 
+abbrev pub set_orientation : ℤ → PageEnv → PageEnv
+set_orientation value = changed_by (asked_orientation value) with_orientation
+
 -- ESC&l#S, Simplex/Duplex Print
-abbrev pub set_sides : Sides → PageEnv → PageEnv
-set_sides sides env = record env { paper = with_sides sides env.paper }
+abbrev pub asked_sides : ℤ → Option Sides
+asked_sides value = sides_of (whole_part value)
+
+abbrev pub with_printed_sides : Sides → PageEnv → PageEnv
+with_printed_sides sides env = record env { paper = with_sides sides env.paper }
+
+abbrev pub set_sides : ℤ → PageEnv → PageEnv
+set_sides value = changed_by (asked_sides value) with_printed_sides
 
 -- ESC&l#X, Number of Copies
 abbrev pub set_copies : ℤ → PageEnv → PageEnv

@@ -1,12 +1,13 @@
 -- Page sizes, orientations and the sides that are printed (PCL 5 Printer Language Technical Reference Manual, Page
 -- Control Commands: Page Size, Logical Page Orientation, Simplex/Duplex Print; the sizes in dots, the offsets and which
 -- sizes there are, are this profile's).
-use Rattle.std.specs.Prelude.{ℕ, ◌*◌, ◌-◌, ◌/◌, ℤ, true, false, [], ◌∷◌, Option}
+use Rattle.std.specs.Prelude.{ℕ, ◌*◌, ◌-◌, ◌/◌, ℤ, true, false, [], ◌∷◌, Option, if◌then◌else◌}
 use Rattle.press_units.specs.Measure.{positions_per_inch}
 use Rattle.press_units.specs.declared.position.Resolution.{Resolution}
 use Rattle.press_units.specs.declared.position.Resolution.TheVariants.{Dpi300}
 use Rattle.press_cursor.specs.declared.logical_page.LogicalPage.{LogicalPage}
 use Rattle.press_page.specs.Numbers.{named}
+use Rattle.press_page.specs.declared.paper.Binding.{Binding}
 use Rattle.press_page.specs.declared.paper.Binding.TheVariants as bindings
 use Rattle.press_page.specs.declared.paper.Dimensions.{Dimensions}
 use Rattle.press_page.specs.declared.paper.Orientation.{Orientation}
@@ -101,3 +102,12 @@ abbrev pub with_sides : Sides → Paper → Paper
 with_sides OneSided paper = record paper { duplex = false }
 with_sides TwoSidedLongEdge paper = record paper { duplex = true; binding = bindings.LongEdge }
 with_sides TwoSidedShortEdge paper = record paper { duplex = true; binding = bindings.ShortEdge }
+
+-- both sides, bound along an edge
+abbrev pub two_sided : Binding → Sides
+two_sided bindings.LongEdge = TwoSidedLongEdge
+two_sided bindings.ShortEdge = TwoSidedShortEdge
+
+-- The sides that are printed on a paper.
+abbrev pub printed_sides : Paper → Sides
+printed_sides paper = if paper.duplex then two_sided paper.binding else OneSided

@@ -16,6 +16,11 @@ use press_units::{Resolution, Value};
 
 /// The page environment. A setter takes the value of its command; a value that the command does not know changes
 /// nothing.
+///
+/// `set_page_size`, `set_orientation` and `set_sides` answer whether the page closes, if it has a mark: it does at each
+/// value that they know. At every other setter the page never closes; what some of them answer is whether they had
+/// effect. A page that closes does so on the paper that held until then: ask a copy of the environment first, and change
+/// it after the close by `change_page_size`, `change_orientation` or `change_sides`.
 #[derive(Clone, Copy, Debug, PartialEq, Eq)]
 pub struct PageEnv {
     /// What a macro call restores.
@@ -37,7 +42,7 @@ fn passes(limit: i64, y: i64, distance: u16) -> bool
 impl PageEnv {
     ghost use Rattle.std.specs.Prelude.{◌≡◌, ◌<◌, ◌^◌, is_some, unsigned_abs};
     ghost use Rattle.press_page.specs.Place.{cursor_dot};
-    ghost use Rattle.press_page.specs.Environment.{reset_environment, logical_page_of, set_unit_of_measure, set_line_termination, set_horizontal_motion, set_vertical_motion, set_line_spacing, with_top, asked_top, set_top_margin, set_text_length, set_perforation_skip, skip_moves_top, asked_left, set_left_margin, asked_right, set_right_margin, clear_margins, with_default_margins, set_page_size, set_orientation, set_sides, set_copies, text_end, passes_text};
+    ghost use Rattle.press_page.specs.Environment.{reset_environment, logical_page_of, set_unit_of_measure, set_line_termination, set_horizontal_motion, set_vertical_motion, set_line_spacing, with_top, asked_top, set_top_margin, set_text_length, set_perforation_skip, skip_moves_top, asked_left, set_left_margin, asked_right, set_right_margin, clear_margins, with_default_margins, closes_page, asked_page_size, with_page_size, set_page_size, asked_orientation, with_orientation, set_orientation, asked_sides, with_printed_sides, set_sides, set_copies, text_end, passes_text};
 
     /// The page environment after power on, `ESC E` and a universal exit.
     pub fn reset_from(defaults: &Defaults) -> Self
@@ -217,18 +222,17 @@ impl PageEnv {
         self.margins = Margins::defaults(self.paper, self.settings.vertical_motion);
     }
 
-    /// `ESC & l # A`: the page size, with margins and text length by default. A page that is marked closes before.
-    pub fn set_page_size(&mut self, size: PageSize)
-        ensures { self.new ≡ set_page_size size self.old }
+    /// Another page size, with margins and text length by default.
+    pub fn change_page_size(&mut self, size: PageSize)
+        ensures { self.new ≡ with_page_size size self.old }
     {
         self.paper.size = size;
         self.set_default_margins();
     }
 
-    /// `ESC & l # O`: the orientation, with motion indices, margins and text length by default. A page that is marked
-    /// closes before.
-    pub fn set_orientation(&mut self, orientation: Orientation)
-        ensures { self.new ≡ set_orientation orientation self.old }
+    /// Another orientation, with motion indices, margins and text length by default.
+    pub fn change_orientation(&mut self, orientation: Orientation)
+        ensures { self.new ≡ with_orientation orientation self.old }
     {
         self.paper.orientation = orientation;
         self.settings.horizontal_motion = DEFAULT_HORIZONTAL_MOTION;
@@ -236,11 +240,54 @@ impl PageEnv {
         self.set_default_margins();
     }
 
-    /// `ESC & l # S`: the sides that are printed. A page that is marked closes before.
-    pub fn set_sides(&mut self, sides: Sides)
-        ensures { self.new ≡ set_sides sides self.old }
+    /// Other sides to print.
+    pub fn change_sides(&mut self, sides: Sides)
+        ensures { self.new ≡ with_printed_sides sides self.old }
     {
         self.paper = self.paper.with_sides(sides);
+    }
+
+    /// `ESC & l # A`: the page size, with margins and text length by default; answers whether the page closes.
+    pub fn set_page_size(&mut self, value: Value) -> bool
+        ensures set { self.new ≡ set_page_size value.tenthousandths self.old }
+        ensures closes { result ≡ closes_page (asked_page_size value.tenthousandths) }
+    {
+        match PageSize::of_number(value.whole()) {
+            Some(size) => {
+                self.change_page_size(size);
+                true
+            }
+            None => false,
+        }
+    }
+
+    /// `ESC & l # O`: the orientation, with motion indices, margins and text length by default; answers whether the page
+    /// closes.
+    pub fn set_orientation(&mut self, value: Value) -> bool
+        ensures set { self.new ≡ set_orientation value.tenthousandths self.old }
+        ensures closes { result ≡ closes_page (asked_orientation value.tenthousandths) }
+    {
+        match Orientation::of_number(value.whole()) {
+            Some(orientation) => {
+                self.change_orientation(orientation);
+                true
+            }
+            None => false,
+        }
+    }
+
+    /// `ESC & l # S`: the sides that are printed; answers whether the page closes.
+    pub fn set_sides(&mut self, value: Value) -> bool
+        ensures set { self.new ≡ set_sides value.tenthousandths self.old }
+        ensures closes { result ≡ closes_page (asked_sides value.tenthousandths) }
+    {
+        match Sides::of_number(value.whole()) {
+            Some(sides) => {
+                self.change_sides(sides);
+                true
+            }
+            None => false,
+        }
     }
 
     /// `ESC & l # X`: copies, at least 1; more than 999 are 999.

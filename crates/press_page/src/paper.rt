@@ -1,5 +1,5 @@
 ghost use Rattle.std.specs.Prelude.{◌≡◌, ◌≤◌, ◌<◌, ◌*◌};
-ghost use Rattle.press_page.specs.Paper.{page_size_of, orientation_of, sides_of, sized, dimensions_of, turned, offset_of, scale, physical_page, frame, offset, logical_width, logical_length, logical_page, with_sides};
+ghost use Rattle.press_page.specs.Paper.{page_size_of, orientation_of, sides_of, sized, dimensions_of, turned, offset_of, scale, physical_page, frame, offset, logical_width, logical_length, logical_page, with_sides, printed_sides};
 
 use crate::place::{Dot, Extent, to_frame, to_physical};
 use press_cursor::LogicalPage;
@@ -103,7 +103,7 @@ impl PageSize {
     /// The page size that `ESC & l # A` names by a number.
     ///
     /// Source: PCL 5 Printer Language Technical Reference Manual, Page Size command.
-    pub fn of_number(number: i64) -> Option<Self>
+    pub(crate) fn of_number(number: i64) -> Option<Self>
         ensures { result ≡ page_size_of number }
     {
         match number {
@@ -140,7 +140,7 @@ impl Orientation {
     /// The orientation that `ESC & l # O` names by a number.
     ///
     /// Source: PCL 5 Printer Language Technical Reference Manual, Logical Page Orientation command.
-    pub fn of_number(number: i64) -> Option<Self>
+    pub(crate) fn of_number(number: i64) -> Option<Self>
         ensures { result ≡ orientation_of number }
     {
         match number {
@@ -157,7 +157,7 @@ impl Sides {
     /// The sides that `ESC & l # S` names by a number.
     ///
     /// Source: PCL 5 Printer Language Technical Reference Manual, Simplex/Duplex Print command.
-    pub fn of_number(number: i64) -> Option<Self>
+    pub(crate) fn of_number(number: i64) -> Option<Self>
         ensures { result ≡ sides_of number }
     {
         match number {
@@ -181,7 +181,7 @@ fn offset_of(orientation: Orientation, size: Dimensions) -> u32
 
 impl Paper {
     ghost use Rattle.std.specs.Prelude.{◌≡◌, ◌<◌, ◌^◌};
-    ghost use Rattle.press_page.specs.Paper.{physical_page, frame, offset, logical_width, logical_length, logical_page, with_sides};
+    ghost use Rattle.press_page.specs.Paper.{physical_page, frame, offset, logical_width, logical_length, logical_page, with_sides, printed_sides};
     ghost use Rattle.press_page.specs.Place.{to_physical, to_frame};
 
     /// The physical page, in dots of the engine.
@@ -273,6 +273,17 @@ impl Paper {
                 binding: Binding::ShortEdge,
                 ..self
             },
+        }
+    }
+
+    /// The sides that are printed.
+    pub fn printed_sides(self) -> Sides
+        ensures { result ≡ printed_sides self }
+    {
+        match (self.duplex, self.binding) {
+            (false, _) => Sides::OneSided,
+            (true, Binding::LongEdge) => Sides::TwoSidedLongEdge,
+            (true, Binding::ShortEdge) => Sides::TwoSidedShortEdge,
         }
     }
 }

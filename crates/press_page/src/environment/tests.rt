@@ -3,6 +3,7 @@ use crate::paper::Binding;
 use crate::settings::LineTermination;
 use press_units::{is_field, read_value};
 use std::process::Abort;
+use std::test::Fail;
 
 /// Letter in portrait after a reset.
 fn letter() -> PageEnv {
@@ -272,55 +273,79 @@ fn copies_of_a_sheet(rt: HostRuntime) {
     }
 }
 
+/// A command for size, orientation or sides by its letter, its field, and what the field names; where it names nothing, the
+/// page does not close and nothing changes.
+const PAPER: &str = "\
+A 0 -
+A 1 Executive
+A 2 Letter
+A 3 Legal
+A 4 -
+A 5 -
+A 6 Ledger
+A 7 -
+A 25 -
+A 26 A4
+A 27 A3
+A 28 -
+A -2 -
+A 0.9999 -
+A +26.9 A4
+A 27.9999 A3
+O -1 -
+O -0.9 Portrait
+O 0 Portrait
+O 1 Landscape
+O 2 ReversePortrait
+O 3 ReverseLandscape
+O 4 -
+O +1.5 Landscape
+S -1 -
+S -0.9 OneSided
+S 0 OneSided
+S 1 TwoSidedLongEdge
+S 2 TwoSidedShortEdge
+S 3 -
+S +1.9999 TwoSidedLongEdge";
+
 #[test]
-fn numbers_of_paper(rt: HostRuntime) {
-    let sizes: [(i64, Option<PageSize>); 10] = [
-        (0, None),
-        (1, Some(PageSize::Executive)),
-        (2, Some(PageSize::Letter)),
-        (3, Some(PageSize::Legal)),
-        (4, None),
-        (6, Some(PageSize::Ledger)),
-        (26, Some(PageSize::A4)),
-        (27, Some(PageSize::A3)),
-        (28, None),
-        (-2, None),
-    ];
-    for (number, size) in sizes {
-        assert_eq!(rt; PageSize::of_number(number), size);
+fn a_page_closes_at_each_paper_that_a_value_names(rt: HostRuntime) -> Result<(), Fail> {
+    assert_eq!(rt; PAPER.lines().count(), 31);
+    let mut env = letter();
+    for line in PAPER.lines() {
+        let (command, rest) = line.split_once(' ').ok_or("no command")?;
+        let (field, wanted) = rest.split_once(' ').ok_or("no field")?;
+        let asked = value(&rt, field.as_bytes());
+        let before = env;
+        let closes = match command {
+            "A" => env.set_page_size(asked),
+            "O" => env.set_orientation(asked),
+            _ => env.set_sides(asked),
+        };
+        let named = match command {
+            "A" => format!(in rt.alloc(); "{:?}", env.paper.size)?,
+            "O" => format!(in rt.alloc(); "{:?}", env.paper.orientation)?,
+            _ => format!(in rt.alloc(); "{:?}", env.paper.printed_sides())?,
+        };
+        assert_eq!(rt; closes, wanted != "-", "{line}");
+        if closes {
+            assert_eq!(rt; named.as_str(), wanted);
+        } else {
+            assert!(rt; env == before, "{line}");
+        }
     }
-    let orientations: [(i64, Option<Orientation>); 6] = [
-        (-1, None),
-        (0, Some(Orientation::Portrait)),
-        (1, Some(Orientation::Landscape)),
-        (2, Some(Orientation::ReversePortrait)),
-        (3, Some(Orientation::ReverseLandscape)),
-        (4, None),
-    ];
-    for (number, orientation) in orientations {
-        assert_eq!(rt; Orientation::of_number(number), orientation);
-    }
-    let sides: [(i64, Option<Sides>); 5] = [
-        (-1, None),
-        (0, Some(Sides::OneSided)),
-        (1, Some(Sides::TwoSidedLongEdge)),
-        (2, Some(Sides::TwoSidedShortEdge)),
-        (3, None),
-    ];
-    for (number, which) in sides {
-        assert_eq!(rt; Sides::of_number(number), which);
-    }
+    Ok(())
 }
 
 #[test]
 fn simplex_keeps_the_binding(rt: HostRuntime) {
     let mut env = letter();
-    env.set_sides(Sides::TwoSidedShortEdge);
+    assert!(rt; env.set_sides(value(&rt, b"2")));
     assert!(rt; env.paper.duplex);
-    env.set_sides(Sides::OneSided);
+    assert!(rt; env.set_sides(value(&rt, b"0")));
     assert!(rt; !env.paper.duplex);
     assert_eq!(rt; env.paper.binding, Binding::ShortEdge);
-    env.set_sides(Sides::TwoSidedLongEdge);
+    env.change_sides(Sides::TwoSidedLongEdge);
     assert_eq!(rt; env.paper.binding, Binding::LongEdge);
     let short = env.paper.with_sides(Sides::TwoSidedShortEdge);
     assert_eq!(rt; (short.duplex, short.binding), (true, Binding::ShortEdge));
@@ -331,7 +356,7 @@ fn paper_sets_the_margins(rt: HostRuntime) {
     let mut env = letter();
     env.set_vertical_motion(value(&rt, b"12"));
     assert!(rt; env.set_left_margin(value(&rt, b"5")));
-    env.set_page_size(PageSize::A4);
+    assert!(rt; env.set_page_size(value(&rt, b"26")));
     // 84,168 - 7,200 positions have room for 42 lines of 1,800.
     assert_eq!(rt;
         env.margins,
@@ -348,8 +373,8 @@ fn paper_sets_the_margins(rt: HostRuntime) {
 fn an_orientation_sets_motion_and_margins(rt: HostRuntime) {
     let mut env = letter();
     env.set_vertical_motion(value(&rt, b"12"));
-    env.set_page_size(PageSize::A4);
-    env.set_orientation(Orientation::Landscape);
+    env.change_page_size(PageSize::A4);
+    assert!(rt; env.set_orientation(value(&rt, b"1")));
     assert_eq!(rt; env.settings.vertical_motion, 1200);
     assert_eq!(rt; env.settings.horizontal_motion, 720);
     // 59,520 - 7,200 positions have room for 43 lines of 1,200.
@@ -363,7 +388,7 @@ fn an_orientation_sets_motion_and_margins(rt: HostRuntime) {
         }
     );
     env.set_vertical_motion(value(&rt, b"0"));
-    env.set_page_size(PageSize::A4);
+    env.change_page_size(PageSize::A4);
     assert_eq!(rt; env.margins.text_length, 52_320);
 }
 
@@ -416,9 +441,9 @@ fn a_frame_is_the_page_turned(rt: HostRuntime) {
         ),
     ];
     let mut env = letter();
-    env.set_page_size(PageSize::Ledger);
+    env.change_page_size(PageSize::Ledger);
     for (orientation, frame, logical) in orientations {
-        env.set_orientation(orientation);
+        env.change_orientation(orientation);
         let page = env.paper.physical_page(Resolution::Dpi300);
         assert_eq!(rt; (page.width, page.height), (3300, 5100));
         let turned = env.paper.frame(Resolution::Dpi300);
