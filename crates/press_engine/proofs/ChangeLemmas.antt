@@ -9,11 +9,10 @@ use Rattle.press_page.specs.declared.paper.Orientation.{Orientation}
 use Rattle.press_page.specs.declared.paper.PageSize.{PageSize}
 use Rattle.press_page.specs.declared.paper.Sides.{Sides}
 use Rattle.press_page.specs.declared.paper.Sides.TheVariants.{OneSided, TwoSidedLongEdge, TwoSidedShortEdge}
-use Rattle.press_engine.specs.declared.effect.PageChange.{PageChange}
-use Rattle.press_engine.specs.declared.effect.PageChange.TheVariants as page_changes
+use Rattle.press_engine.specs.declared.effect.Closer.{Closer}
 use Rattle.press_engine.specs.declared.state.State.{State}
-use Rattle.press_engine.specs.Closing.{close_and_change, page_change_or_none}
-use Rattle.press_engine.specs.Outcome.{changes}
+use Rattle.press_engine.specs.Closing.{close_if_marked, close_if_asked}
+use Rattle.press_engine.specs.Outcome.{Changes}
 
 -- a size, an orientation or sides that a value asks for are those of the environment that it sets
 pub size_asked : (asked : Option PageSize) (env : PageEnv) → closes_page asked ≡ true → asked ≡ Some (changed_by asked with_page_size env).paper.size
@@ -31,10 +30,10 @@ sides_asked (Some TwoSidedShortEdge) env closes = refl
 sides_asked None env closes = absurd (true≢false (sym closes))
 
 -- what is asked for is what changes
-pub changes_asked : {Asked : Type 0} (change : Asked → PageChange) (asked : Option Asked) (named : Asked) (state : State) → asked ≡ Some named → close_and_change (change named) state ≡ page_change_or_none (option_map change asked) state
-changes_asked change asked named state is = sym (ap (λ asked. page_change_or_none (option_map change asked) state) is)
+pub changes_asked : {Asked : Type 0} (closer : Asked → Closer) (asked : Option Asked) (named : Asked) (state : State) → asked ≡ Some named → close_if_marked (closer named) state ≡ close_if_asked (option_map closer asked) state
+changes_asked closer asked named state is = sym (ap (λ asked. close_if_asked (option_map closer asked) state) is)
 
 -- where nothing is asked for, nothing changes
-pub nothing_asked : {Asked : Type 0} (change : Asked → PageChange) (asked : Option Asked) (state : State) → closes_page asked ≡ false → changes state ≡ page_change_or_none (option_map change asked) state
-nothing_asked change None state closes = refl
-nothing_asked change (Some named) state closes = absurd (true≢false closes)
+pub nothing_asked : {Asked : Type 0} (closer : Asked → Closer) (asked : Option Asked) (state : State) → closes_page asked ≡ false → Changes state ≡ close_if_asked (option_map closer asked) state
+nothing_asked closer None state closes = refl
+nothing_asked closer (Some named) state closes = absurd (true≢false closes)

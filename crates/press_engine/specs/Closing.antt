@@ -1,7 +1,7 @@
 -- Rows that close the page (PCL 5 Printer Language Technical Reference Manual, Page Control Commands). A page that closes is
 -- a side of a sheet: in simplex a sheet without back; in duplex it waits for its back, or is the back of the front that
 -- waits. A finished sheet goes out in the copies of now.
-use Rattle.std.specs.Prelude.{ℤ, ◌&&◌, not, false, is_some, unwrap_or, if◌then◌else◌, [], ◌∷◌, Option, Some, None, option_map}
+use Rattle.std.specs.Prelude.{ℤ, ◌&&◌, not, false, is_some, unwrap_or, if◌then◌else◌, [], ◌∷◌, Option, Some, None, option_map, Bool, true}
 use Rattle.press_bits.specs.Page.{Page}
 use Rattle.press_page.specs.Environment.{asked_page_size, with_page_size, asked_orientation, with_orientation, asked_sides, with_printed_sides}
 use Rattle.press_page.specs.Numbers.{named}
@@ -14,7 +14,7 @@ use Rattle.press_engine.specs.declared.effect.Selection.{Selection}
 use Rattle.press_engine.specs.declared.effect.Selection.TheVariants.{NextSide, Front, Back}
 use Rattle.press_engine.specs.declared.state.State.{State}
 use Rattle.press_engine.specs.Motion.{to_first_line, to_home}
-use Rattle.press_engine.specs.Outcome.{Outcome, done, after_outputs, counted, Effect, Done, Closes, changes, reset_fields, is_marked, with_environment}
+use Rattle.press_engine.specs.Outcome.{Outcome, done, after_outputs, counted, Effect, Changes, Goes, Closes, reset_fields, is_marked, with_environment}
 use Rattle.press_engine.specs.Outputs.{copies_out}
 use Rattle.press_engine.specs.Place.{blank_page}
 
@@ -80,50 +80,54 @@ change_page (page_changes.Orientation orientation) state =
 change_page (page_changes.Sides sides) state =
     then_change (λ after. to_home (with_environment (with_printed_sides sides) after)) (front_alone state)
 
--- What a command that closes the page does after the close.
-abbrev pub ended : Closer → State → Outcome
-ended closers.Feed state = done (to_first_line state)
-ended (closers.Side selection) state = turn_to selection (to_first_line state)
-ended (closers.Change change) state = change_page change state
+-- the cursor on the first line after a close
+abbrev pub fed : (closed : Bool) → State → State
+fed closed state = if closed then to_first_line state else state
+
+-- What a command that closes the page does after the close, or in its place where the page has no mark.
+abbrev pub ended : (closed : Bool) → Closer → State → Outcome
+ended closed closers.Feed state = done (fed closed state)
+ended closed (closers.Side selection) state = turn_to selection (fed closed state)
+ended closed (closers.Change change) state = change_page change state
 
 -- What a row leaves: where it closes the page, the close and then what the closing command does after it.
 abbrev pub settle : Effect → Outcome
-settle (Done outcome) = outcome
-settle (Closes closer state) = after_outputs (close state).outputs (ended closer (close state).state)
+settle (Changes state) = done state
+settle (Goes closer state) = ended false closer state
+settle (Closes closer state) = after_outputs (close state).outputs (ended true closer (close state).state)
 
--- A page with a mark closes before the page changes.
-abbrev pub close_and_change : PageChange → State → Effect
-close_and_change change state =
-    if is_marked state then Closes (closers.Change change) state else Done (change_page change state)
+-- A page with a mark closes.
+abbrev pub close_if_marked : Closer → State → Effect
+close_if_marked closer state = if is_marked state then Closes closer state else Goes closer state
 
 -- ESC E, printer reset, and the universal exit: HP-GL/2 is off first
 abbrev pub reset : State → Effect
-reset state = close_and_change page_changes.Reset (record state { hp_gl = false })
+reset state = close_if_marked (closers.Change page_changes.Reset) (record state { hp_gl = false })
+
+-- where a command is asked for by its value, a page with a mark closes
+abbrev pub close_if_asked : Option Closer → State → Effect
+close_if_asked None state = Changes state
+close_if_asked (Some closer) state = close_if_marked closer state
 
 -- ESC&l#A, page size; ESC&l#O, logical page orientation; ESC&l#S, simplex/duplex print: a change where a value asks for one,
 -- which is where the page environment says that the page closes
-abbrev pub page_change_or_none : Option PageChange → State → Effect
-page_change_or_none None state = changes state
-page_change_or_none (Some change) state = close_and_change change state
-
 abbrev pub select_page_size : (value : ℤ) → State → Effect
-select_page_size value = page_change_or_none (option_map page_changes.Size (asked_page_size value))
+select_page_size value =
+    close_if_asked (option_map (λ size. closers.Change (page_changes.Size size)) (asked_page_size value))
 
 abbrev pub select_orientation : (value : ℤ) → State → Effect
-select_orientation value = page_change_or_none (option_map page_changes.Orientation (asked_orientation value))
+select_orientation value =
+    close_if_asked
+    (option_map (λ orientation. closers.Change (page_changes.Orientation orientation)) (asked_orientation value))
 
 abbrev pub select_sides : (value : ℤ) → State → Effect
-select_sides value = page_change_or_none (option_map page_changes.Sides (asked_sides value))
+select_sides value =
+    close_if_asked (option_map (λ sides. closers.Change (page_changes.Sides sides)) (asked_sides value))
 
 -- ESC&l#H, paper source (this profile: for every value, a page with a mark is ejected)
 abbrev pub eject_page : State → Effect
-eject_page state = if is_marked state then Closes closers.Feed state else changes state
+eject_page = close_if_marked closers.Feed
 
 -- ESC&a#G: a page without a mark stays, and so does the cursor
-abbrev pub turn_or_close : Option Selection → State → Effect
-turn_or_close None state = changes state
-turn_or_close (Some selection) state =
-    if is_marked state then Closes (closers.Side selection) state else Done (turn_to selection state)
-
 abbrev pub select_side : (number : ℤ) → State → Effect
-select_side number = turn_or_close (selection_of number)
+select_side number = close_if_asked (option_map closers.Side (selection_of number))

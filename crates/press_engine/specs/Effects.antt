@@ -2,9 +2,9 @@
 use Rattle.press_engine.specs.declared.effect.Effect.{Effect}
 use Rattle.press_engine.specs.declared.effect.Effect.TheVariants as effects
 use Rattle.press_engine.specs.declared.state.State.{State}
-use Rattle.press_engine.specs.Outputs.{outputs_of}
 use Rattle.press_engine.specs.Outcome as rows
 
 abbrev pub effect_of : State → Effect → rows.Effect
-effect_of state (effects.Done sent) = rows.Done (record { state = state; outputs = outputs_of sent })
+effect_of state effects.Changes = rows.Changes state
+effect_of state (effects.Goes closer) = rows.Goes closer state
 effect_of state (effects.Closes closer) = rows.Closes closer state

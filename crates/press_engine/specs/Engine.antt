@@ -1,5 +1,5 @@
 -- The engine as callers see it.
-use Rattle.std.specs.Prelude.{◌≡◌, ◌≢◌, ◌⊎◌, ℕ, pos, Option, Some, None, List, [], Result, Ok, Err, OnOk, MatchResult, if◌then◌else◌}
+use Rattle.std.specs.Prelude.{◌≡◌, ◌≢◌, ◌⊎◌, ℕ, pos, false, Option, Some, None, List, [], Result, Ok, Err, OnOk, MatchResult, if◌then◌else◌}
 use Rattle.std.specs.Borrow.{Bor}
 use Rattle.press_cmd.specs.Token.{Token}
 use Rattle.press_cursor.specs.declared.stack.CursorPosition.{CursorPosition}
@@ -11,7 +11,8 @@ use Rattle.press_engine.specs.declared.fault.EngineError.TheVariants as engine_e
 use Rattle.press_engine.specs.declared.machine.Machine.{Machine}
 use Rattle.press_engine.specs.declared.view.View.{View}
 use Rattle.press_engine.specs.declared.state.State.{State}
-use Rattle.press_engine.specs.Outcome.{Effect, Done, Closes, is_marked}
+use Rattle.press_engine.specs.Outcome.{Outcome, Effect, Changes, Goes, Closes, done, is_marked}
+use Rattle.press_engine.specs.Closing.{ended}
 use Rattle.press_engine.specs.Table.{effect_on}
 use Rattle.press_engine.specs.Machine.{run}
 
@@ -44,16 +45,16 @@ abbrev pub Runs : Option Machine → Token → ℕ → Result (Unit {0}) EngineE
 Runs (Some machine) command tag result new before after = Carries machine command tag result new before after
 Runs None command tag result new before after = (new ≡ None) × (after ≡ before)
 
--- whether a row closes the page
-abbrev pub IsClosing : Effect → Type 0
-IsClosing (Done outcome) = ⊥
-IsClosing (Closes closer state) = Unit {0}
+-- whether something goes out, or the page or the front that waits changes
+abbrev pub Shows : (before : State) → Outcome → Type 0
+Shows before outcome =
+    (outcome.outputs ≢ []) ⊎ ((outcome.state.page ≢ before.page) ⊎ (outcome.state.pending ≢ before.pending))
 
 -- Memory may be taken where the page closes, where something goes out, and where the page or the front that waits changes;
 -- and nowhere else.
 abbrev pub TakesMemory : (before : State) → Effect → Type 0
-TakesMemory before (Done outcome) =
-    (outcome.outputs ≢ []) ⊎ ((outcome.state.page ≢ before.page) ⊎ (outcome.state.pending ≢ before.pending))
+TakesMemory before (Changes state) = Shows before (done state)
+TakesMemory before (Goes closer state) = Shows state (ended false closer state)
 TakesMemory before (Closes closer state) = Unit {0}
 
 -- the same for the command of an engine with this machine

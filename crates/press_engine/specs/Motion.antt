@@ -9,7 +9,7 @@ use Rattle.press_page.specs.Environment.{asked_top, asked_left, asked_right, set
 use Rattle.press_page.specs.Settings.{half_line}
 use Rattle.press_engine.specs.declared.effect.Closer.TheVariants as closers
 use Rattle.press_engine.specs.declared.state.State.{State}
-use Rattle.press_engine.specs.Outcome.{Effect, Closes, changes, bounds, with_environment}
+use Rattle.press_engine.specs.Outcome.{Effect, Closes, Changes, bounds, with_environment}
 
 -- Moves along the line and down by a value of so many units; relative moves begin at the cursor.
 abbrev pub move_along : (unit : ℕ) → ℤ → Bool → State → State
@@ -52,7 +52,7 @@ to_home state =
 abbrev pub feed : (distance : ℕ) → State → Effect
 feed distance state =
     if passes_text state.cursor.y distance state.environment then Closes closers.Feed state
-    else changes (record state { cursor = moved_y (pos distance) true (bounds state) state.cursor })
+    else Changes (record state { cursor = moved_y (pos distance) true (bounds state) state.cursor })
 
 -- a carriage return before a line feed or a form feed, where line termination says so
 abbrev pub returned : State → State
@@ -69,7 +69,7 @@ line_feed state =
 abbrev pub carriage_return : State → Effect
 carriage_return state =
     if state.environment.settings.line_termination.feed_after_return then line_feed (to_left_margin state)
-    else changes (to_left_margin state)
+    else Changes (to_left_margin state)
 
 -- FF
 abbrev pub form_feed : State → Effect

@@ -27,14 +27,12 @@ after_outputs outputs outcome = record { state = outcome.state; outputs = output
 abbrev pub counted : ℕ → ℕ → ℕ
 counted count more = min (count + more) greatest_of_64_bits
 
--- What a row gives: an outcome, or that the page closes, and by which command.
+-- What a row gives: a state, and nothing goes out; that a page without a mark stays, and the command does at once what it
+-- does after a close; or that the page closes.
 pub data Effect : Type 0 where
-  Done : Outcome → Effect
+  Changes : State → Effect
+  Goes : Closer → State → Effect
   Closes : Closer → State → Effect
-
--- a row without outputs
-abbrev pub changes : State → Effect
-changes state = Done (done state)
 
 -- the page environment after a reset: by the factory values of the job language's variables
 abbrev pub default_environment : PageEnv

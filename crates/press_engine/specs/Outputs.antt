@@ -18,5 +18,6 @@ finished_of (Some finished) = copies_out finished.sheet finished.copies
 
 -- the outputs in the order in which they go out
 abbrev pub outputs_of : Sent → List Output
+outputs_of sents.Nothing = []
 outputs_of (sents.Sheets closed alone) = finished_of closed ++ finished_of alone
 outputs_of (sents.Reply bytes) = Reply bytes.items ∷ []

@@ -13,7 +13,7 @@ use Rattle.press_engine.specs.Closing.{reset, select_page_size, select_orientati
 use Rattle.press_engine.specs.Filling.{set_rectangle_width, set_rectangle_height, fill}
 use Rattle.press_engine.specs.Motion.{move_along, move_down, move_rows, column, pcl_unit_of, line_feed, carriage_return, form_feed, half_line_feed, push_or_pop, change_top_margin, change_perforation_skip, change_left_margin, change_right_margin}
 use Rattle.press_engine.specs.Operation.{operation_of}
-use Rattle.press_engine.specs.Outcome.{Effect, changes, with_environment}
+use Rattle.press_engine.specs.Outcome.{Effect, Changes, with_environment}
 
 -- the value of a command, in ten-thousandths; its whole part; and whether a sign stood, which makes a move relative
 abbrev pub value_of : Token → ℤ
@@ -31,41 +31,41 @@ with_hp_gl on state = record state { hp_gl = on }
 
 -- What a row does with a command.
 abbrev pub row : Operation → Token → State → Effect
-row Nothing command = changes
+row Nothing command = Changes
 row CarriageReturn command = carriage_return
 row LineFeed command = line_feed
 row FormFeed command = form_feed
 row HalfLineFeed command = half_line_feed
-row ClearMargins command = λ state. changes (with_environment clear_margins state)
+row ClearMargins command = λ state. Changes (with_environment clear_margins state)
 row Reset command = reset
-row EnterHpGl command = λ state. changes (with_hp_gl true state)
-row LeaveHpGl command = λ state. changes (with_hp_gl false state)
-row UnitOfMeasure command = λ state. changes (with_environment (set_unit_of_measure (value_of command)) state)
-row MoveColumns command = λ state. changes (move_along (column state) (value_of command) (is_relative command) state)
-row MoveRows command = λ state. changes (move_rows (value_of command) (is_relative command) state)
-row MoveHorizontally command = λ state. changes (move_along decipoint (value_of command) (is_relative command) state)
-row MoveVertically command = λ state. changes (move_down decipoint (value_of command) (is_relative command) state)
+row EnterHpGl command = λ state. Changes (with_hp_gl true state)
+row LeaveHpGl command = λ state. Changes (with_hp_gl false state)
+row UnitOfMeasure command = λ state. Changes (with_environment (set_unit_of_measure (value_of command)) state)
+row MoveColumns command = λ state. Changes (move_along (column state) (value_of command) (is_relative command) state)
+row MoveRows command = λ state. Changes (move_rows (value_of command) (is_relative command) state)
+row MoveHorizontally command = λ state. Changes (move_along decipoint (value_of command) (is_relative command) state)
+row MoveVertically command = λ state. Changes (move_down decipoint (value_of command) (is_relative command) state)
 row SelectSide command = select_side (number_of command)
-row LeftMargin command = λ state. changes (change_left_margin (value_of command) state)
-row RightMargin command = λ state. changes (change_right_margin (value_of command) state)
-row PushOrPop command = λ state. changes (push_or_pop (number_of command) state)
-row LineTermination command = λ state. changes (with_environment (set_line_termination (value_of command)) state)
-row HorizontalMotion command = λ state. changes (with_environment (set_horizontal_motion (value_of command)) state)
+row LeftMargin command = λ state. Changes (change_left_margin (value_of command) state)
+row RightMargin command = λ state. Changes (change_right_margin (value_of command) state)
+row PushOrPop command = λ state. Changes (push_or_pop (number_of command) state)
+row LineTermination command = λ state. Changes (with_environment (set_line_termination (value_of command)) state)
+row HorizontalMotion command = λ state. Changes (with_environment (set_horizontal_motion (value_of command)) state)
 row SelectPageSize command = select_page_size (value_of command)
-row VerticalMotion command = λ state. changes (with_environment (set_vertical_motion (value_of command)) state)
-row LineSpacing command = λ state. changes (with_environment (set_line_spacing (value_of command)) state)
-row TopMargin command = λ state. changes (change_top_margin (value_of command) state)
-row TextLength command = λ state. changes (with_environment (set_text_length (value_of command)) state)
+row VerticalMotion command = λ state. Changes (with_environment (set_vertical_motion (value_of command)) state)
+row LineSpacing command = λ state. Changes (with_environment (set_line_spacing (value_of command)) state)
+row TopMargin command = λ state. Changes (change_top_margin (value_of command) state)
+row TextLength command = λ state. Changes (with_environment (set_text_length (value_of command)) state)
 row EjectPage command = eject_page
-row PerforationSkip command = λ state. changes (change_perforation_skip (value_of command) state)
+row PerforationSkip command = λ state. Changes (change_perforation_skip (value_of command) state)
 row SelectOrientation command = select_orientation (value_of command)
 row SelectSides command = select_sides (value_of command)
-row Copies command = λ state. changes (with_environment (set_copies (value_of command)) state)
-row RectangleWidth command = λ state. changes (set_rectangle_width (value_of command) state)
-row RectangleHeight command = λ state. changes (set_rectangle_height (value_of command) state)
-row Fill command = λ state. changes (fill (number_of command) state)
-row MoveX command = λ state. changes (move_along (pcl_unit_of state) (value_of command) (is_relative command) state)
-row MoveY command = λ state. changes (move_down (pcl_unit_of state) (value_of command) (is_relative command) state)
+row Copies command = λ state. Changes (with_environment (set_copies (value_of command)) state)
+row RectangleWidth command = λ state. Changes (set_rectangle_width (value_of command) state)
+row RectangleHeight command = λ state. Changes (set_rectangle_height (value_of command) state)
+row Fill command = λ state. Changes (fill (number_of command) state)
+row MoveX command = λ state. Changes (move_along (pcl_unit_of state) (value_of command) (is_relative command) state)
+row MoveY command = λ state. Changes (move_down (pcl_unit_of state) (value_of command) (is_relative command) state)
 
 -- what has effect while HP-GL/2 is on
 abbrev pub works_in_hp_gl : Operation → Bool
@@ -76,7 +76,7 @@ works_in_hp_gl other = false
 -- A row where it has effect.
 abbrev pub row_unless_skipped : Operation → Token → State → Effect
 row_unless_skipped operation command state =
-    if state.hp_gl && not (works_in_hp_gl operation) then changes state else row operation command state
+    if state.hp_gl && not (works_in_hp_gl operation) then Changes state else row operation command state
 
 -- What the row of a command's kind gives.
 abbrev pub effect_on : Token → State → Effect

@@ -13,11 +13,11 @@ impl State {
     ghost use Rattle.press_units.specs.Value.{whole_part};
     ghost use Rattle.press_page.specs.Environment.{with_page_size, with_orientation, with_printed_sides};
     ghost use Rattle.press_engine.specs.Effects.{effect_of};
-    ghost use Rattle.press_engine.specs.Engine.{TakesMemory, IsClosing};
+    ghost use Rattle.press_engine.specs.Engine.{TakesMemory};
     ghost use Rattle.press_engine.specs.Motion.{to_home};
     ghost use Rattle.press_engine.specs.Outcome.{after_outputs, counted, is_marked, with_environment};
     ghost use Rattle.press_engine.specs.Outputs.{outputs_of, finished_of};
-    ghost use Rattle.press_engine.specs.Closing.{page_now, close, front_alone, blank_front, turn_to, change_page, ended, settle, close_and_change, reset, select_page_size, select_orientation, select_sides, eject_page, select_side};
+    ghost use Rattle.press_engine.specs.Closing.{page_now, close, front_alone, blank_front, turn_to, change_page, ended, settle, close_if_marked, reset, select_page_size, select_orientation, select_sides, eject_page, select_side};
 
     /// Whether a mark was made on the page.
     pub fn is_marked(&self) -> bool
@@ -172,20 +172,24 @@ impl State {
         }
     }
 
-    /// What a command that closes the page does after the close; answers a front that goes out alone.
-    fn end(&mut self, alloc: Global, closer: Closer) -> Result<Option<FinishedSheet>, AllocError>
-        ensures { IfOk result (λ alone.
-            record { state = self.new; outputs = finished_of alone } ≡ ended closer self.old) }
+    /// What a command does after the close of the page, or in its place; answers a front that goes out alone.
+    fn end(
+        &mut self,
+        alloc: Global,
+        closer: Closer,
+        closed: bool,
+    ) -> Result<Option<FinishedSheet>, AllocError>
+        ensures ended { IfOk result (λ alone. record { state = self.new; outputs = finished_of alone }
+            ≡ ended closed closer self.old) }
+        ensures memory { IsErr result
+            → (ended closed closer self.old).state.pending ≢ self.old.pending }
     {
+        if closed && !matches!(closer, Closer::Change(_)) {
+            self.move_to_first_line();
+        }
         match closer {
-            Closer::Feed => {
-                self.move_to_first_line();
-                Ok(None)
-            }
-            Closer::Side(selection) => {
-                self.move_to_first_line();
-                self.turn_to(alloc, selection)
-            }
+            Closer::Feed => Ok(None),
+            Closer::Side(selection) => self.turn_to(alloc, selection),
             Closer::Change(change) => Ok(self.change_page(change)),
         }
     }
@@ -194,30 +198,35 @@ impl State {
     pub fn settle(&mut self, alloc: Global, effect: Effect) -> Result<Sent, AllocError>
         ensures settled { IfOk result (λ sent. record { state = self.new; outputs = outputs_of sent }
             ≡ settle (effect_of self.old effect)) }
-        ensures memory { IsErr result → IsClosing (effect_of self.old effect) }
+        ensures memory { (before : State) → IsErr result
+            → TakesMemory before (effect_of self.old effect) }
     {
         match effect {
-            Effect::Done(sent) => Ok(sent),
+            Effect::Changes => Ok(Sent::Nothing),
+            Effect::Goes(closer) => {
+                let alone = self.end(alloc, closer, false)?;
+                Ok(Sent::Sheets {
+                    closed: None,
+                    alone,
+                })
+            }
             Effect::Closes(closer) => {
                 let closed = self.close(alloc)?;
-                let alone = self.end(alloc, closer)?;
+                let alone = self.end(alloc, closer, true)?;
                 Ok(Sent::Sheets { closed, alone })
             }
         }
     }
 
-    /// A page with a mark closes before the page changes.
-    fn close_and_change(&mut self, change: PageChange) -> Effect
-        ensures { effect_of self.new result ≡ close_and_change change self.old }
+    /// A page with a mark closes; where it has none, the command goes on at once.
+    fn close_if_marked(&self, closer: Closer) -> Effect
+        ensures { effect_of self.now result ≡ close_if_marked closer self.now }
     {
         if self.is_marked() {
-            return Effect::Closes(Closer::Change(change));
+            Effect::Closes(closer)
+        } else {
+            Effect::Goes(closer)
         }
-        let alone = self.change_page(change);
-        Effect::Done(Sent::Sheets {
-            closed: None,
-            alone,
-        })
     }
 
     /// `ESC E` and the universal exit.
@@ -225,73 +234,60 @@ impl State {
         ensures { effect_of self.new result ≡ reset self.old }
     {
         self.hp_gl = false;
-        self.close_and_change(PageChange::Reset)
+        self.close_if_marked(Closer::Change(PageChange::Reset))
     }
 
     /// `&l#A`: the page size.
-    pub fn select_page_size(&mut self, value: Value) -> Effect
-        ensures { effect_of self.new result ≡ select_page_size value.tenthousandths self.old }
+    pub fn select_page_size(&self, value: Value) -> Effect
+        ensures { effect_of self.now result ≡ select_page_size value.tenthousandths self.now }
     {
         let mut next = self.environment;
-        if next.set_page_size(value) {
-            self.close_and_change(PageChange::Size(next.paper.size))
-        } else {
-            Effect::Done(Sent::nothing())
+        if !next.set_page_size(value) {
+            return Effect::Changes;
         }
+        let size = PageChange::Size(next.paper.size);
+        self.close_if_marked(Closer::Change(size))
     }
 
     /// `&l#O`: the orientation.
-    pub fn select_orientation(&mut self, value: Value) -> Effect
-        ensures { effect_of self.new result ≡ select_orientation value.tenthousandths self.old }
+    pub fn select_orientation(&self, value: Value) -> Effect
+        ensures { effect_of self.now result ≡ select_orientation value.tenthousandths self.now }
     {
         let mut next = self.environment;
-        if next.set_orientation(value) {
-            self.close_and_change(PageChange::Orientation(next.paper.orientation))
-        } else {
-            Effect::Done(Sent::nothing())
+        if !next.set_orientation(value) {
+            return Effect::Changes;
         }
+        let orientation = PageChange::Orientation(next.paper.orientation);
+        self.close_if_marked(Closer::Change(orientation))
     }
 
     /// `&l#S`: the sides that are printed.
-    pub fn select_sides(&mut self, value: Value) -> Effect
-        ensures { effect_of self.new result ≡ select_sides value.tenthousandths self.old }
+    pub fn select_sides(&self, value: Value) -> Effect
+        ensures { effect_of self.now result ≡ select_sides value.tenthousandths self.now }
     {
         let mut next = self.environment;
-        if next.set_sides(value) {
-            self.close_and_change(PageChange::Sides(next.paper.printed_sides()))
-        } else {
-            Effect::Done(Sent::nothing())
+        if !next.set_sides(value) {
+            return Effect::Changes;
         }
+        let sides = PageChange::Sides(next.paper.printed_sides());
+        self.close_if_marked(Closer::Change(sides))
     }
 
     /// `&l#H`: ejects a page with a mark.
-    pub fn eject_page(&mut self) -> Effect
-        ensures { effect_of self.new result ≡ eject_page self.old }
+    pub fn eject_page(&self) -> Effect
+        ensures { effect_of self.now result ≡ eject_page self.now }
     {
-        if self.is_marked() {
-            Effect::Closes(Closer::Feed)
-        } else {
-            Effect::Done(Sent::nothing())
-        }
+        self.close_if_marked(Closer::Feed)
     }
 
     /// `&a#G`: selects a side.
-    pub fn select_side(&mut self, alloc: Global, value: Value) -> Result<Effect, AllocError>
-        ensures effect { IfOk result (λ effect. effect_of self.new effect
-            ≡ select_side (whole_part value.tenthousandths) self.old) }
-        ensures memory { IsErr result
-            → TakesMemory self.old (select_side (whole_part value.tenthousandths) self.old) }
+    pub fn select_side(&self, value: Value) -> Effect
+        ensures { effect_of self.now result
+            ≡ select_side (whole_part value.tenthousandths) self.now }
     {
-        let Some(selection) = Selection::of_number(value.whole()) else {
-            return Ok(Effect::Done(Sent::nothing()));
-        };
-        if self.is_marked() {
-            return Ok(Effect::Closes(Closer::Side(selection)));
+        match Selection::of_number(value.whole()) {
+            Some(selection) => self.close_if_marked(Closer::Side(selection)),
+            None => Effect::Changes,
         }
-        let alone = self.turn_to(alloc, selection)?;
-        Ok(Effect::Done(Sent::Sheets {
-            closed: None,
-            alone,
-        }))
     }
 }

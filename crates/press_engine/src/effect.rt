@@ -14,6 +14,7 @@ pub struct FinishedSheet {
 /// What goes out when a command is carried out.
 #[derive(Drop)]
 pub enum Sent {
+    Nothing,
     /// The sheet that a page close finished, and then a front that waited for its back and goes out alone.
     Sheets {
         closed: Option<FinishedSheet>,
@@ -40,7 +41,7 @@ pub enum PageChange {
     Sides(Sides),
 }
 
-/// Which command closes the page, and so what it does after the close.
+/// Which command closes the page, and so what it does after the close, or in its place where the page has no mark.
 #[derive(Clone, Copy, Debug, PartialEq, Eq)]
 pub enum Closer {
     /// A form feed, a line feed past the end of the text, an ejected page.
@@ -51,27 +52,14 @@ pub enum Closer {
 }
 
 /// What a row of the command table gives.
-#[derive(Drop)]
+#[derive(Clone, Copy, Debug, PartialEq, Eq)]
 pub enum Effect {
-    /// The row is carried out, and this goes out.
-    Done(Sent),
+    /// The row is carried out, and nothing goes out.
+    Changes,
+    /// A page without a mark stays, and the command does what it does after a close.
+    Goes(Closer),
     /// The page closes.
     Closes(Closer),
-}
-
-impl Sent {
-    ghost use Rattle.std.specs.Prelude.{◌≡◌, []};
-    ghost use Rattle.press_engine.specs.Outputs.{outputs_of};
-
-    /// Nothing goes out.
-    pub fn nothing() -> Self
-        ensures { outputs_of result ≡ [] }
-    {
-        Sent::Sheets {
-            closed: None,
-            alone: None,
-        }
-    }
 }
 
 impl Selection {

@@ -1,6 +1,6 @@
 //! The rows that move the cursor.
 
-use crate::effect::{Closer, Effect, Sent};
+use crate::effect::{Closer, Effect};
 use crate::state::State;
 use press_units::{Pos, Unit, Value, to_pos};
 
@@ -74,7 +74,7 @@ impl State {
         }
         let page = self.bounds();
         self.cursor.move_down(distance, page);
-        Effect::Done(Sent::nothing())
+        Effect::Changes
     }
 
     /// The carriage return before a line feed or a form feed, where line termination says so.
@@ -108,7 +108,7 @@ impl State {
         if feeds {
             self.line_feed()
         } else {
-            Effect::Done(Sent::nothing())
+            Effect::Changes
         }
     }
 

@@ -56,7 +56,7 @@ impl State {
             Operation::MoveRows => self.move_rows(value),
             Operation::MoveHorizontally => self.move_along(Unit::decipoint(), value),
             Operation::MoveVertically => self.move_down(Unit::decipoint(), value),
-            Operation::SelectSide => return self.select_side(alloc, value),
+            Operation::SelectSide => return Ok(self.select_side(value)),
             Operation::LeftMargin => self.change_left_margin(value),
             Operation::RightMargin => self.change_right_margin(value),
             Operation::PushOrPop => self.push_or_pop(value),
@@ -78,7 +78,7 @@ impl State {
             Operation::MoveX => self.move_along(self.pcl_unit(), value),
             Operation::MoveY => self.move_down(self.pcl_unit(), value),
         }
-        Ok(Effect::Done(Sent::nothing()))
+        Ok(Effect::Changes)
     }
 
     /// What the row of a command's kind gives.
@@ -90,7 +90,7 @@ impl State {
     {
         let operation = operation_of(kind(&command));
         if self.hp_gl && !operation.works_in_hp_gl() {
-            return Ok(Effect::Done(Sent::nothing()));
+            return Ok(Effect::Changes);
         }
         self.apply(alloc, operation, &command)
     }

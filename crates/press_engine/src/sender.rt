@@ -21,6 +21,7 @@ pub fn send<S: SheetSink, R: ReplySink>(
     ensures memory { IsErrOf result EngineError.NoMemory → outputs_of sent.now ≢ [] }
 {
     match sent {
+        Sent::Nothing => Ok(()),
         Sent::Sheets { closed, alone } => {
             send_finished(closed, tag, sheets, replies)?;
             send_finished(alone, tag, sheets, replies)
