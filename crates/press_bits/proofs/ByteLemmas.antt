@@ -1,11 +1,11 @@
 -- The dots of bytes that are shifted, cut off or joined.
-use Rattle.std.proofs.Common.{◌≡◌, ℕ, ◌+◌, ◌-◌, ◌*◌, ◌/◌, ◌%◌, ◌^◌, ◌<◌, ◌≤◌, max, Bool, false, ◌&&◌, ◌||◌, ◌≢◌, List, length, get_or, set, sym, ap, ◌∙◌, inl, inr, arith}
-use Rattle.std.specs.Prelude.{nat_lt, nat_le, nat_eq, bit_and, bit_or}
-use Rattle.std.specs.Int.{bit_at}
+use Rattle.std.proofs.Common.{◌≡◌, ℕ, ◌+◌, ◌-◌, ◌*◌, ◌/◌, ◌%◌, ◌^◌, ◌<◌, ◌≤◌, max, min, Bool, true, false, not, ◌&&◌, ◌||◌, ◌≢◌, w8, List, length, get_or, set, sym, ap, ◌∙◌, inl, inr, arith}
+use Rattle.std.specs.Prelude.{nat_eq, bit_and, bit_or}
+use Rattle.std.specs.Int.{bit_at, bit_not}
 use Rattle.std.proofs.Math.Nat.{div-div-eq-div-mul, div-mul-le_self}
 use Rattle.std.proofs.lemmas.Nat.{pow-add, pow_pos}
 use Rattle.std.proofs.lemmas.Bool.{cases_lt, cases_eq}
-use Rattle.std.proofs.lemmas.Nat.Bits.{bit_at_and, bit_at_or, bit_at_ones, bit_at-lt, bit_at_above, bit_at_cat_low, bit_at_cat_high, bit_at-zero}
+use Rattle.std.proofs.lemmas.Nat.Bits.{bit_at_and, bit_at_or, bit_at_ones, bit_at-lt, bit_at_above, bit_at_cat_low, bit_at_cat_high, bit_at-zero, bit_at_not, bit_at-pow_same, bit_at-pow_other}
 use Rattle.std.proofs.lemmas.Bool.Decides.{nat_tests}
 use Rattle.std.proofs.lemmas.List.{get_or-set_same, get_or-set_other}
 use Rattle.press_bits.specs.Mark.{row_dot, byte_dot}
@@ -78,28 +78,95 @@ cut_off b p j small within past =
 
 -- ---- bytes laid over each other
 
+and_test : (a b : ℕ) → a < 2 → b < 2 → nat_eq (min a b) 1 ≡ (nat_eq a 1 && nat_eq b 1)
+and_test a b small_a small_b = grind (arith, nat_tests)
+
 or_test : (a b : ℕ) → a < 2 → b < 2 → nat_eq (max a b) 1 ≡ (nat_eq a 1 || nat_eq b 1)
 or_test a b small_a small_b = grind (arith, nat_tests)
 
-byte_dot-or : (a b j : ℕ) → byte_dot (bit_or a b) j ≡ (byte_dot a j || byte_dot b j)
+not_test : (a : ℕ) → a < 2 → nat_eq (1 - a) 1 ≡ not (nat_eq a 1)
+not_test a small = grind (arith, nat_tests)
+
+pub byte_dot-and : (a b j : ℕ) → byte_dot (bit_and a b) j ≡ (byte_dot a j && byte_dot b j)
+unfolding byte_dot
+byte_dot-and a b j =
+    ap (λ n. nat_eq n 1) (bit_at_and a b (7 - j))
+    ∙ and_test (bit_at a (7 - j)) (bit_at b (7 - j)) (bit_at-lt a (7 - j)) (bit_at-lt b (7 - j))
+
+pub byte_dot-or : (a b j : ℕ) → byte_dot (bit_or a b) j ≡ (byte_dot a j || byte_dot b j)
 unfolding byte_dot
 byte_dot-or a b j =
     ap (λ n. nat_eq n 1) (bit_at_or a b (7 - j))
     ∙ or_test (bit_at a (7 - j)) (bit_at b (7 - j)) (bit_at-lt a (7 - j)) (bit_at-lt b (7 - j))
 
--- the byte at this index gets more black dots
-pub row_dot-or_same : (rows : List ℕ) (index b p : ℕ) → index < length rows → p / 8 ≡ index →
-    row_dot (set rows index (bit_or (get_or rows index 0) b)) p ≡ (row_dot rows p || byte_dot b (p % 8))
-unfolding row_dot
-row_dot-or_same rows index b p within here =
-    ap (λ k. byte_dot (get_or (set rows index (bit_or (get_or rows index 0) b)) k 0) (p % 8)) here
-    ∙ ap (λ v. byte_dot v (p % 8)) (get_or-set_same rows index (bit_or (get_or rows index 0) b) 0 within)
-    ∙ byte_dot-or (get_or rows index 0) b (p % 8)
-    ∙ ap (λ k. byte_dot (get_or rows k 0) (p % 8) || byte_dot b (p % 8)) (sym here)
+pub byte_dot-not : (a j : ℕ) → a < 256 → j < 8 → byte_dot (bit_not w8 a) j ≡ not (byte_dot a j)
+unfolding byte_dot
+byte_dot-not a j small within =
+    ap (λ n. nat_eq n 1) (bit_at_not w8 a (7 - j) small (omega arith)) ∙ not_test (bit_at a (7 - j)) (bit_at-lt a (7 - j))
 
-pub row_dot-or_other : (rows : List ℕ) (index b p : ℕ) → p / 8 ≢ index → row_dot (set rows index b) p ≡ row_dot rows p
+-- all eight dots of a byte
+pub byte_dot-ones : (j : ℕ) → byte_dot 255 j ≡ true
+unfolding byte_dot
+byte_dot-ones j = ap (λ n. nat_eq n 1) (bit_at_ones 8 (7 - j) (omega arith))
+
+pub byte_dot-zeros : (j : ℕ) → byte_dot 0 j ≡ false
+unfolding byte_dot
+byte_dot-zeros j = ap (λ n. nat_eq n 1) (bit_at-zero (7 - j))
+
+-- a byte of one black dot
+pub byte_dot-one : (t j : ℕ) → t < 8 → j < 8 → byte_dot (128 / 2 ^ t) j ≡ nat_eq j t
+unfolding byte_dot
+byte_dot-one t j one_of within =
+    elim (cases_eq j t) [
+      | inl here ↦
+          let place : t + (7 - j) ≡ 7 = omega arith in
+          ap (λ n. nat_eq n 1) (bit_at-shr 128 t (7 - j) ∙ ap (bit_at 128) place ∙ bit_at-pow_same 7)
+          ∙ at_place j t here
+      | inr there ↦
+          ap (λ n. nat_eq n 1) (bit_at-shr 128 t (7 - j) ∙ bit_at-pow_other 7 (t + (7 - j)) (λ e. there (omega arith)))
+          ∙ elsewhere j t there
+    ]
+  where
+    at_place : (j t : ℕ) → j ≡ t → true ≡ nat_eq j t
+    at_place j t here = grind (arith, nat_tests)
+
+    elsewhere : (j t : ℕ) → j ≢ t → false ≡ nat_eq j t
+    elsewhere j t there = grind (arith, nat_tests)
+
+-- a row where one byte is another
+pub row_dot-set_same : (rows : List ℕ) (index b p : ℕ) → index < length rows → p / 8 ≡ index → row_dot (set rows index b) p ≡ byte_dot b (p % 8)
 unfolding row_dot
-row_dot-or_other rows index b p there = ap (λ v. byte_dot v (p % 8)) (get_or-set_other rows index (p / 8) b 0 there)
+row_dot-set_same rows index b p within here =
+    ap (λ k. byte_dot (get_or (set rows index b) k 0) (p % 8)) here
+    ∙ ap (λ v. byte_dot v (p % 8)) (get_or-set_same rows index b 0 within)
+
+pub row_dot-set_other : (rows : List ℕ) (index b p : ℕ) → p / 8 ≢ index → row_dot (set rows index b) p ≡ row_dot rows p
+unfolding row_dot
+row_dot-set_other rows index b p there = ap (λ v. byte_dot v (p % 8)) (get_or-set_other rows index (p / 8) b 0 there)
+
+-- a dot of a row is one of its byte
+pub row_dot-of_byte : (rows : List ℕ) (index p : ℕ) → p / 8 ≡ index → byte_dot (get_or rows index 0) (p % 8) ≡ row_dot rows p
+unfolding row_dot
+row_dot-of_byte rows index p here = ap (λ k. byte_dot (get_or rows k 0) (p % 8)) (sym here)
+
+-- a row where dot p is black
+pub row_dot-blackened : (rows : List ℕ) (p q : ℕ) → p / 8 < length rows → row_dot (set rows (p / 8) (bit_or (get_or rows (p / 8) 0) (128 / 2 ^ (p % 8)))) q ≡ (row_dot rows q || nat_eq q p)
+row_dot-blackened rows p q within =
+    let byte : ℕ = bit_or (get_or rows (p / 8) 0) (128 / 2 ^ (p % 8)) in
+    elim (cases_eq (q / 8) (p / 8)) [
+      | inl here ↦
+          row_dot-set_same rows (p / 8) byte q within here
+          ∙ byte_dot-or (get_or rows (p / 8) 0) (128 / 2 ^ (p % 8)) (q % 8)
+          ∙ (λ i. row_dot-of_byte rows (p / 8) q here i || byte_dot-one (p % 8) (q % 8) (omega arith) (omega arith) i)
+          ∙ ap (λ t. row_dot rows q || t) (same_place q p here)
+      | inr there ↦ row_dot-set_other rows (p / 8) byte q there ∙ other_place q p (row_dot rows q) there
+    ]
+  where
+    same_place : (q p : ℕ) → q / 8 ≡ p / 8 → nat_eq (q % 8) (p % 8) ≡ nat_eq q p
+    same_place q p here = grind (arith, nat_tests)
+
+    other_place : (q p : ℕ) (b : Bool) → q / 8 ≢ p / 8 → b ≡ (b || nat_eq q p)
+    other_place q p b there = grind (arith, nat_tests)
 
 -- the dots of two neighbouring bytes
 pub row_dot-left : (bits : List ℕ) (first j : ℕ) → first % 8 + j < 8 → row_dot bits (first + j) ≡ byte_dot (get_or bits (first / 8) 0) (first % 8 + j)
@@ -124,93 +191,4 @@ eight_of_pair bits first left right j small is_left is_right within =
           pair_left left right (first % 8) j small low ∙ ap (λ b. byte_dot b (first % 8 + j)) is_left ∙ sym (row_dot-left bits first j low)
       | inr high ↦
           pair_right left right (first % 8) j (omega arith) within high ∙ ap (λ b. byte_dot b (first % 8 + j - 8)) is_right ∙ sym (row_dot-right bits first j within high)
-    ]
-
--- ---- dots that are laid from dot `at` on, seen from the byte that begins at dot `start`
-
--- whether dot p is one of those, and black
-abbrev pub laid_dot : List ℕ → (at skip p : ℕ) → Bool
-laid_dot bits at skip p = row_dot bits (skip + (p - at))
-
-before_all : (at p : ℕ) (b : Bool) → p < at → false ≡ (nat_le at p && b)
-before_all at p b before = grind (arith, nat_tests)
-
-from_first : (at p : ℕ) (b : Bool) → at ≤ p → b ≡ (nat_le at p && b)
-from_first at p b reached = grind (arith, nat_tests)
-
--- the first byte, whose first dots lie before the laid ones
-pub laid_first : (bits : List ℕ) (eight at start skip j : ℕ) → eight < 256 → ((k : ℕ) → k < 8 → byte_dot eight k ≡ row_dot bits (skip + k)) →
-    start < at → j < 8 → byte_dot (eight / 2 ^ (at - start)) j ≡ (nat_le at (start + j) && laid_dot bits at skip (start + j))
-laid_first bits eight at start skip j small dots before within =
-    elim (cases_lt j (at - start)) [
-      | inl left ↦ shifted_in eight (at - start) j small left within ∙ before_all at (start + j) (laid_dot bits at skip (start + j)) (omega arith)
-      | inr right ↦
-          shifted eight (at - start) j right within
-          ∙ dots (j - (at - start)) (omega arith)
-          ∙ ap (λ k. row_dot bits (skip + k)) (omega arith)
-          ∙ from_first at (start + j) (laid_dot bits at skip (start + j)) (omega arith)
-    ]
-
--- any later byte
-pub laid_later : (bits : List ℕ) (eight at start skip j : ℕ) → ((k : ℕ) → k < 8 → byte_dot eight k ≡ row_dot bits (skip + (start - at) + k)) →
-    at ≤ start → j < 8 → byte_dot eight j ≡ (nat_le at (start + j) && laid_dot bits at skip (start + j))
-laid_later bits eight at start skip j dots after within =
-    dots j within ∙ ap (row_dot bits) (omega arith) ∙ from_first at (start + j) (laid_dot bits at skip (start + j)) (omega arith)
-
-whole_test : (a b : Bool) (p end : ℕ) → p < end → (a && b) ≡ ((a && nat_lt p end) && b)
-whole_test a b p end within = grind (arith, nat_tests)
-
-past_test : (a b : Bool) (p end : ℕ) → end ≤ p → false ≡ ((a && nat_lt p end) && b)
-past_test a b p end past = grind (arith, nat_tests)
-
--- the laid dots fill the byte to its end
-pub laid_whole : (bits : List ℕ) (whole at start skip end j : ℕ) → ((k : ℕ) → k < 8 → byte_dot whole k ≡ (nat_le at (start + k) && laid_dot bits at skip (start + k))) →
-    start + 8 ≤ end → j < 8 → byte_dot whole j ≡ ((nat_le at (start + j) && nat_lt (start + j) end) && laid_dot bits at skip (start + j))
-laid_whole bits whole at start skip end j dots fills within =
-    dots j within ∙ whole_test (nat_le at (start + j)) (laid_dot bits at skip (start + j)) (start + j) end (omega arith)
-
--- the laid dots end in the byte
-pub laid_cut : (bits : List ℕ) (whole at start skip end j : ℕ) → whole < 256 → ((k : ℕ) → k < 8 → byte_dot whole k ≡ (nat_le at (start + k) && laid_dot bits at skip (start + k))) →
-    end < start + 8 → start ≤ end → j < 8 →
-    byte_dot (whole / 2 ^ (start + 8 - end) * 2 ^ (start + 8 - end) % 256) j ≡ ((nat_le at (start + j) && nat_lt (start + j) end) && laid_dot bits at skip (start + j))
-laid_cut bits whole at start skip end j small dots ends began within =
-    elim (cases_lt (start + j) end) [
-      | inl inside ↦ cut_kept whole (start + 8 - end) j small (omega arith) ∙ dots j within ∙ whole_test (nat_le at (start + j)) (laid_dot bits at skip (start + j)) (start + j) end inside
-      | inr past ↦ cut_off whole (start + 8 - end) j small within (omega arith) ∙ past_test (nat_le at (start + j)) (laid_dot bits at skip (start + j)) (start + j) end past
-    ]
-
--- ---- all bytes, one after the other
-
--- whether dot p is one of the `count` laid dots, and black
-abbrev pub blackened : List ℕ → (at skip count p : ℕ) → Bool
-blackened bits at skip count p = (nat_le at p && nat_lt p (at + count)) && laid_dot bits at skip p
-
--- the rows after the bytes below `index`
-abbrev pub BlackenedBelow : (old rows bits : List ℕ) (at skip count index : ℕ) → Type 0
-BlackenedBelow old rows bits at skip count index = (p : ℕ) → row_dot rows p ≡ (row_dot old p || (nat_lt p (8 * index) && blackened bits at skip count p))
-
-test_here : (old black : Bool) (p index : ℕ) → p / 8 ≡ index → ((old || (nat_lt p (8 * index) && black)) || black) ≡ (old || (nat_lt p (8 * (index + 1)) && black))
-test_here old black p index here = grind (arith, nat_tests)
-
-test_there : (old black : Bool) (p index : ℕ) → p / 8 ≢ index → (old || (nat_lt p (8 * index) && black)) ≡ (old || (nat_lt p (8 * (index + 1)) && black))
-test_there old black p index there =
-    ap (λ t. old || (t && black)) (same_test p index there)
-  where
-    same_test : (p index : ℕ) → p / 8 ≢ index → nat_lt p (8 * index) ≡ nat_lt p (8 * (index + 1))
-    same_test p index there = grind (arith, nat_tests)
-
-pub blackened_more : (old rows bits : List ℕ) (at skip count index b : ℕ) → index < length rows →
-    ((k : ℕ) → k < 8 → byte_dot b k ≡ blackened bits at skip count (8 * index + k)) →
-    BlackenedBelow old rows bits at skip count index → BlackenedBelow old (set rows index (bit_or (get_or rows index 0) b)) bits at skip count (index + 1)
-blackened_more old rows bits at skip count index b within dots so_far = λ p.
-    elim (cases_eq (p / 8) index) [
-      | inl here ↦
-          row_dot-or_same rows index b p within here
-          ∙ (λ i. so_far p i || dots (p % 8) (omega arith) i)
-          ∙ ap (λ q. (row_dot old p || (nat_lt p (8 * index) && blackened bits at skip count p)) || blackened bits at skip count q) (omega arith)
-          ∙ test_here (row_dot old p) (blackened bits at skip count p) p index here
-      | inr there ↦
-          row_dot-or_other rows index (bit_or (get_or rows index 0) b) p there
-          ∙ so_far p
-          ∙ test_there (row_dot old p) (blackened bits at skip count p) p index there
     ]

@@ -1,8 +1,10 @@
 pub mod PageLemmas
 pub mod DotRowsLemmas
 pub mod ByteLemmas
+pub mod MixLemmas
 pub mod CountLemmas
 pub mod LineLemmas
 pub mod MarkLemmas
 pub mod PaintLemmas
+pub mod PartLemmas
 pub mod WorkedDots

@@ -1,5 +1,5 @@
 -- The lines of a page of rows, and the bits past their last dot.
-use Rattle.std.proofs.Common.{◌≡◌, ℕ, ◌+◌, ◌-◌, ◌*◌, ◌/◌, ◌%◌, ◌<◌, ◌≤◌, ◌⊎◌, Bool, false, ◌&&◌, ◌||◌, List, length, replicate, take, drop, get_or, sym, ap, ◌∙◌, inl, inr, arith, subst}
+use Rattle.std.proofs.Common.{◌≡◌, ℕ, ◌+◌, ◌-◌, ◌*◌, ◌/◌, ◌%◌, ◌<◌, ◌≤◌, ◌⊎◌, Bool, false, ◌&&◌, List, length, replicate, take, drop, get_or, sym, ap, ◌∙◌, inl, inr, arith, subst}
 use Rattle.std.specs.Prelude.{nat_lt, nat_le, nat_eq}
 use Rattle.std.specs.Int.{bit_at}
 use Rattle.std.proofs.Math.Nat.{mul-le-mul_right}
@@ -8,9 +8,10 @@ use Rattle.std.proofs.lemmas.Bool.{cases_lt}
 use Rattle.std.proofs.lemmas.List.{get_or-take, get_or-drop, get_or_past, length-take, length-drop}
 use Rattle.std.proofs.lemmas.Nat.Bits.{bit_at-zero}
 use Rattle.press_bits.specs.Mark.{row_dot, byte_dot}
-use Rattle.press_bits.specs.DotRows.{page_of_rows, HasRows}
+use Rattle.press_bits.specs.DotRows.{page_of_rows, HasRows, mixed_dot}
 use Rattle.press_bits.specs.Lines.{bytes_per_line, IsLine}
-use Rattle.press_bits.proofs.ByteLemmas.{blackened, laid_dot}
+use Rattle.press_bits.specs.declared.mode.Mode.{Mode}
+use Rattle.press_bits.proofs.MixLemmas.{not_mixed}
 use Rattle.press_bits.proofs.DotRowsLemmas.{row_dot-replicate_zero, width-page_of_rows, black_at-page_of_rows}
 
 -- a dot of some bytes in the middle of others
@@ -74,9 +75,9 @@ pub padding-white : (w h n : ℕ) (rows : List ℕ) → rows ≡ replicate n 0 �
 padding-white w h n rows white y x inside right within =
     ap (λ r. row_dot r (8 * (y * bytes_per_line w) + x)) white ∙ row_dot-replicate_zero n (8 * (y * bytes_per_line w) + x)
 
-off : (at count p : ℕ) (black : Bool) → (p < at) ⊎ (at + count ≤ p) → ((nat_le at p && nat_lt p (at + count)) && black) ≡ false
-off at count p black (inl before) = grind (arith, nat_tests)
-off at count p black (inr behind) = grind (arith, nat_tests)
+off : (at end p : ℕ) → (p < at) ⊎ (end ≤ p) → (nat_le at p && nat_lt p end) ≡ false
+off at end p (inl before) = grind (arith, nat_tests)
+off at end p (inr behind) = grind (arith, nat_tests)
 
 -- a place past the last dot of a line lies before or behind dots that are laid within a line
 aside : (w b line left count y x : ℕ) → w ≤ 8 * b → left + count ≤ w → w ≤ x → x < 8 * b → (8 * (y * b) + x < 8 * (line * b) + left) ⊎ (8 * (line * b) + left + count ≤ 8 * (y * b) + x)
@@ -86,16 +87,31 @@ aside w b line left count y x wide within right short =
       | inr not_above ↦ inr (omega (arith, mul-le-mul_right b not_above))
     ]
 
--- dots that are laid within a line leave the bits past each line
-pub padding-laid : (w h line left count skip : ℕ) (rows rows' bits : List ℕ) → left + count ≤ w
-    → ((p : ℕ) → row_dot rows' p ≡ (row_dot rows p || blackened bits (8 * (line * bytes_per_line w) + left) skip count p))
+-- dots that are painted within a line leave the bits past each line
+pub padding-across : (w h line left count : ℕ) (mode : Mode) (rows rows' : List ℕ) (source pattern : ℕ → Bool) → left + count ≤ w
+    → ((p : ℕ) → row_dot rows' p ≡ mixed_dot (nat_le (8 * (line * bytes_per_line w) + left) p && nat_lt p (8 * (line * bytes_per_line w) + left + count)) mode (source p) (pattern p) (row_dot rows p))
     → ((y x : ℕ) → y < h → w ≤ x → x < 8 * bytes_per_line w → row_dot rows (8 * (y * bytes_per_line w) + x) ≡ false)
     → (y x : ℕ) → y < h → w ≤ x → x < 8 * bytes_per_line w → row_dot rows' (8 * (y * bytes_per_line w) + x) ≡ false
-padding-laid w h line left count skip rows rows' bits within laid white y x inside right short =
+padding-across w h line left count mode rows rows' source pattern within laid white y x inside right short =
     let b = bytes_per_line w in
     let p = 8 * (y * b) + x in
     let at = 8 * (line * b) + left in
     let wide : w ≤ 8 * b = omega arith in
     laid p
-    ∙ ap (λ t. t || blackened bits at skip count p) (white y x inside right short)
-    ∙ off at count p (laid_dot bits at skip p) (aside w b line left count y x wide within right short)
+    ∙ not_mixed _ mode (source p) (pattern p) (row_dot rows p) (off at (at + count) p (aside w b line left count y x wide within right short))
+    ∙ white y x inside right short
+
+other_column : (x column : ℕ) (s t : Bool) → column < x → ((nat_eq x column && s) && t) ≡ false
+other_column x column s t before = grind (arith, nat_tests)
+
+-- dots that are painted down a column of the page leave the bits past each line
+pub padding-down : (w h column first count : ℕ) (mode : Mode) (rows rows' : List ℕ) (source pattern : ℕ → Bool) → column < w
+    → ((n c : ℕ) → c < 8 * bytes_per_line w → row_dot rows' (8 * (n * bytes_per_line w) + c)
+    ≡ mixed_dot ((nat_eq c column && nat_le first n) && nat_lt n (first + count)) mode (source n) (pattern n) (row_dot rows (8 * (n * bytes_per_line w) + c)))
+    → ((y x : ℕ) → y < h → w ≤ x → x < 8 * bytes_per_line w → row_dot rows (8 * (y * bytes_per_line w) + x) ≡ false)
+    → (y x : ℕ) → y < h → w ≤ x → x < 8 * bytes_per_line w → row_dot rows' (8 * (y * bytes_per_line w) + x) ≡ false
+padding-down w h column first count mode rows rows' source pattern on_page laid white y x inside right short =
+    let before : column < x = omega arith in
+    laid y x short
+    ∙ not_mixed _ mode (source y) (pattern y) (row_dot rows (8 * (y * bytes_per_line w) + x)) (other_column x column (nat_le first y) (nat_lt y (first + count)) before)
+    ∙ white y x inside right short

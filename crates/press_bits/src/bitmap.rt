@@ -1,12 +1,15 @@
 //! A page of dots, kept as rows of bytes.
 #![tactic(auto)]
 
-ghost use Rattle.std.specs.Prelude.{◌≡◌, ℕ, ◌*◌, ◌<◌, ◌≤◌, ◌≢◌, ◌⊎◌, ◌↔◌, MatchOption, pos, ◌+ℤ◌, false, length, replicate, IfOk, IsErrOf};
+ghost use Rattle.std.specs.Prelude.{◌≡◌, ℕ, ◌*◌, ◌<◌, ◌≤◌, ◌≢◌, ◌↔◌, MatchOption, pos, false, replicate, IfOk, IsOk, IsErrOf, OnOk, OnErr};
 ghost use Rattle.press_bits.specs.Page.{HasNoDotOutside, black_at, blank, is_page_size, count_black};
-ghost use Rattle.press_bits.specs.Mark.{painted, row_mark};
+ghost use Rattle.press_bits.specs.Mark.{painted, row, row_mark, column_mark};
 ghost use Rattle.press_bits.specs.Lines.{bytes_per_line, IsLine};
 
 use crate::dot_bytes;
+use crate::dot_row::DotRow;
+use crate::mode::Mode;
+use crate::painting::{paint_across, paint_down, run_within};
 use press_units::NO_MEMORY;
 use std::alloc::{AllocError, Global};
 use std::marker::Model;
@@ -59,28 +62,15 @@ fn line_bytes(width: u32) -> usize
     (width as usize + 7) / 8
 }
 
-/// The line of a page of this height at which `y` lies, if it lies on the page.
-fn line_within(y: i64, height: u32) -> Option<usize>
-    ensures { MatchOption result ((n : ℕ) → n < height → pos n ≢ y)
-        (λ line. (pos line ≡ y) × (line < height)) }
+/// The column or the line of a page, of which there are `side`, at which a place lies, if it lies on the page.
+fn place_within(at: i64, side: u32) -> Option<usize>
+    ensures { MatchOption result ((n : ℕ) → n < side → pos n ≢ at)
+        (λ place. (pos place ≡ at) × (place < side)) }
 {
-    if y < 0 || y >= i64::from(height) {
+    if at < 0 || at >= i64::from(side) {
         None
     } else {
-        Some(y as usize)
-    }
-}
-
-/// For a row whose leftmost dot lies at column `x`: the first column of the page that it can reach, and how many of its dots
-/// lie left of that.
-fn first_column(x: i64) -> (usize, usize)
-    ensures place { pos result.0 ≡ x +ℤ pos result.1 }
-    ensures first { (result.0 ≡ 0) ⊎ (result.1 ≡ 0) }
-{
-    if x < 0 {
-        (0, x.unsigned_abs() as usize)
-    } else {
-        (x as usize, 0)
+        Some(at as usize)
     }
 }
 
@@ -187,26 +177,76 @@ impl Bitmap {
         black
     }
 
-    /// Paints the first `dots` dots of the bytes in solid black, with white dots transparent: dot 0, the most significant
-    /// bit of the first byte, at column `x` of line `y`, and the others to its right. Dots outside the page are dropped.
+    /// Paints a row of source dots through a row of a pattern: source dot 0 at column `x` of line `y`, and the others to its
+    /// right. The pattern's dot 0 lies at column 0 of the page, and the pattern is repeated over the line. Dots outside the
+    /// page are dropped.
     ///
-    /// Source: PCL 5 Printer Language Technical Reference Manual, The PCL Print Model (solid black, transparent source),
-    /// and Raster Graphics (the order of the dots).
-    pub fn paint_row(&mut self, x: i64, y: i64, bits: &[u8], dots: usize)
-        requires { dots ≤ 8 * length bits.now }
-        ensures { self.new ≡ painted self.old (row_mark x y bits.now dots) }
+    /// # Errors
+    ///
+    /// Where memory ran out; the page is then as it was.
+    ///
+    /// Source: PCL 5 Printer Language Technical Reference Manual, The PCL Print Model, and Raster Graphics (the order of the
+    /// dots).
+    pub fn paint_row(
+        &mut self,
+        x: i64,
+        y: i64,
+        source: DotRow<'_>,
+        pattern: DotRow<'_>,
+        mode: Mode,
+    ) -> Result<(), AllocError>
+        requires { 1 ≤ pattern.dots }
+        ensures ok { OnOk result (self.new
+            ≡ painted self.old (row_mark x y (row source.entry) (row pattern.entry) mode)) }
+        ensures err { OnErr result (self.new ≡ self.old) }
+        // the lines of a page are all there
+        ensures ready { IsOk result }
     {
-        let Some(line) = line_within(y, self.height) else {
-            return;
+        let Some(line) = place_within(y, self.height) else {
+            return Ok(());
         };
-        let (left, skip) = first_column(x);
-        let count = dots
-            .saturating_sub(skip)
-            .min((self.width as usize).saturating_sub(left));
-        if count == 0 {
-            return;
+        let run = run_within(x, source.dots, self.width);
+        if run.count == 0 {
+            return Ok(());
         }
-        let start = 8 * (line * line_bytes(self.width));
-        dot_bytes::blacken(&mut self.rows, start + left, bits, skip, count);
+        let start = line * line_bytes(self.width);
+        paint_across(&mut self.rows, start, run, source, pattern, mode);
+        Ok(())
+    }
+
+    /// Paints a column of source dots through a column of a pattern: source dot 0 at column `x` of line `y`, and the others
+    /// below it. The pattern's dot 0 lies at line 0 of the page, and the pattern is repeated down the page. Dots outside the
+    /// page are dropped.
+    ///
+    /// # Errors
+    ///
+    /// Where memory ran out; the page is then as it was.
+    ///
+    /// Source: PCL 5 Printer Language Technical Reference Manual, The PCL Print Model, and Logical Page Orientation.
+    pub fn paint_column(
+        &mut self,
+        x: i64,
+        y: i64,
+        source: DotRow<'_>,
+        pattern: DotRow<'_>,
+        mode: Mode,
+    ) -> Result<(), AllocError>
+        requires { 1 ≤ pattern.dots }
+        ensures ok { OnOk result (self.new
+            ≡ painted self.old (column_mark x y (row source.entry) (row pattern.entry) mode)) }
+        ensures err { OnErr result (self.new ≡ self.old) }
+        // the lines of a page are all there
+        ensures ready { IsOk result }
+    {
+        let Some(column) = place_within(x, self.width) else {
+            return Ok(());
+        };
+        let run = run_within(y, source.dots, self.height);
+        if run.count == 0 {
+            return Ok(());
+        }
+        let bytes = line_bytes(self.width);
+        paint_down(&mut self.rows, bytes, column, run, source, pattern, mode);
+        Ok(())
     }
 }

@@ -1,9 +1,14 @@
-//! Pages of dots: black-and-white bitmaps, and the marks that rows of dots leave on them.
+//! Pages of dots: black-and-white bitmaps, and the marks that rows and columns of dots leave on them.
 #![tactic(auto)]
 
 mod bitmap;
 mod dot_bytes;
+mod dot_row;
+mod mode;
+mod painting;
 #[cfg(test)]
 mod tests;
 
 pub use bitmap::{Bitmap, BlankError, MAX_SIDE, WIDEST_ROW};
+pub use dot_row::DotRow;
+pub use mode::Mode;

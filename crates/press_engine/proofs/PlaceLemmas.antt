@@ -3,10 +3,11 @@ use Rattle.std.proofs.Common.{◌≡◌, ℕ, ◌+◌, ◌-◌, ◌*◌, ◌<◌
 use Rattle.std.specs.Prelude.{nat_lt, nat_le, if◌then◌else◌}
 use Rattle.std.specs.Option.{option_map_or}
 use Rattle.press_units.specs.declared.position.Resolution.TheVariants.{Dpi300}
-use Rattle.press_bits.specs.Page.{Page, black_at, is_page_size}
-use Rattle.press_bits.specs.DotRule.{dot_rule, dot_after, both_transparent}
-use Rattle.press_bits.specs.Mark.{marked_dot, painted, box_source, box_mark, solid_black}
-use Rattle.press_bits.proofs.MarkLemmas.{painted_alike}
+use Rattle.press_bits.specs.Page.{Page, is_page_size}
+use Rattle.press_bits.specs.DotRule.{dot_rule, both_transparent}
+use Rattle.press_bits.specs.DotRule.DotEffect.{Unchanged}
+use Rattle.press_bits.specs.Mark.{effect_at, painted, box_source}
+use Rattle.press_bits.proofs.MarkLemmas.{painted_same_effects}
 use Rattle.press_page.specs.Paper.{physical_page, dimensions_of}
 use Rattle.press_page.specs.declared.paper.Orientation.{Orientation}
 use Rattle.press_page.specs.declared.paper.Orientation.TheVariants.{Portrait, Landscape, ReversePortrait, ReverseLandscape}
@@ -17,7 +18,7 @@ use Rattle.press_page.specs.declared.place.Dot.{Dot}
 use Rattle.press_page.specs.declared.place.Extent.{Extent}
 use Rattle.press_engine.specs.declared.area.Area.{Area}
 use Rattle.press_engine.specs.declared.span.Span.{Span}
-use Rattle.press_engine.specs.Place.{extent_of, placed_box, LiesAt}
+use Rattle.press_engine.specs.Place.{extent_of, black_box, placed_box, LiesAt}
 use Rattle.press_engine.specs.Span.{has}
 
 -- each page size is one that a bitmap may have
@@ -72,12 +73,12 @@ turned_box across down across' down' x y x' y' wide high =
 -- a rectangle of the frame paints the area where it lies
 pub painted_placed : (page : Page) (extent : Extent) (orientation : Orientation) (corner : Dot) (columns lines : ℕ) (area : Area) →
     extent ≡ extent_of page → LiesAt orientation extent corner columns lines area →
-    painted page (box_mark area.across.start area.down.start area.across.length area.down.length)
+    painted page (black_box area.across.start area.down.start area.across.length area.down.length)
     ≡ painted page (placed_box orientation (extent_of page) corner columns lines)
-unfolding marked_dot solid_black
+unfolding effect_at
 painted_placed page extent orientation corner columns lines area is lies =
-    painted_alike page (box_mark area.across.start area.down.start area.across.length area.down.length) (placed_box orientation (extent_of page) corner columns lines)
-    (λ x y wide high. ap (λ (source : Option Bool). option_map_or (λ s. dot_after (dot_rule both_transparent s true) (black_at page x y)) source (black_at page x y)) ((subst (λ (one : Extent). LiesAt orientation one corner columns lines area) is lies).dots x y wide high))
+    painted_same_effects page (black_box area.across.start area.down.start area.across.length area.down.length) (placed_box orientation (extent_of page) corner columns lines)
+    (λ x y wide high. ap (λ (source : Option Bool). option_map_or (λ s. dot_rule both_transparent s true) source Unchanged) ((subst (λ (one : Extent). LiesAt orientation one corner columns lines area) is lies).dots x y wide high))
 
 -- ---- where a rectangle lies, orientation by orientation
 

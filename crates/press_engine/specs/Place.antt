@@ -5,7 +5,7 @@ use Rattle.press_units.specs.declared.position.Resolution.{Resolution}
 use Rattle.press_units.specs.declared.position.Resolution.TheVariants.{Dpi300}
 use Rattle.press_bits.specs.Page.{Page, blank}
 use Rattle.press_bits.specs.DotRule.{both_transparent}
-use Rattle.press_bits.specs.Mark.{Mark, box_source}
+use Rattle.press_bits.specs.Mark.{Mark, box_source, box_mark}
 use Rattle.press_page.specs.Paper.{physical_page}
 use Rattle.press_page.specs.Place.{frame_dot}
 use Rattle.press_page.specs.declared.paper.Orientation.{Orientation}
@@ -29,6 +29,10 @@ extent_of page = record { width = page.width; height = page.height }
 -- the dot of the frame that lies at a column and a line of the physical page
 abbrev pub placed_dot : Orientation → Extent → ℕ → ℕ → ℕ × ℕ
 placed_dot orientation page x y = let dot = frame_dot orientation page (record { x = x; y = y }) in (dot.x, dot.y)
+
+-- a rectangle of the physical page in solid black
+abbrev pub black_box : (x y w h : ℕ) → Mark
+black_box x y w h = box_mark x y w h (λ _ _. true) both_transparent
 
 -- The mark of a rectangle in solid black, of so many columns and lines from a dot of the frame on.
 abbrev pub placed_box : Orientation → Extent → (corner : Dot) → (columns lines : ℕ) → Mark

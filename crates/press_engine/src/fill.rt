@@ -1,7 +1,9 @@
 ghost use Rattle.std.specs.Prelude.{◌≡◌, ◌<◌, ◌≤◌, ◌+◌, ◌*◌, min, pos, replicate};
-ghost use Rattle.press_bits.specs.Mark.{painted, box_mark, row_mark};
+ghost use Rattle.press_bits.specs.DotRule.{both_transparent};
+ghost use Rattle.press_bits.specs.Mark.{painted, solid_black, row_mark};
+ghost use Rattle.press_engine.specs.Place.{black_box};
 
-use press_bits::Bitmap;
+use press_bits::{Bitmap, DotRow, Mode};
 
 /// As many bytes as the widest row of a bitmap has.
 const WIDEST_ROW: usize = 2048;
@@ -19,16 +21,29 @@ fn cut_length(from: u32, length: u32, edge: u32) -> u32
 /// Paints black dots on one line of the page: so many columns from x on.
 fn paint_line(page: &mut Bitmap, x: u32, y: u32, columns: u32)
     requires { columns ≤ 8 * WIDEST_ROW }
-    ensures { page.new ≡ painted page.old (row_mark (pos x) (pos y) (replicate WIDEST_ROW 255) columns) }
+    ensures { page.new ≡ painted page.old (row_mark (pos x) (pos y)
+        (record { bits = replicate WIDEST_ROW 255; dots = columns }) solid_black both_transparent) }
 {
-    let black = [0xFF; WIDEST_ROW];
-    page.paint_row(i64::from(x), i64::from(y), &black, columns as usize);
+    let row = DotRow {
+        bits: &[0xFF; WIDEST_ROW],
+        dots: columns as usize,
+    };
+    let mode = Mode {
+        source_opaque: false,
+        pattern_opaque: false,
+    };
+    if page
+        .paint_row(i64::from(x), i64::from(y), row, DotRow::black(), mode)
+        .is_err()
+    {
+        unreachable!();
+    }
 }
 
 /// Paints a box of black dots on the page: so many columns from x on, in so many lines from y on. Dots outside the page
 /// are dropped.
 pub fn fill_box(page: &mut Bitmap, x: u32, y: u32, width: u32, height: u32)
-    ensures { page.new ≡ painted page.old (box_mark x y width height) }
+    ensures { page.new ≡ painted page.old (black_box x y width height) }
 {
     let columns = cut_length(x, width, page.width());
     let lines = cut_length(y, height, page.height());

@@ -1,7 +1,7 @@
 //! Streams that are printed to files, and the words of the program.
 use crate::files::print_files;
 use crate::program::run_words;
-use press_bits::Bitmap;
+use press_bits::{Bitmap, DotRow, Mode};
 use press_sink::{FolderSink, Sheet, SheetSink};
 use std::fs::Files;
 use std::test::Fail;
@@ -64,7 +64,15 @@ fn fronts_come_before_backs(rt: HostRuntime) -> Result<(), Fail> {
     let folder = new_folder(&rt, "backs")?;
     let template = path(&rt, &folder, "%d")?;
     let mut front = Bitmap::blank(rt.alloc(), 9, 1)?;
-    front.paint_row(8, 0, &[0x80], 1);
+    let dot = DotRow {
+        bits: &[0x80],
+        dots: 1,
+    };
+    let mode = Mode {
+        source_opaque: false,
+        pattern_opaque: false,
+    };
+    front.paint_row(8, 0, dot, DotRow::black(), mode)?;
     let back = Some(Bitmap::blank(rt.alloc(), 3, 2)?);
     let sheet = Sheet { front, back };
     let mut sink = FolderSink::open(rt.alloc(), &rt, template.as_str())?;

@@ -9,12 +9,13 @@ use Rattle.std.proofs.Math.Nat.{mul-le-mul_right}
 use Rattle.std.proofs.lemmas.Bool.{cases_order}
 use Rattle.std.proofs.lemmas.List.{get_or_append_left, get_or-append-add, get_or_past}
 use Rattle.std.proofs.lemmas.Bool.Decides.{nat_tests}
+use Rattle.press_bits.specs.DotRule.{dot_after, both_transparent}
 use Rattle.press_bits.specs.Page.{Page, black_at, blank}
-use Rattle.press_bits.specs.Mark.{painted, marked_dot, row_dot, byte_dot, row_source, row_mark}
+use Rattle.press_bits.specs.Mark.{Row, painted, row_dot, byte_dot, Mark, solid_black, row_mark, effect_at}
 use Rattle.press_bits.specs.DotRows.{page_of_rows}
 use Rattle.press_bits.specs.Lines.{bytes_per_line}
 use Rattle.press_bits.proofs.DotRowsLemmas.{width-page_of_rows, height-page_of_rows, page_of_rows-HasNoDotOutside, black_at-page_of_rows, white_page_of_rows}
-use Rattle.press_bits.proofs.MarkLemmas.{painted_by, solid_black_dot, row_lands}
+use Rattle.press_bits.proofs.MarkLemmas.{painted_by_effects, row_lands, repeated-solid_black, blackens, effect_where}
 use Rattle.press_pbm.specs.Reading.{Stopped}
 use Rattle.press_pbm.specs.declared.fault.ReadPbmError.{ReadPbmError}
 use Rattle.press_pbm.specs.declared.fault.ReadPbmError.TheVariants.{NotPbm, BadSize, Truncated, ReadFault, NoMemory}
@@ -76,11 +77,15 @@ row_more w n y v x rows row wide long one within =
       ]
     ]
 
+-- the mark of a row of a file
+abbrev file_row : (line : ℤ) → List ℕ → (dots : ℕ) → Mark
+file_row line row dots = row_mark (pos 0) line (record { bits = row; dots = dots }) solid_black both_transparent
+
 -- a row is painted below the rows above it
 painted-page_of_rows : (w h y : ℕ) (rows row : List ℕ) → length rows ≡ y * bytes_per_line w → length row ≡ bytes_per_line w →
-    painted (page_of_rows w h rows) (row_mark (pos 0) (pos y) row w) ≡ page_of_rows w h (rows ++ row)
+    painted (page_of_rows w h rows) (file_row (pos y) row w) ≡ page_of_rows w h (rows ++ row)
 painted-page_of_rows w h y rows row long one =
-    sym (painted_by page (page_of_rows w h (rows ++ row)) (row_mark (pos 0) (pos y) row w)
+    sym (painted_by_effects page (page_of_rows w h (rows ++ row)) (file_row (pos y) row w)
     (page_of_rows-HasNoDotOutside w h (rows ++ row))
     (width-page_of_rows w h (rows ++ row) ∙ sym (width-page_of_rows w h rows))
     (height-page_of_rows w h (rows ++ row) ∙ sym (height-page_of_rows w h rows))
@@ -95,18 +100,25 @@ painted-page_of_rows w h y rows row long one =
     count : w ≡ min (w - 0) (w - 0)
     count = omega arith
 
-    dot : (x v : ℕ) → x < w → v < h → black_at (page_of_rows w h (rows ++ row)) x v ≡ marked_dot (page_of_rows w h rows) (row_mark (pos 0) (pos y) row w) x v
+    dot : (x v : ℕ) → x < w → v < h → black_at (page_of_rows w h (rows ++ row)) x v ≡ dot_after (effect_at (file_row (pos y) row w) x v) (black_at (page_of_rows w h rows) x v)
     dot x v wide high =
+        let test : Bool = (nat_eq v y && nat_le 0 x) && nat_lt x (0 + w) in
         black_at-page_of_rows w h (rows ++ row) x v wide high
         ∙ row_more w (bytes_per_line w) y v x rows row full long one wide
-        ∙ (λ i. sym (black_at-page_of_rows w h rows x v wide high) i || sym (row_lands (pos 0) (pos y) row w 0 0 w y w x v refl (inl refl) refl count wide) i)
-        ∙ sym (solid_black_dot (page_of_rows w h rows) (row_source (pos 0) (pos y) row w) x v)
+        ∙ ap (λ b. b || (test && row_dot row (0 + (x - 0)))) (sym (black_at-page_of_rows w h rows x v wide high))
+        ∙ sym (blackens test (row_dot row (0 + (x - 0))) (black_at (page_of_rows w h rows) x v))
+        ∙ ap (λ t. dot_after (effect_where test both_transparent (row_dot row (0 + (x - 0))) t) (black_at (page_of_rows w h rows) x v)) (sym (repeated-solid_black x))
+        ∙ ap (λ e. dot_after e (black_at (page_of_rows w h rows) x v))
+        (sym (row_lands (pos 0) (pos y) (record { bits = row; dots = w }) solid_black both_transparent 0 0 w y w x v refl (inl refl) refl count wide))
 
 -- the page after a row was painted
-pub row_painted : (w h y dots : ℕ) (line : ℤ) (rows row : List ℕ) (old new : Page) → new ≡ painted old (row_mark (pos 0) line row dots) → old ≡ page_of_rows w h rows → line ≡ pos y → dots ≡ w →
+pub row_painted : (w h y dots : ℕ) (line : ℤ) (pattern : Row) (rows row : List ℕ) (old new : Page) →
+    new ≡ painted old (row_mark (pos 0) line (record { bits = row; dots = dots }) pattern both_transparent) → pattern ≡ solid_black → old ≡ page_of_rows w h rows → line ≡ pos y → dots ≡ w →
     length rows ≡ y * bytes_per_line w → length row ≡ bytes_per_line w → new ≡ page_of_rows w h (rows ++ row)
-row_painted w h y dots line rows row old new is shown at_line wide long one =
-    is ∙ (λ i. painted (shown i) (row_mark (pos 0) (at_line i) row (wide i))) ∙ painted-page_of_rows w h y rows row long one
+row_painted w h y dots line pattern rows row old new is solid shown at_line wide long one =
+    is
+    ∙ (λ i. painted (shown i) (row_mark (pos 0) (at_line i) (record { bits = row; dots = wide i }) (solid i) both_transparent))
+    ∙ painted-page_of_rows w h y rows row long one
 
 -- the rest of the rows was not read
 pub stopped_in_rows : (error : ReadPbmError) (had middle left : Option (List ℕ)) (rows : List ℕ) (n y height wanted : ℕ) → Consumes had middle rows → length rows ≡ y * n → y < height → wanted ≡ n →

@@ -8,7 +8,7 @@ ghost use Rattle.press_pbm.specs.Reading.{ReadHeader, Stopped};
 
 use crate::fault::ReadPbmError;
 use crate::place::Place;
-use press_bits::{Bitmap, MAX_SIDE};
+use press_bits::{Bitmap, DotRow, MAX_SIDE, Mode};
 use std::alloc::Global;
 use std::io::{ErrorKind, Read};
 
@@ -17,6 +17,12 @@ const LONGEST_HEADER: u32 = 65_536;
 
 /// The most bytes of a row.
 const LONGEST_ROW: usize = MAX_SIDE as usize / 8;
+
+/// White dots leave the white page as it is.
+const TRANSPARENT: Mode = Mode {
+    source_opaque: false,
+    pattern_opaque: false,
+};
 
 /// The most reads of one row or of one byte.
 const MOST_READS: u32 = u32::MAX;
@@ -86,7 +92,13 @@ fn read_rows<R: Read>(input: &mut R, page: &mut Bitmap) -> Result<(), ReadPbmErr
     let row = &mut buffer[..width.div_ceil(8)];
     for y in 0..page.height() {
         fill(input, row)?;
-        page.paint_row(0, i64::from(y), row, width);
+        let dots = DotRow {
+            bits: row,
+            dots: width,
+        };
+        let Ok(()) = page.paint_row(0, i64::from(y), dots, DotRow::black(), TRANSPARENT) else {
+            return Err(ReadPbmError::NoMemory);
+        };
     }
     Ok(())
 }

@@ -48,13 +48,21 @@ impl SheetSink for ListSink {
 #[cfg(test)]
 mod tests {
     use super::*;
-    use press_bits::Bitmap;
+    use press_bits::{Bitmap, DotRow, Mode};
     use std::test::Fail;
 
     #[test]
     fn keeps_copies_in_order(rt: HostRuntime) -> Result<(), Fail> {
         let mut front = Bitmap::blank(rt.alloc(), 9, 1)?;
-        front.paint_row(8, 0, &[0x80], 1);
+        let dot = DotRow {
+            bits: &[0x80],
+            dots: 1,
+        };
+        let mode = Mode {
+            source_opaque: false,
+            pattern_opaque: false,
+        };
+        front.paint_row(8, 0, dot, DotRow::black(), mode)?;
         let back = Some(Bitmap::blank(rt.alloc(), 3, 2)?);
         let mut sheet = Sheet { front, back };
         let mut sink = ListSink::new(rt.alloc());

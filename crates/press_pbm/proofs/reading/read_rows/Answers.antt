@@ -23,6 +23,6 @@ loop-y-preserved g c =
       rows ++ c.fill.new.buffer,
       omega (arith, length-append rows c.fill.new.buffer),
       Consumes-trans _ _ _ _ _ reads c.in_ok-fill.ensures.ok,
-      row_painted _ _ c.loop-y.y _ _ rows c.fill.new.buffer _ _ c.paint_row.ensures shown line c.width-width.ensures.width long kept,
+      row_painted _ _ c.loop-y.y _ _ _ rows c.fill.new.buffer _ _ c.in-Ok.ensures.ok c.black.ensures shown line c.width-width.ensures.width long kept,
       kept,
     )

@@ -1,0 +1,232 @@
+//! Rows of dots that are mixed into the bytes of a page, eight dots at a time.
+ghost use Rattle.std.specs.Prelude.{◌≡◌, ℕ, ◌+◌, ◌-◌, ◌*◌, ◌/◌, ◌%◌, ◌^◌, ◌<◌, ◌≤◌, ◌⊎◌, ◌&&◌, ◌==◌, nat_le, nat_lt, min, pos, ◌+ℤ◌, length};
+ghost use Rattle.press_bits.specs.Mark.{row, row_dot, byte_dot, repeated};
+ghost use Rattle.press_bits.specs.DotRows.{mixed_dot};
+
+use crate::dot_bytes::{eight_dots, is_black};
+use crate::dot_row::DotRow;
+use crate::mode::Mode;
+
+/// The dots of a row that lie on a page, along one side of it: `count` of them from dot `skip` of the row on, which lies at
+/// place `first`.
+#[derive(Clone, Copy)]
+pub(crate) struct Run {
+    pub(crate) first: usize,
+    pub(crate) skip: usize,
+    pub(crate) count: usize,
+}
+
+/// The dots that lie on a side of a page, of a row whose first dot lies at place `at`.
+pub(crate) fn run_within(at: i64, dots: usize, side: u32) -> Run
+    ensures place { pos result.first ≡ at +ℤ pos result.skip }
+    ensures first { (result.first ≡ 0) ⊎ (result.skip ≡ 0) }
+    ensures count { result.count ≡ min (dots - result.skip) (side - result.first) }
+{
+    let (first, skip) = if at < 0 {
+        (0, at.unsigned_abs() as usize)
+    } else {
+        (at as usize, 0)
+    };
+    let count = dots
+        .saturating_sub(skip)
+        .min((side as usize).saturating_sub(first));
+    Run { first, skip, count }
+}
+
+/// Eight dots that are all black, or all white.
+fn eight_alike(black: bool) -> u8
+    ensures { (j : ℕ) → j < 8 → byte_dot result j ≡ black }
+{
+    if black { 0xFF } else { 0 }
+}
+
+/// Eight dots of a page after eight source dots were painted on them, through eight pattern dots, where the mask is black.
+fn mixed_byte(before: u8, source: u8, pattern: u8, mask: u8, mode: Mode) -> u8
+    ensures { (j : ℕ) → j < 8 → byte_dot result j ≡ mixed_dot (byte_dot mask j) mode
+        (byte_dot source j) (byte_dot pattern j) (byte_dot before j) }
+{
+    let source_white = eight_alike(mode.source_opaque) & !source;
+    let pattern_white = eight_alike(mode.pattern_opaque) & (source & !pattern);
+    let white = mask & (source_white | pattern_white);
+    let black = mask & (source & pattern);
+    (before & !white) | black
+}
+
+/// Of the eight dots from dot `start` on, those from dot `at` on and before dot `end`.
+fn mask_byte(start: usize, at: usize, end: usize) -> u8
+    requires small { end + 8 < 2 ^ 64 }
+    requires begun { at < start + 8 }
+    requires left { start < end }
+    ensures { (j : ℕ) → j < 8
+        → byte_dot result j ≡ (nat_le at (start + j) && nat_lt (start + j) end) }
+{
+    let begun = if start < at {
+        0xFF >> (at - start)
+    } else {
+        0xFF
+    };
+    if start + 8 <= end {
+        begun
+    } else {
+        let past = start + 8 - end;
+        (begun >> past) << past
+    }
+}
+
+/// The eight source dots from dot `start` on, where dot `skip` of the bytes is laid at dot `at`. What stands before that is
+/// no source dot.
+fn source_byte(start: usize, at: usize, bits: &[u8], skip: usize) -> u8
+    requires begun { at < start + 8 }
+    requires fits { skip + (start - at) < 2 ^ 64 }
+    ensures { (j : ℕ) → j < 8 → at ≤ start + j
+        → byte_dot result j ≡ row_dot bits.now (skip + (start + j - at)) }
+{
+    if start < at {
+        eight_dots(bits, skip) >> (at - start)
+    } else {
+        eight_dots(bits, skip + (start - at))
+    }
+}
+
+/// Eight dots of a pattern from dot `phase` on, where the pattern is repeated.
+fn pattern_byte(pattern: DotRow<'_>, phase: usize) -> u8
+    requires wide { 8 ≤ pattern.dots }
+    requires within { phase < pattern.dots }
+    ensures { (j : ℕ) → j < 8 → byte_dot result j ≡ repeated (row pattern.entry) (phase + j) }
+{
+    let left = pattern.dots - phase;
+    let byte = eight_dots(pattern.bits, phase);
+    if left >= 8 {
+        byte
+    } else {
+        let past = 8 - left;
+        ((byte >> past) << past) | (eight_dots(pattern.bits, 0) >> left)
+    }
+}
+
+/// The dot of a repeated pattern that is `step` dots further.
+fn further(phase: usize, step: usize, dots: usize) -> usize
+    requires within { phase < dots }
+    requires short { step ≤ dots }
+    ensures { result ≡ (phase + step) % dots }
+{
+    let left = dots - phase;
+    if step < left {
+        phase + step
+    } else {
+        step - left
+    }
+}
+
+/// A narrow pattern eight times, side by side, in whole bytes.
+fn eightfold(pattern: DotRow<'_>) -> [u8; 7]
+    requires some { 1 ≤ pattern.dots }
+    requires narrow { pattern.dots < 8 }
+    ensures { (p : ℕ) → p < 8 * pattern.entry.dots
+        → row_dot result p ≡ repeated (row pattern.entry) p }
+{
+    let mut bytes = [0; 7];
+    for p in 0..8 * pattern.dots {
+        if is_black(pattern.bits, p % pattern.dots) {
+            bytes[p / 8] |= 0x80 >> (p % 8);
+        }
+    }
+    bytes
+}
+
+/// Paints a run of source dots, through a pattern of at least eight dots, into the line that begins at byte `line`.
+fn paint_wide(
+    rows: &mut [u8],
+    line: usize,
+    run: Run,
+    source: DotRow<'_>,
+    pattern: DotRow<'_>,
+    mode: Mode,
+)
+    requires some { 0 < run.count }
+    requires within { 8 * line + run.first + run.count ≤ 8 * length rows.old }
+    requires small { length rows.old < 2 ^ 40 }
+    requires enough { run.skip + run.count ≤ source.dots }
+    requires wide { 8 ≤ pattern.dots }
+    ensures { (p : ℕ) → row_dot rows.new p
+        ≡ mixed_dot (nat_le (8 * line + run.first) p
+        && nat_lt p (8 * line + run.first + run.count)) mode
+        (row_dot source.entry.bits.now (run.skip + (p - (8 * line + run.first))))
+        (repeated (row pattern.entry) (p - 8 * line)) (row_dot rows.old p) }
+{
+    let at = 8 * line + run.first;
+    let end = at + run.count;
+    let mut phase = (8 * (run.first / 8)) % pattern.dots;
+    for index in at / 8..(end - 1) / 8 + 1 {
+        let mask = mask_byte(8 * index, at, end);
+        let source = source_byte(8 * index, at, source.bits, run.skip);
+        let tile = pattern_byte(pattern, phase);
+        rows[index] = mixed_byte(rows[index], source, tile, mask, mode);
+        phase = further(phase, 8, pattern.dots);
+    }
+}
+
+/// Paints a run of source dots, through a pattern, into the line that begins at byte `line`.
+pub(crate) fn paint_across(
+    rows: &mut [u8],
+    line: usize,
+    run: Run,
+    source: DotRow<'_>,
+    pattern: DotRow<'_>,
+    mode: Mode,
+)
+    requires some { 0 < run.count }
+    requires within { 8 * line + run.first + run.count ≤ 8 * length rows.old }
+    requires small { length rows.old < 2 ^ 40 }
+    requires enough { run.skip + run.count ≤ source.dots }
+    requires pattern { 1 ≤ pattern.dots }
+    ensures { (p : ℕ) → row_dot rows.new p
+        ≡ mixed_dot (nat_le (8 * line + run.first) p
+        && nat_lt p (8 * line + run.first + run.count)) mode
+        (row_dot source.entry.bits.now (run.skip + (p - (8 * line + run.first))))
+        (repeated (row pattern.entry) (p - 8 * line)) (row_dot rows.old p) }
+{
+    if pattern.dots >= 8 {
+        paint_wide(rows, line, run, source, pattern, mode);
+    } else {
+        let bytes = eightfold(pattern);
+        let unrolled = DotRow {
+            bits: &bytes,
+            dots: 8 * pattern.dots,
+        };
+        paint_wide(rows, line, run, source, unrolled, mode);
+    }
+}
+
+/// Paints a run of source dots, through a pattern, down a column of lines of `bytes` bytes.
+pub(crate) fn paint_down(
+    rows: &mut [u8],
+    bytes: usize,
+    column: usize,
+    run: Run,
+    source: DotRow<'_>,
+    pattern: DotRow<'_>,
+    mode: Mode,
+)
+    requires inside { column < 8 * bytes }
+    requires within { (run.first + run.count) * bytes ≤ length rows.old }
+    requires small { length rows.old < 2 ^ 40 }
+    requires enough { run.skip + run.count ≤ source.dots }
+    requires some { 1 ≤ pattern.dots }
+    ensures { (n c : ℕ) → c < 8 * bytes → row_dot rows.new (8 * (n * bytes) + c)
+        ≡ mixed_dot (c == column && nat_le run.first n
+        && nat_lt n (run.first + run.count)) mode
+        (row_dot source.entry.bits.now (run.skip + (n - run.first)))
+        (repeated (row pattern.entry) n) (row_dot rows.old (8 * (n * bytes) + c)) }
+{
+    let mask = 0x80 >> (column % 8);
+    let mut index = run.first * bytes + column / 8;
+    let mut phase = run.first % pattern.dots;
+    for i in 0..run.count {
+        let dot = eight_alike(is_black(source.bits, run.skip + i));
+        let tile = eight_alike(is_black(pattern.bits, phase));
+        rows[index] = mixed_byte(rows[index], dot, tile, mask, mode);
+        index += bytes;
+        phase = further(phase, 1, pattern.dots);
+    }
+}
