@@ -32,12 +32,9 @@ fn paint_line(page: &mut Bitmap, x: u32, y: u32, columns: u32)
         source_opaque: false,
         pattern_opaque: false,
     };
-    if page
-        .paint_row(i64::from(x), i64::from(y), row, DotRow::black(), mode)
-        .is_err()
-    {
+    let Ok(()) = page.paint_row(i64::from(x), i64::from(y), row, DotRow::black(), mode) else {
         unreachable!();
-    }
+    };
 }
 
 /// Paints a box of black dots on the page: so many columns from x on, in so many lines from y on. Dots outside the page
