@@ -165,6 +165,7 @@ fn expect_mode(
         dots: 3,
     };
     page.paint_row(0, 0, source, pattern, mode)?;
+    assert!(rt; page.height() > 0);
     assert_eq!(rt; page.line(0), [left, right].as_slice());
     Ok(())
 }
