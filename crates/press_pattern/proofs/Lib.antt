@@ -1,0 +1,4 @@
+pub mod ByteLemmas
+pub mod TileLemmas
+pub mod HatchLemmas
+mod StoreLemmas

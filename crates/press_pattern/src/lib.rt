@@ -1,0 +1,21 @@
+//! The patterns that marks are painted with: the tiles of the solid, shading and cross-hatch patterns,
+//! and the store of user-defined ones.
+//!
+//! A tile is a small field of dots that a pattern repeats over the page: at column `a` of line `b` of
+//! the frame lies the tile's dot at column `a` modulo its width of line `b` modulo its height.
+#![tactic(auto)]
+
+mod fixed;
+mod pattern;
+mod patterns;
+#[cfg(test)]
+mod tests;
+mod tile;
+mod user_data;
+mod user_pattern;
+
+pub use pattern::{Kind, Pattern};
+pub use patterns::Patterns;
+pub use tile::{OwnedTile, Tile};
+pub use user_data::DefineError;
+pub use user_pattern::UserPattern;

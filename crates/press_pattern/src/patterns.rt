@@ -1,0 +1,147 @@
+ghost use Rattle.std.specs.Prelude.{◌≡◌, ◌↔◌, true, false, option_map, option_copied, OnOk, OnErr, IfOk, IsErrOf};
+ghost use Rattle.std.specs.FinMap as maps;
+ghost use Rattle.press_pattern.specs.Tiling.{tile_row};
+ghost use Rattle.press_pattern.specs.UserData.{has_header, has_rows};
+ghost use Rattle.press_pattern.specs.Store.{tile_of, with_definition, made, permanent_only};
+
+use crate::fixed;
+use crate::pattern::{Kind, Pattern};
+use crate::tile::Tile;
+use crate::user_data::{DefineError, read_tile};
+use crate::user_pattern::UserPattern;
+use indexmap::IndexMap;
+use std::alloc::{AllocError, Global};
+use std::marker::Model;
+
+/// The patterns: those that always exist, and the user-defined ones. Contracts see it as a finite map
+/// from IDs to user-defined patterns.
+///
+/// Source: PCL 5 Printer Language Technical Reference Manual, The PCL Print Model.
+#[derive(Drop)]
+pub struct Patterns {
+    user: IndexMap<u16, UserPattern>,
+}
+
+impl Model for Patterns {
+    ghost use Rattle.std.specs.Coded.{coded_ℕ};
+    ghost use Rattle.std.specs.FinMap as maps;
+    ghost use Rattle.press_pattern.specs.Store.{UserPatterns, user_pattern_code};
+
+    ghost Value = { UserPatterns };
+
+    ghost coded = { maps.code coded_ℕ user_pattern_code };
+
+    ghost view = { λ patterns. maps.from_entries patterns.user.entries };
+}
+
+impl Patterns {
+    /// No user-defined pattern.
+    pub fn new(alloc: Global) -> Self
+        ensures { result ≡ maps.empty }
+    {
+        Patterns {
+            user: IndexMap::new(alloc),
+        }
+    }
+
+    /// Equal patterns.
+    ///
+    /// # Errors
+    ///
+    /// Where memory ran out.
+    pub fn copy(&self) -> Result<Self, AllocError>
+        ensures { IfOk result (λ patterns. patterns ≡ self.now) }
+    {
+        Ok(Patterns {
+            user: self.user.clone()?,
+        })
+    }
+
+    /// Defines the pattern that the data of a Define Pattern command stands for, in place of an older one
+    /// with this ID. It is temporary, also where the older one was permanent. Data behind the last row is
+    /// ignored.
+    ///
+    /// Source: PCL 5 Printer Language Technical Reference Manual, The PCL Print Model, Define Pattern
+    /// command.
+    ///
+    /// # Errors
+    ///
+    /// `BadHeader` (201) exactly where no header stands first, and else `ShortData` (202) exactly where
+    /// the rows are cut short, and else `NoMemory` where memory ran out. Each changes nothing.
+    pub fn define(&mut self, id: u16, bytes: &[u8]) -> Result<(), DefineError>
+        ensures defined { OnOk result (self.new ≡ with_definition self.old id bytes.now) }
+        ensures unchanged { OnErr result (self.new ≡ self.old) }
+        ensures bad_header { IsErrOf result DefineError.BadHeader ↔ (has_header bytes.now ≡ false) }
+        ensures short_data { IsErrOf result DefineError.ShortData
+            ↔ ((has_header bytes.now ≡ true) × (has_rows bytes.now ≡ false)) }
+    {
+        let tile = read_tile(*self.user.allocator(), bytes)?;
+        let pattern = UserPattern {
+            tile,
+            permanent: false,
+        };
+        match self.user.insert(id, pattern) {
+            Ok(_) => Ok(()),
+            Err(_) => Err(DefineError::NoMemory),
+        }
+    }
+
+    /// Deletes the user-defined pattern with this ID, if there is one.
+    pub fn delete(&mut self, id: u16)
+        ensures { self.new ≡ maps.remove self.old id }
+    {
+        self.user.swap_remove(&id);
+    }
+
+    /// Deletes all user-defined patterns.
+    pub fn delete_all(&mut self)
+        ensures { self.new ≡ maps.empty }
+    {
+        self.user.clear();
+    }
+
+    /// Deletes the user-defined patterns that are not permanent.
+    pub fn delete_temporary(&mut self)
+        ensures { self.new ≡ permanent_only self.old }
+    {
+        let _count = self.user.len();
+        self.user.retain(
+            |_id: &u16, pattern: &mut UserPattern| -> bool
+                ensures { (result ≡ pattern.old.permanent) × (pattern.new ≡ pattern.old) }
+            { pattern.permanent },
+        );
+    }
+
+    /// Makes the user-defined pattern with this ID permanent or temporary, if there is one.
+    pub fn set_permanent(&mut self, id: u16, permanent: bool)
+        ensures { self.new ≡ made self.old id permanent }
+    {
+        if let Some(pattern) = self.user.get_mut(&id) {
+            pattern.permanent = permanent;
+        }
+    }
+
+    /// The tile of a pattern, if it exists.
+    pub fn tile(&self, pattern: Pattern) -> Option<Tile<'_>>
+        ensures { result ≡ tile_of self.now pattern.kind pattern.id }
+    {
+        match pattern.kind {
+            Kind::Black => Some(fixed::black()),
+            Kind::White => Some(fixed::white()),
+            Kind::Shading => fixed::shading(pattern.id),
+            Kind::CrossHatch => fixed::cross_hatch(pattern.id),
+            Kind::User => {
+                let found = self.user.get(&pattern.id)?;
+                Some(found.tile.as_tile())
+            }
+        }
+    }
+
+    /// The bytes of a pattern's tile for line `y` of the frame, if the pattern exists; see [`Tile::row`].
+    pub fn row_of(&self, kind: Kind, id: u16, y: u32) -> Option<&[u8]>
+        ensures { option_copied result ≡ option_map (λ tile. tile_row tile y) (tile_of self.now kind id) }
+    {
+        let tile = self.tile(Pattern { kind, id })?;
+        Some(tile.row(y))
+    }
+}

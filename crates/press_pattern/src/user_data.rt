@@ -1,0 +1,66 @@
+//! The data of the Define Pattern command.
+
+ghost use Rattle.std.specs.Prelude.{◌≡◌, ◌↔◌, true, false, IfOk, IsErrOf};
+ghost use Rattle.press_pattern.specs.UserData.{has_header, has_rows, tile_in};
+
+use crate::tile::{OwnedTile, line_bytes};
+use byteorder::{BigEndian, ByteOrder};
+use press_units::NO_MEMORY;
+use std::alloc::{AllocError, Global};
+use thiserror::Error;
+
+/// How many bytes the header has.
+const HEADER_LENGTH: usize = 8;
+
+/// Why no pattern was defined. The store is as it was.
+#[derive(Debug, Drop, Error)]
+pub enum DefineError {
+    /// The data has fewer than 8 bytes, or does not begin with the header of a pattern of one bit a dot,
+    /// with a height and a width above 0.
+    #[error("fault 201")]
+    BadHeader,
+    /// The data ends before the last row.
+    #[error("fault 202")]
+    ShortData,
+    /// Memory ran out.
+    #[error("{text}", text = NO_MEMORY)]
+    NoMemory,
+}
+
+impl From<AllocError> for DefineError {
+    ghost use Rattle.std.specs.Prelude.{◌≡◌};
+    ghost use Rattle.press_pattern.specs.declared.user_data.DefineError.TheVariants.{NoMemory};
+
+    ghost from_gives = { λ _ error. error ≡ NoMemory };
+
+    fn from(_error: AllocError) -> DefineError {
+        DefineError::NoMemory
+    }
+}
+
+/// The tile that data stands for.
+pub(crate) fn read_tile(alloc: Global, bytes: &[u8]) -> Result<OwnedTile, DefineError>
+    ensures tile { IfOk result (λ tile. tile ≡ tile_in bytes.now) }
+    ensures bad_header { IsErrOf result DefineError.BadHeader ↔ (has_header bytes.now ≡ false) }
+    ensures short_data { IsErrOf result DefineError.ShortData
+        ↔ ((has_header bytes.now ≡ true) × (has_rows bytes.now ≡ false)) }
+{
+    if bytes.len() < HEADER_LENGTH
+        || bytes[0] != 0
+        || bytes[1] != 0
+        || bytes[2] != 1
+        || bytes[3] != 0
+    {
+        return Err(DefineError::BadHeader);
+    }
+    let height = BigEndian::read_u16(&bytes[4..]);
+    let width = BigEndian::read_u16(&bytes[6..]);
+    if height == 0 || width == 0 {
+        return Err(DefineError::BadHeader);
+    }
+    let count = usize::from(height) * line_bytes(width);
+    let Some(lines) = bytes[HEADER_LENGTH..].get(..count) else {
+        return Err(DefineError::ShortData);
+    };
+    Ok(OwnedTile::of_rows(width, height, lines.to_vec(alloc)?))
+}
