@@ -17,10 +17,8 @@ fn expect_shading(rt: &impl Abort, patterns: &Patterns, first: u16, last: u16, l
             kind: Kind::Shading,
             id,
         };
-        let mut y = 0;
-        for line in lines {
-            expect_line(rt, patterns, pattern, y, &[line]);
-            y += 1;
+        for y in 0..8 {
+            expect_line(rt, patterns, pattern, y, &[lines[y as usize]]);
         }
     }
 }
@@ -28,17 +26,32 @@ fn expect_shading(rt: &impl Abort, patterns: &Patterns, first: u16, last: u16, l
 #[test]
 fn shadings(rt: HostRuntime) {
     let patterns = Patterns::new(rt.alloc());
-    let expect = |first: u16, last: u16, lines: [u8; 8]| {
-        expect_shading(&rt, &patterns, first, last, lines)
-    };
-    expect(1, 2, [0x80, 0, 0, 0, 0, 0, 0, 0]);
-    expect(3, 10, [0x88, 0, 0, 0, 0x88, 0, 0, 0]);
-    expect(11, 20, [0x88, 0, 0x22, 0, 0x88, 0, 0x22, 0]);
-    expect(21, 35, [0xaa, 0, 0xaa, 0, 0xaa, 0, 0xaa, 0]);
-    expect(36, 55, [0xaa, 0x55, 0xaa, 0x55, 0xaa, 0x55, 0xaa, 0x55]);
-    expect(56, 80, [0xff, 0x55, 0xff, 0x55, 0xff, 0x55, 0xff, 0x55]);
-    expect(81, 99, [0x77, 0xff, 0xdd, 0xff, 0x77, 0xff, 0xdd, 0xff]);
-    expect(100, 100, [0xff; 8]);
+    expect_shading(&rt, &patterns, 1, 2, [0x80, 0, 0, 0, 0, 0, 0, 0]);
+    expect_shading(&rt, &patterns, 3, 10, [0x88, 0, 0, 0, 0x88, 0, 0, 0]);
+    expect_shading(&rt, &patterns, 11, 20, [0x88, 0, 0x22, 0, 0x88, 0, 0x22, 0]);
+    expect_shading(&rt, &patterns, 21, 35, [0xaa, 0, 0xaa, 0, 0xaa, 0, 0xaa, 0]);
+    expect_shading(
+        &rt,
+        &patterns,
+        36,
+        55,
+        [0xaa, 0x55, 0xaa, 0x55, 0xaa, 0x55, 0xaa, 0x55],
+    );
+    expect_shading(
+        &rt,
+        &patterns,
+        56,
+        80,
+        [0xff, 0x55, 0xff, 0x55, 0xff, 0x55, 0xff, 0x55],
+    );
+    expect_shading(
+        &rt,
+        &patterns,
+        81,
+        99,
+        [0x77, 0xff, 0xdd, 0xff, 0x77, 0xff, 0xdd, 0xff],
+    );
+    expect_shading(&rt, &patterns, 100, 100, [0xff; 8]);
     assert!(rt; patterns.row_of(Kind::Shading, 0, 0).is_none());
     assert!(rt; patterns.row_of(Kind::Shading, 101, 0).is_none());
 }
@@ -48,41 +61,51 @@ fn expect_hatch(rt: &impl Abort, patterns: &Patterns, id: u16, lines: [u16; 16])
         kind: Kind::CrossHatch,
         id,
     };
-    let mut y = 0;
-    for line in lines {
-        expect_line(rt, patterns, pattern, y, &line.to_be_bytes());
-        y += 1;
+    for y in 0..16 {
+        expect_line(rt, patterns, pattern, y, &lines[y as usize].to_be_bytes());
     }
 }
 
 #[test]
 fn cross_hatches(rt: HostRuntime) {
     let patterns = Patterns::new(rt.alloc());
-    let expect = |id: u16, lines: [u16; 16]| expect_hatch(&rt, &patterns, id, lines);
-    expect(1, [0xffff, 0, 0, 0, 0, 0, 0, 0, 0, 0, 0, 0, 0, 0, 0, 0]);
-    expect(2, [0x8000; 16]);
-    expect(
+    expect_hatch(
+        &rt,
+        &patterns,
+        1,
+        [0xffff, 0, 0, 0, 0, 0, 0, 0, 0, 0, 0, 0, 0, 0, 0, 0],
+    );
+    expect_hatch(&rt, &patterns, 2, [0x8000; 16]);
+    expect_hatch(
+        &rt,
+        &patterns,
         3,
         [
             1, 2, 4, 8, 0x10, 0x20, 0x40, 0x80, 0x100, 0x200, 0x400, 0x800, 0x1000, 0x2000, 0x4000,
             0x8000,
         ],
     );
-    expect(
+    expect_hatch(
+        &rt,
+        &patterns,
         4,
         [
             0x8000, 0x4000, 0x2000, 0x1000, 0x800, 0x400, 0x200, 0x100, 0x80, 0x40, 0x20, 0x10, 8,
             4, 2, 1,
         ],
     );
-    expect(
+    expect_hatch(
+        &rt,
+        &patterns,
         5,
         [
             0xffff, 0x8000, 0x8000, 0x8000, 0x8000, 0x8000, 0x8000, 0x8000, 0x8000, 0x8000, 0x8000,
             0x8000, 0x8000, 0x8000, 0x8000, 0x8000,
         ],
     );
-    expect(
+    expect_hatch(
+        &rt,
+        &patterns,
         6,
         [
             0x8001, 0x4002, 0x2004, 0x1008, 0x0810, 0x0420, 0x0240, 0x0180, 0x0180, 0x0240, 0x0420,
