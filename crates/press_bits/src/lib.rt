@@ -6,8 +6,6 @@ mod dot_bytes;
 mod dot_row;
 mod mode;
 mod painting;
-#[cfg(test)]
-mod tests;
 
 pub use bitmap::{Bitmap, BlankError, MAX_SIDE, WIDEST_ROW};
 pub use dot_row::DotRow;

@@ -20,6 +20,3 @@ pub use marks::{
 pub use owned::Owned;
 pub use payload::{Broken, ControlByte, EscapeByte, Param, PjlLine, TextByte};
 pub use variant::Kind;
-
-#[cfg(test)]
-mod tests;

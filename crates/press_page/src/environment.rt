@@ -319,6 +319,3 @@ impl PageEnv {
         passes(self.text_end(), y, distance)
     }
 }
-
-#[cfg(test)]
-mod tests;

@@ -90,6 +90,3 @@ pub(crate) fn below_edge(y: i64, top_margin: u32) -> u64
     let below = y + i64::from(top_margin);
     if below < 0 { 0 } else { below as u64 }
 }
-
-#[cfg(test)]
-mod tests;

@@ -8,8 +8,6 @@
 mod fixed;
 mod pattern;
 mod patterns;
-#[cfg(test)]
-mod tests;
 mod tile;
 mod user_data;
 mod user_pattern;

@@ -7,8 +7,6 @@ mod fuse_write;
 pub mod laws;
 mod place;
 mod reading;
-#[cfg(test)]
-mod tests;
 mod writing;
 
 pub use fault::{ReadPbmError, WritePbmError};

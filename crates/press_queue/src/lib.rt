@@ -8,8 +8,6 @@ mod entry;
 mod queue;
 mod refusal;
 mod status;
-#[cfg(test)]
-mod tests;
 mod view;
 
 pub use entry::Entry;

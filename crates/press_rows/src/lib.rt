@@ -13,8 +13,6 @@ pub mod laws;
 mod pack_bits;
 mod run_length;
 mod runs;
-#[cfg(test)]
-mod tests;
 
 pub use compression::Method;
 pub use decoder::decode;

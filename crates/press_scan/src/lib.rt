@@ -16,6 +16,3 @@ mod scanner;
 
 pub use broken::is_broken;
 pub use scanner::Scanner;
-
-#[cfg(test)]
-mod tests;

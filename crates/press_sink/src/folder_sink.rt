@@ -127,37 +127,3 @@ impl<F: Files + Drop> SheetSink for FolderSink<F> {
         Ok(())
     }
 }
-
-#[cfg(test)]
-mod tests {
-    use super::*;
-    use std::test::Fail;
-
-    #[test]
-    fn a_template_has_one_place_for_the_number(rt: HostRuntime) -> Result<(), Fail> {
-        let cases: [(&str, bool); 8] = [
-            ("page-%d.pbm", true),
-            ("%d", true),
-            ("%%d", true),
-            ("%dd%", true),
-            ("a.pbm", false),
-            ("", false),
-            ("%d%d", false),
-            ("%d-%D-%d", false),
-        ];
-        for (text, is_template) in cases {
-            match FolderSink::open(rt.alloc(), &rt, text) {
-                Ok(sink) => {
-                    assert!(rt; is_template, "{text}");
-                    assert_eq!(rt; sink.faults(), 0);
-                }
-                Err(error) => {
-                    assert!(rt; !is_template, "{text}");
-                    let told = format!(in rt.alloc(); "{error}")?;
-                    assert_eq!(rt; told.as_str(), "fault 121");
-                }
-            }
-        }
-        Ok(())
-    }
-}

@@ -69,30 +69,3 @@ impl<S: SheetSink + Drop> SheetSink for FuseSink<S> {
         }
     }
 }
-
-#[cfg(test)]
-mod tests {
-    use super::*;
-    use crate::list_sink::ListSink;
-    use press_bits::Bitmap;
-    use std::test::Fail;
-
-    #[test]
-    fn one_delivery_alone_has_a_fault(rt: HostRuntime) -> Result<(), Fail> {
-        let sheet = Sheet {
-            front: Bitmap::blank(rt.alloc(), 3, 2)?,
-            back: None,
-        };
-        let mut fuse = FuseSink::new(ListSink::new(rt.alloc()), 1);
-        fuse.deliver(1, &sheet)?;
-        assert_eq!(rt; fuse.faults(), 0);
-        assert!(rt; matches!(fuse.deliver(2, &sheet), Err(SinkError::SinkFault)));
-        assert_eq!(rt; fuse.faults(), 1);
-        fuse.deliver(3, &sheet)?;
-        assert_eq!(rt; fuse.faults(), 1);
-        let made = fuse.sink().deliveries();
-        assert_eq!(rt; made.len(), 2);
-        assert_eq!(rt; (made[0].tag, made[1].tag), (1, 3));
-        Ok(())
-    }
-}

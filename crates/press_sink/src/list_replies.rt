@@ -42,20 +42,3 @@ impl ReplySink for ListReplies {
             .map_err(|_| ReplyError::NoMemory)
     }
 }
-
-#[cfg(test)]
-mod tests {
-    use super::*;
-    use std::test::Fail;
-
-    #[test]
-    fn joins_replies(rt: HostRuntime) -> Result<(), Fail> {
-        let mut sink = ListReplies::new(rt.alloc());
-        sink.reply(b"one")?;
-        sink.reply(b"")?;
-        sink.reply(b" two")?;
-        assert_eq!(rt; sink.faults(), 0);
-        assert_eq!(rt; sink.bytes(), b"one two".as_slice());
-        Ok(())
-    }
-}

@@ -9,8 +9,6 @@ mod numbers;
 mod page_range;
 mod parts;
 mod reading;
-#[cfg(test)]
-mod tests;
 mod ticket;
 
 pub use fault::TicketError;

@@ -1,5 +1,5 @@
 //! The tiles that always exist, and user-defined patterns.
-use crate::{DefineError, Kind, Pattern, Patterns};
+use press_pattern::{DefineError, Kind, Pattern, Patterns};
 use std::process::Abort;
 use std::test::Fail;
 

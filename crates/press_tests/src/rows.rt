@@ -2,7 +2,7 @@
 
 ghost use Rattle.std.specs.Prelude.{◌≡◌, length, IfOk, vec_len};
 
-use crate::{Method, decode, encode};
+use press_rows::{Method, decode, encode};
 use std::alloc::{AllocError, Global};
 use std::process::Abort;
 use std::test::Fail;

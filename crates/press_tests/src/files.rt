@@ -1,6 +1,6 @@
 //! Worked files, and devices that fail.
-use crate::{FuseRead, FuseWrite, ReadPbmError, WritePbmError, read_pbm, write_pbm};
 use press_bits::Bitmap;
+use press_pbm::{FuseRead, FuseWrite, ReadPbmError, WritePbmError, read_pbm, write_pbm};
 use std::alloc::Global;
 use std::io::{self, ErrorKind, Read, Write};
 use std::process::Abort;

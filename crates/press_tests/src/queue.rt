@@ -1,8 +1,20 @@
-use crate::command::EntryCommand;
-use crate::{End, Entry, Queue, QueueStatus, Refusal, Status, SubmitError};
+//! The queue: each command at each status, and each refusal.
+use press_queue::{End, Entry, Queue, QueueStatus, Refusal, Status, SubmitError};
 use std::alloc::{AllocError, Global};
 use std::process::Abort;
 use std::test::Fail;
+
+/// The commands that speak of one entry.
+#[derive(Clone, Copy)]
+enum EntryCommand {
+    Hold,
+    Resume,
+    Suspend,
+    Abort,
+    Remove,
+    SetPriority,
+    SetPosition,
+}
 
 /// A queue with so many entries of priority 50.
 fn queue_of(alloc: Global, count: u64) -> Result<Queue, SubmitError> {

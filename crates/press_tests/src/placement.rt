@@ -1,5 +1,5 @@
-use super::*;
-use crate::paper::{Binding, PageSize, Paper};
+//! Where the corners of each page lie.
+use press_page::{Binding, Dot, Orientation, PageSize, Paper};
 use press_units::Resolution;
 use std::process::Abort;
 

@@ -1,8 +1,10 @@
-use crate::{
+//! Commands, their kinds and bytes.
+use press_cmd::{
     Broken, Command, ControlByte, EscapeByte, Kind, Owned, PJL_MARK, Param, PjlLine, TextByte,
     carries_data, data_count, differs, is_character, is_control, is_end, is_escape_end, is_group,
     is_text, kind, pjl, spells_exit, write_command,
 };
+use press_scan::is_broken;
 use press_units::is_field;
 use std::process::Abort;
 use std::test::Fail;
@@ -24,14 +26,20 @@ fn kept(rt: &(impl Abort + AllocGlobal), command: &Command, bytes: &[u8]) -> Res
 /// `ESC*p10` and `ESC*p10x20`, each broken by a carriage return.
 #[test]
 fn keeps_broken_sequences(rt: HostRuntime) -> Result<(), Fail> {
+    assert!(rt; is_broken(b"\x1B*p10"));
     let first = Command::Broken(Broken::new(None, b"\x1B*p10"));
     kept(&rt, &first, b"\x1B*p10")?;
     let param = Command::Param(Param::new(b'*', Some(b'p'), b"10", b'X', &[]));
     kept(&rt, &param, b"\x1B*p10X")?;
-    let next = Command::Broken(Broken::new(Some((b'*', b'p')), b"20"));
-    kept(&rt, &next, b"\x1B*p20")?;
     kept(&rt, &Command::Control(ControlByte::new(b'\r')), b"\r")?;
     kept(&rt, &Command::Control(ControlByte::new(0x0C)), &[0x0C])
+}
+
+#[test]
+fn keeps_what_breaks_behind_a_parameter(rt: HostRuntime) -> Result<(), Fail> {
+    assert!(rt; is_broken(b"\x1B*p20"));
+    let next = Command::Broken(Broken::new(Some((b'*', b'p')), b"20"));
+    kept(&rt, &next, b"\x1B*p20")
 }
 
 /// A universal exit, a broken escape character, and a line that is text.
@@ -74,6 +82,7 @@ fn keeps_parameters_with_their_data(rt: HostRuntime) -> Result<(), Fail> {
 #[test]
 fn keeps_the_other_kinds(rt: HostRuntime) -> Result<(), Fail> {
     kept(&rt, &Command::Escape(EscapeByte::new(b'E')), b"\x1BE")?;
+    assert!(rt; pjl::is_line(b"@PJL\n"));
     kept(&rt, &Command::PjlLine(PjlLine::new(b"@PJL\n")), b"@PJL\n")?;
     kept(&rt, &Command::Foreign(0x1B), b"\x1B")
 }
@@ -117,6 +126,7 @@ fn reads_the_words_of_lines(rt: HostRuntime) {
 
 #[test]
 fn tells_the_parts_of_commands(rt: HostRuntime) {
+    assert!(rt; is_broken(b"\x1B*p20"));
     let (sequence, bytes) = Broken::new(Some((b'*', b'p')), b"20").parts();
     assert_eq!(rt; sequence, Some((b'*', b'p')));
     assert_eq!(rt; bytes, b"20".as_slice());

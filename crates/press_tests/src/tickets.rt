@@ -1,4 +1,5 @@
-use crate::{Key, Media, PageRange, Sides, TicketError, read_ticket, ticket_of};
+//! Job tickets: what is one, and each refusal.
+use press_ticket::{Key, Media, PageRange, Sides, TicketError, read_ticket, ticket_of};
 use serde_json::Value;
 use std::alloc::{AllocError, Global};
 use std::process::Abort;

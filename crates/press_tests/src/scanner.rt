@@ -1,7 +1,7 @@
 ghost use Rattle.std.specs.Prelude.{◌≡◌, ◌<◌, false, OnOk};
 
-use crate::{Scanner, is_broken};
 use press_cmd::{Command, write_command};
+use press_scan::{Scanner, is_broken};
 use std::alloc::Global;
 use std::test::Fail;
 

@@ -1,7 +1,9 @@
-use super::*;
-use crate::paper::Binding;
-use crate::settings::LineTermination;
-use press_units::{is_field, read_value};
+//! The page environment: what each of its setters takes.
+use press_cursor::CursorPosition;
+use press_page::{
+    Binding, Defaults, Dot, LineTermination, Margins, Orientation, PageEnv, PageSize, Sides,
+};
+use press_units::{Resolution, Value, is_field, read_value};
 use std::process::Abort;
 use std::test::Fail;
 

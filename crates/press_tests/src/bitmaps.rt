@@ -1,7 +1,5 @@
 //! Worked pages, and rows of dots against a slow rule.
-use crate::bitmap::{Bitmap, BlankError, MAX_SIDE, WIDEST_ROW};
-use crate::dot_row::DotRow;
-use crate::mode::Mode;
+use press_bits::{Bitmap, BlankError, DotRow, MAX_SIDE, Mode, WIDEST_ROW};
 use std::process::Abort;
 use std::test::Fail;
 

@@ -1,0 +1,32 @@
+//! The tests of the libraries, over their public calls: worked values from outside, each public call once on its happy
+//! path, and each refusal. They stand in a crate of their own, since a crate with tests is proved twice.
+#![tactic(auto)]
+
+#[cfg(test)]
+mod bitmaps;
+#[cfg(test)]
+mod commands;
+#[cfg(test)]
+mod cursor;
+#[cfg(test)]
+mod environment;
+#[cfg(test)]
+mod files;
+#[cfg(test)]
+mod patterns;
+#[cfg(test)]
+mod placement;
+#[cfg(test)]
+mod positions;
+#[cfg(test)]
+mod queue;
+#[cfg(test)]
+mod rows;
+#[cfg(test)]
+mod scanner;
+#[cfg(test)]
+mod sinks;
+#[cfg(test)]
+mod tickets;
+#[cfg(test)]
+mod values;
