@@ -1,7 +1,9 @@
 //! Streams that are printed to files, and the words of the program.
 use crate::files::print_files;
 use crate::program::run_words;
+use crate::tests::is_box;
 use press_bits::{Bitmap, DotRow, Mode};
+use press_pbm::read_pbm;
 use press_sink::{FolderSink, Sheet, SheetSink};
 use std::fs::Files;
 use std::test::Fail;
@@ -29,9 +31,14 @@ fn printed(rt: &HostRuntime, mut stream: &[u8], template: &str) -> Result<(u8, S
     Ok((status, String::from_utf8(err).ok().ok_or("text")?))
 }
 
-/// How many of the bytes are not zero.
-fn count_marks(bytes: &[u8]) -> usize {
-    bytes.iter().filter(|byte| **byte != 0).count()
+/// Reads a P4 file of a folder.
+fn page_of(rt: &HostRuntime, folder: &String, name: &str) -> Result<Bitmap, Fail> {
+    let bytes = fs::read(rt, path(rt, folder, name)?.as_str())?;
+    Ok(
+        read_pbm(rt.alloc(), &mut bytes.as_slice())
+            .ok()
+            .ok_or("no P4 file")?,
+    )
 }
 
 #[test]
@@ -41,19 +48,12 @@ fn a_stream_gives_a_file_a_side(rt: HostRuntime) -> Result<(), Fail> {
     let stream = b"\x1B*p0x0Y\x1B*c3a2b0P\x0C\x0C";
     let (status, err) = printed(&rt, stream, template.as_str())?;
     assert_eq!(rt; status, 0, "{err}");
-    let header = b"P4\n2550 3300\n";
-    for (name, marked) in [("page-1.pbm", true), ("page-2.pbm", false)] {
-        let bytes = fs::read(&rt, path(&rt, &folder, name)?.as_str())?;
-        let (front, dots) = bytes.split_first_chunk::<13>().ok_or("no header")?;
-        assert_eq!(rt; front.as_slice(), header.as_slice());
-        assert_eq!(rt; dots.len(), 319 * 3300);
-        assert_eq!(rt; count_marks(dots), if marked { 2 } else { 0 });
-        // dots 75 to 77 of lines 150 and 151
-        for line in [150, 151] {
-            let byte = dots.get(319 * line + 9).copied();
-            assert_eq!(rt; byte, Some(if marked { 0x1C } else { 0 }));
-        }
-    }
+    let marked = page_of(&rt, &folder, "page-1.pbm")?;
+    assert_eq!(rt; (marked.width(), marked.height()), (2550, 3300));
+    assert!(rt; is_box(&marked, 75, 150, 3, 2));
+    let blank = page_of(&rt, &folder, "page-2.pbm")?;
+    assert_eq!(rt; (blank.width(), blank.height()), (2550, 3300));
+    assert_eq!(rt; blank.count_black(), 0);
     assert!(rt; !fs::exists(&rt, path(&rt, &folder, "page-3.pbm")?.as_str())?);
     fs::remove_dir_all(&rt, folder.as_str())?;
     Ok(())
@@ -79,15 +79,13 @@ fn fronts_come_before_backs(rt: HostRuntime) -> Result<(), Fail> {
     sink.deliver(0, &sheet)?;
     sink.deliver(0, &sheet)?;
     assert_eq!(rt; sink.faults(), 0);
-    let wanted: [(&str, &[u8]); 4] = [
-        ("1", b"P4\n9 1\n\x00\x80"),
-        ("2", b"P4\n3 2\n\x00\x00"),
-        ("3", b"P4\n9 1\n\x00\x80"),
-        ("4", b"P4\n3 2\n\x00\x00"),
-    ];
-    for (name, bytes) in wanted {
+    for name in ["1", "3"] {
         let file = fs::read(&rt, path(&rt, &folder, name)?.as_str())?;
-        assert_eq!(rt; file.as_slice(), bytes, "{name}");
+        assert_eq!(rt; file.as_slice(), b"P4\n9 1\n\x00\x80".as_slice(), "{name}");
+    }
+    for name in ["2", "4"] {
+        let file = fs::read(&rt, path(&rt, &folder, name)?.as_str())?;
+        assert_eq!(rt; file.as_slice(), b"P4\n3 2\n\x00\x00".as_slice(), "{name}");
     }
     fs::remove_dir_all(&rt, folder.as_str())?;
     Ok(())
@@ -131,9 +129,9 @@ fn a_bad_template_is_told_before_the_stream_is_read(rt: HostRuntime) -> Result<(
 }
 
 /// What the program writes for its words, with a form feed on standard input, and its status.
-fn answered(rt: &HostRuntime, words: &[&str]) -> Result<(u8, String, String), Fail> {
+fn answered(rt: &HostRuntime, words: &str) -> Result<(u8, String, String), Fail> {
     let mut all = Vec::new(rt.alloc());
-    for word in words {
+    for word in words.split(' ') {
         all.push(String::from_str(rt.alloc(), word)?)?;
     }
     let mut input: &[u8] = b"\x0C";
@@ -145,60 +143,59 @@ fn answered(rt: &HostRuntime, words: &[&str]) -> Result<(u8, String, String), Fa
     Ok((status, out, err))
 }
 
+/// Words, and the one line of the answer: on standard output where all went well, else on standard error. The input is
+/// opened before the template is judged.
+const ANSWERS: &str = "\
+press: sheet 1 front 2550x3300 black 0
+press print --list -: sheet 1 front 2550x3300 black 0
+press print - a.pbm --list: sheet 1 front 2550x3300 black 0
+press print --list no/such: fault 304
+press print no/such a.pbm: fault 304
+press print / a%d.pbm: fault 304
+press print - a.pbm: fault 121
+press print - no/such/%d.pbm: fault 301";
+
 #[test]
 fn words_have_their_answers(rt: HostRuntime) -> Result<(), Fail> {
-    let blank = "sheet 1 front 2550x3300 black 0\n";
-    let cases: [(&[&str], u8, &str, &str); 8] = [
-        (&["press"], 0, blank, ""),
-        (&["press", "print", "--list", "-"], 0, blank, ""),
-        (&["press", "print", "-", "a.pbm", "--list"], 0, blank, ""),
-        (
-            &["press", "print", "--list", "no/such"],
-            1,
-            "",
-            "fault 304\n",
-        ),
-        // the input is opened before the template is judged
-        (
-            &["press", "print", "no/such", "a.pbm"],
-            1,
-            "",
-            "fault 304\n",
-        ),
-        (&["press", "print", "/", "a%d.pbm"], 1, "", "fault 304\n"),
-        (&["press", "print", "-", "a.pbm"], 1, "", "fault 121\n"),
-        (
-            &["press", "print", "-", "no/such/%d.pbm"],
-            1,
-            "",
-            "fault 301\n",
-        ),
-    ];
-    for (words, wanted_status, wanted_out, wanted_err) in cases {
+    assert_eq!(rt; ANSWERS.lines().count(), 8);
+    for line in ANSWERS.lines() {
+        let (words, wanted) = line.split_once(": ").ok_or("no answer")?;
         let (status, out, err) = answered(&rt, words)?;
-        assert_eq!(rt; status, wanted_status, "{err}");
-        assert_eq!(rt; out.as_str(), wanted_out);
-        assert_eq!(rt; err.as_str(), wanted_err);
+        let is_fault = wanted.starts_with("fault");
+        assert_eq!(rt; status, u8::from(is_fault), "{line}");
+        let (told, other) = if is_fault { (err, out) } else { (out, err) };
+        assert_eq!(rt;
+            told.as_str(),
+            format!(in rt.alloc(); "{wanted}\n")?.as_str()
+        );
+        assert!(rt; other.is_empty(), "{line}");
+    }
+    Ok(())
+}
+
+/// Words that the program does not know.
+const REFUSED: &str = "\
+press print
+press print -
+press print --all -
+press print a b c
+press asm a b";
+
+#[test]
+fn other_words_are_refused(rt: HostRuntime) -> Result<(), Fail> {
+    assert_eq!(rt; REFUSED.lines().count(), 5);
+    for words in REFUSED.lines() {
+        let (status, out, err) = answered(&rt, words)?;
+        assert_eq!(rt; status, 2, "{words}");
+        assert!(rt; out.is_empty() && !err.is_empty(), "{words}");
     }
     Ok(())
 }
 
 #[test]
-fn other_words_are_refused_and_help_is_given(rt: HostRuntime) -> Result<(), Fail> {
-    let refused: [&[&str]; 5] = [
-        &["press", "print"],
-        &["press", "print", "-"],
-        &["press", "print", "--all", "-"],
-        &["press", "print", "a", "b", "c"],
-        &["press", "asm", "a", "b"],
-    ];
-    for words in refused {
+fn help_is_given(rt: HostRuntime) -> Result<(), Fail> {
+    for words in ["press --help", "press help"] {
         let (status, out, err) = answered(&rt, words)?;
-        assert_eq!(rt; status, 2);
-        assert!(rt; out.is_empty() && !err.is_empty());
-    }
-    for words in [["press", "--help"], ["press", "help"]] {
-        let (status, out, err) = answered(&rt, &words)?;
         assert_eq!(rt; status, 0);
         assert!(rt; out.contains("press print page.pcl page-%d.pbm"), "{out}");
         assert!(rt; err.is_empty());

@@ -212,7 +212,7 @@ fn bytes_of(rt: &HostRuntime, stream: &str) -> Result<Vec<u8>, Fail> {
 }
 
 /// The stream of a line of a table, and its numbers.
-fn row_of(rt: &HostRuntime, line: &str) -> Result<(Vec<u8>, Vec<i64>), Fail> {
+pub fn row_of(rt: &HostRuntime, line: &str) -> Result<(Vec<u8>, Vec<i64>), Fail> {
     let mut words = line.split(' ');
     let stream = bytes_of(rt, words.next().ok_or("no stream")?)?;
     let mut numbers = Vec::new(rt.alloc());

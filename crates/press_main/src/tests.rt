@@ -1,6 +1,7 @@
 //! Streams that are printed whole, with the pages that they must give.
 use crate::listing::print_list;
 use crate::printing::{RunError, run};
+use crate::row_tests::row_of;
 use press_bits::{Bitmap, BlankError};
 use press_cmd::{Command, ControlByte};
 use press_engine::{Engine, EngineError, Last};
@@ -60,38 +61,41 @@ fn listed(rt: &HostRuntime, stream: &[u8], fails: bool) -> Result<(String, Strin
     Ok((out, err, status))
 }
 
+/// Streams, as the tables of rows spell them; how many sheets they give, and the box on the first front. A fill is cut off at
+/// the edge of the physical page; the last has relative moves, a value that is not 0, and a negative size.
+const PAGES: &str = "\
+^E~^E 1 0 0 0 0
+ 0 0 0 0 0
+^E^*p0x0Y^*c3a2b0P^E 1 75 150 3 2
+^*p10x20Y^*c3a2b0P~ 1 85 170 3 2
+^*p10<~ 1 0 0 0 0
+^*p2400x3149Y^*c1000a1000b0P^%-12345X 1 2475 3299 75 1
+^*p+6x-5Y^*c2a2b-2a1P^*c0P~~ 2 81 182 2 2";
+
+/// Five numbers of a row.
+fn five_of(numbers: &[i64]) -> Result<[u32; 5], Fail> {
+    let mut five = [0; 5];
+    for (number, place) in numbers.iter().zip(&mut five) {
+        *place = u32::try_from(*number).ok().ok_or("no number of dots")?;
+    }
+    Ok(five)
+}
+
 #[test]
 fn streams_give_their_pages(rt: HostRuntime) -> Result<(), Fail> {
-    // stream, then sheets, and the box on each front
-    let cases: [(&[u8], usize, (u32, u32, u32, u32)); 7] = [
-        (b"", 0, (0, 0, 0, 0)),
-        (b"\x1BE\x0C\x1BE", 1, (0, 0, 0, 0)),
-        (b"\x1BE\x1B*p0x0Y\x1B*c3a2b0P\x1BE", 1, (75, 150, 3, 2)),
-        (b"\x1B*p10x20Y\x1B*c3a2b0P\x0C", 1, (85, 170, 3, 2)),
-        (b"\x1B*p10\x0D\x0C", 1, (0, 0, 0, 0)),
-        // the fill is cut off at the edge of the physical page
-        (
-            b"\x1B*p2400x3149Y\x1B*c1000a1000b0P\x1B%-12345X",
-            1,
-            (2475, 3299, 75, 1),
-        ),
-        // relative moves, a value that is not 0, and a negative size
-        (
-            b"\x1B*p+6x-5Y\x1B*c2a2b-2a1P\x1B*c0P\x0C\x0C",
-            2,
-            (81, 182, 2, 2),
-        ),
-    ];
-    for (stream, sheets, (x, y, width, height)) in cases {
-        let mut reader = stream;
+    assert_eq!(rt; PAGES.lines().count(), 7);
+    for line in PAGES.lines() {
+        let (stream, wanted) = row_of(&rt, line)?;
+        let [sheets, x, y, width, height] = five_of(&wanted)?;
+        let mut reader = stream.as_slice();
         let mut sink = ListSink::new(rt.alloc());
         let mut replies = ListReplies::new(rt.alloc());
         let engine = run(rt.alloc(), &mut reader, 7, &mut sink, &mut replies)?;
-        assert_eq!(rt; sink.deliveries().len(), sheets);
+        assert_eq!(rt; sink.deliveries().len(), sheets as usize, "{line}");
         if let Some(first) = sink.deliveries().first() {
             assert_eq!(rt; first.tag, 7);
             assert!(rt; first.sheet.back.is_none());
-            assert!(rt; is_box(&first.sheet.front, x, y, width, height));
+            assert!(rt; is_box(&first.sheet.front, x, y, width, height), "{line}");
             assert_eq!(rt; first.sheet.front.width(), 2550);
             assert_eq!(rt; first.sheet.front.height(), 3300);
         }
@@ -189,67 +193,27 @@ fn an_engine_that_had_a_fault_answers_so(rt: HostRuntime) -> Result<(), Fail> {
 
 #[test]
 fn faults_are_told_by_their_numbers(rt: HostRuntime) -> Result<(), Fail> {
-    let told = [
-        (
-            format!(in rt.alloc(); "{}", BlankError::BadSize)?,
-            "fault 101",
-        ),
-        (
-            format!(in rt.alloc(); "{}", BlankError::NoMemory)?,
-            "fault memory",
-        ),
-        (
-            format!(in rt.alloc(); "{}", SinkError::SinkFault)?,
-            "fault 301",
-        ),
-        (
-            format!(in rt.alloc(); "{}", SinkError::NoMemory)?,
-            "fault memory",
-        ),
-        (
-            format!(in rt.alloc(); "{}", ReplyError::ReplyFault)?,
-            "fault 302",
-        ),
-        (
-            format!(in rt.alloc(); "{}", ReplyError::NoMemory)?,
-            "fault memory",
-        ),
-        (
-            format!(in rt.alloc(); "{}", EngineError::SinkFault)?,
-            "fault 301",
-        ),
-        (
-            format!(in rt.alloc(); "{}", EngineError::ReplyFault)?,
-            "fault 302",
-        ),
-        (
-            format!(in rt.alloc(); "{}", EngineError::Failed)?,
-            "fault 303",
-        ),
-        (
-            format!(in rt.alloc(); "{}", EngineError::NoMemory)?,
-            "fault memory",
-        ),
-        (
-            format!(in rt.alloc(); "{}", RunError::SinkFault)?,
-            "fault 301",
-        ),
-        (
-            format!(in rt.alloc(); "{}", RunError::ReplyFault)?,
-            "fault 302",
-        ),
-        (
-            format!(in rt.alloc(); "{}", RunError::ReadFault)?,
-            "fault 304",
-        ),
-        (
-            format!(in rt.alloc(); "{}", RunError::NoMemory)?,
-            "fault memory",
-        ),
-    ];
-    for (text, wanted) in &told {
-        assert_eq!(rt; text.as_str(), *wanted);
-    }
+    let told = format!(in rt.alloc();
+        "{}, {}; {}, {}; {}, {}; {}, {}, {}, {}; {}, {}, {}, {}",
+        BlankError::BadSize,
+        BlankError::NoMemory,
+        SinkError::SinkFault,
+        SinkError::NoMemory,
+        ReplyError::ReplyFault,
+        ReplyError::NoMemory,
+        EngineError::SinkFault,
+        EngineError::ReplyFault,
+        EngineError::Failed,
+        EngineError::NoMemory,
+        RunError::SinkFault,
+        RunError::ReplyFault,
+        RunError::ReadFault,
+        RunError::NoMemory
+    )?;
+    let wanted = "\
+fault 101, fault memory; fault 301, fault memory; fault 302, fault memory; \
+fault 301, fault 302, fault 303, fault memory; fault 301, fault 302, fault 304, fault memory";
+    assert_eq!(rt; told.as_str(), wanted);
     Ok(())
 }
 
