@@ -29,6 +29,12 @@ frame_dot Landscape page dot = record { x = page.height - 1 - dot.y; y = dot.x }
 frame_dot ReversePortrait page dot = record { x = page.width - 1 - dot.x; y = page.height - 1 - dot.y }
 frame_dot ReverseLandscape page dot = record { x = dot.y; y = page.width - 1 - dot.x }
 
+-- the dot of the frame that lies at a column and a line of a physical page of so many dots
+abbrev pub placed_dot : Orientation → (width height column line : ℕ) → ℕ × ℕ
+placed_dot orientation width height column line =
+    let dot = frame_dot orientation (record { width = width; height = height }) (record { x = column; y = line }) in
+    (dot.x, dot.y)
+
 -- Placement: a dot of the frame has a physical dot, and a dot outside has none; and back.
 abbrev pub to_physical : Orientation → Extent → Dot → Option Dot
 to_physical orientation page dot =

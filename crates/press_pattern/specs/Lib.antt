@@ -5,3 +5,4 @@ pub mod Shading
 pub mod CrossHatch
 pub mod UserData
 pub mod Store
+pub mod Ink

@@ -6,12 +6,14 @@
 #![tactic(auto)]
 
 mod fixed;
+mod ink;
 mod pattern;
 mod patterns;
 mod tile;
 mod user_data;
 mod user_pattern;
 
+pub use ink::Ink;
 pub use pattern::{Kind, Pattern};
 pub use patterns::Patterns;
 pub use tile::{OwnedTile, Tile};

@@ -3,13 +3,16 @@ ghost use Rattle.std.specs.FinMap as maps;
 ghost use Rattle.press_pattern.specs.Tiling.{tile_row};
 ghost use Rattle.press_pattern.specs.UserData.{has_header, has_rows};
 ghost use Rattle.press_pattern.specs.Store.{tile_of, with_definition, made, permanent_only};
+ghost use Rattle.press_pattern.specs.Ink.{ink_of};
 
 use crate::fixed;
+use crate::ink::{Ink, mode_of};
 use crate::pattern::{Kind, Pattern};
 use crate::tile::Tile;
 use crate::user_data::{DefineError, read_tile};
 use crate::user_pattern::UserPattern;
 use indexmap::IndexMap;
+use press_bits::Mode;
 use std::alloc::{AllocError, Global};
 use std::marker::Model;
 
@@ -135,6 +138,25 @@ impl Patterns {
                 Some(found.tile.as_tile())
             }
         }
+    }
+
+    /// What a pattern is painted with in a mode, if it exists. Solid white always whitens: its white dots
+    /// are opaque.
+    ///
+    /// Source: PCL 5 Printer Language Technical Reference Manual, The PCL Print Model.
+    pub fn ink(&self, pattern: Pattern, mode: Mode) -> Option<Ink<'_>>
+        ensures { result ≡ ink_of self.now pattern mode }
+    {
+        let tile = self.tile(pattern)?;
+        Some(Ink {
+            tile,
+            mode: mode_of(pattern.kind, mode),
+        })
+    }
+
+    /// Where the patterns take their memory.
+    pub fn allocator(&self) -> Global {
+        *self.user.allocator()
     }
 
     /// The bytes of a pattern's tile for line `y` of the frame, if the pattern exists; see [`Tile::row`].

@@ -96,7 +96,7 @@ impl<'a> Tile<'a> {
     }
 
     /// Whether the dot that the tile has for the frame's at column `x` of line `y` is black.
-    fn is_black(&self, x: u32, y: u32) -> bool
+    pub fn is_black(&self, x: u32, y: u32) -> bool
         ensures { result ≡ tile_dot self.now x y }
     {
         let column = (x % u32::from(self.width)) as usize;
@@ -152,8 +152,8 @@ impl Model for OwnedTile {
 }
 
 impl OwnedTile {
-    /// The tile with these lines.
-    pub(crate) fn of_rows(width: u16, height: u16, rows: Vec<u8>) -> Self
+    /// The tile with these lines from the top, each from a new byte on.
+    pub fn of_rows(width: u16, height: u16, rows: Vec<u8>) -> Self
         requires some_width { 1 ≤ width }
         requires some_height { 1 ≤ height }
         requires whole { length rows.items ≡ height * bytes_per_line width }

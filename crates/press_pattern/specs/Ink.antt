@@ -1,0 +1,28 @@
+-- What marks are painted with (PCL 5 Printer Language Technical Reference Manual, "The PCL Print Model").
+use Rattle.std.specs.Prelude.{Option, option_map}
+use Rattle.press_bits.specs.DotRule.{solid_white_mode}
+use Rattle.press_bits.specs.declared.mode.Mode.{Mode}
+use Rattle.press_pattern.specs.Solid.{solid_black}
+use Rattle.press_pattern.specs.Store.{UserPatterns, tile_of}
+use Rattle.press_pattern.specs.declared.ink.Ink.{Ink}
+use Rattle.press_pattern.specs.declared.pattern.Kind.{Kind}
+use Rattle.press_pattern.specs.declared.pattern.Kind.TheVariants as kinds
+use Rattle.press_pattern.specs.declared.pattern.Pattern.{Pattern}
+
+-- The mode in which a pattern of a kind meets the page: solid white always whitens, so its white dots are opaque.
+abbrev pub mode_of : Kind → Mode → Mode
+mode_of kinds.Black mode = mode
+mode_of kinds.White mode = solid_white_mode mode
+mode_of kinds.Shading mode = mode
+mode_of kinds.CrossHatch mode = mode
+mode_of kinds.User mode = mode
+
+-- What a pattern is painted with, where it exists.
+abbrev pub ink_of : UserPatterns → Pattern → Mode → Option Ink
+ink_of patterns pattern mode =
+    option_map (λ tile. record { tile = tile; mode = mode_of pattern.kind mode })
+    (tile_of patterns pattern.kind pattern.id)
+
+-- Solid black in a mode.
+abbrev pub black_ink : Mode → Ink
+black_ink mode = record { tile = solid_black; mode = mode }

@@ -1,0 +1,42 @@
+ghost use Rattle.std.specs.Prelude.{◌≡◌};
+ghost use Rattle.press_bits.specs.DotRule.{solid_white_mode};
+ghost use Rattle.press_pattern.specs.Ink.{mode_of, black_ink};
+
+use crate::fixed;
+use crate::pattern::Kind;
+use crate::tile::Tile;
+use press_bits::Mode;
+
+/// What a mark is painted with: the tile of a pattern, and the mode in which it meets the page.
+///
+/// Source: PCL 5 Printer Language Technical Reference Manual, The PCL Print Model.
+#[derive(Drop)]
+pub struct Ink<'a> {
+    pub tile: Tile<'a>,
+    pub mode: Mode,
+}
+
+/// The mode in which a pattern of a kind meets the page: the white dots of solid white are opaque.
+pub(crate) fn mode_of(kind: Kind, mode: Mode) -> Mode
+    ensures { result ≡ mode_of kind mode }
+{
+    match kind {
+        Kind::White => Mode {
+            pattern_opaque: true,
+            ..mode
+        },
+        Kind::Black | Kind::Shading | Kind::CrossHatch | Kind::User => mode,
+    }
+}
+
+impl Ink<'static> {
+    /// Solid black.
+    pub fn black(mode: Mode) -> Self
+        ensures { result ≡ black_ink mode }
+    {
+        Ink {
+            tile: fixed::black(),
+            mode,
+        }
+    }
+}
