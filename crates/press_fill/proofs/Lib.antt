@@ -1,0 +1,3 @@
+mod AreaLemmas
+mod PlacedLemmas
+mod FillLemmas

@@ -1,0 +1,32 @@
+use Rattle.std.proofs.Common.{◌∙◌}
+use Rattle.press_bits.specs.Mark.{painted}
+use Rattle.press_pattern.specs.Tiling.{Tiling}
+use Rattle.press_fill.proofs.FillLemmas.{painted_placed}
+use Rattle.press_fill.proofs.PlacedLemmas.{upright_is_placed}
+use Rattle.press_fill.specs.Area.{area_mark}
+use Rattle.press_fill.specs.Fill.{fill_mark}
+use Rattle.press_fill.proofs.filling.fill_with.Goals as goal
+
+pub returns-in-Portrait-clause-filled : goal.returns-in-Portrait-clause-filled
+returns-in-Portrait-clause-filled c =
+    let tile : Tiling = c.args.ink.now.tile in
+    let placement = c.placement_on-placement.result in
+    c.paint_area.ensures
+    ∙ painted_placed c.args.page.now placement c.args.rect c.physical_area-area.result tile tile c.args.ink.now.mode
+    c.placement_on-placement.ensures.width c.placement_on-placement.ensures.height c.physical_area-area.ensures (upright_is_placed placement tile (c.placement_on-placement.ensures.orientation ∙ c.in-Portrait.is))
+    ∙ (λ i. painted c.args.page.now (fill_mark (c.placement_on-placement.ensures.orientation i) c.args.page.now c.args.rect tile c.args.ink.now.mode))
+
+pub returns : goal.returns
+returns c =
+    let tile : Tiling = c.args.ink.now.tile in
+    let area = c.physical_area-area.result in
+    let placement = c.placement_on-placement.result in
+    record {
+      filled =
+          c.paint_area-2.ensures
+          ∙ (λ i. painted c.args.page.now (area_mark area (c.as_tile.ensures i) c.args.ink.now.mode))
+          ∙ painted_placed c.args.page.now placement c.args.rect area tile c.in_ok-tile.tile c.args.ink.now.mode
+          c.placement_on-placement.ensures.width c.placement_on-placement.ensures.height c.physical_area-area.ensures c.in_ok-tile.ensures
+          ∙ (λ i. painted c.args.page.now (fill_mark (c.placement_on-placement.ensures.orientation i) c.args.page.now c.args.rect tile c.args.ink.now.mode));
+      unchanged = tt;
+    }

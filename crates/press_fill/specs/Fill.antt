@@ -1,0 +1,35 @@
+-- Rectangle fills (PCL 5 Printer Language Technical Reference Manual, "Rectangular Area Fill Graphics").
+use Rattle.std.specs.Prelude.{true, Option, Some, None}
+use Rattle.press_bits.specs.DotRule.{both_transparent}
+use Rattle.press_bits.specs.Mark.{Mark, painted, box_source}
+use Rattle.press_bits.specs.Page.{Page}
+use Rattle.press_bits.specs.declared.mode.Mode.{Mode}
+use Rattle.press_page.specs.Place.{placed_dot}
+use Rattle.press_page.specs.declared.paper.Orientation.{Orientation}
+use Rattle.press_pattern.specs.Tiling.{Tiling, tile_dot}
+use Rattle.press_pattern.specs.declared.ink.Ink.{Ink}
+use Rattle.press_fill.specs.declared.rect.Rect.{Rect}
+
+-- The mark of a rectangle on a page: all source dots black, the pattern dot of each dot of the frame is the tile's, and each
+-- dot of the page is the dot of the frame that lies there.
+abbrev pub fill_mark : Orientation → Page → Rect → Tiling → Mode → Mark
+fill_mark orientation page rect tile mode = record {
+  source = box_source rect.x rect.y rect.width rect.height;
+  pattern = tile_dot tile;
+  mode = mode;
+  frame_dot = placed_dot orientation page.width page.height;
+}
+
+-- The mark of a rectangle in solid black.
+abbrev pub black_mark : Orientation → Page → Rect → Mark
+black_mark orientation page rect = record {
+  source = box_source rect.x rect.y rect.width rect.height;
+  pattern = λ _ _. true;
+  mode = both_transparent;
+  frame_dot = placed_dot orientation page.width page.height;
+}
+
+-- The page after a fill. A pattern that does not exist changes nothing.
+abbrev pub filled : Orientation → Rect → Option Ink → Page → Page
+filled orientation rect None page = page
+filled orientation rect (Some ink) page = painted page (fill_mark orientation page rect ink.tile ink.mode)

@@ -1,0 +1,100 @@
+ghost use Rattle.std.specs.Prelude.{◌≡◌, OnOk, OnErr};
+ghost use Rattle.press_bits.specs.Mark.{painted};
+ghost use Rattle.press_pattern.specs.Ink.{ink_of};
+ghost use Rattle.press_fill.specs.Fill.{fill_mark, black_mark, filled};
+
+use crate::area::physical_area;
+use crate::paint::paint_area;
+use crate::placement::Placement;
+use crate::rect::Rect;
+use press_bits::{Bitmap, Mode};
+use press_page::{Extent, Orientation, PageEnv};
+use press_pattern::{Ink, Pattern, Patterns};
+use std::alloc::{AllocError, Global};
+
+/// How the frame lies on a page.
+fn placement_on(page: &Bitmap, orientation: Orientation) -> Placement
+    ensures orientation { result.orientation ≡ orientation }
+    ensures width { result.page.width ≡ page.now.width }
+    ensures height { result.page.height ≡ page.now.height }
+{
+    Placement {
+        orientation,
+        page: Extent {
+            width: page.width(),
+            height: page.height(),
+        },
+    }
+}
+
+/// Fills a rectangle of the frame with solid black, which takes no memory. Dots outside the page are dropped.
+///
+/// Source: PCL 5 Printer Language Technical Reference Manual, Rectangular Area Fill Graphics, and Logical Page Orientation
+/// command.
+pub fn fill_black(page: &mut Bitmap, orientation: Orientation, rect: Rect)
+    ensures { page.new ≡ painted page.old (black_mark orientation page.old rect) }
+{
+    let area = physical_area(placement_on(page, orientation), rect);
+    let ink = Ink::black(Mode {
+        source_opaque: false,
+        pattern_opaque: false,
+    });
+    paint_area(page, area, &ink.tile, ink.mode);
+}
+
+/// Fills a rectangle of the frame with an ink. Dots outside the page are dropped.
+///
+/// # Errors
+///
+/// Where memory ran out; the page is then as it was. A fill in portrait takes no memory.
+///
+/// Source: PCL 5 Printer Language Technical Reference Manual, Rectangular Area Fill Graphics, and Logical Page Orientation
+/// command.
+fn fill_with(
+    page: &mut Bitmap,
+    alloc: Global,
+    orientation: Orientation,
+    rect: Rect,
+    ink: &Ink<'_>,
+) -> Result<(), AllocError>
+    ensures filled { OnOk result (page.new
+        ≡ painted page.old (fill_mark orientation page.old rect ink.now.tile ink.now.mode)) }
+    ensures unchanged { OnErr result (page.new ≡ page.old) }
+{
+    let placement = placement_on(page, orientation);
+    let area = physical_area(placement, rect);
+    if let Orientation::Portrait = orientation {
+        paint_area(page, area, &ink.tile, ink.mode);
+        return Ok(());
+    }
+    let tile = placement.placed(alloc, &ink.tile)?;
+    paint_area(page, area, &tile.as_tile(), ink.mode);
+    Ok(())
+}
+
+/// Fills a rectangle of the frame with a pattern in a mode: all source dots are black, and the pattern's dots lie in the
+/// frame. A pattern that does not exist changes nothing. Dots outside the page are dropped.
+///
+/// # Errors
+///
+/// Where memory ran out; the page is then as it was.
+///
+/// Source: PCL 5 Printer Language Technical Reference Manual, Rectangular Area Fill Graphics, and The PCL Print Model.
+pub fn fill(
+    page: &mut Bitmap,
+    environment: &PageEnv,
+    patterns: &Patterns,
+    area: Rect,
+    pattern: Pattern,
+    mode: Mode,
+) -> Result<(), AllocError>
+    ensures filled { OnOk result (page.new ≡ filled environment.now.paper.orientation area
+        (ink_of patterns.now pattern mode) page.old) }
+    ensures unchanged { OnErr result (page.new ≡ page.old) }
+{
+    let Some(ink) = patterns.ink(pattern, mode) else {
+        return Ok(());
+    };
+    let orientation = environment.paper.orientation;
+    fill_with(page, patterns.allocator(), orientation, area, &ink)
+}

@@ -1,0 +1,16 @@
+//! Rectangle fills: a rectangle of the frame, painted on a page of any orientation with any pattern.
+#![tactic(auto)]
+
+mod area;
+mod filling;
+mod paint;
+mod placement;
+mod rect;
+mod rule;
+mod span;
+#[cfg(test)]
+mod tests;
+
+pub use filling::{fill, fill_black};
+pub use rect::Rect;
+pub use rule::{DotEffect, dot_rule};
