@@ -12,7 +12,7 @@ use Rattle.press_engine.specs.declared.machine.Last.TheVariants as lasts
 use Rattle.press_page.specs.declared.paper.Orientation.{Orientation}
 use Rattle.press_page.specs.declared.paper.Orientation.TheVariants.{Portrait, Landscape}
 use Rattle.press_engine.specs.Outcome.{power_on_state}
-use Rattle.press_engine.specs.Place.{extent_of, placed_box}
+use Rattle.press_engine.specs.Place.{placed_box}
 use Rattle.press_engine.specs.Machine.{Run, power_on, run_all}
 
 -- ESC, a parameterized character, a group character, a field and a termination character
@@ -42,7 +42,7 @@ letter = blank 2550 3300
 -- a black rectangle of so many columns and lines at a dot of the frame, on a page that is blank else
 abbrev boxed : Orientation → Page → (x y columns lines : ℕ) → Page
 boxed orientation page x y columns lines =
-    painted page (placed_box orientation (extent_of page) (record { x = x; y = y }) columns lines)
+    painted page (placed_box orientation page (record { x = x; y = y }) columns lines)
 
 -- After so many steps, of which the last was a universal exit, the state is that of power on, but for the sheets that went
 -- out: fronts without backs.

@@ -8,7 +8,7 @@ use Rattle.press_page.specs.declared.place.Dot.{Dot}
 use Rattle.press_engine.specs.declared.state.State.{State}
 use Rattle.press_engine.specs.Closing.{page_now}
 use Rattle.press_engine.specs.Motion.{pcl_unit_of}
-use Rattle.press_engine.specs.Place.{resolution, extent_of, placed_box}
+use Rattle.press_engine.specs.Place.{resolution, placed_box}
 use Rattle.press_engine.specs.Rectangle.{size_of, dots_up}
 
 -- ESC*c#A and ESC*c#B, horizontal and vertical rectangle size in PCL units; a negative value has no effect (this profile)
@@ -34,7 +34,7 @@ corner state = cursor_dot state.environment.paper resolution state.environment.m
 abbrev pub fill_black : (columns lines : ℕ) → State → State
 fill_black columns lines state =
     let page = page_now state in
-    record state { page = Some (painted page (placed_box state.environment.paper.orientation (extent_of page) (corner state) columns lines)) }
+    record state { page = Some (painted page (placed_box state.environment.paper.orientation page (corner state) columns lines)) }
 
 -- The rectangle at the cursor is filled, if it has a width and a height.
 abbrev pub fill_rectangle : State → State

@@ -9,7 +9,6 @@ pub mod Outcome
 pub mod Outputs
 pub mod Place
 pub mod Rectangle
-pub mod Span
 pub mod Table
 pub use Rattle.press_bits.specs.Mark
 pub use Rattle.press_bits.specs.Page

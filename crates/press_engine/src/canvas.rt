@@ -1,7 +1,6 @@
-use crate::area::physical_area;
-use crate::fill::fill_box;
 use press_bits::{Bitmap, BlankError};
-use press_page::{Dot, Extent, Orientation, Paper};
+use press_fill::{Rect, fill_black};
+use press_page::{Dot, Orientation, Paper};
 use press_units::Resolution;
 use std::alloc::{AllocError, Global};
 use std::marker::Model;
@@ -28,7 +27,7 @@ impl Model for Canvas {
 impl Canvas {
     ghost use Rattle.std.specs.Prelude.{◌≡◌, IfOk};
     ghost use Rattle.press_bits.specs.Mark.{painted};
-    ghost use Rattle.press_engine.specs.Place.{blank_page, extent_of, placed_box};
+    ghost use Rattle.press_engine.specs.Place.{blank_page, placed_box};
 
     /// The blank physical page of a paper.
     #[tactic(auto, using(crate::proofs::PlaceLemmas::paper_fits))]
@@ -52,29 +51,16 @@ impl Canvas {
         })
     }
 
-    /// How many dots the page is wide and high.
-    fn extent(&self) -> Extent
-        ensures { result ≡ extent_of self.now }
-    {
-        Extent {
-            width: self.bitmap.width(),
-            height: self.bitmap.height(),
-        }
-    }
-
     /// Paints a rectangle black: so many columns and lines from a dot of the frame on. Dots outside the page are dropped.
     pub fn fill_box(&mut self, orientation: Orientation, corner: Dot, columns: u32, lines: u32)
-        ensures { self.new
-            ≡ painted self.old (placed_box orientation (extent_of self.old) corner columns lines) }
+        ensures { self.new ≡ painted self.old (placed_box orientation self.old corner columns lines) }
     {
-        let area = physical_area(orientation, self.extent(), corner, columns, lines);
-        let (across, down) = (area.across, area.down);
-        fill_box(
-            &mut self.bitmap,
-            across.start,
-            down.start,
-            across.length,
-            down.length,
-        );
+        let rect = Rect {
+            x: corner.x,
+            y: corner.y,
+            width: columns,
+            height: lines,
+        };
+        fill_black(&mut self.bitmap, orientation, rect);
     }
 }

@@ -1,13 +1,11 @@
 //! The engine: the command table of PCL 5 at work, on every page size and orientation.
 #![tactic(auto)]
 
-mod area;
 mod canvas;
 mod closing;
 mod effect;
 mod engine;
 mod fault;
-mod fill;
 mod filling;
 mod machine;
 mod motion;
@@ -15,7 +13,6 @@ mod operation;
 mod rectangle;
 mod row;
 mod sender;
-mod span;
 mod state;
 mod view;
 
