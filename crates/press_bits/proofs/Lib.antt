@@ -6,5 +6,4 @@ pub mod CountLemmas
 pub mod LineLemmas
 pub mod MarkLemmas
 pub mod PaintLemmas
-pub mod PartLemmas
 pub mod WorkedDots
