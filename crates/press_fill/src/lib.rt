@@ -8,8 +8,6 @@ mod placement;
 mod rect;
 mod rule;
 mod span;
-#[cfg(test)]
-mod tests;
 
 pub use filling::{fill, fill_black};
 pub use rect::Rect;

@@ -13,6 +13,8 @@ mod environment;
 #[cfg(test)]
 mod files;
 #[cfg(test)]
+mod fills;
+#[cfg(test)]
 mod patterns;
 #[cfg(test)]
 mod placement;

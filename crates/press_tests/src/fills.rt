@@ -1,6 +1,6 @@
 //! Fills on pages whose left half is black.
-use crate::{DotEffect, Rect, dot_rule, fill};
 use press_bits::{Bitmap, DotRow, Mode};
+use press_fill::{DotEffect, Rect, dot_rule, fill, fill_black};
 use press_page::{Defaults, Orientation, PageEnv};
 use press_pattern::{Kind, Pattern, Patterns};
 use std::alloc::Global;
@@ -32,7 +32,7 @@ fn half_black(alloc: Global, lines: u16) -> Result<Bitmap, Fail> {
 
 fn environment(orientation: Orientation) -> PageEnv {
     let mut environment = PageEnv::reset_from(&Defaults::factory());
-    environment.set_orientation(orientation);
+    environment.change_orientation(orientation);
     environment
 }
 
@@ -196,4 +196,28 @@ fn the_dot_rule(rt: HostRuntime) {
     assert_eq!(rt; dot_rule(true, false, false, true), DotEffect::MadeWhite);
     assert_eq!(rt; dot_rule(false, true, false, true), DotEffect::Unchanged);
     assert_eq!(rt; dot_rule(false, true, true, false), DotEffect::MadeWhite);
+}
+
+#[test]
+fn a_black_fill_and_one_of_no_lines(rt: HostRuntime) -> Result<(), Fail> {
+    let mut page = Bitmap::blank(rt.alloc(), 8, 2)?;
+    let area = Rect {
+        x: 2,
+        y: 1,
+        width: 3,
+        height: 1,
+    };
+    fill_black(&mut page, Orientation::Portrait, area);
+    expect_line(&rt, &page, 0, 0x00);
+    expect_line(&rt, &page, 1, 0x38);
+    let nothing = Rect {
+        x: 0,
+        y: 0,
+        width: 8,
+        height: 0,
+    };
+    fill_black(&mut page, Orientation::ReversePortrait, nothing);
+    expect_line(&rt, &page, 0, 0x00);
+    expect_line(&rt, &page, 1, 0x38);
+    Ok(())
 }
