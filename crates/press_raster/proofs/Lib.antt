@@ -1,0 +1,6 @@
+mod StripLemmas
+mod RunLemmas
+mod AlongLemmas
+mod ReadingLemmas
+mod DecodingLemmas
+mod WorkedRows

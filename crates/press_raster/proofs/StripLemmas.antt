@@ -1,0 +1,235 @@
+-- What a strip of the frame leaves, line by line.
+use Rattle.std.proofs.Common.{◌≡◌, ℕ, ◌+◌, ◌-◌, ◌*◌, ◌/◌, ◌<◌, ◌≤◌, min, Bool, true, false, ◌&&◌, ◌||◌, Some, None, refl, sym, ap, ◌∙◌, arith, inr}
+use Rattle.std.specs.Prelude.{nat_lt, nat_le, nat_eq, pos, if◌then◌else◌}
+use Rattle.std.specs.Option.{option_map_or}
+use Rattle.std.proofs.lemmas.Bool.Decides.{nat_tests}
+use Rattle.press_bits.specs.DotRule.{DotEffect, dot_rule, dot_after}
+use Rattle.press_bits.specs.DotRule.DotEffect.{Unchanged}
+use Rattle.press_bits.specs.Mark.{Row, effect_at, painted, row_dot, repeated, row_mark}
+use Rattle.press_bits.specs.Page.{Page, HasNoDotOutside}
+use Rattle.press_bits.specs.declared.mode.Mode.{Mode}
+use Rattle.press_bits.proofs.MarkLemmas.{painted_same_effects, painted_joined, unmarked, effect_where, effect_when, joined, in_box, row_lands, width-painted, height-painted}
+use Rattle.press_page.specs.Paper.{turned}
+use Rattle.press_page.specs.Place.{placed_dot}
+use Rattle.press_page.specs.declared.paper.Orientation.{Orientation}
+use Rattle.press_page.specs.declared.paper.Orientation.TheVariants.{Portrait, Landscape, ReversePortrait, ReverseLandscape}
+use Rattle.press_page.specs.declared.place.Dot.{Dot}
+use Rattle.press_page.specs.declared.place.Extent.{Extent}
+use Rattle.press_pattern.specs.Tiling.{Tiling, tile_dot}
+use Rattle.press_pattern.specs.declared.ink.Ink.{Ink}
+use Rattle.press_raster.specs.Along.{along, along_mark}
+use Rattle.press_raster.specs.Mark.{strip_source, strip_mark, raster_mark}
+
+chosen : (inside source pattern : Bool) (mode : Mode) →
+    option_map_or (λ dot. dot_rule mode dot pattern) (if inside then Some source else None) Unchanged ≡ effect_where inside mode source pattern
+chosen true source pattern mode = refl
+chosen false source pattern mode = refl
+
+-- the frame of a page of these sizes
+abbrev pub frame_of : Orientation → (width height : ℕ) → Extent
+frame_of orientation width height = turned orientation (record { width = width; height = height })
+
+module _ (orientation : Orientation) (width height : ℕ) where
+  -- the column and the line of the frame at a dot of the page
+  abbrev column_at : (x y : ℕ) → ℕ
+  column_at x y = (placed_dot orientation width height x y).0
+
+  abbrev line_at : (x y : ℕ) → ℕ
+  line_at x y = (placed_dot orientation width height x y).1
+
+  -- what a strip does to a dot of the page
+  pub effect_at-strip_mark : (left top columns lines : ℕ) (dots : ℕ → Bool) (tile : Tiling) (mode : Mode) (x y : ℕ) →
+      effect_at (strip_mark orientation width height left top columns lines dots tile mode) x y
+      ≡ effect_where (in_box left top columns lines (column_at x y) (line_at x y)) mode (dots (column_at x y - left)) (tile_dot tile (column_at x y) (line_at x y))
+  unfolding effect_at strip_source
+  effect_at-strip_mark left top columns lines dots tile mode x y =
+      chosen (in_box left top columns lines (column_at x y) (line_at x y)) (dots (column_at x y - left)) (tile_dot tile (column_at x y) (line_at x y)) mode
+
+  same_effect : (start line : ℕ) (source pattern : Row) (mode : Mode) (x y : ℕ) →
+      effect_at (along_mark orientation width height start line source pattern mode) x y
+      ≡ effect_at (row_mark (pos start) (pos line) source pattern mode) (along orientation x y) (line_at x y)
+  unfolding effect_at
+  same_effect start line source pattern mode x y = refl
+
+  -- what source dots along a line of the frame do to it
+  pub effect_at-along_mark : (start line : ℕ) (source pattern : Row) (mode : Mode) (x y : ℕ) →
+      effect_at (along_mark orientation width height start line source pattern mode) x y
+      ≡ effect_where ((nat_eq (line_at x y) line && nat_le start (along orientation x y)) && nat_lt (along orientation x y) (start + source.dots)) mode
+      (row_dot source.bits (along orientation x y - start)) (repeated pattern (along orientation x y))
+  effect_at-along_mark start line source pattern mode x y =
+      let c : ℕ = along orientation x y in
+      same_effect start line source pattern mode x y
+      ∙ row_lands (pos start) (pos line) source pattern mode start 0 source.dots line (c + 1 + start + source.dots) c (line_at x y)
+      (ap pos (omega arith)) (inr refl) refl (omega arith) (omega arith)
+      ∙ ap (λ k. effect_where ((nat_eq (line_at x y) line && nat_le start c) && nat_lt c (start + source.dots)) mode (row_dot source.bits k) (repeated pattern c)) (omega arith)
+
+  -- a dot of the page lies in the frame
+  pub column_within : (x y : ℕ) → x < width → y < height → column_at x y < (frame_of orientation width height).width
+  column_within x y wide high = within orientation
+    where
+      within : (o : Orientation) → (placed_dot o width height x y).0 < (frame_of o width height).width
+      within Portrait = wide
+      within Landscape = omega arith
+      within ReversePortrait = omega arith
+      within ReverseLandscape = high
+
+  pub line_within : (x y : ℕ) → x < width → y < height → line_at x y < (frame_of orientation width height).height
+  line_within x y wide high = within orientation
+    where
+      within : (o : Orientation) → (placed_dot o width height x y).1 < (frame_of o width height).height
+      within Portrait = high
+      within Landscape = wide
+      within ReversePortrait = omega arith
+      within ReverseLandscape = omega arith
+
+no_columns : (x y h column line : ℕ) → in_box x y 0 h column line ≡ false
+no_columns x y h column line = grind (arith, nat_tests)
+
+no_lines : (x y w column line : ℕ) → in_box x y w 0 column line ≡ false
+no_lines x y w column line = grind (arith, nat_tests)
+
+cut_test : (x w v side column : ℕ) → min (x + w) side ≡ min (x + v) side → column < side → nat_lt column (x + w) ≡ nat_lt column (x + v)
+cut_test x w v side column same within = grind (arith, nat_tests)
+
+columns_of : (x y w h column line : ℕ) → in_box x y w h column line ≡ true → (x ≤ column) × (column < x + w)
+columns_of x y w h column line inside = grind (arith, nat_tests)
+
+module _ (orientation : Orientation) (page : Page) where
+  -- a strip without columns, or without lines, paints nothing
+  pub painted_strip_no_columns : (left top lines : ℕ) (dots : ℕ → Bool) (tile : Tiling) (mode : Mode) → HasNoDotOutside page →
+      page ≡ painted page (strip_mark orientation page.width page.height left top 0 lines dots tile mode)
+  painted_strip_no_columns left top lines dots tile mode none =
+      unmarked page (strip_mark orientation page.width page.height left top 0 lines dots tile mode) none
+      (λ x y _ _.
+      let dot = placed_dot orientation page.width page.height x y in
+      effect_at-strip_mark orientation page.width page.height left top 0 lines dots tile mode x y
+      ∙ ap (λ t. effect_where t mode (dots (dot.0 - left)) (tile_dot tile dot.0 dot.1)) (no_columns left top lines dot.0 dot.1))
+
+  pub painted_strip_no_lines : (left top columns : ℕ) (dots : ℕ → Bool) (tile : Tiling) (mode : Mode) → HasNoDotOutside page →
+      page ≡ painted page (strip_mark orientation page.width page.height left top columns 0 dots tile mode)
+  painted_strip_no_lines left top columns dots tile mode none =
+      unmarked page (strip_mark orientation page.width page.height left top columns 0 dots tile mode) none
+      (λ x y _ _.
+      let dot = placed_dot orientation page.width page.height x y in
+      effect_at-strip_mark orientation page.width page.height left top columns 0 dots tile mode x y
+      ∙ ap (λ t. effect_where t mode (dots (dot.0 - left)) (tile_dot tile dot.0 dot.1)) (no_lines left top columns dot.0 dot.1))
+
+  -- what lies outside the frame may be cut off a strip
+  pub painted_strip_cut : (left top columns lines columns' lines' : ℕ) (dots : ℕ → Bool) (tile : Tiling) (mode : Mode) →
+      min (left + columns) (frame_of orientation page.width page.height).width ≡ min (left + columns') (frame_of orientation page.width page.height).width →
+      min (top + lines) (frame_of orientation page.width page.height).height ≡ min (top + lines') (frame_of orientation page.width page.height).height →
+      painted page (strip_mark orientation page.width page.height left top columns lines dots tile mode)
+      ≡ painted page (strip_mark orientation page.width page.height left top columns' lines' dots tile mode)
+  painted_strip_cut left top columns lines columns' lines' dots tile mode wide high =
+      painted_same_effects page
+      (strip_mark orientation page.width page.height left top columns lines dots tile mode)
+      (strip_mark orientation page.width page.height left top columns' lines' dots tile mode)
+      (λ x y right low.
+      let dot = placed_dot orientation page.width page.height x y in
+      let across = cut_test left columns columns' (frame_of orientation page.width page.height).width dot.0 wide (column_within orientation page.width page.height x y right low) in
+      let down = cut_test top lines lines' (frame_of orientation page.width page.height).height dot.1 high (line_within orientation page.width page.height x y right low) in
+      effect_at-strip_mark orientation page.width page.height left top columns lines dots tile mode x y
+      ∙ (λ i. effect_where (((nat_le left dot.0 && across i) && nat_le top dot.1) && down i) mode (dots (dot.0 - left)) (tile_dot tile dot.0 dot.1))
+      ∙ sym (effect_at-strip_mark orientation page.width page.height left top columns' lines' dots tile mode x y))
+
+  -- strips whose dots are the same paint alike
+  pub painted_strip_same : (left top columns lines : ℕ) (dots dots' : ℕ → Bool) (tile : Tiling) (mode : Mode) →
+      ((i : ℕ) → i < columns → dots i ≡ dots' i) →
+      painted page (strip_mark orientation page.width page.height left top columns lines dots tile mode)
+      ≡ painted page (strip_mark orientation page.width page.height left top columns lines dots' tile mode)
+  painted_strip_same left top columns lines dots dots' tile mode same =
+      painted_same_effects page
+      (strip_mark orientation page.width page.height left top columns lines dots tile mode)
+      (strip_mark orientation page.width page.height left top columns lines dots' tile mode)
+      (λ x y _ _.
+      let dot = placed_dot orientation page.width page.height x y in
+      effect_at-strip_mark orientation page.width page.height left top columns lines dots tile mode x y
+      ∙ effect_when (in_box left top columns lines dot.0 dot.1) mode (dots (dot.0 - left)) (dots' (dot.0 - left)) (tile_dot tile dot.0 dot.1) (tile_dot tile dot.0 dot.1)
+      (λ inside. same (dot.0 - left) (inner left columns dot.0 (columns_of left top columns lines dot.0 dot.1 inside))) (λ _. refl)
+      ∙ sym (effect_at-strip_mark orientation page.width page.height left top columns lines dots' tile mode x y))
+    where
+      inner : (left columns column : ℕ) → (left ≤ column) × (column < left + columns) → column - left < columns
+      inner left columns column h = omega (arith, h.0, h.1)
+
+-- Source dots along a line of the page are those of the columns of the frame from `left` on, through the tile's dots of a line.
+pub record RunsAlong (orientation : Orientation) (width height : ℕ) (left columns line : ℕ) (dots : ℕ → Bool) (tile : Tiling) (start : ℕ) (source pattern : Row) : Type 0 where
+  pub inside : (x y : ℕ) → x < width → y < height →
+      (nat_le start (along orientation x y) && nat_lt (along orientation x y) (start + source.dots))
+      ≡ (nat_le left (placed_dot orientation width height x y).0 && nat_lt (placed_dot orientation width height x y).0 (left + columns))
+  pub source_dots : (x y : ℕ) → x < width → y < height → left ≤ (placed_dot orientation width height x y).0 → (placed_dot orientation width height x y).0 < left + columns →
+      row_dot source.bits (along orientation x y - start) ≡ dots ((placed_dot orientation width height x y).0 - left)
+  pub pattern_dots : (x y : ℕ) → x < width → y < height → repeated pattern (along orientation x y) ≡ tile_dot tile (placed_dot orientation width height x y).0 line
+
+and_pairs : (a b c : Bool) → ((a && b) && c) ≡ (a && (b && c))
+and_pairs true b c = refl
+and_pairs false b c = refl
+
+on_line : (line n x column w : ℕ) → ((nat_eq line n && nat_le x column) && nat_lt column (x + w)) ≡ true → (line ≡ n) × ((x ≤ column) × (column < x + w))
+on_line line n x column w h = grind (arith, nat_tests)
+
+one_line : (x y w column line : ℕ) → ((nat_eq line y && nat_le x column) && nat_lt column (x + w)) ≡ in_box x y w 1 column line
+one_line x y w column line = grind (arith, nat_tests)
+
+-- source dots along a line of the frame are a strip of one line
+pub painted_along : (orientation : Orientation) (page : Page) (left columns line : ℕ) (dots : ℕ → Bool) (tile : Tiling) (mode : Mode) (start : ℕ) (source pattern : Row) →
+    RunsAlong orientation page.width page.height left columns line dots tile start source pattern →
+    painted page (along_mark orientation page.width page.height start line source pattern mode)
+    ≡ painted page (strip_mark orientation page.width page.height left line columns 1 dots tile mode)
+painted_along orientation page left columns line dots tile mode start source pattern runs =
+    painted_same_effects page
+    (along_mark orientation page.width page.height start line source pattern mode)
+    (strip_mark orientation page.width page.height left line columns 1 dots tile mode)
+    (λ x y right low.
+    let at = placed_dot orientation page.width page.height x y in
+    let c : ℕ = along orientation x y in
+    let e : Bool = nat_eq at.1 line in
+    effect_at-along_mark orientation page.width page.height start line source pattern mode x y
+    ∙ ap (λ t. effect_where t mode (row_dot source.bits (c - start)) (repeated pattern c))
+    (and_pairs e (nat_le start c) (nat_lt c (start + source.dots))
+    ∙ ap (λ t. e && t) (runs.inside x y right low)
+    ∙ sym (and_pairs e (nat_le left at.0) (nat_lt at.0 (left + columns))))
+    ∙ effect_when ((e && nat_le left at.0) && nat_lt at.0 (left + columns)) mode
+    (row_dot source.bits (c - start)) (dots (at.0 - left)) (repeated pattern c) (tile_dot tile at.0 at.1)
+    (λ h. let k = on_line at.1 line left at.0 columns h in runs.source_dots x y right low k.1.0 k.1.1)
+    (λ h. runs.pattern_dots x y right low ∙ ap (tile_dot tile at.0) (sym (on_line at.1 line left at.0 columns h).0))
+    ∙ ap (λ t. effect_where t mode (dots (at.0 - left)) (tile_dot tile at.0 at.1)) (one_line left line columns at.0 at.1)
+    ∙ sym (effect_at-strip_mark orientation page.width page.height left line columns 1 dots tile mode x y))
+
+one_line_more : (x y w n column line : ℕ) → (in_box x y w n column line || in_box x (y + n) w 1 column line) ≡ in_box x y w (n + 1) column line
+one_line_more x y w n column line = grind (arith, nat_tests)
+
+-- one more line of a strip
+pub painted_strip_line : (orientation : Orientation) (page before after : Page) (left top columns n : ℕ) (dots : ℕ → Bool) (tile : Tiling) (mode : Mode) →
+    before ≡ painted page (strip_mark orientation page.width page.height left top columns n dots tile mode) →
+    after ≡ painted before (strip_mark orientation before.width before.height left (top + n) columns 1 dots tile mode) →
+    after ≡ painted page (strip_mark orientation page.width page.height left top columns (n + 1) dots tile mode)
+painted_strip_line orientation page before after left top columns n dots tile mode so_far is =
+    is
+    ∙ (λ i. painted (so_far i) (strip_mark orientation (wide i) (high i) left (top + n) columns 1 dots tile mode))
+    ∙ painted_joined page (strip_mark orientation page.width page.height left top columns n dots tile mode)
+    (strip_mark orientation page.width page.height left (top + n) columns 1 dots tile mode)
+    (strip_mark orientation page.width page.height left top columns (n + 1) dots tile mode)
+    (λ x y dot right low.
+    let at = placed_dot orientation page.width page.height x y in
+    let effect : DotEffect = dot_rule mode (dots (at.0 - left)) (tile_dot tile at.0 at.1) in
+    (λ i. dot_after (effect_at-strip_mark orientation page.width page.height left (top + n) columns 1 dots tile mode x y i)
+    (dot_after (effect_at-strip_mark orientation page.width page.height left top columns n dots tile mode x y i) dot))
+    ∙ joined (in_box left top columns n at.0 at.1) (in_box left (top + n) columns 1 at.0 at.1) effect dot
+    ∙ ap (λ t. dot_after (if t then effect else Unchanged) dot) (one_line_more left top columns n at.0 at.1)
+    ∙ ap (λ e. dot_after e dot) (sym (effect_at-strip_mark orientation page.width page.height left top columns (n + 1) dots tile mode x y)))
+  where
+    wide : before.width ≡ page.width
+    wide = ap (λ (p : Page). p.width) so_far ∙ width-painted page (strip_mark orientation page.width page.height left top columns n dots tile mode)
+
+    high : before.height ≡ page.height
+    high = ap (λ (p : Page). p.height) so_far ∙ height-painted page (strip_mark orientation page.width page.height left top columns n dots tile mode)
+
+-- a strip of the columns of a raster row that lie on the page is the row
+pub painted_raster : (orientation : Orientation) (page : Page) (corner : Dot) (size columns : ℕ) (source : Row) (dots : ℕ → Bool) (ink : Ink) →
+    min (corner.x + size * source.dots) (frame_of orientation page.width page.height).width ≡ min (corner.x + columns) (frame_of orientation page.width page.height).width →
+    ((i : ℕ) → i < columns → dots i ≡ row_dot source.bits (i / size)) →
+    painted page (strip_mark orientation page.width page.height corner.x corner.y columns size dots ink.tile ink.mode)
+    ≡ painted page (raster_mark orientation page corner size source ink)
+painted_raster orientation page corner size columns source dots ink cut same =
+    painted_strip_same orientation page corner.x corner.y columns size dots (λ i. row_dot source.bits (i / size)) ink.tile ink.mode same
+    ∙ painted_strip_cut orientation page corner.x corner.y columns size (size * source.dots) size (λ i. row_dot source.bits (i / size)) ink.tile ink.mode (sym cut) refl

@@ -1,0 +1,23 @@
+use Rattle.std.proofs.Common.{◌≡◌, ◌≤◌, ◌-◌, ◌∙◌, ℕ, ap, length, arith}
+use Rattle.press_bits.specs.Mark.{painted, row}
+use Rattle.press_page.specs.declared.place.Extent.{Extent}
+use Rattle.press_pattern.specs.Tiling.{Tiling}
+use Rattle.press_raster.specs.Along.{is_backward, along_mark, dots_along}
+use Rattle.press_raster.proofs.RunLemmas.{runs_backward}
+use Rattle.press_raster.proofs.StripLemmas.{painted_along, frame_of}
+use Rattle.press_raster.proofs.strip.paint_mirrored.Goals as goal
+
+pub returns : goal.returns
+returns c =
+    let page = c.args.page.now in
+    let o = c.args.orientation in
+    let tile : Tiling = c.args.ink.now.tile in
+    let mode = c.args.ink.now.mode in
+    let source = row c.args.source in
+    let side : ℕ = (frame_of o page.width page.height).width in
+    let is_side : c.frame-side.result.width ≡ side = ap (λ (e : Extent). e.width) c.frame-side.ensures.frame in
+    let some : 1 ≤ tile.width = omega (arith, c.width.ensures.some, c.width.ensures.width) in
+    c.paint_along.ensures
+    ∙ (λ i. painted page (along_mark o page.width page.height (is_side i - c.args.left - source.dots) c.args.line source (record { bits = c.args.mirrored.now; dots = (c.from.ensures ∙ c.width.ensures.width) i }) mode))
+    ∙ painted_along o page c.args.left source.dots c.args.line (dots_along (is_backward o) source) tile mode (side - c.args.left - source.dots) source (record { bits = c.args.mirrored.now; dots = tile.width })
+    (runs_backward o page.width page.height c.args.left c.args.line (length c.args.mirrored.now) source tile c.args.mirrored.now c.requires.backward c.requires.within some c.requires.long c.requires.mirrored)

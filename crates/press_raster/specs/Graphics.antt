@@ -1,0 +1,55 @@
+-- Raster graphics, off or on (PCL 5 Printer Language Technical Reference Manual, Raster Graphics: Start Raster Graphics,
+-- Raster Y Offset, End Raster Graphics and Set Compression Method commands).
+use Rattle.std.specs.Prelude.{ℕ, ◌+◌, Bool, true, false, nat_lt, min, List, [], Option, Some, None, option_map, refl}
+use Rattle.std.specs.Coded.{Coded, code_by, coded×, coded_ℕ, coded_list, coded_option}
+use Rattle.press_raster.specs.declared.raster.RasterPosition.{RasterPosition}
+use Rattle.press_raster.specs.declared.settings.RasterSettings.{RasterSettings}
+
+-- Raster graphics that is on: where its rows begin, in positions from the left edge of the logical page; how many rows
+-- there were; and the seed row, the row before the next one, which is white behind its last byte.
+pub record RasterGraphics : Type 0 where
+  pub left : ℕ
+  pub rows : ℕ
+  pub seed : List ℕ
+
+-- It is stored as its two numbers and its bytes, if it is on.
+abbrev pub graphics_code : Coded (Option RasterGraphics)
+graphics_code =
+    coded_option (code_by (ℕ × (ℕ × List ℕ)) (coded× coded_ℕ (coded× coded_ℕ (coded_list coded_ℕ)))
+    (λ on. (on.left, (on.rows, on.seed)))
+    (λ s. record { left = s.0; rows = s.1.0; seed = s.1.1 })
+    (λ _. refl))
+
+-- the most rows that are counted (this profile)
+abbrev pub most_rows : ℕ
+most_rows = 65535
+
+-- raster graphics by where it stands, if it is on, and its seed row
+abbrev pub graphics : Option RasterPosition → List ℕ → Option RasterGraphics
+graphics position seed =
+    option_map (λ place. record { left = place.left; rows = place.rows; seed = seed }) position
+
+-- where its rows begin, and how many there were, if it is on
+abbrev pub position_of : Option RasterGraphics → Option RasterPosition
+position_of = option_map (λ on. record { left = on.left; rows = on.rows })
+
+-- ESC*r#A, Start Raster Graphics: where it is off it begins with a white seed row, and where it is on it goes on.
+abbrev pub started : (left : ℕ) → Option RasterGraphics → Option RasterGraphics
+started left None = Some (record { left = left; rows = 0; seed = [] })
+started left (Some on) = Some on
+
+-- ESC*b#Y, Raster Y Offset: so many rows are left out, and the seed row is white then.
+abbrev pub moved_down : ℕ → Option RasterGraphics → Option RasterGraphics
+moved_down rows None = None
+moved_down rows (Some on) = Some (record on { rows = min most_rows (on.rows + rows); seed = [] })
+
+-- Whether so many rows are fewer than the height of the source; no number is where it is unset.
+abbrev pub is_within : Option ℕ → (rows : ℕ) → Bool
+is_within None rows = true
+is_within (Some height) rows = nat_lt rows height
+
+-- Whether the next row has effect: it has none where raster graphics is off, and where the rows have reached the height of the
+-- source.
+abbrev pub takes_row : RasterSettings → Option RasterGraphics → Bool
+takes_row settings None = false
+takes_row settings (Some on) = is_within settings.source_height on.rows

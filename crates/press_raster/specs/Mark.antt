@@ -1,0 +1,35 @@
+-- The mark of a raster row (PCL 5 Printer Language Technical Reference Manual, Raster Graphics, The PCL Print Model, and
+-- Logical Page Orientation command).
+use Rattle.std.specs.Prelude.{ℕ, ◌+◌, ◌-◌, ◌*◌, ◌/◌, ◌&&◌, Bool, nat_le, nat_lt, if◌then◌else◌, Option, Some, None}
+use Rattle.press_bits.specs.Mark.{Mark, Row, row_dot}
+use Rattle.press_bits.specs.Page.{Page}
+use Rattle.press_page.specs.Place.{placed_dot}
+use Rattle.press_page.specs.declared.paper.Orientation.{Orientation}
+use Rattle.press_page.specs.declared.place.Dot.{Dot}
+use Rattle.press_pattern.specs.Tiling.{Tiling, tile_dot}
+use Rattle.press_pattern.specs.declared.ink.Ink.{Ink}
+use Rattle.press_bits.specs.declared.mode.Mode.{Mode}
+
+-- The source of a strip of the frame, of so many columns and lines from x and y on: each of its lines has the same dots.
+unfoldable pub strip_source : (x y columns lines : ℕ) → (dots : ℕ → Bool) → ℕ → ℕ → Option Bool
+strip_source x y columns lines dots column line =
+    if nat_le x column && nat_lt column (x + columns) && nat_le y line && nat_lt line (y + lines)
+    then Some (dots (column - x)) else None
+
+-- The mark of a strip: the pattern dot of each dot of the frame is the tile's, and each dot of the page is the dot of the
+-- frame that lies there.
+abbrev pub strip_mark :
+    Orientation → (width height : ℕ) → (x y columns lines : ℕ) → (dots : ℕ → Bool) → Tiling → Mode → Mark
+strip_mark orientation width height x y columns lines dots tile mode = record {
+  source = strip_source x y columns lines dots;
+  pattern = tile_dot tile;
+  mode = mode;
+  frame_dot = placed_dot orientation width height;
+}
+
+-- The mark of a raster row on a page: the strip whose corner is a dot of the frame, in which each dot of the row is so many
+-- dots wide and high.
+abbrev pub raster_mark : Orientation → Page → (corner : Dot) → (size : ℕ) → Row → Ink → Mark
+raster_mark orientation page corner size row ink =
+    strip_mark orientation page.width page.height corner.x corner.y (size * row.dots) size
+    (λ i. row_dot row.bits (i / size)) ink.tile ink.mode

@@ -1,0 +1,67 @@
+-- What raster graphics is set to (PCL 5 Printer Language Technical Reference Manual, Raster Graphics: Raster Graphics
+-- Resolution, Raster Width, Raster Height and Set Compression Method commands).
+use Rattle.std.specs.Prelude.{ℕ, ◌/◌, ℤ, pos, negsuc, nat_lt, if◌then◌else◌, [], ◌∷◌, Option, Some, None}
+use Rattle.press_units.specs.Measure.{positions_per_inch}
+use Rattle.press_units.specs.Position as engine
+use Rattle.press_units.specs.Value.{whole_part}
+use Rattle.press_units.specs.declared.position.Resolution.{Resolution}
+use Rattle.press_page.specs.Numbers.{named}
+use Rattle.press_rows.specs.Methods.{method_of}
+use Rattle.press_rows.specs.declared.compression.Method.TheVariants.{Unencoded}
+use Rattle.press_raster.specs.declared.settings.RasterResolution.{RasterResolution}
+use Rattle.press_raster.specs.declared.settings.RasterResolution.TheVariants.{Dpi75, Dpi100, Dpi150, Dpi300}
+use Rattle.press_raster.specs.declared.settings.RasterSettings.{RasterSettings}
+
+-- dots of an inch
+abbrev pub dots_per_inch : RasterResolution → ℕ
+dots_per_inch Dpi75 = 75
+dots_per_inch Dpi100 = 100
+dots_per_inch Dpi150 = 150
+dots_per_inch Dpi300 = 300
+
+-- how many positions a row takes down the page
+abbrev pub row_height : RasterResolution → ℕ
+row_height resolution = positions_per_inch / dots_per_inch resolution
+
+-- how many dots of the engine a dot of a row is wide and high
+abbrev pub dot_size : RasterResolution → Resolution → ℕ
+dot_size resolution print = engine.dots_per_inch print / dots_per_inch resolution
+
+-- the settings after a reset
+abbrev pub initial : RasterSettings
+initial = record { resolution = Dpi75; method = Unencoded; source_width = None; source_height = None }
+
+-- a change by what a command asks for, if it asks for something
+abbrev pub changed_by :
+    {Asked : Type 0} → Option Asked → (Asked → RasterSettings → RasterSettings) → RasterSettings → RasterSettings
+changed_by None change settings = settings
+changed_by (Some asked) change settings = change asked settings
+
+-- ESC*t#R, Raster Graphics Resolution
+abbrev pub resolution_of : ℤ → Option RasterResolution
+resolution_of = named ((75, Dpi75) ∷ (100, Dpi100) ∷ (150, Dpi150) ∷ (300, Dpi300) ∷ [])
+
+abbrev pub set_resolution : ℤ → RasterSettings → RasterSettings
+set_resolution value =
+    changed_by (resolution_of (whole_part value))
+    (λ resolution settings. record settings { resolution = resolution })
+
+-- a side of a raster picture, in its dots: at least one
+abbrev pub side_of : ℤ → Option ℕ
+side_of (pos n) = if nat_lt 0 n then Some n else None
+side_of (negsuc n) = None
+
+-- ESC*r#S, Raster Width
+abbrev pub set_source_width : ℤ → RasterSettings → RasterSettings
+set_source_width value =
+    changed_by (side_of (whole_part value)) (λ width settings. record settings { source_width = Some width })
+
+-- ESC*r#T, Raster Height
+abbrev pub set_source_height : ℤ → RasterSettings → RasterSettings
+set_source_height value =
+    changed_by (side_of (whole_part value)) (λ height settings. record settings { source_height = Some height })
+
+-- ESC*b#M, Set Compression Method
+abbrev pub set_method : ℤ → RasterSettings → RasterSettings
+set_method value =
+    changed_by (method_of (whole_part value)) (λ method settings. record settings { method = method })

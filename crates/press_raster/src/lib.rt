@@ -1,0 +1,12 @@
+//! Raster graphics: rows of dots that are transferred one below the other onto a lent page.
+#![tactic(auto)]
+
+mod along;
+mod decoding;
+mod raster;
+mod reading;
+mod settings;
+mod strip;
+
+pub use raster::{Raster, RasterPosition, RowPlace};
+pub use settings::{RasterResolution, RasterSettings};

@@ -1,0 +1,171 @@
+ghost use Rattle.std.specs.Prelude.{◌≡◌, ◌<◌, ◌≤◌, ◌^◌};
+ghost use Rattle.press_raster.specs.Settings.{dots_per_inch, row_height, dot_size, resolution_of, side_of, initial, set_resolution, set_source_width, set_source_height, set_method};
+ghost use Rattle.press_raster.specs.Transfer.{dots_of_row};
+ghost use Rattle.press_units.specs.Value.{whole_part};
+
+use press_rows::Method;
+use press_units::{Resolution, Value};
+
+/// The positions of an inch.
+const POSITIONS_PER_INCH: u16 = 7200;
+
+/// The resolutions of raster graphics, by "Raster Graphics Resolution" (`ESC * t # R`).
+///
+/// Source: PCL 5 Printer Language Technical Reference Manual, Raster Graphics, Raster Graphics Resolution command.
+#[derive(Clone, Copy, Debug, PartialEq, Eq)]
+pub enum RasterResolution {
+    Dpi75,
+    Dpi100,
+    Dpi150,
+    Dpi300,
+}
+
+impl RasterResolution {
+    /// The resolution of so many dots per inch, where there is one.
+    fn of_number(number: i64) -> Option<Self>
+        ensures { result ≡ resolution_of number }
+    {
+        match number {
+            75 => Some(RasterResolution::Dpi75),
+            100 => Some(RasterResolution::Dpi100),
+            150 => Some(RasterResolution::Dpi150),
+            300 => Some(RasterResolution::Dpi300),
+            _ => None,
+        }
+    }
+
+    /// Dots of a row per inch.
+    pub fn dots_per_inch(self) -> u16
+        ensures dots { result ≡ dots_per_inch self }
+        ensures some { 1 ≤ result }
+        ensures most { result ≤ 300 }
+    {
+        match self {
+            RasterResolution::Dpi75 => 75,
+            RasterResolution::Dpi100 => 100,
+            RasterResolution::Dpi150 => 150,
+            RasterResolution::Dpi300 => 300,
+        }
+    }
+
+    /// How many positions (1/7200 inch) a row takes down the page.
+    pub fn row_height(self) -> u16
+        ensures { result ≡ row_height self }
+    {
+        POSITIONS_PER_INCH / self.dots_per_inch()
+    }
+
+    /// How many dots of the engine a dot of a row is wide and high.
+    pub(crate) fn dot_size(self, print: Resolution) -> u32
+        ensures size { result ≡ dot_size self print }
+        ensures some { 1 ≤ result }
+        ensures most { result ≤ 4 }
+    {
+        match print {
+            Resolution::Dpi300 => 300 / u32::from(self.dots_per_inch()),
+        }
+    }
+}
+
+/// What raster graphics is set to: plain data, which a macro call restores. A setter takes the value of its command; a
+/// value that the command does not know changes nothing.
+///
+/// Resolution, source width and source height may be set only while raster graphics is off, which is the caller's to see
+/// to.
+#[derive(Clone, Copy, Debug, PartialEq, Eq)]
+pub struct RasterSettings {
+    pub resolution: RasterResolution,
+    pub method: Method,
+    /// How many dots wide a row is; without, a row ends at the right edge of the logical page.
+    pub source_width: Option<u16>,
+    /// After how many rows the next ones have no effect.
+    pub source_height: Option<u16>,
+}
+
+/// A side of a raster picture, in its dots: at least one.
+fn side_of(value: Value) -> Option<u16>
+    ensures { result ≡ side_of (whole_part value.tenthousandths) }
+{
+    let number = value.whole();
+    if number < 1 {
+        None
+    } else {
+        Some(number as u16)
+    }
+}
+
+impl RasterSettings {
+    ghost use Rattle.std.specs.Prelude.{Option};
+
+    /// The settings after power on, `ESC E` and a universal exit: 75 dots per inch, method 0, no source width and no source
+    /// height.
+    pub fn initial() -> Self
+        ensures { result ≡ initial }
+    {
+        RasterSettings {
+            resolution: RasterResolution::Dpi75,
+            method: Method::Unencoded,
+            source_width: None,
+            source_height: None,
+        }
+    }
+
+    /// `ESC * t # R`: the resolution of the rows, 75, 100, 150 or 300 dots per inch.
+    ///
+    /// Source: PCL 5 Printer Language Technical Reference Manual, Raster Graphics, Raster Graphics Resolution command.
+    pub fn set_resolution(&mut self, value: Value)
+        ensures { self.new ≡ set_resolution value.tenthousandths self.old }
+    {
+        if let Some(resolution) = RasterResolution::of_number(value.whole()) {
+            self.resolution = resolution;
+        }
+    }
+
+    /// `ESC * r # S`: the source width, in dots of a row, at least 1.
+    ///
+    /// Source: PCL 5 Printer Language Technical Reference Manual, Raster Graphics, Raster Width command.
+    pub fn set_source_width(&mut self, value: Value)
+        ensures { self.new ≡ set_source_width value.tenthousandths self.old }
+    {
+        if let Some(width) = side_of(value) {
+            self.source_width = Some(width);
+        }
+    }
+
+    /// `ESC * r # T`: the source height, in rows, at least 1.
+    ///
+    /// Source: PCL 5 Printer Language Technical Reference Manual, Raster Graphics, Raster Height command.
+    pub fn set_source_height(&mut self, value: Value)
+        ensures { self.new ≡ set_source_height value.tenthousandths self.old }
+    {
+        if let Some(height) = side_of(value) {
+            self.source_height = Some(height);
+        }
+    }
+
+    /// `ESC * b # M`: the compression method of the rows, 0 to 3.
+    ///
+    /// Source: PCL 5 Printer Language Technical Reference Manual, Raster Graphics, Set Compression Method command.
+    pub fn set_method(&mut self, value: Value)
+        ensures { self.new ≡ set_method value.tenthousandths self.old }
+    {
+        if let Some(method) = Method::of_number(value.whole()) {
+            self.method = method;
+        }
+    }
+
+    /// How many dots a row has that begins at a distance from the left edge of a logical page, in positions (1/7200 inch).
+    pub(crate) fn dots_of_row(self, logical_width: u32, left: u32) -> usize
+        ensures dots { result ≡ dots_of_row self.source_width self.resolution logical_width left }
+        ensures bound { result < 2 ^ 28 }
+    {
+        match self.source_width {
+            Some(width) => usize::from(width),
+            None => {
+                let positions = logical_width.saturating_sub(left) as usize;
+                let dots_per_inch = usize::from(self.resolution.dots_per_inch());
+                positions * dots_per_inch / usize::from(POSITIONS_PER_INCH)
+            }
+        }
+    }
+}

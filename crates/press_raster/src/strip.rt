@@ -1,0 +1,222 @@
+//! Strips of the frame whose lines have the same dots.
+
+ghost use Rattle.std.specs.Prelude.{◌≡◌, ℕ, ◌+◌, ◌-◌, ◌*◌, ◌/◌, ◌≤◌, ◌<◌, ◌^◌, length, min, true, false, IfOk, OnOk, OnErr};
+ghost use Rattle.press_bits.specs.Lines.{bytes_per_line};
+ghost use Rattle.press_bits.specs.Mark.{painted, row, row_dot};
+ghost use Rattle.press_page.specs.Paper.{turned};
+ghost use Rattle.press_raster.specs.Reading.{backward_from, line_of, read_dot};
+ghost use Rattle.press_raster.specs.Along.{is_backward, dots_along};
+ghost use Rattle.press_raster.specs.Mark.{strip_mark, raster_mark};
+
+use crate::along::{frame, is_backward, paint_along};
+use crate::decoding::white_bytes;
+use crate::reading::Reading;
+use press_bits::{Bitmap, DotRow};
+use press_page::{Dot, Orientation};
+use press_pattern::{Ink, Tile};
+use std::alloc::{AllocError, Global};
+
+/// How much of a length that begins at a place lies before an edge.
+fn cut_length(from: u32, length: usize, edge: u32) -> u32
+    ensures within { result ≤ length }
+    ensures before { 0 < result → from + result ≤ edge }
+    ensures most { result ≤ edge }
+    ensures same_end { min (from + length) edge ≡ min (from + result) edge }
+{
+    length.min(edge.saturating_sub(from) as usize) as u32
+}
+
+/// How many bytes so many dots take.
+pub(crate) fn bytes_for(dots: usize) -> usize
+    requires { dots < 2 ^ 32 }
+    ensures bytes { result ≡ bytes_per_line dots }
+    ensures enough { dots ≤ 8 * result }
+{
+    (dots + 7) / 8
+}
+
+/// A line of a tile.
+fn tile_line<'a>(tile: &Tile<'a>, line: u32) -> DotRow<'a>
+    ensures row { row result ≡ line_of tile.now line }
+    ensures some { 1 ≤ result.dots }
+{
+    DotRow {
+        bits: tile.row(line),
+        dots: usize::from(tile.width()),
+    }
+}
+
+/// Paints one line of the frame from a column on, where the columns of the frame run to the left or up the page, with source
+/// dots of which the last one stands first, and a line of the tile that was read backwards from the end of the page.
+fn paint_mirrored(
+    page: &mut Bitmap,
+    orientation: Orientation,
+    left: u32,
+    line: u32,
+    source: DotRow<'_>,
+    ink: &Ink<'_>,
+    mirrored: &[u8],
+)
+    requires backward { is_backward orientation ≡ true }
+    requires within { left + source.dots ≤ (turned orientation
+        (record { width = page.old.width; height = page.old.height })).width }
+    requires long { ink.now.tile.width ≤ 8 * length mirrored.now }
+    requires mirrored { (i : ℕ) → i < 8 * length mirrored.now → row_dot mirrored.now i
+        ≡ read_dot (backward_from ((turned orientation
+        (record { width = page.old.width; height = page.old.height })).width - 1))
+        (line_of ink.now.tile line) i }
+    ensures { page.new ≡ painted page.old (strip_mark orientation page.old.width page.old.height
+        left line (row source.entry).dots 1 (dots_along (is_backward orientation) (row source.entry))
+        ink.now.tile ink.now.mode) }
+{
+    let side = frame(page, orientation).width;
+    let start = side - left - source.dots as u32;
+    let pattern = DotRow {
+        bits: mirrored,
+        dots: usize::from(ink.tile.width()),
+    };
+    paint_along(page, orientation, start, line, source, pattern, ink.mode);
+}
+
+/// Reads a line of a tile backwards from a place on.
+fn mirror_line(tile: &Tile<'_>, line: u32, last: u32, room: &mut [u8])
+    requires { length room.old < 2 ^ 32 }
+    ensures { (i : ℕ) → i < 8 * length room.old
+        → row_dot room.new i ≡ read_dot (backward_from last) (line_of tile.now line) i }
+{
+    let reading = Reading {
+        size: 1,
+        last: Some(last as usize),
+    };
+    reading.read(tile_line(tile, line), room);
+}
+
+/// Paints one line of the frame from a column on, with these source dots, which stand the last one first where the columns
+/// of the frame run to the left or up the page; there then is room for a line of the tile.
+fn paint_line(
+    page: &mut Bitmap,
+    orientation: Orientation,
+    left: u32,
+    line: u32,
+    source: DotRow<'_>,
+    ink: &Ink<'_>,
+    room: &mut [u8],
+)
+    requires within { left + source.dots ≤ (turned orientation
+        (record { width = page.old.width; height = page.old.height })).width }
+    requires room { is_backward orientation ≡ true → ink.now.tile.width ≤ 8 * length room.old }
+    requires small { length room.old < 2 ^ 32 }
+    ensures { page.new ≡ painted page.old (strip_mark orientation page.old.width page.old.height
+        left line (row source.entry).dots 1 (dots_along (is_backward orientation) (row source.entry))
+        ink.now.tile ink.now.mode) }
+{
+    if is_backward(orientation) {
+        let last = frame(page, orientation).width - 1;
+        mirror_line(&ink.tile, line, last, room);
+        paint_mirrored(page, orientation, left, line, source, ink, room);
+    } else {
+        let pattern = tile_line(&ink.tile, line);
+        paint_along(page, orientation, left, line, source, pattern, ink.mode);
+    }
+}
+
+/// Paints a strip whose lines have these source dots, which stand the last one first where the columns of the frame run to
+/// the left or up the page; there then is room for a line of the tile.
+fn paint_lines(
+    page: &mut Bitmap,
+    orientation: Orientation,
+    corner: Dot,
+    lines: usize,
+    source: DotRow<'_>,
+    ink: &Ink<'_>,
+    room: &mut [u8],
+)
+    requires within { corner.x + source.dots ≤ (turned orientation
+        (record { width = page.old.width; height = page.old.height })).width }
+    requires room { is_backward orientation ≡ true → ink.now.tile.width ≤ 8 * length room.old }
+    requires small { length room.old < 2 ^ 32 }
+    ensures { page.new ≡ painted page.old (strip_mark orientation page.old.width page.old.height
+        corner.x corner.y (row source.entry).dots lines
+        (dots_along (is_backward orientation) (row source.entry)) ink.now.tile ink.now.mode) }
+{
+    let lines = cut_length(corner.y, lines, frame(page, orientation).height);
+    for line in 0..lines {
+        paint_line(
+            page,
+            orientation,
+            corner.x,
+            corner.y + line,
+            source,
+            ink,
+            room,
+        );
+    }
+}
+
+/// So many dots along a line of the frame, for each dot of a row `size` of them; the last one first where they run backwards.
+fn spread(
+    alloc: Global,
+    source: DotRow<'_>,
+    size: usize,
+    backward: bool,
+    columns: usize,
+) -> Result<Vec<u8>, AllocError>
+    requires size { 1 ≤ size }
+    requires some { 1 ≤ columns }
+    requires small { columns < 2 ^ 32 }
+    requires within { columns ≤ size * source.dots }
+    ensures long { IfOk result (λ bits. columns ≤ 8 * length bits.items) }
+    ensures dots { IfOk result (λ bits. (i : ℕ) → i < columns
+        → dots_along backward (record { bits = bits.items; dots = columns }) i
+        ≡ row_dot (row source.entry).bits (i / size)) }
+{
+    let last = backward.then_some(columns - 1);
+    let mut bits = white_bytes(alloc, bytes_for(columns))?;
+    Reading { size, last }.read(source, &mut bits);
+    Ok(bits)
+}
+
+/// Paints a raster row from a corner of the frame on, each of its dots `size` dots wide and high. Dots outside the page are
+/// dropped.
+///
+/// # Errors
+///
+/// Where memory ran out; the page is then as it was.
+pub(crate) fn paint_strip(
+    page: &mut Bitmap,
+    alloc: Global,
+    orientation: Orientation,
+    corner: Dot,
+    size: u32,
+    source: DotRow<'_>,
+    ink: &Ink<'_>,
+) -> Result<(), AllocError>
+    requires some { 1 ≤ size }
+    requires most { size ≤ 4 }
+    requires dots { source.dots < 2 ^ 28 }
+    ensures painted { OnOk result (page.new ≡ painted page.old
+        (raster_mark orientation page.old corner size (row source.entry) ink.now)) }
+    ensures unchanged { OnErr result (page.new ≡ page.old) }
+{
+    let size = size as usize;
+    let side = frame(page, orientation).width;
+    let columns = cut_length(corner.x, size * source.dots, side);
+    if columns == 0 {
+        return Ok(());
+    }
+    let dots = columns as usize;
+    let backward = is_backward(orientation);
+    if size == 1 && !backward {
+        let source = DotRow {
+            bits: source.bits,
+            dots,
+        };
+        paint_lines(page, orientation, corner, size, source, ink, &mut []);
+        return Ok(());
+    }
+    let bits = spread(alloc, source, size, backward, dots)?;
+    let mut room = white_bytes(alloc, bytes_for(usize::from(ink.tile.width())))?;
+    let source = DotRow { bits: &bits, dots };
+    paint_lines(page, orientation, corner, size, source, ink, &mut room);
+    Ok(())
+}
