@@ -1,0 +1,3 @@
+mod BodyLemmas
+mod StoreLemmas
+pub mod WorkedMacros

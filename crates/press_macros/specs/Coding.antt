@@ -1,0 +1,62 @@
+-- How proofs tell two stores of macros apart: the code of commands, macros and stores.
+use Rattle.std.specs.Prelude.{◌≡◌, ℕ, List, [], Bool, Option, cond, ◌==◌, refl}
+use Rattle.std.specs.Ordering.{nat_cmp}
+use Rattle.std.specs.Coded.{Coded, code_by, coded×, coded_ℕ, coded_bool, coded_list, coded_option}
+use Rattle.std.specs.FinMap as maps
+use Rattle.press_cmd.specs.Token.{Token, Escape, Grouped, Ungrouped, Control, Text, Broken, Uel, PjlLine, ForeignByte}
+use Rattle.press_macros.specs.Macros.{Macro, Definition, Macros}
+
+-- A command as its number among the nine, three numbers, and two lists.
+abbrev Parts : Type 0
+Parts = ℕ × (ℕ × (ℕ × (ℕ × (List ℕ × List ℕ))))
+
+abbrev parts_of : Token → Parts
+parts_of (Escape byte) = (0, (byte, (0, (0, ([], [])))))
+parts_of (Grouped character group field end payload) = (1, (character, (group, (end, (field, payload)))))
+parts_of (Ungrouped character field end payload) = (2, (character, (0, (end, (field, payload)))))
+parts_of (Control byte) = (3, (byte, (0, (0, ([], [])))))
+parts_of (Text byte) = (4, (byte, (0, (0, ([], [])))))
+parts_of (Broken bytes) = (5, (0, (0, (0, (bytes, [])))))
+parts_of Uel = (6, (0, (0, (0, ([], [])))))
+parts_of (PjlLine line) = (7, (0, (0, (0, (line, [])))))
+parts_of (ForeignByte byte) = (8, (byte, (0, (0, ([], [])))))
+
+abbrev command_from : ℕ → ℕ → ℕ → ℕ → List ℕ → List ℕ → Token
+command_from n a b c bytes more =
+    cond (n == 0) (Escape a) (cond (n == 1) (Grouped a b bytes c more) (cond (n == 2) (Ungrouped a bytes c more)
+    (cond (n == 3) (Control a) (cond (n == 4) (Text a) (cond (n == 5) (Broken bytes)
+    (cond (n == 6) Uel (cond (n == 7) (PjlLine bytes) (ForeignByte a))))))))
+
+abbrev from_parts : Parts → Token
+from_parts p = command_from p.0 p.1.0 p.1.1.0 p.1.1.1.0 p.1.1.1.1.0 p.1.1.1.1.1
+
+pub from_parts-parts_of : (command : Token) → from_parts (parts_of command) ≡ command
+from_parts-parts_of (Escape byte) = refl
+from_parts-parts_of (Grouped character group field end payload) = refl
+from_parts-parts_of (Ungrouped character field end payload) = refl
+from_parts-parts_of (Control byte) = refl
+from_parts-parts_of (Text byte) = refl
+from_parts-parts_of (Broken bytes) = refl
+from_parts-parts_of Uel = refl
+from_parts-parts_of (PjlLine line) = refl
+from_parts-parts_of (ForeignByte byte) = refl
+
+abbrev pub command_code : Coded Token
+command_code =
+    code_by Parts (coded× coded_ℕ (coded× coded_ℕ (coded× coded_ℕ (coded× coded_ℕ (coded× (coded_list coded_ℕ) (coded_list coded_ℕ))))))
+    parts_of from_parts from_parts-parts_of
+
+abbrev pub macro_code : Coded Macro
+macro_code =
+    code_by (List Token × Bool) (coded× (coded_list command_code) coded_bool)
+    (λ m. (m.commands, m.permanent)) (λ p. record { commands = p.0; permanent = p.1 }) (λ _. refl)
+
+abbrev pub definition_code : Coded Definition
+definition_code =
+    code_by (ℕ × List Token) (coded× coded_ℕ (coded_list command_code))
+    (λ d. (d.id, d.commands)) (λ p. record { id = p.0; commands = p.1 }) (λ _. refl)
+
+abbrev pub macros_code : Coded Macros
+macros_code =
+    code_by (maps.FinMap nat_cmp Macro × Option Definition) (coded× (maps.code coded_ℕ macro_code) (coded_option definition_code))
+    (λ m. (m.stored, m.definition)) (λ p. record { stored = p.0; definition = p.1 }) (λ _. refl)

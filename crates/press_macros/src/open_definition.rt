@@ -1,0 +1,79 @@
+ghost use Rattle.std.specs.Prelude.{◌≡◌, [], take, IfOk, IfErr, OnOk, OnErr};
+ghost use Rattle.press_cmd.specs.View.{token};
+ghost use Rattle.press_macros.specs.Macros.{with_command, macro_of};
+
+use crate::stored_macro::StoredMacro;
+use press_cmd::{Command, Owned};
+use std::alloc::{AllocError, Global};
+use std::marker::Model;
+
+/// A macro definition that was begun and not ended.
+#[derive(Drop)]
+pub(crate) struct OpenDefinition {
+    id: u16,
+    commands: Vec<Owned>,
+}
+
+impl Model for OpenDefinition {
+    ghost use Rattle.press_macros.specs.Macros.{Definition};
+
+    ghost Value = { Definition };
+
+    ghost view = { λ d. record { id = d.id; commands = d.commands.items } };
+}
+
+impl OpenDefinition {
+    /// A definition without a command.
+    pub fn new(alloc: Global, id: u16) -> Self
+        ensures { result ≡ record { id = id; commands = [] } }
+    {
+        OpenDefinition {
+            id,
+            commands: Vec::new(alloc),
+        }
+    }
+
+    /// The ID of the macro that is being defined.
+    pub fn id(&self) -> u16
+        ensures { result ≡ self.now.id }
+    {
+        self.id
+    }
+
+    /// Records a command behind the others.
+    pub fn record(&mut self, command: &Command) -> Result<(), AllocError>
+        ensures recorded { OnOk result (self.new ≡ with_command self.old (token command.now)) }
+        ensures unchanged { OnErr result (self.new ≡ self.old) }
+    {
+        let owned = Owned::of(*self.commands.allocator(), command)?;
+        self.commands.push(owned)?;
+        Ok(())
+    }
+
+    /// The macro that was defined. An error gives the definition back.
+    pub fn end(self) -> Result<StoredMacro, Self>
+        ensures ended { IfOk result (λ made. made ≡ macro_of self) }
+        ensures unchanged { IfErr result (λ definition. definition ≡ self) }
+    {
+        let OpenDefinition { id, commands } = self;
+        match StoredMacro::of(commands) {
+            Ok(made) => Ok(made),
+            Err(commands) => Err(OpenDefinition { id, commands }),
+        }
+    }
+
+    /// An equal definition.
+    pub fn copy(&self) -> Result<Self, AllocError>
+        ensures { IfOk result (λ definition. definition ≡ self.now) }
+    {
+        let alloc = *self.commands.allocator();
+        let mut commands = Vec::with_capacity(alloc, self.commands.len())?;
+        for owned in self.commands.iter() {
+            commands.push(Owned::of(alloc, &owned.command())?)?;
+        }
+        Ok(OpenDefinition {
+            id: self.id,
+            commands,
+        })
+    }
+}
