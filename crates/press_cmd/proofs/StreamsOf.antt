@@ -168,7 +168,7 @@ byte-IsCommand b =
     ]
 
 -- what goes on begins with the escape character
-goes_on-escape : (b : ℕ) (u : List ℕ) (x : ℕ) (more : List ℕ) (t : Token) (n : Mode) → Whole Pcl ((b ∷ u) ++ (x ∷ more)) t n → b ≡ 27
+pub goes_on-escape : (b : ℕ) (u : List ℕ) (x : ℕ) (more : List ℕ) (t : Token) (n : Mode) → Whole Pcl ((b ∷ u) ++ (x ∷ more)) t n → b ≡ 27
 goes_on-escape b u x more (Escape e) n w = cc (w.1)
 goes_on-escape b u x more (Grouped c g f e d) n w = cc (w.spelled)
 goes_on-escape b u x more (Ungrouped c f e d) n w = cc (w.0.spelled)

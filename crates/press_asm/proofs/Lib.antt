@@ -1,0 +1,8 @@
+pub mod Answers
+pub mod FormRead
+pub mod Digits
+pub mod ParamLine
+pub mod FormLaws
+pub mod Assembling
+pub mod Adding
+pub mod LineStands

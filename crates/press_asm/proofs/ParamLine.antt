@@ -1,0 +1,52 @@
+-- The lines of parameters and of broken sequences, from their parts.
+use Rattle.std.proofs.Common.{◌≡◌, ◌∙◌, ◌<◌, ◌≤◌, ℕ, List, [], ◌∷◌, ◌++◌, length, sym, ap, arith, append_assoc, append-nil}
+use Rattle.std.specs.Prelude.{codes, Option, Some, None}
+use Rattle.hex.specs.Hex.{encode_upper}
+use Rattle.press_cmd.specs.Token.{param_of, broken_of, field_of, end_of, data_of}
+use Rattle.press_cmd.specs.View.{param_token}
+use Rattle.press_cmd.specs.declared.payload.Param.{Param}
+use Rattle.press_asm.specs.Form.{spaced}
+use Rattle.press_asm.specs.Written.{line_of, front_of, beginning}
+use Rattle.press_asm.proofs.Digits.{digits-append, digits-nil, digits_first}
+
+-- the line of a parameter, from the left
+pub param_line : (c : ℕ) (g : Option ℕ) (f : List ℕ) (e : ℕ) (d : List ℕ)
+    → let t = param_of c g f e d in line_of t ≡ front_of t ++ (field_of t ++ ((end_of t ∷ []) ++ spaced (encode_upper (data_of t))))
+param_line c None f e d = ap (λ x. codes "par " ++ (c ∷ x)) (append_assoc f (e ∷ []) (spaced (encode_upper d)))
+param_line c (Some g) f e d = ap (λ x. codes "par " ++ (c ∷ g ∷ x)) (append_assoc f (e ∷ []) (spaced (encode_upper d)))
+
+-- the same of a parameter, from what its parts are told to be
+pub param_from : (p : Param) (f : List ℕ) (e : ℕ) (d : List ℕ) → f ≡ field_of (param_token p) → e ≡ end_of (param_token p) → d ≡ data_of (param_token p)
+    → line_of (param_token p) ≡ front_of (param_token p) ++ (f ++ ((e ∷ []) ++ spaced (encode_upper d)))
+param_from p f e d hf he hd =
+    param_line p.character p.group p.field.now p.end p.payload.now
+    ∙ ap (λ x. front_of (param_token p) ++ (x ++ ((end_of (param_token p) ∷ []) ++ spaced (encode_upper (data_of (param_token p)))))) (sym hf)
+    ∙ ap (λ x. front_of (param_token p) ++ (f ++ ((x ∷ []) ++ spaced (encode_upper (data_of (param_token p)))))) (sym he)
+    ∙ ap (λ x. front_of (param_token p) ++ (f ++ ((e ∷ []) ++ spaced (encode_upper x)))) (sym hd)
+
+-- the line of a broken sequence, from the left
+pub broken_line : (s : Option (ℕ × ℕ)) (bytes : List ℕ) → line_of (broken_of s bytes) ≡ codes "brk " ++ (encode_upper (beginning s) ++ encode_upper bytes)
+broken_line None bytes = ap (λ x. codes "brk " ++ x) (digits-append [] bytes)
+broken_line (Some s) bytes = ap (λ x. codes "brk " ++ x) (digits-append (27 ∷ s.0 ∷ s.1 ∷ []) bytes)
+
+-- what was appended in parts
+pub in_four : (o a b c d out w x y z : List ℕ) → w ≡ o ++ a → x ≡ w ++ b → y ≡ x ++ c → z ≡ y ++ d → out ≡ a ++ (b ++ (c ++ d)) → z ≡ o ++ out
+in_four o a b c d out w x y z hw hx hy hz h =
+    hz ∙ ap (λ l. l ++ d) (hy ∙ ap (λ l. l ++ c) (hx ∙ ap (λ l. l ++ b) hw))
+    ∙ append_assoc (o ++ a ++ b) c d ∙ append_assoc (o ++ a) b (c ++ d) ∙ append_assoc o a (b ++ (c ++ d)) ∙ ap (λ l. o ++ l) (sym h)
+
+pub in_three : (o a b c out w x y : List ℕ) → w ≡ o ++ a → x ≡ w ++ b → y ≡ x ++ c → out ≡ a ++ (b ++ c) → y ≡ o ++ out
+in_three o a b c out w x y hw hx hy h =
+    hy ∙ ap (λ l. l ++ c) (hx ∙ ap (λ l. l ++ b) hw) ∙ append_assoc (o ++ a) b c ∙ append_assoc o a (b ++ c) ∙ ap (λ l. o ++ l) (sym h)
+
+-- nothing was appended
+pub nothing_spaced : (old payload : List ℕ) → length payload < 1 → old ≡ old ++ spaced (encode_upper payload)
+nothing_spaced old [] h = sym (ap (λ d. old ++ spaced d) digits-nil ∙ append-nil old)
+nothing_spaced old (b ∷ payload) h = absurd (omega arith)
+
+pub some_spaced : (payload : List ℕ) → 1 ≤ length payload → (32 ∷ []) ++ encode_upper payload ≡ spaced (encode_upper payload)
+some_spaced [] h = absurd (omega arith)
+some_spaced (b ∷ payload) h = ap (λ d. 32 ∷ d) (digits_first b payload) ∙ sym (ap spaced (digits_first b payload))
+
+pub nothing_begun : (old : List ℕ) (s : Option (ℕ × ℕ)) → s ≡ None → old ≡ old ++ encode_upper (beginning s)
+nothing_begun old s is = sym (ap (λ x. old ++ encode_upper (beginning x)) is ∙ ap (λ d. old ++ d) digits-nil ∙ append-nil old)

@@ -1,0 +1,47 @@
+-- The lines that a disassembler writes.
+use Rattle.std.specs.Prelude.{ℕ, List, [], ◌∷◌, ◌++◌, codes, Option, Some, None, option_to_list, Bool, IsTrue}
+use Rattle.std.specs.List.{list_all}
+use Rattle.std.specs.Int.{is_in_range}
+use Rattle.hex.specs.Hex.{encode_upper}
+use Rattle.press_cmd.specs.Token.{Token, Escape, Grouped, Ungrouped, Control, Text, Broken, Uel, PjlLine, ForeignByte, character_of, group_of, escape_byte}
+use Rattle.press_asm.specs.Form.{word, spaced, StandsFor}
+
+-- the line of a command, with digits in upper case
+abbrev pub line_of : Token → List ℕ
+line_of (Escape byte) = codes "esc " ++ (byte ∷ [])
+line_of (Grouped character group field end payload) = codes "par " ++ (word character (Some group) field end ++ spaced (encode_upper payload))
+line_of (Ungrouped character field end payload) = codes "par " ++ (word character None field end ++ spaced (encode_upper payload))
+line_of (Control byte) = codes "ctl " ++ encode_upper (byte ∷ [])
+line_of (Text byte) = codes "txt " ++ encode_upper (byte ∷ [])
+line_of (Broken bytes) = codes "brk " ++ encode_upper bytes
+line_of Uel = codes "uel"
+line_of (PjlLine line) = codes "pjl " ++ encode_upper line
+line_of (ForeignByte byte) = codes "for " ++ encode_upper (byte ∷ [])
+
+-- the lines of commands as a text, each with its line feed
+abbrev pub text_of : List Token → List ℕ
+text_of [] = []
+text_of (command ∷ commands) = line_of command ++ (10 ∷ text_of commands)
+
+-- the name of a parameter's line, its character, and its group if it has one
+abbrev pub front_of : Token → List ℕ
+front_of command = codes "par " ++ (character_of command ∷ option_to_list (group_of command))
+
+-- the beginning of a sequence that stands apart: the escape character, the character and the group
+abbrev pub beginning : Option (ℕ × ℕ) → List ℕ
+beginning None = []
+beginning (Some sequence) = escape_byte ∷ sequence.0 ∷ sequence.1 ∷ []
+
+-- the printable characters of ASCII
+abbrev pub is_printable : ℕ → Bool
+is_printable byte = is_in_range 32 126 byte
+
+-- The command's line stands for it, and is printable.
+pub record IsWritten (command : Token) : Type 0 where
+  pub stands : StandsFor (line_of command) command
+  pub printable : IsTrue (list_all is_printable (line_of command))
+
+-- the line of each of the commands stands for it
+abbrev pub AreWritten : List Token → Type 0
+AreWritten [] = Unit {0}
+AreWritten (command ∷ commands) = IsWritten command × AreWritten commands

@@ -1,0 +1,15 @@
+//! Assembly text: its lines, the commands that they stand for, and the bytes of these.
+#![tactic(auto)]
+
+mod assembler;
+mod fault;
+mod form;
+mod judge;
+pub mod laws;
+mod word;
+mod write;
+mod written;
+
+pub use assembler::assemble;
+pub use fault::AssembleError;
+pub use write::write_line;

@@ -1,0 +1,114 @@
+//! The lines of commands.
+ghost use Rattle.std.specs.Prelude.{◌≡◌, ◌∷◌, [], ◌++◌, OnOk};
+ghost use Rattle.hex.specs.Hex.{encode_upper};
+ghost use Rattle.press_cmd.specs.View.{token, param_token, broken_token};
+ghost use Rattle.press_asm.specs.Form.{spaced};
+ghost use Rattle.press_asm.specs.Written.{line_of, front_of, beginning, IsWritten};
+
+use crate::written::is_written;
+use press_cmd::{Broken, Command, ESCAPE, LINE_FEED, Param};
+use std::alloc::AllocError;
+
+/// The sixteen digits.
+const DIGITS: [u8; 16] = *b"0123456789ABCDEF";
+
+/// Appends two digits for each byte, in upper case.
+fn write_digits(bytes: &[u8], out: &mut Vec<u8>) -> Result<(), AllocError>
+    ensures { OnOk result (out.new.items ≡ out.old.items ++ encode_upper bytes.now) }
+{
+    for byte in bytes {
+        let high = DIGITS[usize::from(byte / 16)];
+        let low = DIGITS[usize::from(byte % 16)];
+        out.extend_from_slice(&[high, low])?;
+    }
+    Ok(())
+}
+
+/// Appends a name and two digits for each byte.
+fn write_named(name: &[u8], bytes: &[u8], out: &mut Vec<u8>) -> Result<(), AllocError>
+    ensures { OnOk result (out.new.items ≡ out.old.items ++ (name.now ++ encode_upper bytes.now)) }
+{
+    out.extend_from_slice(name)?;
+    write_digits(bytes, out)
+}
+
+/// Appends the digits of data after a space, if there is any.
+fn write_spaced(payload: &[u8], out: &mut Vec<u8>) -> Result<(), AllocError>
+    ensures { OnOk result (out.new.items ≡ out.old.items ++ spaced (encode_upper payload.now)) }
+{
+    match payload {
+        [] => Ok(()),
+        _ => write_named(b" ", payload, out),
+    }
+}
+
+/// Appends the name of a parameter's line, its character, and its group if it has one.
+fn write_front(param: &Param, out: &mut Vec<u8>) -> Result<(), AllocError>
+    ensures { OnOk result
+        (out.new.items ≡ out.old.items ++ front_of (param_token param.now)) }
+{
+    let character = param.character();
+    match param.group() {
+        Some(group) => out.extend_from_slice(&[b'p', b'a', b'r', b' ', character, group]),
+        None => out.extend_from_slice(&[b'p', b'a', b'r', b' ', character]),
+    }
+}
+
+/// Appends the line of a parameter.
+fn write_param(param: &Param, out: &mut Vec<u8>) -> Result<(), AllocError>
+    ensures { OnOk result (out.new.items ≡ out.old.items ++ line_of (param_token param.now)) }
+{
+    write_front(param, out)?;
+    out.extend_from_slice(param.field())?;
+    out.extend_from_slice(&[param.end()])?;
+    write_spaced(param.data(), out)
+}
+
+/// Appends the digits of the beginning of a sequence, if it stands apart.
+fn write_sequence(sequence: Option<(u8, u8)>, out: &mut Vec<u8>) -> Result<(), AllocError>
+    ensures { OnOk result (out.new.items ≡ out.old.items ++ encode_upper (beginning sequence)) }
+{
+    match sequence {
+        Some((character, group)) => write_digits(&[ESCAPE, character, group], out),
+        None => Ok(()),
+    }
+}
+
+/// Appends the line of a broken command.
+fn write_broken(broken: &Broken, out: &mut Vec<u8>) -> Result<(), AllocError>
+    ensures { OnOk result (out.new.items ≡ out.old.items ++ line_of (broken_token broken.now)) }
+{
+    let (sequence, bytes) = broken.parts();
+    out.extend_from_slice(b"brk ")?;
+    write_sequence(sequence, out)?;
+    write_digits(bytes, out)
+}
+
+/// Appends the line of a command, without a line feed.
+fn write_text(command: &Command, out: &mut Vec<u8>) -> Result<(), AllocError>
+    ensures { OnOk result (out.new.items ≡ out.old.items ++ line_of (token command.now)) }
+{
+    match command {
+        Command::Escape(escape) => out.extend_from_slice(&[b'e', b's', b'c', b' ', escape.byte]),
+        Command::Param(param) => write_param(param, out),
+        Command::Control(control) => write_named(b"ctl ", &[control.byte], out),
+        Command::Text(text) => write_named(b"txt ", &[text.byte], out),
+        Command::Broken(broken) => write_broken(broken, out),
+        Command::Uel => out.extend_from_slice(b"uel"),
+        Command::PjlLine(line) => write_named(b"pjl ", line.bytes, out),
+        Command::Foreign(byte) => write_named(b"for ", &[*byte], out),
+    }
+}
+
+/// Appends the line of a command, with its line feed. An error leaves a front of it.
+///
+/// The line stands for the command, whatever command it is, and has printable characters of ASCII alone.
+pub fn write_line(command: &Command, out: &mut Vec<u8>) -> Result<(), AllocError>
+    ensures ok { OnOk result
+        (out.new.items ≡ out.old.items ++ (line_of (token command.now) ++ (10 ∷ []))) }
+    ensures written { IsWritten (token command.now) }
+{
+    is_written(command);
+    write_text(command, out)?;
+    out.extend_from_slice(&[LINE_FEED])
+}
