@@ -1,22 +1,19 @@
 -- What a fill leaves.
-use Rattle.std.proofs.Common.{◌≡◌, ℕ, ◌+◌, ◌*◌, ◌%◌, ◌<◌, true, [], ◌∷◌, refl, sym, ap, subst, arith, ◌∙◌}
-use Rattle.std.specs.Prelude.{slice_range}
+use Rattle.std.proofs.Common.{◌≡◌, ℕ, ◌<◌, refl, sym, subst, ◌∙◌}
 use Rattle.std.specs.Option.{option_map_or}
-use Rattle.press_bits.specs.DotRule.{dot_rule, both_transparent}
+use Rattle.press_bits.specs.DotRule.{dot_rule}
 use Rattle.press_bits.specs.DotRule.DotEffect.{Unchanged}
-use Rattle.press_bits.specs.Mark.{effect_at, painted, row_dot, repeated, box_source}
+use Rattle.press_bits.specs.Mark.{effect_at, painted, repeated, box_source}
 use Rattle.press_bits.specs.Page.{Page}
 use Rattle.press_bits.specs.declared.mode.Mode.{Mode}
-use Rattle.press_bits.proofs.MarkLemmas.{painted_same_effects, repeated-solid_black}
+use Rattle.press_bits.proofs.MarkLemmas.{painted_same_effects}
 use Rattle.press_page.specs.Place.{placed_dot}
-use Rattle.press_page.specs.declared.paper.Orientation.{Orientation}
-use Rattle.press_pattern.specs.Solid.{solid_black}
 use Rattle.press_pattern.specs.Tiling.{Tiling, tile_dot, tile_row}
 use Rattle.press_fill.specs.declared.area.Area.{Area}
 use Rattle.press_fill.specs.declared.placement.Placement.{Placement}
 use Rattle.press_fill.specs.declared.rect.Rect.{Rect}
 use Rattle.press_fill.specs.Area.{LiesAt, IsPlaced, area_mark}
-use Rattle.press_fill.specs.Fill.{fill_mark, black_mark}
+use Rattle.press_fill.specs.Fill.{fill_mark}
 
 -- a row of a tile, repeated, has the tile's dots
 pub repeated-tile_row : (tile : Tiling) (column line : ℕ) →
@@ -39,30 +36,3 @@ painted_placed page placement rect area tile placed mode wide high lies is =
     ∙ (λ i.
     let dot = placed_dot placement.orientation (wide i) (high i) x y in
     option_map_or (λ source. dot_rule mode source (tile_dot tile dot.0 dot.1)) (box_source rect.x rect.y rect.width rect.height dot.0 dot.1) Unchanged))
-
--- each dot of the tile of solid black
-tile_dot-solid_black : (column line : ℕ) → tile_dot solid_black column line ≡ true
-unfolding tile_dot tile_row repeated
-tile_dot-solid_black column line =
-    let first : line % 1 ≡ 0 = omega arith in
-    ap (λ n. row_dot (slice_range (255 ∷ []) (n * 1) (n * 1 + 1)) (column % 8)) first
-    ∙ repeated-solid_black column
-
--- the tile of solid black lies as it is in each orientation
-black_is_placed : (placement : Placement) → IsPlaced placement solid_black solid_black
-black_is_placed placement = record {
-  dots = λ x y _ _. tile_dot-solid_black x y ∙ sym (tile_dot-solid_black _ _);
-}
-
--- a rectangle of the frame in solid black paints the area where it lies
-pub painted_black : (page : Page) (placement : Placement) (orientation : Orientation) (rect : Rect) (area : Area) → placement.orientation ≡ orientation →
-    placement.page.width ≡ page.width → placement.page.height ≡ page.height → LiesAt placement rect area →
-    painted page (area_mark area solid_black both_transparent) ≡ painted page (black_mark orientation page rect)
-unfolding effect_at
-painted_black page placement orientation rect area same wide high lies =
-    painted_placed page placement rect area solid_black solid_black both_transparent wide high lies (black_is_placed placement)
-    ∙ (λ i. painted page (fill_mark (same i) page rect solid_black both_transparent))
-    ∙ painted_same_effects page (fill_mark orientation page rect solid_black both_transparent) (black_mark orientation page rect)
-    (λ x y _ _.
-    let dot = placed_dot orientation page.width page.height x y in
-    ap (λ pattern. option_map_or (λ source. dot_rule both_transparent source pattern) (box_source rect.x rect.y rect.width rect.height dot.0 dot.1) Unchanged) (tile_dot-solid_black dot.0 dot.1))

@@ -1,6 +1,5 @@
 -- Rectangle fills (PCL 5 Printer Language Technical Reference Manual, "Rectangular Area Fill Graphics").
-use Rattle.std.specs.Prelude.{true, Option, Some, None}
-use Rattle.press_bits.specs.DotRule.{both_transparent}
+use Rattle.std.specs.Prelude.{Option, Some, None}
 use Rattle.press_bits.specs.Mark.{Mark, painted, box_source}
 use Rattle.press_bits.specs.Page.{Page}
 use Rattle.press_bits.specs.declared.mode.Mode.{Mode}
@@ -17,15 +16,6 @@ fill_mark orientation page rect tile mode = record {
   source = box_source rect.x rect.y rect.width rect.height;
   pattern = tile_dot tile;
   mode = mode;
-  frame_dot = placed_dot orientation page.width page.height;
-}
-
--- The mark of a rectangle in solid black.
-abbrev pub black_mark : Orientation → Page → Rect → Mark
-black_mark orientation page rect = record {
-  source = box_source rect.x rect.y rect.width rect.height;
-  pattern = λ _ _. true;
-  mode = both_transparent;
   frame_dot = placed_dot orientation page.width page.height;
 }
 

@@ -1,7 +1,7 @@
 ghost use Rattle.std.specs.Prelude.{◌≡◌, OnOk, OnErr};
 ghost use Rattle.press_bits.specs.Mark.{painted};
 ghost use Rattle.press_pattern.specs.Ink.{ink_of};
-ghost use Rattle.press_fill.specs.Fill.{fill_mark, black_mark, filled};
+ghost use Rattle.press_fill.specs.Fill.{fill_mark, filled};
 
 use crate::area::physical_area;
 use crate::paint::paint_area;
@@ -25,21 +25,6 @@ fn placement_on(page: &Bitmap, orientation: Orientation) -> Placement
             height: page.height(),
         },
     }
-}
-
-/// Fills a rectangle of the frame with solid black, which takes no memory. Dots outside the page are dropped.
-///
-/// Source: PCL 5 Printer Language Technical Reference Manual, Rectangular Area Fill Graphics, and Logical Page Orientation
-/// command.
-pub fn fill_black(page: &mut Bitmap, orientation: Orientation, rect: Rect)
-    ensures { page.new ≡ painted page.old (black_mark orientation page.old rect) }
-{
-    let area = physical_area(placement_on(page, orientation), rect);
-    let ink = Ink::black(Mode {
-        source_opaque: false,
-        pattern_opaque: false,
-    });
-    paint_area(page, area, &ink.tile, ink.mode);
 }
 
 /// Fills a rectangle of the frame with an ink. Dots outside the page are dropped.

@@ -9,6 +9,6 @@ mod rect;
 mod rule;
 mod span;
 
-pub use filling::{fill, fill_black};
+pub use filling::fill;
 pub use rect::Rect;
 pub use rule::{DotEffect, dot_rule};

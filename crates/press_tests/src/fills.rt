@@ -1,6 +1,6 @@
 //! Fills on pages whose left half is black.
 use press_bits::{Bitmap, DotRow, Mode};
-use press_fill::{DotEffect, Rect, dot_rule, fill, fill_black};
+use press_fill::{DotEffect, Rect, dot_rule, fill};
 use press_page::{Defaults, Orientation, PageEnv};
 use press_pattern::{Kind, Pattern, Patterns};
 use std::alloc::Global;
@@ -199,25 +199,29 @@ fn the_dot_rule(rt: HostRuntime) {
 }
 
 #[test]
-fn a_black_fill_and_one_of_no_lines(rt: HostRuntime) -> Result<(), Fail> {
-    let mut page = Bitmap::blank(rt.alloc(), 8, 2)?;
+fn a_fill_of_no_lines_changes_nothing(rt: HostRuntime) -> Result<(), Fail> {
+    let mut page = half_black(rt.alloc(), 2)?;
     let area = Rect {
-        x: 2,
-        y: 1,
-        width: 3,
-        height: 1,
-    };
-    fill_black(&mut page, Orientation::Portrait, area);
-    expect_line(&rt, &page, 0, 0x00);
-    expect_line(&rt, &page, 1, 0x38);
-    let nothing = Rect {
         x: 0,
         y: 0,
         width: 8,
         height: 0,
     };
-    fill_black(&mut page, Orientation::ReversePortrait, nothing);
-    expect_line(&rt, &page, 0, 0x00);
-    expect_line(&rt, &page, 1, 0x38);
+    let pattern = Pattern {
+        kind: Kind::Black,
+        id: 0,
+    };
+    let environment = environment(Orientation::ReversePortrait);
+    let patterns = Patterns::new(rt.alloc());
+    fill(
+        &mut page,
+        &environment,
+        &patterns,
+        area,
+        pattern,
+        TRANSPARENT,
+    )?;
+    expect_line(&rt, &page, 0, 0xF0);
+    expect_line(&rt, &page, 1, 0xF0);
     Ok(())
 }
