@@ -1,18 +1,22 @@
 -- Worked streams, computed on the definitions: what their commands, and one more universal exit, leave from power on.
 use Prim.Native.Char.{Char, code}
 use Prim.Native.String.{String}
-use Rattle.std.proofs.Common.{◌≡◌, ℕ, List, [], ◌∷◌, ◌++◌, Some, None, replicate, refl}
+use Rattle.std.proofs.Common.{◌≡◌, ℕ, zero, suc, List, [], ◌∷◌, ◌++◌, Some, None, replicate, refl}
+use Rattle.std.specs.FinMap as maps
 use Rattle.std.specs.Prelude.{codes}
 use Rattle.press_bits.specs.Page.{Page, blank}
+use Rattle.press_bits.specs.DotRule.{both_transparent}
 use Rattle.press_bits.specs.Mark.{painted}
 use Rattle.press_cmd.specs.Token.{Token, Escape, Grouped, Control, Broken, Uel}
 use Rattle.press_cmd.specs.declared.variant.Kind.TheVariants as kinds
+use Rattle.press_fill.specs.Fill.{fill_mark}
+use Rattle.press_pattern.specs.Solid.{solid_black}
+use Rattle.press_pattern.specs.Store.{UserPatterns, permanent_only}
 use Rattle.press_sink.specs.Sending.{Output, Deliver}
 use Rattle.press_engine.specs.declared.machine.Last.TheVariants as lasts
 use Rattle.press_page.specs.declared.paper.Orientation.{Orientation}
 use Rattle.press_page.specs.declared.paper.Orientation.TheVariants.{Portrait, Landscape}
 use Rattle.press_engine.specs.Outcome.{power_on_state}
-use Rattle.press_engine.specs.Place.{placed_box}
 use Rattle.press_engine.specs.Machine.{Run, power_on, run_all}
 
 -- ESC, a parameterized character, a group character, a field and a termination character
@@ -42,50 +46,61 @@ letter = blank 2550 3300
 -- a black rectangle of so many columns and lines at a dot of the frame, on a page that is blank else
 abbrev boxed : Orientation → Page → (x y columns lines : ℕ) → Page
 boxed orientation page x y columns lines =
-    painted page (placed_box orientation page (record { x = x; y = y }) columns lines)
+    painted page
+    (fill_mark orientation page (record { x = x; y = y; width = columns; height = lines }) solid_black both_transparent)
 
--- After so many steps, of which the last was a universal exit, the state is that of power on, but for the sheets that went
--- out: fronts without backs.
-abbrev ends_after : (steps sheets : ℕ) → List Output → Run
-ends_after steps sheets outputs = record {
-  machine = record { state = record power_on_state { sheets = sheets }; step = steps; depth = 0; last = lasts.Ran kinds.Uel };
+-- what is left of no pattern after so many resets
+abbrev no_pattern_after : ℕ → UserPatterns
+no_pattern_after zero = maps.empty
+no_pattern_after (suc resets) = permanent_only (no_pattern_after resets)
+
+-- After so many steps with so many resets, of which the last step was a universal exit, the state is that of power on, but for
+-- the sheets that went out.
+abbrev ends_after : (steps resets sheets : ℕ) → List Output → Run
+ends_after steps resets sheets outputs = record {
+  machine = record {
+    state = record power_on_state { sheets = sheets; patterns = no_pattern_after resets };
+    step = steps;
+    depth = 0;
+    last = lasts.Ran kinds.Uel;
+  };
   outputs = outputs;
 }
 
 abbrev front_alone : Page → Output
 front_alone front = Deliver (record { front = front; back = None })
 
-empty_stream : run_all (Uel ∷ []) power_on ≡ ends_after 1 0 []
+empty_stream : run_all (Uel ∷ []) power_on ≡ ends_after 1 1 0 []
 unfolding run_all
 empty_stream = refl
 
-blank_sheet : run_all (reset_command ∷ form_feed_command ∷ reset_command ∷ Uel ∷ []) power_on ≡ ends_after 4 1 (front_alone letter ∷ [])
+blank_sheet : run_all (reset_command ∷ form_feed_command ∷ reset_command ∷ Uel ∷ []) power_on ≡ ends_after 4 3 1 (front_alone letter ∷ [])
 unfolding run_all
 blank_sheet = refl
 
 -- ESC E, ESC*p0x0Y, ESC*c3a2b0P, ESC E
 box_at_the_origin :
     run_all (reset_command ∷ star "p" "0" "X" ∷ star "p" "0" "Y" ∷ small_box ++ (reset_command ∷ Uel ∷ [])) power_on
-    ≡ ends_after 8 1 (front_alone (boxed Portrait letter 75 150 3 2) ∷ [])
+    ≡ ends_after 8 3 1 (front_alone (boxed Portrait letter 75 150 3 2) ∷ [])
 unfolding run_all
 box_at_the_origin = refl
 
 -- ESC*p10x20Y, ESC*c3a2b0P, FF
 box_off_the_origin :
     run_all (star "p" "10" "X" ∷ star "p" "20" "Y" ∷ small_box ++ (form_feed_command ∷ Uel ∷ [])) power_on
-    ≡ ends_after 7 1 (front_alone (boxed Portrait letter 85 170 3 2) ∷ [])
+    ≡ ends_after 7 1 1 (front_alone (boxed Portrait letter 85 170 3 2) ∷ [])
 unfolding run_all
 box_off_the_origin = refl
 
 -- ESC*p10, CR, FF: the broken sequence has no effect
 broken_sequence :
-    run_all (Broken (27 ∷ codes "*p10") ∷ Control 13 ∷ form_feed_command ∷ Uel ∷ []) power_on ≡ ends_after 4 1 (front_alone letter ∷ [])
+    run_all (Broken (27 ∷ codes "*p10") ∷ Control 13 ∷ form_feed_command ∷ Uel ∷ []) power_on ≡ ends_after 4 1 1 (front_alone letter ∷ [])
 unfolding run_all
 broken_sequence = refl
 
 -- ESC&l1S, FF, ESC E: a front waits for its back, and goes out alone
 front_goes_out_alone :
-    run_all (page_control "1" "S" ∷ form_feed_command ∷ reset_command ∷ Uel ∷ []) power_on ≡ ends_after 4 1 (front_alone letter ∷ [])
+    run_all (page_control "1" "S" ∷ form_feed_command ∷ reset_command ∷ Uel ∷ []) power_on ≡ ends_after 4 2 1 (front_alone letter ∷ [])
 unfolding run_all
 front_goes_out_alone = refl
 
@@ -95,14 +110,14 @@ blank_sheet_on_both_sides = Deliver (record { front = letter; back = Some letter
 
 two_copies_on_both_sides :
     run_all (page_control "1" "S" ∷ page_control "2" "X" ∷ form_feed_command ∷ form_feed_command ∷ Uel ∷ []) power_on
-    ≡ ends_after 5 2 (blank_sheet_on_both_sides ∷ blank_sheet_on_both_sides ∷ [])
+    ≡ ends_after 5 1 2 (blank_sheet_on_both_sides ∷ blank_sheet_on_both_sides ∷ [])
 unfolding run_all
 two_copies_on_both_sides = refl
 
 -- ESC&l1O, ESC*p0x0Y, ESC*c3a2b0P, FF: in landscape, at dot (60, 150) of the frame
 box_in_landscape :
     run_all (page_control "1" "O" ∷ star "p" "0" "X" ∷ star "p" "0" "Y" ∷ small_box ++ (form_feed_command ∷ Uel ∷ [])) power_on
-    ≡ ends_after 8 1 (front_alone (boxed Landscape letter 60 150 3 2) ∷ [])
+    ≡ ends_after 8 1 1 (front_alone (boxed Landscape letter 60 150 3 2) ∷ [])
 unfolding run_all
 box_in_landscape = refl
 

@@ -14,7 +14,7 @@ use Rattle.press_engine.specs.declared.effect.Selection.{Selection}
 use Rattle.press_engine.specs.declared.effect.Selection.TheVariants.{NextSide, Front, Back}
 use Rattle.press_engine.specs.declared.state.State.{State}
 use Rattle.press_engine.specs.Motion.{to_first_line, to_home}
-use Rattle.press_engine.specs.Outcome.{Outcome, done, after_outputs, counted, Effect, Changes, Goes, Closes, reset_fields, is_marked, with_environment}
+use Rattle.press_engine.specs.Outcome.{Outcome, done, after_outputs, counted, Effect, Changes, Makes, Goes, Closes, reset_fields, ended_raster, is_marked, with_environment}
 use Rattle.press_engine.specs.Outputs.{copies_out}
 use Rattle.press_engine.specs.Place.{blank_page}
 
@@ -35,10 +35,10 @@ close_duplex None page state = done (record state { pending = Some page })
 close_duplex (Some front) page state =
     finish (record { front = front; back = Some page }) (record state { pending = None })
 
--- A page closes; the next one is blank and has no mark.
+-- A page closes, and raster graphics ends; the next page is blank and has no mark.
 abbrev pub close : State → Outcome
 close state =
-    let next = record state { page = None } in
+    let next = record (ended_raster state) { page = None } in
     if state.environment.paper.duplex then close_duplex state.pending (page_now state) next
     else finish (record { front = page_now state; back = None }) next
 
@@ -93,6 +93,7 @@ ended closed (closers.Change change) state = change_page change state
 -- What a row leaves: where it closes the page, the close and then what the closing command does after it.
 abbrev pub settle : Effect → Outcome
 settle (Changes state) = done state
+settle (Makes state) = done state
 settle (Goes closer state) = ended false closer state
 settle (Closes closer state) = after_outputs (close state).outputs (ended true closer (close state).state)
 

@@ -3,6 +3,7 @@ use Rattle.std.specs.Prelude.{◌≡◌, ◌≢◌, ◌⊎◌, ℕ, pos, false, 
 use Rattle.std.specs.Borrow.{Bor}
 use Rattle.press_cmd.specs.Token.{Token}
 use Rattle.press_cursor.specs.declared.stack.CursorPosition.{CursorPosition}
+use Rattle.press_raster.specs.Graphics.{position_of}
 use Rattle.press_sink.specs.Told.{Told}
 use Rattle.press_sink.specs.Sending.{Output, Complete, AtSheet, AtReply, ForMemory, WentOut}
 use Rattle.press_engine.specs.declared.engine.Engine.{Engine}
@@ -11,7 +12,7 @@ use Rattle.press_engine.specs.declared.fault.EngineError.TheVariants as engine_e
 use Rattle.press_engine.specs.declared.machine.Machine.{Machine}
 use Rattle.press_engine.specs.declared.view.View.{View}
 use Rattle.press_engine.specs.declared.state.State.{State}
-use Rattle.press_engine.specs.Outcome.{Outcome, Effect, Changes, Goes, Closes, done, is_marked}
+use Rattle.press_engine.specs.Outcome.{Outcome, Effect, Changes, Makes, Goes, Closes, is_marked}
 use Rattle.press_engine.specs.Closing.{ended}
 use Rattle.press_engine.specs.Table.{effect_on}
 use Rattle.press_engine.specs.Machine.{run}
@@ -45,22 +46,22 @@ abbrev pub Runs : Option Machine → Token → ℕ → Result (Unit {0}) EngineE
 Runs (Some machine) command tag result new before after = Carries machine command tag result new before after
 Runs None command tag result new before after = (new ≡ None) × (after ≡ before)
 
--- whether something goes out, or the page or the front that waits changes
+-- whether something goes out, or the front that waits changes
 abbrev pub Shows : (before : State) → Outcome → Type 0
-Shows before outcome =
-    (outcome.outputs ≢ []) ⊎ ((outcome.state.page ≢ before.page) ⊎ (outcome.state.pending ≢ before.pending))
+Shows before outcome = (outcome.outputs ≢ []) ⊎ (outcome.state.pending ≢ before.pending)
 
--- Memory may be taken where the page closes, where something goes out, and where the page or the front that waits changes;
--- and nowhere else.
-abbrev pub TakesMemory : (before : State) → Effect → Type 0
-TakesMemory before (Changes state) = Shows before (done state)
-TakesMemory before (Goes closer state) = Shows state (ended false closer state)
-TakesMemory before (Closes closer state) = Unit {0}
+-- Memory may be taken where a mark is made or a pattern is defined, where the page closes, and where, in the place of a close,
+-- something goes out or a front begins to wait; and nowhere else.
+abbrev pub TakesMemory : Effect → Type 0
+TakesMemory (Changes state) = ⊥
+TakesMemory (Makes state) = Unit {0}
+TakesMemory (Goes closer state) = Shows state (ended false closer state)
+TakesMemory (Closes closer state) = Unit {0}
 
 -- the same for the command of an engine with this machine
 abbrev pub NeedsMemory : Option Machine → Token → Type 0
 NeedsMemory None command = ⊥
-NeedsMemory (Some machine) command = TakesMemory machine.state (effect_on command machine.state)
+NeedsMemory (Some machine) command = TakesMemory (effect_on command machine.state)
 
 -- What can be seen of a machine, with its cursor's stack lent.
 abbrev pub view_of : Bor (List CursorPosition) → Machine → View
@@ -73,7 +74,8 @@ view_of stack machine = record {
   stack = stack;
   sheets = machine.state.sheets;
   environment = machine.state.environment;
-  rectangle = machine.state.rectangle;
+  drawing = machine.state.drawing;
+  raster = position_of machine.state.graphics;
   hp_gl = machine.state.hp_gl;
   marked = is_marked machine.state;
 }

@@ -1,48 +1,55 @@
 -- Rows that fill rectangles (PCL 5 Printer Language Technical Reference Manual, Rectangular Area Fill Graphics).
-use Rattle.std.specs.Prelude.{ℕ, ℤ, pos, ◌&&◌, nat_lt, if◌then◌else◌, Option, Some, None}
+use Rattle.std.specs.Prelude.{ℤ, pos, ◌&&◌, nat_lt, if◌then◌else◌, Option, Some, None, option_map}
 use Rattle.std.specs.Ordering.{int_eq}
-use Rattle.press_bits.specs.Mark.{painted}
 use Rattle.press_cursor.specs.Cursor.{position}
+use Rattle.press_fill.specs.Fill.{filled}
+use Rattle.press_fill.specs.declared.rect.Rect.{Rect}
 use Rattle.press_page.specs.Place.{cursor_dot}
 use Rattle.press_page.specs.declared.place.Dot.{Dot}
+use Rattle.press_pattern.specs.Ink.{ink_of}
+use Rattle.press_pattern.specs.declared.pattern.Pattern.{Pattern}
 use Rattle.press_engine.specs.declared.state.State.{State}
 use Rattle.press_engine.specs.Closing.{page_now}
-use Rattle.press_engine.specs.Motion.{pcl_unit_of}
-use Rattle.press_engine.specs.Place.{resolution, placed_box}
-use Rattle.press_engine.specs.Rectangle.{size_of, dots_up}
-
--- ESC*c#A and ESC*c#B, horizontal and vertical rectangle size in PCL units; a negative value has no effect (this profile)
-abbrev pub with_width : Option ℕ → State → State
-with_width None state = state
-with_width (Some width) state = record state { rectangle = record state.rectangle { width = width } }
-
-abbrev pub with_height : Option ℕ → State → State
-with_height None state = state
-with_height (Some height) state = record state { rectangle = record state.rectangle { height = height } }
-
-abbrev pub set_rectangle_width : ℤ → State → State
-set_rectangle_width value state = with_width (size_of value (pcl_unit_of state)) state
-
-abbrev pub set_rectangle_height : ℤ → State → State
-set_rectangle_height value state = with_height (size_of value (pcl_unit_of state)) state
+use Rattle.press_engine.specs.Outcome.{Effect, Changes, Makes}
+use Rattle.press_engine.specs.Patterns.{exists, kind_of_number, pattern_of_kind, pattern_now}
+use Rattle.press_engine.specs.Place.{resolution}
+use Rattle.press_engine.specs.Rectangle.{dots_up}
 
 -- the dot of the frame on which the cursor lies
 abbrev pub corner : State → Dot
 corner state = cursor_dot state.environment.paper resolution state.environment.margins.top (position state.cursor)
 
--- so many columns and lines at the cursor, painted black; the page has a mark then, and the cursor stays
-abbrev pub fill_black : (columns lines : ℕ) → State → State
-fill_black columns lines state =
-    let page = page_now state in
-    record state { page = Some (painted page (placed_box state.environment.paper.orientation page (corner state) columns lines)) }
+-- the rectangle at the cursor, in dots of the frame
+abbrev pub rect_now : State → Rect
+rect_now state =
+    let corner = corner state in
+    record { x = corner.x; y = corner.y; width = dots_up state.drawing.rectangle.width; height = dots_up state.drawing.rectangle.height }
 
--- The rectangle at the cursor is filled, if it has a width and a height.
-abbrev pub fill_rectangle : State → State
-fill_rectangle state =
-    let columns = dots_up state.rectangle.width in
-    let lines = dots_up state.rectangle.height in
-    if nat_lt 0 columns && nat_lt 0 lines then fill_black columns lines state else state
+-- the rectangle at the cursor painted with a pattern; the page has a mark then, and the cursor stays
+abbrev pub fill_rectangle : Pattern → State → State
+fill_rectangle pattern state =
+    record state {
+      page = Some (filled state.environment.paper.orientation (rect_now state)
+          (ink_of state.patterns pattern state.drawing.mode) (page_now state));
+    }
 
--- ESC*c#P, fill rectangular area: value 0 fills with black; other values have no row yet
-abbrev pub fill : (number : ℤ) → State → State
-fill number state = if int_eq number (pos 0) then fill_rectangle state else state
+-- It is filled if the pattern exists, and it has a width and a height.
+abbrev pub fill_with : Pattern → State → Effect
+fill_with pattern state =
+    let rect = rect_now state in
+    if exists pattern state && nat_lt 0 rect.width && nat_lt 0 rect.height
+    then Makes (fill_rectangle pattern state) else Changes state
+
+-- the pattern that a number names: 5 the current one, others a kind under the pattern ID
+abbrev pub fill_pattern : (number : ℤ) → State → Option Pattern
+fill_pattern number state =
+    if int_eq number (pos 5) then Some (pattern_now state)
+    else option_map (λ kind. pattern_of_kind kind state) (kind_of_number number)
+
+abbrev pub fill_named : Option Pattern → State → Effect
+fill_named None state = Changes state
+fill_named (Some pattern) state = fill_with pattern state
+
+-- ESC*c#P, fill rectangular area
+abbrev pub fill : (number : ℤ) → State → Effect
+fill number state = fill_named (fill_pattern number state) state

@@ -1,4 +1,5 @@
 pub mod Closing
+pub mod Drawing
 pub mod Effects
 pub mod Engine
 pub mod Filling
@@ -7,7 +8,9 @@ pub mod Motion
 pub mod Operation
 pub mod Outcome
 pub mod Outputs
+pub mod Patterns
 pub mod Place
+pub mod Raster
 pub mod Rectangle
 pub mod Table
 pub use Rattle.press_bits.specs.Mark

@@ -5,7 +5,7 @@ use Rattle.std.specs.Prelude.{ℕ, ◌==◌, ◌&&◌, List, [], ◌∷◌, Opti
 use Rattle.press_cmd.specs.declared.variant.Kind.{Kind}
 use Rattle.press_cmd.specs.declared.variant.Kind.TheVariants as kinds
 use Rattle.press_engine.specs.declared.operation.Operation.{Operation}
-use Rattle.press_engine.specs.declared.operation.Operation.TheVariants.{Nothing, CarriageReturn, LineFeed, FormFeed, HalfLineFeed, ClearMargins, Reset, EnterHpGl, LeaveHpGl, UnitOfMeasure, MoveColumns, MoveRows, MoveHorizontally, MoveVertically, SelectSide, LeftMargin, RightMargin, PushOrPop, LineTermination, HorizontalMotion, SelectPageSize, VerticalMotion, LineSpacing, TopMargin, TextLength, EjectPage, PerforationSkip, SelectOrientation, SelectSides, Copies, RectangleWidth, RectangleHeight, Fill, MoveX, MoveY}
+use Rattle.press_engine.specs.declared.operation.Operation.TheVariants.{Nothing, CarriageReturn, LineFeed, FormFeed, HalfLineFeed, ClearMargins, Reset, EnterHpGl, LeaveHpGl, UnitOfMeasure, MoveColumns, MoveRows, MoveHorizontally, MoveVertically, SelectSide, LeftMargin, RightMargin, PushOrPop, LineTermination, HorizontalMotion, SelectPageSize, VerticalMotion, LineSpacing, TopMargin, TextLength, EjectPage, PerforationSkip, SelectOrientation, SelectSides, Copies, RectangleWidth, RectangleHeight, PatternId, RectangleWidthInDecipoints, Fill, ControlPatterns, RectangleHeightInDecipoints, DefinePattern, SourceTransparency, PatternTransparency, SelectPattern, RasterResolution, StartRaster, EndRaster, EndRasterAndMethod, SourceWidth, SourceHeight, SetMethod, TransferRow, OffsetRaster, MoveX, MoveY}
 
 -- the row beside a byte; a command without a row has no effect
 abbrev pub row_at : ℕ → List (ℕ × Operation) → Operation
@@ -81,12 +81,25 @@ and_u_rows =
     (code "D", UnitOfMeasure)
     ∷ []
 
+-- ESC*b#
+abbrev pub star_b_rows : List (ℕ × Operation)
+star_b_rows =
+    (code "M", SetMethod)
+    ∷ (code "W", TransferRow)
+    ∷ (code "Y", OffsetRaster)
+    ∷ []
+
 -- ESC*c#
 abbrev pub star_c_rows : List (ℕ × Operation)
 star_c_rows =
     (code "A", RectangleWidth)
     ∷ (code "B", RectangleHeight)
+    ∷ (code "G", PatternId)
+    ∷ (code "H", RectangleWidthInDecipoints)
     ∷ (code "P", Fill)
+    ∷ (code "Q", ControlPatterns)
+    ∷ (code "V", RectangleHeightInDecipoints)
+    ∷ (code "W", DefinePattern)
     ∷ []
 
 -- ESC*p#
@@ -94,6 +107,30 @@ abbrev pub star_p_rows : List (ℕ × Operation)
 star_p_rows =
     (code "X", MoveX)
     ∷ (code "Y", MoveY)
+    ∷ []
+
+-- ESC*r#
+abbrev pub star_r_rows : List (ℕ × Operation)
+star_r_rows =
+    (code "A", StartRaster)
+    ∷ (code "B", EndRaster)
+    ∷ (code "C", EndRasterAndMethod)
+    ∷ (code "S", SourceWidth)
+    ∷ (code "T", SourceHeight)
+    ∷ []
+
+-- ESC*t#
+abbrev pub star_t_rows : List (ℕ × Operation)
+star_t_rows =
+    (code "R", RasterResolution)
+    ∷ []
+
+-- ESC*v#
+abbrev pub star_v_rows : List (ℕ × Operation)
+star_v_rows =
+    (code "N", SourceTransparency)
+    ∷ (code "O", PatternTransparency)
+    ∷ (code "T", SelectPattern)
     ∷ []
 
 -- the rows beside a parameterized character and a group character
@@ -104,8 +141,12 @@ group_rows =
     ∷ ((code "&", code "k"), and_k_rows)
     ∷ ((code "&", code "l"), and_l_rows)
     ∷ ((code "&", code "u"), and_u_rows)
+    ∷ ((code "*", code "b"), star_b_rows)
     ∷ ((code "*", code "c"), star_c_rows)
     ∷ ((code "*", code "p"), star_p_rows)
+    ∷ ((code "*", code "r"), star_r_rows)
+    ∷ ((code "*", code "t"), star_t_rows)
+    ∷ ((code "*", code "v"), star_v_rows)
     ∷ []
 
 abbrev pub rows_of : (character group : ℕ) → List ((ℕ × ℕ) × List (ℕ × Operation)) → List (ℕ × Operation)

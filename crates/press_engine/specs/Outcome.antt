@@ -1,14 +1,18 @@
 -- What rows of the command table give, and the state after power on.
-use Rattle.std.specs.Prelude.{ℕ, ◌+◌, Bool, false, min, is_some, List, [], ◌++◌, None}
+use Rattle.std.specs.Prelude.{ℕ, ◌+◌, Bool, false, min, is_some, if◌then◌else◌, List, [], ◌++◌, None}
+use Rattle.std.specs.FinMap as maps
 use Rattle.press_cursor.specs.Cursor.{home}
+use Rattle.press_cursor.specs.CursorState.{CursorState}
 use Rattle.press_cursor.specs.declared.logical_page.LogicalPage.{LogicalPage}
 use Rattle.press_page.specs.Environment.{factory, reset_environment, logical_page_of}
 use Rattle.press_page.specs.declared.environment.PageEnv.{PageEnv}
+use Rattle.press_pattern.specs.Store.{permanent_only}
 use Rattle.press_units.specs.Limits.{greatest_of_64_bits}
 use Rattle.press_sink.specs.Sending.{Output}
 use Rattle.press_engine.specs.declared.effect.Closer.{Closer}
+use Rattle.press_engine.specs.declared.drawing.Drawing.{Drawing}
 use Rattle.press_engine.specs.declared.state.State.{State}
-use Rattle.press_engine.specs.Rectangle.{no_rectangle}
+use Rattle.press_engine.specs.Drawing.{initial_drawing}
 
 -- What a part of a command leaves: the state, and the outputs in order.
 pub record Outcome : Type 0 where
@@ -27,10 +31,11 @@ after_outputs outputs outcome = record { state = outcome.state; outputs = output
 abbrev pub counted : ℕ → ℕ → ℕ
 counted count more = min (count + more) greatest_of_64_bits
 
--- What a row gives: a state, and nothing goes out; that a page without a mark stays, and the command does at once what it
--- does after a close; or that the page closes.
+-- What a row gives: a state, and nothing goes out; the same where a mark is made on the page or a pattern is defined; that a
+-- page without a mark stays, and the command does at once what it does after a close; or that the page closes.
 pub data Effect : Type 0 where
   Changes : State → Effect
+  Makes : State → Effect
   Goes : Closer → State → Effect
   Closes : Closer → State → Effect
 
@@ -38,23 +43,27 @@ pub data Effect : Type 0 where
 abbrev pub default_environment : PageEnv
 default_environment = reset_environment factory
 
--- The fields that a reset sets: page environment, rectangle, and the cursor at home with nothing pushed.
+-- What a reset sets: page environment, drawing, no temporary pattern, raster graphics off, and the cursor at home with nothing pushed.
 abbrev pub reset_fields : State → State
 reset_fields state =
     record state {
       environment = default_environment;
-      rectangle = no_rectangle;
+      drawing = initial_drawing;
+      patterns = permanent_only state.patterns;
+      graphics = None;
       cursor = home default_environment.margins.left default_environment.settings.vertical_motion (logical_page_of default_environment);
     }
 
--- After power on: what a reset sets, HP-GL/2 off, no sheet, and a blank page without a mark.
+-- After power on: what a reset sets, HP-GL/2 off, no sheet, no user-defined pattern, and a blank page without a mark.
 abbrev pub power_on_state : State
 power_on_state = record {
   environment = default_environment;
-  rectangle = no_rectangle;
+  drawing = initial_drawing;
   cursor = home default_environment.margins.left default_environment.settings.vertical_motion (logical_page_of default_environment);
   hp_gl = false;
   sheets = 0;
+  patterns = maps.empty;
+  graphics = None;
   page = None;
   pending = None;
 }
@@ -66,6 +75,21 @@ is_marked state = is_some state.page
 -- the logical page, which bounds the cursor
 abbrev pub bounds : State → LogicalPage
 bounds state = logical_page_of state.environment
+
+-- raster graphics off
+abbrev pub ended_raster : State → State
+ended_raster state = record state { graphics = None }
+
+abbrev pub ended_raster_if : Bool → State → State
+ended_raster_if ends state = if ends then ended_raster state else state
+
+-- A move of the cursor ends raster graphics, also where it leaves the cursor where it was.
+abbrev pub moved : CursorState → State → State
+moved cursor state = record state { cursor = cursor; graphics = None }
+
+-- a change of the drawing alone
+abbrev pub with_drawing : (Drawing → Drawing) → State → State
+with_drawing change state = record state { drawing = change state.drawing }
 
 -- a change of the page environment alone
 abbrev pub with_environment : (PageEnv → PageEnv) → State → State

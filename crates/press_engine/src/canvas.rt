@@ -1,6 +1,8 @@
-use press_bits::{Bitmap, BlankError};
-use press_fill::{Rect, fill_black};
-use press_page::{Dot, Orientation, Paper};
+use press_bits::{Bitmap, BlankError, Mode};
+use press_fill::{Rect, fill};
+use press_page::{PageEnv, Paper};
+use press_pattern::{Ink, Pattern, Patterns};
+use press_raster::{Raster, RasterSettings, RowPlace};
 use press_units::Resolution;
 use std::alloc::{AllocError, Global};
 use std::marker::Model;
@@ -25,9 +27,11 @@ impl Model for Canvas {
 }
 
 impl Canvas {
-    ghost use Rattle.std.specs.Prelude.{◌≡◌, IfOk};
-    ghost use Rattle.press_bits.specs.Mark.{painted};
-    ghost use Rattle.press_engine.specs.Place.{blank_page, placed_box};
+    ghost use Rattle.std.specs.Prelude.{◌≡◌, ◌<◌, ◌^◌, unsigned_abs, IfOk};
+    ghost use Rattle.press_raster.specs.Transfer.{page_with_row, transferred};
+    ghost use Rattle.press_fill.specs.Fill.{filled};
+    ghost use Rattle.press_pattern.specs.Ink.{ink_of};
+    ghost use Rattle.press_engine.specs.Place.{blank_page};
 
     /// The blank physical page of a paper.
     #[tactic(auto, using(crate::proofs::PlaceLemmas::paper_fits))]
@@ -51,16 +55,36 @@ impl Canvas {
         })
     }
 
-    /// Paints a rectangle black: so many columns and lines from a dot of the frame on. Dots outside the page are dropped.
-    pub fn fill_box(&mut self, orientation: Orientation, corner: Dot, columns: u32, lines: u32)
-        ensures { self.new ≡ painted self.old (placed_box orientation self.old corner columns lines) }
+    /// Fills a rectangle of the frame with a pattern in a mode. Dots outside the page are dropped.
+    pub fn fill(
+        &mut self,
+        environment: &PageEnv,
+        patterns: &Patterns,
+        rect: Rect,
+        pattern: Pattern,
+        mode: Mode,
+    ) -> Result<(), AllocError>
+        ensures { IfOk result (λ _. self.new ≡ filled environment.now.paper.orientation rect
+            (ink_of patterns.now pattern mode) self.old) }
     {
-        let rect = Rect {
-            x: corner.x,
-            y: corner.y,
-            width: columns,
-            height: lines,
-        };
-        fill_black(&mut self.bitmap, orientation, rect);
+        fill(&mut self.bitmap, environment, patterns, rect, pattern, mode)
+    }
+
+    /// Transfers a raster row.
+    pub fn transfer(
+        &mut self,
+        raster: &mut Raster,
+        place: &RowPlace,
+        settings: RasterSettings,
+        ink: &Ink<'_>,
+        bytes: &[u8],
+    ) -> Result<(), AllocError>
+        requires { unsigned_abs place.now.y < 2 ^ 33 }
+        ensures page { IfOk result (λ _. self.new
+            ≡ page_with_row place.now settings ink.now bytes.now raster.old self.old) }
+        ensures raster { IfOk result (λ _. raster.new
+            ≡ transferred place.now settings bytes.now raster.old) }
+    {
+        raster.transfer(&mut self.bitmap, place, settings, ink, bytes)
     }
 }

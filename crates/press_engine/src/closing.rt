@@ -68,6 +68,7 @@ impl State {
             record { state = self.new; outputs = finished_of finished } ≡ close self.old) }
     {
         let page = self.take_page(alloc)?;
+        self.graphics.end();
         if !self.environment.paper.duplex {
             return Ok(Some(self.finish(page, None)));
         }
@@ -198,11 +199,10 @@ impl State {
     pub fn settle(&mut self, alloc: Global, effect: Effect) -> Result<Sent, AllocError>
         ensures settled { IfOk result (λ sent. record { state = self.new; outputs = outputs_of sent }
             ≡ settle (effect_of self.old effect)) }
-        ensures memory { (before : State) → IsErr result
-            → TakesMemory before (effect_of self.old effect) }
+        ensures memory { IsErr result → TakesMemory (effect_of self.old effect) }
     {
         match effect {
-            Effect::Changes => Ok(Sent::Nothing),
+            Effect::Changes | Effect::Makes => Ok(Sent::Nothing),
             Effect::Goes(closer) => {
                 let alone = self.end(alloc, closer, false)?;
                 Ok(Sent::Sheets {

@@ -54,8 +54,10 @@ pub enum Closer {
 /// What a row of the command table gives.
 #[derive(Clone, Copy, Debug, PartialEq, Eq)]
 pub enum Effect {
-    /// The row is carried out, and nothing goes out.
+    /// The row is carried out, and nothing goes out. No memory was taken.
     Changes,
+    /// The same, and memory may have been taken: a mark was made on the page, or a pattern defined.
+    Makes,
     /// A page without a mark stays, and the command does what it does after a close.
     Goes(Closer),
     /// The page closes.

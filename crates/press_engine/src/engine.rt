@@ -32,7 +32,7 @@ impl Engine {
     {
         Ok(Engine {
             alloc,
-            machine: Machine::power_on(),
+            machine: Machine::power_on(alloc),
             failed: false,
         })
     }
@@ -105,7 +105,8 @@ impl Engine {
             stack: state.cursor.stack(),
             sheets: state.sheets,
             environment: state.environment,
-            rectangle: state.rectangle,
+            drawing: state.drawing,
+            raster: state.graphics.position(),
             hp_gl: state.hp_gl,
             marked: state.is_marked(),
         }

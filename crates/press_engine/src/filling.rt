@@ -1,71 +1,85 @@
 //! The rows that fill rectangles.
 
 use crate::canvas::RESOLUTION;
-use crate::rectangle::{dots_up, size_of};
+use crate::effect::Effect;
+use crate::patterns::kind_of_number;
+use crate::rectangle::dots_up;
 use crate::state::State;
+use press_fill::Rect;
+use press_pattern::Pattern;
 use press_units::Value;
 use std::alloc::{AllocError, Global};
 
 impl State {
-    ghost use Rattle.std.specs.Prelude.{◌≡◌, ◌≢◌, IfOk, IsErr};
+    ghost use Rattle.std.specs.Prelude.{◌≡◌, IfOk, IsErr};
     ghost use Rattle.press_units.specs.Value.{whole_part};
-    ghost use Rattle.press_engine.specs.Filling.{set_rectangle_width, set_rectangle_height, fill_black, fill_rectangle, fill};
+    ghost use Rattle.press_engine.specs.Effects.{effect_of};
+    ghost use Rattle.press_engine.specs.Engine.{TakesMemory};
+    ghost use Rattle.press_engine.specs.Filling.{rect_now, fill_rectangle, fill_with, fill_pattern, fill};
 
-    /// `*c#A`: the width of the rectangle.
-    pub fn set_rectangle_width(&mut self, value: Value)
-        ensures { self.new ≡ set_rectangle_width value.tenthousandths self.old }
+    /// The rectangle at the cursor, in dots of the frame.
+    fn rect_now(&self) -> Rect
+        ensures { result ≡ rect_now self.now }
     {
-        if let Some(width) = size_of(value, self.pcl_unit()) {
-            self.rectangle.width = width;
-        }
-    }
-
-    /// `*c#B`: the height of the rectangle.
-    pub fn set_rectangle_height(&mut self, value: Value)
-        ensures { self.new ≡ set_rectangle_height value.tenthousandths self.old }
-    {
-        if let Some(height) = size_of(value, self.pcl_unit()) {
-            self.rectangle.height = height;
-        }
-    }
-
-    /// Paints so many columns and lines black at the cursor; the page has a mark then.
-    fn fill_black(&mut self, alloc: Global, columns: u32, lines: u32) -> Result<(), AllocError>
-        ensures filled { IfOk result (λ _. self.new ≡ fill_black columns lines self.old) }
-        ensures memory { IsErr result → (fill_black columns lines self.old).page ≢ self.old.page }
-    {
-        let mut page = self.take_page(alloc)?;
         let corner = self
             .environment
             .cursor_dot(self.cursor.position(), RESOLUTION);
-        let orientation = self.environment.paper.orientation;
-        page.fill_box(orientation, corner, columns, lines);
+        let rectangle = self.drawing.rectangle;
+        Rect {
+            x: corner.x,
+            y: corner.y,
+            width: dots_up(rectangle.width),
+            height: dots_up(rectangle.height),
+        }
+    }
+
+    /// Fills the rectangle at the cursor with a pattern; the page has a mark then.
+    fn fill_rectangle(&mut self, alloc: Global, pattern: Pattern) -> Result<(), AllocError>
+        ensures { IfOk result (λ _. self.new ≡ fill_rectangle pattern self.old) }
+    {
+        let mut page = self.take_page(alloc)?;
+        let rect = self.rect_now();
+        let mode = self.drawing.mode;
+        page.fill(&self.environment, &self.patterns, rect, pattern, mode)?;
         self.page = Some(page);
         Ok(())
     }
 
-    /// Fills the rectangle at the cursor, if it has a width and a height.
-    fn fill_rectangle(&mut self, alloc: Global) -> Result<(), AllocError>
-        ensures filled { IfOk result (λ _. self.new ≡ fill_rectangle self.old) }
-        ensures memory { IsErr result → (fill_rectangle self.old).page ≢ self.old.page }
+    /// Fills the rectangle at the cursor with a pattern, if that exists and the rectangle has a width and a height.
+    fn fill_with(&mut self, alloc: Global, pattern: Pattern) -> Result<Effect, AllocError>
+        ensures effect { IfOk result (λ effect.
+            effect_of self.new effect ≡ fill_with pattern self.old) }
+        ensures memory { IsErr result → TakesMemory (fill_with pattern self.old) }
     {
-        let columns = dots_up(self.rectangle.width);
-        let lines = dots_up(self.rectangle.height);
-        if columns > 0 && lines > 0 {
-            self.fill_black(alloc, columns, lines)?;
+        let rect = self.rect_now();
+        if !self.has_pattern(pattern) || rect.width == 0 || rect.height == 0 {
+            return Ok(Effect::Changes);
         }
-        Ok(())
+        self.fill_rectangle(alloc, pattern)?;
+        Ok(Effect::Makes)
     }
 
-    /// `*c#P`: fills the rectangle at the cursor with black, where the value is 0.
-    pub fn fill(&mut self, alloc: Global, value: Value) -> Result<(), AllocError>
-        ensures filled { IfOk result (λ _. self.new ≡ fill (whole_part value.tenthousandths) self.old) }
-        ensures memory { IsErr result
-            → (fill (whole_part value.tenthousandths) self.old).page ≢ self.old.page }
+    /// The pattern that the number of a fill names: 5 the current one, others a kind under the pattern ID.
+    fn fill_pattern(&self, number: i64) -> Option<Pattern>
+        ensures { result ≡ fill_pattern number self.now }
     {
-        if value.whole() == 0 {
-            self.fill_rectangle(alloc)?;
+        if number == 5 {
+            return Some(self.pattern_now());
         }
-        Ok(())
+        let kind = kind_of_number(number)?;
+        Some(self.pattern_of_kind(kind))
+    }
+
+    /// `*c#P`: fills the rectangle at the cursor.
+    pub fn fill(&mut self, alloc: Global, value: Value) -> Result<Effect, AllocError>
+        ensures effect { IfOk result (λ effect.
+            effect_of self.new effect ≡ fill (whole_part value.tenthousandths) self.old) }
+        ensures memory { IsErr result
+            → TakesMemory (fill (whole_part value.tenthousandths) self.old) }
+    {
+        match self.fill_pattern(value.whole()) {
+            Some(pattern) => self.fill_with(alloc, pattern),
+            None => Ok(Effect::Changes),
+        }
     }
 }

@@ -3,6 +3,7 @@
 
 mod canvas;
 mod closing;
+mod drawing;
 mod effect;
 mod engine;
 mod fault;
@@ -10,12 +11,16 @@ mod filling;
 mod machine;
 mod motion;
 mod operation;
+mod pattern_control;
+mod patterns;
+mod raster;
 mod rectangle;
 mod row;
 mod sender;
 mod state;
 mod view;
 
+pub use drawing::Drawing;
 pub use engine::Engine;
 pub use fault::EngineError;
 pub use machine::Last;

@@ -34,11 +34,11 @@ impl Machine {
     ghost use Rattle.press_engine.specs.Table.{effect_on};
 
     /// The machine after power on.
-    pub fn power_on() -> Self
+    pub fn power_on(alloc: Global) -> Self
         ensures { result ≡ power_on }
     {
         Machine {
-            state: State::power_on(),
+            state: State::power_on(alloc),
             step: 0,
             depth: 0,
             last: Last::Nothing,
@@ -70,7 +70,7 @@ impl Machine {
         ensures performs { Performs self.old (token command.entry) tag result self.new
             (both (S.told sheets.old) (R.told replies.old)) (both (S.told sheets.new) (R.told replies.new)) }
         ensures memory { IsErrOf result EngineError.NoMemory
-            → TakesMemory self.old.state (effect_on (token command.entry) self.old.state) }
+            → TakesMemory (effect_on (token command.entry) self.old.state) }
     {
         let kind = kind(&command);
         let Ok(sent) = self.state.whole_row(alloc, command) else {

@@ -16,6 +16,7 @@ impl State {
     {
         let page = self.bounds();
         self.cursor.move_x(to_pos(value, unit), value.signed, page);
+        self.graphics.end();
     }
 
     /// Moves down or up by a value of so many units.
@@ -24,6 +25,7 @@ impl State {
     {
         let page = self.bounds();
         self.cursor.move_y(to_pos(value, unit), value.signed, page);
+        self.graphics.end();
     }
 
     /// `&a#R`: moves down or up by rows.
@@ -35,6 +37,7 @@ impl State {
         let distance = to_pos(value, line);
         self.cursor
             .move_rows(distance, value.signed, line.positions, page);
+        self.graphics.end();
     }
 
     /// Moves to the left margin.
@@ -44,6 +47,7 @@ impl State {
         let page = self.bounds();
         let margin = Pos(i64::from(self.environment.margins.left));
         self.cursor.move_x(margin, false, page);
+        self.graphics.end();
     }
 
     /// Moves to the first line.
@@ -53,6 +57,7 @@ impl State {
         let page = self.bounds();
         let line = self.environment.settings.vertical_motion;
         self.cursor.move_to_first_line(line, page);
+        self.graphics.end();
     }
 
     /// Moves home.
@@ -63,6 +68,7 @@ impl State {
         let line = self.environment.settings.vertical_motion;
         self.cursor
             .move_home(self.environment.margins.left, line, page);
+        self.graphics.end();
     }
 
     /// Moves down by a distance, or asks for the close of the page where the end of the text would be passed.
@@ -74,6 +80,7 @@ impl State {
         }
         let page = self.bounds();
         self.cursor.move_down(distance, page);
+        self.graphics.end();
         Effect::Changes
     }
 
@@ -133,14 +140,13 @@ impl State {
         ensures { self.new ≡ push_or_pop (whole_part value.tenthousandths) self.old }
     {
         let page = self.bounds();
-        match value.whole() {
-            0 => {
-                self.cursor.push();
-            }
-            1 => {
-                self.cursor.pop(page);
-            }
-            _ => {}
+        let moves = match value.whole() {
+            0 => self.cursor.push(),
+            1 => self.cursor.pop(page),
+            _ => false,
+        };
+        if moves {
+            self.graphics.end();
         }
     }
 
@@ -157,17 +163,23 @@ impl State {
     pub fn change_perforation_skip(&mut self, value: Value)
         ensures { self.new ≡ change_perforation_skip value.tenthousandths self.old }
     {
+        let top = self.environment.margins.top;
         self.environment.set_perforation_skip(value);
         let page = self.bounds();
         self.cursor.clamp(page);
+        if self.environment.margins.top != top {
+            self.graphics.end();
+        }
     }
 
     /// `&a#L`: the left margin.
     pub fn change_left_margin(&mut self, value: Value)
         ensures { self.new ≡ change_left_margin value.tenthousandths self.old }
     {
-        if self.environment.set_left_margin(value) {
-            self.cursor.at_least_x(self.environment.margins.left);
+        if self.environment.set_left_margin(value)
+            && self.cursor.at_least_x(self.environment.margins.left)
+        {
+            self.graphics.end();
         }
     }
 
@@ -175,8 +187,10 @@ impl State {
     pub fn change_right_margin(&mut self, value: Value)
         ensures { self.new ≡ change_right_margin value.tenthousandths self.old }
     {
-        if self.environment.set_right_margin(value) {
-            self.cursor.at_most_x(self.environment.margins.right);
+        if self.environment.set_right_margin(value)
+            && self.cursor.at_most_x(self.environment.margins.right)
+        {
+            self.graphics.end();
         }
     }
 }

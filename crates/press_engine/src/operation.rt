@@ -1,5 +1,5 @@
 ghost use Rattle.std.specs.Prelude.{◌≡◌};
-ghost use Rattle.press_engine.specs.Operation.{operation_of, row_at, escape_rows, control_rows, percent_rows, and_a_rows, and_f_rows, and_k_rows, and_l_rows, and_u_rows, star_c_rows, star_p_rows, grouped_operation, parameter_operation};
+ghost use Rattle.press_engine.specs.Operation.{operation_of, row_at, escape_rows, control_rows, percent_rows, and_a_rows, and_f_rows, and_k_rows, and_l_rows, and_u_rows, star_b_rows, star_c_rows, star_p_rows, star_r_rows, star_t_rows, star_v_rows, grouped_operation, parameter_operation};
 
 use press_cmd::Kind;
 
@@ -70,8 +70,42 @@ pub enum Operation {
     RectangleWidth,
     /// `ESC * c # B`.
     RectangleHeight,
+    /// `ESC * c # G`.
+    PatternId,
+    /// `ESC * c # H`.
+    RectangleWidthInDecipoints,
     /// `ESC * c # P`.
     Fill,
+    /// `ESC * c # Q`.
+    ControlPatterns,
+    /// `ESC * c # V`.
+    RectangleHeightInDecipoints,
+    /// `ESC * c # W`.
+    DefinePattern,
+    /// `ESC * v # N`.
+    SourceTransparency,
+    /// `ESC * v # O`.
+    PatternTransparency,
+    /// `ESC * v # T`.
+    SelectPattern,
+    /// `ESC * t # R`.
+    RasterResolution,
+    /// `ESC * r # A`.
+    StartRaster,
+    /// `ESC * r # B`.
+    EndRaster,
+    /// `ESC * r # C`.
+    EndRasterAndMethod,
+    /// `ESC * r # S`.
+    SourceWidth,
+    /// `ESC * r # T`.
+    SourceHeight,
+    /// `ESC * b # M`.
+    SetMethod,
+    /// `ESC * b # W`.
+    TransferRow,
+    /// `ESC * b # Y`.
+    OffsetRaster,
     /// `ESC * p # X`, in PCL units.
     MoveX,
     /// `ESC * p # Y`, in PCL units.
@@ -151,8 +185,12 @@ fn grouped_operation(character: u8, group: u8, end: u8) -> Operation
         (b'&', b'k') => and_k_operation(end),
         (b'&', b'l') => and_l_operation(end),
         (b'&', b'u') => and_u_operation(end),
+        (b'*', b'b') => star_b_operation(end),
         (b'*', b'c') => star_c_operation(end),
         (b'*', b'p') => star_p_operation(end),
+        (b'*', b'r') => star_r_operation(end),
+        (b'*', b't') => star_t_operation(end),
+        (b'*', b'v') => star_v_operation(end),
         _ => Operation::Nothing,
     }
 }
@@ -223,14 +261,31 @@ fn and_u_operation(end: u8) -> Operation
     }
 }
 
-/// `ESC * c`: rectangles.
+/// `ESC * b`: raster data.
+fn star_b_operation(end: u8) -> Operation
+    ensures { result ≡ row_at end star_b_rows }
+{
+    match end {
+        b'M' => Operation::SetMethod,
+        b'W' => Operation::TransferRow,
+        b'Y' => Operation::OffsetRaster,
+        _ => Operation::Nothing,
+    }
+}
+
+/// `ESC * c`: rectangles and patterns.
 fn star_c_operation(end: u8) -> Operation
     ensures { result ≡ row_at end star_c_rows }
 {
     match end {
         b'A' => Operation::RectangleWidth,
         b'B' => Operation::RectangleHeight,
+        b'G' => Operation::PatternId,
+        b'H' => Operation::RectangleWidthInDecipoints,
         b'P' => Operation::Fill,
+        b'Q' => Operation::ControlPatterns,
+        b'V' => Operation::RectangleHeightInDecipoints,
+        b'W' => Operation::DefinePattern,
         _ => Operation::Nothing,
     }
 }
@@ -242,6 +297,42 @@ fn star_p_operation(end: u8) -> Operation
     match end {
         b'X' => Operation::MoveX,
         b'Y' => Operation::MoveY,
+        _ => Operation::Nothing,
+    }
+}
+
+/// `ESC * r`: raster graphics.
+fn star_r_operation(end: u8) -> Operation
+    ensures { result ≡ row_at end star_r_rows }
+{
+    match end {
+        b'A' => Operation::StartRaster,
+        b'B' => Operation::EndRaster,
+        b'C' => Operation::EndRasterAndMethod,
+        b'S' => Operation::SourceWidth,
+        b'T' => Operation::SourceHeight,
+        _ => Operation::Nothing,
+    }
+}
+
+/// `ESC * t`: the resolution of raster graphics.
+fn star_t_operation(end: u8) -> Operation
+    ensures { result ≡ row_at end star_t_rows }
+{
+    match end {
+        b'R' => Operation::RasterResolution,
+        _ => Operation::Nothing,
+    }
+}
+
+/// `ESC * v`: how patterns are painted.
+fn star_v_operation(end: u8) -> Operation
+    ensures { result ≡ row_at end star_v_rows }
+{
+    match end {
+        b'N' => Operation::SourceTransparency,
+        b'O' => Operation::PatternTransparency,
+        b'T' => Operation::SelectPattern,
         _ => Operation::Nothing,
     }
 }

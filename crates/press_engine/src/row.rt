@@ -38,7 +38,7 @@ impl State {
         ensures effect { IfOk result (λ effect.
             effect_of self.new effect ≡ row operation (token command.now) self.old) }
         ensures memory { IsErr result
-            → TakesMemory self.old (row operation (token command.now) self.old) }
+            → TakesMemory (row operation (token command.now) self.old) }
     {
         let value = command.value();
         match operation {
@@ -72,9 +72,36 @@ impl State {
             Operation::SelectOrientation => return Ok(self.select_orientation(value)),
             Operation::SelectSides => return Ok(self.select_sides(value)),
             Operation::Copies => self.environment.set_copies(value),
-            Operation::RectangleWidth => self.set_rectangle_width(value),
-            Operation::RectangleHeight => self.set_rectangle_height(value),
-            Operation::Fill => self.fill(alloc, value)?,
+            Operation::RectangleWidth => {
+                let unit = self.pcl_unit();
+                self.drawing.set_rectangle_width(value, unit);
+            }
+            Operation::RectangleHeight => {
+                let unit = self.pcl_unit();
+                self.drawing.set_rectangle_height(value, unit);
+            }
+            Operation::PatternId => self.drawing.set_pattern_id(value),
+            Operation::RectangleWidthInDecipoints => {
+                self.drawing.set_rectangle_width(value, Unit::decipoint());
+            }
+            Operation::Fill => return self.fill(alloc, value),
+            Operation::ControlPatterns => self.control_patterns(value),
+            Operation::RectangleHeightInDecipoints => {
+                self.drawing.set_rectangle_height(value, Unit::decipoint());
+            }
+            Operation::DefinePattern => return self.define_pattern(command.data()),
+            Operation::SourceTransparency => self.drawing.set_source_transparency(value),
+            Operation::PatternTransparency => self.drawing.set_pattern_transparency(value),
+            Operation::SelectPattern => self.select_pattern(value),
+            Operation::RasterResolution => self.set_raster_resolution(value),
+            Operation::StartRaster => self.start_raster(value.whole()),
+            Operation::EndRaster => self.graphics.end(),
+            Operation::EndRasterAndMethod => self.end_raster_and_method(),
+            Operation::SourceWidth => self.set_source_width(value),
+            Operation::SourceHeight => self.set_source_height(value),
+            Operation::SetMethod => self.drawing.raster.set_method(value),
+            Operation::TransferRow => return self.transfer(alloc, command.data()),
+            Operation::OffsetRaster => self.offset_raster(value),
             Operation::MoveX => self.move_along(self.pcl_unit(), value),
             Operation::MoveY => self.move_down(self.pcl_unit(), value),
         }
@@ -86,7 +113,7 @@ impl State {
         ensures effect { IfOk result (λ effect.
             effect_of self.new effect ≡ effect_on (token command.entry) self.old) }
         ensures memory { IsErr result
-            → TakesMemory self.old (effect_on (token command.entry) self.old) }
+            → TakesMemory (effect_on (token command.entry) self.old) }
     {
         let operation = operation_of(kind(&command));
         if self.hp_gl && !operation.works_in_hp_gl() {
@@ -100,7 +127,7 @@ impl State {
         ensures settled { IfOk result (λ sent. record { state = self.new; outputs = outputs_of sent }
             ≡ settle (effect_on (token command.entry) self.old)) }
         ensures memory { IsErr result
-            → TakesMemory self.old (effect_on (token command.entry) self.old) }
+            → TakesMemory (effect_on (token command.entry) self.old) }
     {
         let effect = self.row(alloc, command)?;
         self.settle(alloc, effect)

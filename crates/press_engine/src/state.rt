@@ -1,24 +1,29 @@
 ghost use Rattle.std.specs.Prelude.{◌≡◌, IfOk};
 
 use crate::canvas::Canvas;
-use crate::rectangle::Rectangle;
+use crate::drawing::Drawing;
 use press_cursor::{Cursor, LogicalPage};
 use press_page::{Defaults, PageEnv};
+use press_pattern::Patterns;
+use press_raster::Raster;
 use press_units::Unit;
-use std::alloc::AllocError;
+use std::alloc::{AllocError, Global};
 
 /// All that the command table reads and changes.
 #[derive(Drop)]
 pub struct State {
     /// Settings, margins and paper.
     pub environment: PageEnv,
-    /// The rectangle that a fill paints.
-    pub rectangle: Rectangle,
+    /// How marks are made.
+    pub drawing: Drawing,
     pub cursor: Cursor,
     /// Whether HP-GL/2 is on, which this press skips.
     pub hp_gl: bool,
     /// How many sheets went out, each copy counted; the greatest number stays.
     pub sheets: u64,
+    pub patterns: Patterns,
+    /// Raster graphics, off or on.
+    pub graphics: Raster,
     /// The page that is being printed, from its first mark on; none is a blank page without a mark.
     pub page: Option<Canvas>,
     /// The front that waits for its back.
@@ -41,7 +46,7 @@ impl State {
     ghost use Rattle.press_engine.specs.Outcome.{power_on_state, reset_fields, bounds};
 
     /// The state after power on.
-    pub fn power_on() -> Self
+    pub fn power_on(alloc: Global) -> Self
         ensures { result ≡ power_on_state }
     {
         let environment = PageEnv::reset_from(&Defaults::factory());
@@ -49,10 +54,12 @@ impl State {
         let line = environment.settings.vertical_motion;
         State {
             environment,
-            rectangle: Rectangle::none(),
+            drawing: Drawing::initial(),
             cursor: Cursor::at_home(environment.margins.left, line, page),
             hp_gl: false,
             sheets: 0,
+            patterns: Patterns::new(alloc),
+            graphics: Raster::new(alloc),
             page: None,
             pending: None,
         }
@@ -64,16 +71,18 @@ impl State {
     {
         Ok(State {
             environment: self.environment,
-            rectangle: self.rectangle,
+            drawing: self.drawing,
             cursor: self.cursor.clone()?,
             hp_gl: self.hp_gl,
             sheets: self.sheets,
+            patterns: self.patterns.copy()?,
+            graphics: self.graphics.copy()?,
             page: copy_page(&self.page)?,
             pending: copy_page(&self.pending)?,
         })
     }
 
-    /// Page environment, rectangle and cursor as after power on.
+    /// Page environment, drawing and cursor as after power on, raster graphics off, and no temporary pattern.
     pub fn reset_fields(&mut self)
         ensures { self.new ≡ reset_fields self.old }
     {
@@ -81,7 +90,9 @@ impl State {
         let page = environment.logical_page();
         let line = environment.settings.vertical_motion;
         self.environment = environment;
-        self.rectangle = Rectangle::none();
+        self.drawing = Drawing::initial();
+        self.patterns.delete_temporary();
+        self.graphics.end();
         self.cursor = Cursor::at_home(environment.margins.left, line, page);
     }
 

@@ -1,7 +1,8 @@
+use crate::drawing::Drawing;
 use crate::machine::Last;
-use crate::rectangle::Rectangle;
 use press_cursor::CursorPosition;
 use press_page::PageEnv;
+use press_raster::RasterPosition;
 use press_units::Pos;
 
 /// What can be seen of an engine.
@@ -23,8 +24,10 @@ pub struct View<'a> {
     pub sheets: u64,
     /// Settings, margins and paper.
     pub environment: PageEnv,
-    /// The rectangle that a fill paints.
-    pub rectangle: Rectangle,
+    /// How marks are made.
+    pub drawing: Drawing,
+    /// Where rows of raster graphics begin and how many there were, while it is on.
+    pub raster: Option<RasterPosition>,
     /// Whether HP-GL/2 is on.
     pub hp_gl: bool,
     /// Whether a mark was made on the page.

@@ -9,12 +9,13 @@ use Rattle.press_scan.specs.Held.{Held}
 use Rattle.press_sink.specs.Told.{Told}
 use Rattle.press_sink.specs.Sending.{Ending, Complete, ForMemory, WentOut}
 use Rattle.press_sink.proofs.SendingLemmas.{TookAll-none, WentOut-then}
+use Rattle.press_engine.specs.declared.engine.Engine.{Engine}
 use Rattle.press_engine.specs.declared.machine.Machine.{Machine}
 use Rattle.press_engine.specs.Machine.{Run, power_on, run_all}
 use Rattle.press_engine.proofs.Runs.{run_all-append}
 use Rattle.press_main.specs.declared.printing.RunError.{RunError}
 use Rattle.press_main.specs.declared.printing.RunError.TheVariants as run_errors
-use Rattle.press_main.specs.Printing.{SplitsInto, CarriedOut, Carried, Finished, Prints, Reads, Feeds, PrintedTo, Printed, meaning_of, at_end, ending_of, ended_by, fault_of}
+use Rattle.press_main.specs.Printing.{SplitsInto, CarriedOut, Carried, Finished, Prints, Reads, Feeds, PrintedTo, Printed, meaning_of, at_end, ending_of, ended_by, fault_of, machine_of}
 use Rattle.press_main.proofs.Carrying.{StandsFor-some, Carried-stopped}
 
 -- a fault after which not all of what was read went out
@@ -119,3 +120,15 @@ Printed-finished had left held tag result new before after from_exit feeds stops
           carried = stopped (at_end whole.commands) power_on tag (ending_of error) new before after (stops refl) whole.carried;
         });
       }
+
+-- after an error no engine is handed back
+pub Printed-error : (had left : Option (List ℕ)) (tag : ℕ) (first : Result (Unit {0}) RunError) (result : Result Engine RunError) (error : RunError) (new : Option Machine) (before after : Told) → first ≡ Err error → result ≡ Err error → Printed had left tag (fault_of first) new before after → Printed had left tag (fault_of result) (machine_of result) before after
+Printed-error had left tag first result error new before after stops exits printed =
+    let P : Result (Unit {0}) RunError → Type 0 = λ one. Printed had left tag (fault_of one) new before after in
+    let Q : Result Engine RunError → Type 0 = λ one. Printed had left tag (fault_of one) (machine_of one) before after in
+    subst Q (sym exits) (unspoken error (subst P stops printed)) where
+      unspoken : (error : RunError) → Printed had left tag (Some error) new before after → Printed had left tag (Some error) None before after
+      unspoken run_errors.SinkFault printed = record { bytes = printed.bytes; read = printed.read; printed = printed.printed }
+      unspoken run_errors.ReplyFault printed = record { bytes = printed.bytes; read = printed.read; printed = printed.printed }
+      unspoken run_errors.ReadFault printed = record { bytes = printed.bytes; read = printed.read; printed = printed.printed }
+      unspoken run_errors.NoMemory printed = record { bytes = printed.bytes; read = printed.read; printed = printed.printed }

@@ -23,10 +23,10 @@ asked_with_words (program ∷ []) more = absurd (omega arith)
 asked_with_words (program ∷ word ∷ words) more = refl
 
 -- words in which the command line finds no fault ask for what its matches do
-pub asked-matches : (words : List Text) (rows : Option (Text × List Row)) (seen : Option Asked) → 1 < length words → fault_of press_app words ≡ [] → rows ≡ subcommand_of press_app words → seen ≡ option_and_then (λ found. asked_by found.1) rows → asked words ≡ seen
+pub asked-matches : (words : List Text) (rows : Option (Text × List Row)) (seen : Option Asked) → 1 < length words → fault_of press_app words ≡ [] → rows ≡ subcommand_of press_app words → seen ≡ option_and_then (λ found. asked_by found.0 found.1) rows → asked words ≡ seen
 asked-matches words rows seen more no_fault same sees =
     asked_with_words words more ∙ ap (λ (faults : List ErrorKind). asked_without faults words) no_fault
-    ∙ sym (sees ∙ ap (λ (all : Option (Text × List Row)). option_and_then (λ found. asked_by found.1) all) same)
+    ∙ sym (sees ∙ ap (λ (all : Option (Text × List Row)). option_and_then (λ found. asked_by found.0 found.1) all) same)
 
 -- words in which it finds a fault ask for nothing
 asked-faulty : (words : List Text) (kind : ErrorKind) → 1 < length words → IsAmong kind (fault_of press_app words) → asked words ≡ None

@@ -10,7 +10,7 @@ use Rattle.press_main.specs.declared.words.Output.TheVariants as outputs
 use Rattle.press_main.specs.declared.words.Request.{Request}
 use Rattle.press_main.specs.declared.words.Refusal.{Refusal}
 use Rattle.press_main.specs.declared.words.Refusal.TheVariants.{Words, NoTemplate}
-use Rattle.press_main.specs.Words.{Source, Standard, FileNamed, Made, Listed, FilesBy, Asked}
+use Rattle.press_main.specs.Words.{Source, Standard, FileNamed, Made, Listed, FilesBy, Disassembled, AssembledTo, Asked}
 
 -- an input by the text of its name
 abbrev pub source_seen : Input → Source
@@ -21,6 +21,8 @@ source_seen (inputs.File name) = FileNamed name.now
 abbrev pub made_seen : Output → Made
 made_seen outputs.Listing = Listed
 made_seen (outputs.Files template) = FilesBy template.now
+made_seen outputs.Text = Disassembled
+made_seen (outputs.Assembled name) = AssembledTo name.now
 
 -- a request by its texts
 abbrev pub request_seen : Request → Asked

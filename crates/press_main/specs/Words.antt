@@ -10,10 +10,13 @@ pub data Source : Type 0 where
   Standard : Source
   FileNamed : Text → Source
 
--- What is made of a stream: a listing, or files by this template.
+-- What is made of an input: of a stream a listing, files by this template, or its assembly text; of assembly text the file
+-- of this name.
 pub data Made : Type 0 where
   Listed : Made
   FilesBy : Text → Made
+  Disassembled : Made
+  AssembledTo : Text → Made
 
 -- What the program is asked to do.
 pub record Asked : Type 0 where
@@ -30,9 +33,23 @@ needed_rule id = record (new_rule id) { required = true }
 abbrev pub print_app : App
 print_app = with_rule (with_rule (with_rule (new_app (codes "print")) list_rule) (needed_rule (codes "in"))) (new_rule (codes "out"))
 
--- the subcommands of the program
+-- The words of `asm`: the input and the output.
+abbrev pub asm_app : App
+asm_app = with_rule (with_rule (new_app (codes "asm")) (needed_rule (codes "in"))) (needed_rule (codes "out"))
+
+-- The word of `disasm`: the input.
+abbrev pub disasm_app : App
+disasm_app = with_rule (new_app (codes "disasm")) (needed_rule (codes "in"))
+
+-- the subcommands of the program, one after another
+abbrev pub printing_app : App
+printing_app = with_subcommand (new_app (codes "press")) print_app.top
+
+abbrev pub assembling_app : App
+assembling_app = with_subcommand printing_app asm_app.top
+
 abbrev pub press_app : App
-press_app = with_subcommand (new_app (codes "press")) print_app.top
+press_app = with_subcommand assembling_app disasm_app.top
 
 -- a flag is set where its value is `true`
 abbrev pub is_set : Text → List Row → Bool
@@ -46,14 +63,21 @@ source_of name = if bytes_eq name (codes "-") then Standard else FileNamed name
 abbrev pub made_of : List Row → Option Made
 made_of rows = if is_set (codes "list") rows then Some Listed else option_map FilesBy (first_of (codes "out") rows)
 
--- what the values of the words of `print` ask for
-abbrev pub asked_by : List Row → Option Asked
-asked_by rows =
-    option_and_then (λ name. option_map (λ made. record { source = source_of name; made = made }) (made_of rows)) (first_of (codes "in") rows)
+-- what the values of the words of a subcommand ask to be made
+abbrev pub made_by : Text → List Row → Option Made
+made_by subcommand rows =
+    if bytes_eq subcommand (codes "asm") then option_map AssembledTo (first_of (codes "out") rows)
+    else if bytes_eq subcommand (codes "disasm") then Some Disassembled
+    else made_of rows
+
+-- what the values of the words of a subcommand ask for
+abbrev pub asked_by : Text → List Row → Option Asked
+asked_by subcommand rows =
+    option_and_then (λ name. option_map (λ made. record { source = source_of name; made = made }) (made_by subcommand rows)) (first_of (codes "in") rows)
 
 -- what words ask for in which the command line finds these faults
 abbrev pub asked_without : {K : Type 0} → List K → List Text → Option Asked
-asked_without [] words = option_and_then (λ found. asked_by found.1) (subcommand_of press_app words)
+asked_without [] words = option_and_then (λ found. asked_by found.0 found.1) (subcommand_of press_app words)
 asked_without (fault ∷ faults) words = None
 
 -- What words ask for, the program's name among them: without any, the listing of standard input; nothing where they are

@@ -153,11 +153,16 @@ press print --list no/such: fault 304
 press print no/such a.pbm: fault 304
 press print / a%d.pbm: fault 304
 press print - a.pbm: fault 121
-press print - no/such/%d.pbm: fault 301";
+press print - no/such/%d.pbm: fault 301
+press disasm -: ctl 0C
+press disasm no/such: fault 304
+press disasm /: fault 304
+press asm no/such no/such/b: fault 304
+press asm - no/such/b: fault 401 line 1";
 
 #[test]
 fn words_have_their_answers(rt: HostRuntime) -> Result<(), Fail> {
-    assert_eq!(rt; ANSWERS.lines().count(), 8);
+    assert_eq!(rt; ANSWERS.lines().count(), 13);
     for line in ANSWERS.lines() {
         let (words, wanted) = line.split_once(": ").ok_or("no answer")?;
         let (status, out, err) = answered(&rt, words)?;
@@ -179,11 +184,15 @@ press print
 press print -
 press print --all -
 press print a b c
-press asm a b";
+press asm a
+press asm a b c
+press disasm
+press disasm a b
+press debug a";
 
 #[test]
 fn other_words_are_refused(rt: HostRuntime) -> Result<(), Fail> {
-    assert_eq!(rt; REFUSED.lines().count(), 5);
+    assert_eq!(rt; REFUSED.lines().count(), 9);
     for words in REFUSED.lines() {
         let (status, out, err) = answered(&rt, words)?;
         assert_eq!(rt; status, 2, "{words}");

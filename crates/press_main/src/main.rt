@@ -1,10 +1,16 @@
-//! The program: it reads a print stream, and lists its sheets or writes them to files.
+//! The program: it reads a print stream, and lists its sheets, writes them to files, or writes the stream as assembly text;
+//! and it makes a stream of assembly text.
 #![tactic(auto)]
 
+mod assembly;
+#[cfg(test)]
+mod assembly_tests;
 #[cfg(test)]
 mod file_tests;
 mod files;
 mod listing;
+#[cfg(test)]
+mod mark_tests;
 mod printing;
 mod program;
 mod reading;

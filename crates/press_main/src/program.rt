@@ -1,3 +1,4 @@
+use crate::assembly::{TextError, assembled, disasm_bytes, told, write_whole};
 use crate::files::print_files;
 use crate::listing::print_list;
 use crate::printing::RunError;
@@ -43,7 +44,7 @@ fn refuse<W: Write, E: Write>(refusal: &Refusal, out: &mut W, err: &mut E) -> u8
     status
 }
 
-/// Opens the input and prints it.
+/// Opens the input, and makes what is asked for.
 fn print<F: Files, S: Read, W: Write, E: Write>(
     alloc: Global,
     files: &F,
@@ -64,7 +65,7 @@ fn print<F: Files, S: Read, W: Write, E: Write>(
     }
 }
 
-/// Prints the stream that a reader has.
+/// Makes what is asked for of what a reader has.
 fn print_from<F: Files, R: Read, W: Write, E: Write>(
     alloc: Global,
     files: &F,
@@ -76,5 +77,28 @@ fn print_from<F: Files, R: Read, W: Write, E: Write>(
     match output {
         Output::Listing => print_list(alloc, reader, out, err),
         Output::Files(template) => print_files(alloc, files, reader, template, out, err),
+        Output::Text => disasm_bytes(alloc, reader, out, err),
+        Output::Assembled(name) => assemble_to(alloc, files, reader, name, err),
+    }
+}
+
+/// Makes the file of this name of the assembly text that a reader has. The file is made once the text is assembled.
+fn assemble_to<F: Files, R: Read, E: Write>(
+    alloc: Global,
+    files: &F,
+    reader: &mut R,
+    name: &str,
+    err: &mut E,
+) -> u8 {
+    let bytes = match assembled(alloc, reader) {
+        Ok(bytes) => bytes,
+        Err(error) => return told(&error, err),
+    };
+    let Ok(mut file) = fs::create(files, name) else {
+        return told(&TextError::WriteFault, err);
+    };
+    match write_whole(&mut file, &bytes) {
+        Ok(()) => 0,
+        Err(_) => told(&TextError::WriteFault, err),
     }
 }

@@ -1,7 +1,8 @@
 //! The rows of the command table one by one: the values at the ends of their ranges and outside, signs and fractions, with
 //! the state that they leave and the pages that they close. All numbers are worked out by hand, in 1/7200 inch.
 //!
-//! A table has a line for each stream, in which `^` is ESC, `<` CR, `|` LF and `~` FF; behind it stand the numbers that it gives.
+//! A table has a line for each stream, in which `^` is ESC, `<` CR, `|` LF and `~` FF, and data stands in brackets, two
+//! hexadecimal digits a byte; behind it stand the numbers that it gives.
 use crate::tests::is_box;
 use press_cmd::{Command, ControlByte};
 use press_engine::{Engine, EngineError};
@@ -196,17 +197,31 @@ const BOXES: &str = "\
 ^&l3O^*p0x0Y^*c3a2b0P~ 2398 60 2 3
 ^*p2400x3149Y^*c100a100b0P~ 2475 3299 75 1";
 
+/// The number that a hexadecimal digit stands for.
+fn digit(byte: u8) -> Result<u8, Fail> {
+    let number = char::from(byte).to_digit(16).ok_or("no digit")?;
+    Ok(number as u8)
+}
+
 /// The bytes of a stream, as the tables spell it.
 fn bytes_of(rt: &HostRuntime, stream: &str) -> Result<Vec<u8>, Fail> {
     let mut bytes = Vec::new(rt.alloc());
-    for byte in stream.bytes() {
-        bytes.push(match byte {
-            b'^' => 0x1B,
-            b'<' => b'\r',
-            b'|' => b'\n',
-            b'~' => 0x0C,
-            other => other,
-        })?;
+    let mut spelled = stream.bytes();
+    let mut in_data = false;
+    while let Some(byte) = spelled.next() {
+        match byte {
+            b'[' => in_data = true,
+            b']' => in_data = false,
+            first if in_data => {
+                let second = spelled.next().ok_or("one digit")?;
+                bytes.push(digit(first)? << 4 | digit(second)?)?;
+            }
+            b'^' => bytes.push(0x1B)?,
+            b'<' => bytes.push(b'\r')?,
+            b'|' => bytes.push(b'\n')?,
+            b'~' => bytes.push(0x0C)?,
+            other => bytes.push(other)?,
+        }
     }
     Ok(bytes)
 }
@@ -223,7 +238,7 @@ pub fn row_of(rt: &HostRuntime, line: &str) -> Result<(Vec<u8>, Vec<i64>), Fail>
 }
 
 /// Carries the commands of a stream out, without an end of input; answers the engine and what it delivered.
-fn carried_out(rt: &HostRuntime, stream: &[u8]) -> Result<(Engine, ListSink), Fail> {
+pub fn carried_out(rt: &HostRuntime, stream: &[u8]) -> Result<(Engine, ListSink), Fail> {
     let mut scanner = Scanner::new(rt.alloc());
     scanner.feed(stream)?;
     let mut engine = Engine::power_on(rt.alloc())?;

@@ -1,7 +1,7 @@
 ghost use Rattle.std.specs.Prelude.{◌≡◌, ◌↔◌, ◌⊎◌, IfOk, IfErr, IsTrue, Some, None, map, option_map, option_and_then, codes, false};
 ghost use Rattle.clap.specs.Words.{app_of, rule_of, new_rule, kind_of, first_of, rows_of, found_of, subcommand_of, subcommand_rows_of, fault_of, FailsBy};
 ghost use Rattle.clap.specs.declared.builder.command.Command.TheViews.{out-Command};
-ghost use Rattle.press_main.specs.Words.{list_rule, needed_rule, print_app, press_app, source_of, made_of, asked_by, asked, is_set};
+ghost use Rattle.press_main.specs.Words.{list_rule, needed_rule, print_app, asm_app, disasm_app, printing_app, assembling_app, press_app, source_of, made_of, made_by, asked_by, asked, is_set};
 ghost use Rattle.press_main.specs.View.{source_seen, made_seen, request_seen, status_of, IsForMemory};
 
 use clap::error::ErrorKind;
@@ -11,7 +11,8 @@ use std::alloc::{AllocError, Global};
 use std::fmt;
 
 /// An example of each subcommand, for help.
-const EXAMPLES: &str = "Examples:\n  press print page.pcl page-%d.pbm";
+const EXAMPLES: &str =
+    "Examples:\n  press print page.pcl page-%d.pbm\n  press asm page.asm page.pcl\n  press disasm page.pcl";
 
 /// Where a stream is read.
 #[derive(Debug, Drop)]
@@ -22,13 +23,17 @@ pub enum Input<'a> {
     File(&'a str),
 }
 
-/// What is made of a stream.
+/// What is made of the input.
 #[derive(Debug, Drop)]
 pub enum Output<'a> {
-    /// A listing of its sheets and its replies.
+    /// A listing of the sheets and the replies of a stream.
     Listing,
-    /// A file for each side, by this template.
+    /// A file for each side of a stream, by this template.
     Files(&'a str),
+    /// The assembly text of a stream.
+    Text,
+    /// The file of this name, of the bytes of assembly text.
+    Assembled(&'a str),
 }
 
 /// What the program is asked to do.
@@ -127,14 +132,61 @@ fn print_command<'a>(alloc: Global) -> Result<Command<'a>, AllocError>
         .arg(output_word(alloc))
 }
 
-/// The command line that is taken.
-fn command<'a>(alloc: Global) -> Result<Command<'a>, AllocError>
-    ensures { IfOk result (λ command. app_of command ≡ press_app) }
+/// The name of a file that is made.
+fn made_word<'a>(alloc: Global) -> Arg<'a>
+    ensures rule { rule_of result ≡ needed_rule (codes "out") }
+    ensures local { result.global ≡ false }
+{
+    Arg::new(alloc, "out")
+        .required(true)
+        .help("The file that is made")
+}
+
+/// The subcommand `asm`.
+fn asm_command<'a>(alloc: Global) -> Result<Command<'a>, AllocError>
+    ensures app { IfOk result (λ command. app_of command ≡ asm_app) }
+    ensures local { IfOk result (λ command. (out-Command command).has_globals ≡ false) }
+{
+    Command::new(alloc, "asm")
+        .about("Makes a stream of assembly text")
+        .arg(input_word(alloc))?
+        .arg(made_word(alloc))
+}
+
+/// The subcommand `disasm`.
+fn disasm_command<'a>(alloc: Global) -> Result<Command<'a>, AllocError>
+    ensures app { IfOk result (λ command. app_of command ≡ disasm_app) }
+    ensures local { IfOk result (λ command. (out-Command command).has_globals ≡ false) }
+{
+    Command::new(alloc, "disasm")
+        .about("Writes a stream as assembly text")
+        .arg(input_word(alloc))
+}
+
+/// The command line with `print` alone.
+fn printing<'a>(alloc: Global) -> Result<Command<'a>, AllocError>
+    ensures app { IfOk result (λ command. app_of command ≡ printing_app) }
+    ensures local { IfOk result (λ command. (out-Command command).has_globals ≡ false) }
 {
     Command::new(alloc, "press")
         .about("A digital press: it prints PJL and PCL 5")
         .after_help(EXAMPLES)
         .subcommand(print_command(alloc)?)
+}
+
+/// The command line with `print` and `asm`.
+fn assembling<'a>(alloc: Global) -> Result<Command<'a>, AllocError>
+    ensures app { IfOk result (λ command. app_of command ≡ assembling_app) }
+    ensures local { IfOk result (λ command. (out-Command command).has_globals ≡ false) }
+{
+    printing(alloc)?.subcommand(asm_command(alloc)?)
+}
+
+/// The command line that is taken.
+fn command<'a>(alloc: Global) -> Result<Command<'a>, AllocError>
+    ensures { IfOk result (λ command. app_of command ≡ press_app) }
+{
+    assembling(alloc)?.subcommand(disasm_command(alloc)?)
 }
 
 /// The matches of words, the program's name among them.
@@ -177,13 +229,30 @@ fn output_of<'a>(matches: &ArgMatches<'a>) -> Option<Output<'a>>
     Some(Output::Files(template))
 }
 
-/// What the matches of `print` ask for.
+/// What the matches of a subcommand ask to be made.
 #[tactic(auto, using(crate::proofs::WordsLemmas::value_by_rows))]
-fn print_request<'a>(matches: &ArgMatches<'a>) -> Option<Request<'a>>
-    ensures { option_map request_seen result ≡ asked_by (rows_of (found_of matches.now)) }
+fn made_by<'a>(subcommand: &str, matches: &ArgMatches<'a>) -> Option<Output<'a>>
+    ensures { option_map made_seen result
+        ≡ made_by subcommand.now (rows_of (found_of matches.now)) }
+{
+    if subcommand == "asm" {
+        let name = matches.get_str("out")?;
+        return Some(Output::Assembled(name));
+    }
+    if subcommand == "disasm" {
+        return Some(Output::Text);
+    }
+    output_of(matches)
+}
+
+/// What the matches of a subcommand ask for.
+#[tactic(auto, using(crate::proofs::WordsLemmas::value_by_rows))]
+fn subcommand_request<'a>(subcommand: &str, matches: &ArgMatches<'a>) -> Option<Request<'a>>
+    ensures { option_map request_seen result
+        ≡ asked_by subcommand.now (rows_of (found_of matches.now)) }
 {
     let name = matches.get_str("in")?;
-    let output = output_of(matches)?;
+    let output = made_by(subcommand, matches)?;
     Some(Request {
         input: input_named(name),
         output,
@@ -193,10 +262,10 @@ fn print_request<'a>(matches: &ArgMatches<'a>) -> Option<Request<'a>>
 /// What the matches of the command line ask for.
 fn request_in<'a>(matches: &ArgMatches<'a>) -> Option<Request<'a>>
     ensures { option_map request_seen result
-        ≡ option_and_then (λ found. asked_by found.1) (subcommand_rows_of matches.now) }
+        ≡ option_and_then (λ found. asked_by found.0 found.1) (subcommand_rows_of matches.now) }
 {
-    let (_, print) = matches.subcommand()?;
-    print_request(print)
+    let (subcommand, values) = matches.subcommand()?;
+    subcommand_request(subcommand, values)
 }
 
 /// What the words ask for, the program's name among them. Without words it is the listing of standard input.

@@ -3,6 +3,8 @@
 #![tactic(auto)]
 
 #[cfg(test)]
+mod assembly;
+#[cfg(test)]
 mod bitmaps;
 #[cfg(test)]
 mod commands;
@@ -15,6 +17,8 @@ mod files;
 #[cfg(test)]
 mod fills;
 #[cfg(test)]
+mod macros;
+#[cfg(test)]
 mod patterns;
 #[cfg(test)]
 mod placement;
@@ -22,6 +26,8 @@ mod placement;
 mod positions;
 #[cfg(test)]
 mod queue;
+#[cfg(test)]
+mod raster;
 #[cfg(test)]
 mod rows;
 #[cfg(test)]

@@ -1,0 +1,91 @@
+-- Rows of raster graphics (PCL 5 Printer Language Technical Reference Manual, Raster Graphics).
+use Rattle.std.specs.Prelude.{ℕ, ◌*◌, ℤ, pos, negsuc, true, false, is_some, if◌then◌else◌, List, [], ◌∷◌, Option, Some, None, unwrap_or}
+use Rattle.press_cursor.specs.Cursor.{moved_x, moved_y}
+use Rattle.press_page.specs.Numbers.{named, above}
+use Rattle.press_pattern.specs.Ink.{ink_of, black_ink}
+use Rattle.press_pattern.specs.declared.ink.Ink.{Ink}
+use Rattle.press_raster.specs.Graphics.{started, moved_down, takes_row}
+use Rattle.press_raster.specs.Settings.{row_height}
+use Rattle.press_raster.specs.Transfer.{page_with_row, transferred}
+use Rattle.press_raster.specs.declared.raster.RowPlace.{RowPlace}
+use Rattle.press_raster.specs.declared.settings.RasterSettings.{RasterSettings}
+use Rattle.press_rows.specs.declared.compression.Method.TheVariants.{Unencoded}
+use Rattle.press_engine.specs.declared.state.State.{State}
+use Rattle.press_engine.specs.Closing.{page_now}
+use Rattle.press_engine.specs.Outcome.{Effect, Changes, Makes, bounds, ended_raster, with_drawing}
+use Rattle.press_engine.specs.Patterns.{pattern_now}
+use Rattle.press_engine.specs.Place.{resolution}
+
+-- a change of what raster graphics is set to
+abbrev pub with_raster : (RasterSettings → RasterSettings) → State → State
+with_raster change = with_drawing (λ drawing. record drawing { raster = change drawing.raster })
+
+-- one that raster graphics, while it is on, does not take
+abbrev pub while_off : (RasterSettings → RasterSettings) → State → State
+while_off change state = if is_some state.graphics then state else with_raster change state
+
+-- ESC*r#A, start raster graphics: rows begin at the left edge of the logical page by 0 and 2, and at the cursor by 1 and 3
+abbrev pub start_of : ℤ → (x : ℕ) → Option ℕ
+start_of number x = named ((0, 0) ∷ (1, x) ∷ (2, 0) ∷ (3, x) ∷ []) number
+
+-- it is on from there, and there the cursor is
+abbrev pub start_at : Option ℕ → State → State
+start_at None state = state
+start_at (Some left) state =
+    record state {
+      cursor = moved_x (pos left) false (bounds state) state.cursor;
+      graphics = started left state.graphics;
+    }
+
+-- where raster graphics is on, it goes on
+abbrev pub start_raster : (number : ℤ) → State → State
+start_raster number state =
+    if is_some state.graphics then state else start_at (start_of number state.cursor.x) state
+
+-- ESC*r#C, end raster graphics: the compression method is 0 then
+abbrev pub end_raster_and_method : State → State
+end_raster_and_method state =
+    with_raster (λ settings. record settings { method = Unencoded }) (ended_raster state)
+
+-- so many rows down from the cursor
+abbrev pub rows_down : (rows : ℕ) → State → State
+rows_down rows state =
+    let distance = rows * row_height state.drawing.raster.resolution in
+    record state { cursor = moved_y (pos distance) true (bounds state) state.cursor }
+
+-- ESC*b#Y, raster Y offset
+abbrev pub rows_of : ℤ → Option ℕ
+rows_of (pos n) = above 0 n
+rows_of (negsuc n) = None
+
+abbrev pub offset_by : Option ℕ → State → State
+offset_by None state = state
+offset_by (Some rows) state = record (rows_down rows state) { graphics = moved_down rows state.graphics }
+
+abbrev pub offset_raster : (number : ℤ) → State → State
+offset_raster number state = if is_some state.graphics then offset_by (rows_of number) state else state
+
+-- what rows are painted with: the pattern of now is always there
+abbrev pub ink_now : State → Ink
+ink_now state =
+    unwrap_or (ink_of state.patterns (pattern_now state) state.drawing.mode) (black_ink state.drawing.mode)
+
+-- where a row lies
+abbrev pub row_place : State → RowPlace
+row_place state = record { environment = state.environment; resolution = resolution; y = state.cursor.y }
+
+-- a row that has effect: the page has a mark then, and the cursor is a row further down
+abbrev pub with_row : List ℕ → State → State
+with_row bytes state =
+    record (rows_down 1 state) {
+      page = Some (page_with_row (row_place state) state.drawing.raster (ink_now state) bytes state.graphics (page_now state));
+      graphics = transferred (row_place state) state.drawing.raster bytes state.graphics;
+    }
+
+abbrev pub transfer_row : List ℕ → State → Effect
+transfer_row bytes state =
+    if takes_row state.drawing.raster state.graphics then Makes (with_row bytes state) else Changes state
+
+-- ESC*b#W, transfer raster data: where raster graphics is off, it starts at the left edge
+abbrev pub transfer : List ℕ → State → Effect
+transfer bytes state = transfer_row bytes (start_raster (pos 0) state)

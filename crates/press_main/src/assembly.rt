@@ -1,0 +1,147 @@
+//! Assembly text to bytes, and back.
+use press_asm::{AssembleError, assemble};
+use press_disasm::disassemble;
+use press_units::NO_MEMORY;
+use std::alloc::{AllocError, Global};
+use std::io::{self, ErrorKind, Read, Write};
+use std::str;
+use thiserror::Error;
+
+/// The most reads of one input.
+const MOST_READS: u32 = u32::MAX;
+
+/// How many bytes are read at once.
+const PIECE: usize = 16_384;
+
+/// Why an input was not assembled or disassembled.
+#[derive(Debug, Drop, Error)]
+pub enum TextError {
+    /// A read failed, or there were too many.
+    #[error("fault 304")]
+    ReadFault,
+    /// The text is refused.
+    #[error("{0}")]
+    Refused(AssembleError),
+    /// The output cannot be made or written.
+    #[error("fault 115")]
+    WriteFault,
+    #[error("{text}", text = NO_MEMORY)]
+    NoMemory,
+}
+
+impl From<AllocError> for TextError {
+    ghost use Rattle.std.specs.Prelude.{◌≡◌};
+    ghost use Rattle.press_main.specs.declared.assembly.TextError.TheVariants.{NoMemory};
+
+    ghost from_gives = { λ _ error. error ≡ NoMemory };
+
+    fn from(_error: AllocError) -> TextError {
+        TextError::NoMemory
+    }
+}
+
+/// All that a reader has.
+fn read_all<R: Read>(alloc: Global, reader: &mut R) -> Result<Vec<u8>, TextError> {
+    let mut piece = [0; PIECE];
+    let mut all = Vec::new(alloc);
+    for _ in 0..MOST_READS {
+        match reader.read(&mut piece) {
+            Ok(0) => return Ok(all),
+            Ok(count) => all.extend_from_slice(&piece[..count])?,
+            Err(error) => {
+                if error.kind() != ErrorKind::Interrupted {
+                    return Err(TextError::ReadFault);
+                }
+            }
+        }
+    }
+    Err(TextError::ReadFault)
+}
+
+/// How many lines the bytes end.
+fn ended_lines(bytes: &[u8]) -> usize {
+    bytes.iter().filter(|byte| **byte == b'\n').count()
+}
+
+/// The first fault of bytes that are text up to a place alone: that of a line before, or of the line that is no text.
+fn first_fault(alloc: Global, bytes: &[u8], place: usize) -> TextError {
+    let front = &bytes[..place.min(bytes.len())];
+    let length = front
+        .iter()
+        .rposition(|byte| *byte == b'\n')
+        .map_or(0, |last| last + 1);
+    let Ok(text) = str::from_utf8(&front[..length.min(front.len())]) else {
+        return TextError::Refused(AssembleError::BadLine(1));
+    };
+    match assemble(alloc, text) {
+        Ok(_) => {
+            let lines = ended_lines(front);
+            TextError::Refused(AssembleError::BadLine(lines.saturating_add(1)))
+        }
+        Err(error) => TextError::Refused(error),
+    }
+}
+
+/// The bytes of the assembly text that a reader has. A line that is not UTF-8 is a bad line.
+pub fn assembled<R: Read>(alloc: Global, reader: &mut R) -> Result<Vec<u8>, TextError> {
+    let bytes = read_all(alloc, reader)?;
+    match str::from_utf8(&bytes) {
+        Ok(text) => assemble(alloc, text).map_err(TextError::Refused),
+        Err(error) => Err(first_fault(alloc, &bytes, error.valid_up_to())),
+    }
+}
+
+/// Writes bytes whole.
+pub fn write_whole<W: Write>(out: &mut W, bytes: &[u8]) -> io::Result<()> {
+    out.write_all(bytes)?;
+    out.flush()
+}
+
+/// Writes the bytes of the assembly text that a reader has to `out`, and a fault to `err`. The answer is the status: 0, or
+/// 1 after a fault.
+pub fn asm_text<R: Read, W: Write, E: Write>(
+    alloc: Global,
+    reader: &mut R,
+    out: &mut W,
+    err: &mut E,
+) -> u8 {
+    match assembled(alloc, reader) {
+        Ok(bytes) => match write_whole(out, &bytes) {
+            Ok(()) => 0,
+            Err(_) => told(&TextError::WriteFault, err),
+        },
+        Err(error) => told(&error, err),
+    }
+}
+
+/// Writes the assembly text of the stream that a reader has to `out`, and a fault to `err`. The answer is the status: 0, or
+/// 1 after a fault.
+pub fn disasm_bytes<R: Read, W: Write, E: Write>(
+    alloc: Global,
+    reader: &mut R,
+    out: &mut W,
+    err: &mut E,
+) -> u8 {
+    match disassembled(alloc, reader) {
+        Ok(text) => match write_whole(out, text.as_bytes()) {
+            Ok(()) => 0,
+            Err(_) => {
+                let _ = writeln!(err, "fault output");
+                1
+            }
+        },
+        Err(error) => told(&error, err),
+    }
+}
+
+/// The assembly text of the stream that a reader has.
+fn disassembled<R: Read>(alloc: Global, reader: &mut R) -> Result<String, TextError> {
+    let bytes = read_all(alloc, reader)?;
+    Ok(disassemble(alloc, &bytes)?)
+}
+
+/// Tells a fault. The answer is the status after it.
+pub fn told<E: Write>(error: &TextError, err: &mut E) -> u8 {
+    let _ = writeln!(err, "{error}");
+    1
+}
