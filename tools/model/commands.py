@@ -133,7 +133,7 @@ def closing(mode, rest):
         return []
     if mode == FOREIGN:
         return [Foreign(byte) for byte in rest]
-    if isinstance(mode, Open):
+    if isinstance(mode, Open) and rest[0] != ESC:
         return [Broken(bytes([ESC, mode.character, mode.group]) + rest)]
     if rest[0] == ESC or rest.startswith(LINE_START):
         return [Broken(rest)]

@@ -1,2 +1,3 @@
 pub mod ReadAgain
+pub mod Standing
 pub mod Listing

@@ -9,6 +9,7 @@ use Rattle.std.proofs.lemmas.Str.{IsAscii-append, IsUtf8-from_ascii}
 use Rattle.std.proofs.lemmas.Str.Ascii.{IsAscii-nil, IsAscii-cons}
 use Rattle.press_cmd.specs.Token.{Token}
 use Rattle.press_cmd.specs.Mode.{Exit}
+use Rattle.press_cmd.specs.Split.{Closed}
 use Rattle.press_cmd.specs.View.{token}
 use Rattle.press_cmd.specs.declared.command.Command.{Command}
 use Rattle.press_cmd.proofs.ByteTests.{range-true}
@@ -16,10 +17,11 @@ use Rattle.press_scan.specs.Held.{Held}
 use Rattle.press_scan.specs.Gives.{Passes, IsDone, Leaves}
 use Rattle.press_scan.specs.Reached.{Reached, Remains}
 use Rattle.press_scan.proofs.ReachedLaws.{feeds_reach, end_reaches}
-use Rattle.press_asm.specs.Text.{is_feed, in_front, lines_of, LinesStand}
+use Rattle.press_asm.specs.Text.{is_feed, in_front, lines_of, all_bytes, LinesStand}
 use Rattle.press_asm.specs.Written.{line_of, text_of, is_printable, IsWritten, AreWritten}
 use Rattle.press_disasm.specs.Disassembly.{IsDisassembly, IsListed}
 use Rattle.press_disasm.proofs.ReadAgain.{read_again}
+use Rattle.press_disasm.proofs.Standing.{stand_give, one_give}
 
 -- ---- the scanner's answers
 
@@ -101,11 +103,18 @@ text_ascii (c ∷ cs) h = IsAscii-append (line_of c) (10 ∷ text_of cs) (line_a
 pub listed_utf8 : (bytes text : List ℕ) → IsListed bytes text → IsUtf8 text
 listed_utf8 bytes text l = subst IsUtf8 (sym l.listed) (IsUtf8-from_ascii (text_of l.commands) (text_ascii l.commands l.written))
 
+-- the lines stand for the commands
+stands : (bytes text : List ℕ) → (l : IsListed bytes text) → LinesStand (lines_of text) l.commands
+stands bytes text l = subst (λ (x : List ℕ). LinesStand (lines_of x) l.commands) (sym l.listed) (lines_stand l.commands l.written)
+
 -- the list is the disassembly
 pub disassembled : (bytes text : List ℕ) → IsListed bytes text → IsDisassembly bytes text
 disassembled bytes text l = record {
   commands = l.commands;
   closed = l.closed;
-  stand = subst (λ (x : List ℕ). LinesStand (lines_of x) l.commands) (sym l.listed) (lines_stand l.commands l.written);
-  again = read_again bytes l.commands l.closed;
+  stand = stands bytes text l;
+  assembles = record { commands = l.commands; give = stand_give (lines_of text) l.commands (stands bytes text l); spelled = refl };
+  again = λ assembled a.
+      let same = one_give (lines_of text) l.commands (stands bytes text l) a.commands a.give in
+      subst (λ (x : List ℕ). Closed x l.commands) (sym (a.spelled ∙ ap all_bytes same)) (read_again bytes l.commands l.closed);
 }
