@@ -1,3 +1,4 @@
+pub mod Assembly
 pub mod Files
 pub mod Listing
 pub mod Printing

@@ -1,4 +1,9 @@
 //! Assembly text to bytes, and back.
+ghost use Rattle.std.specs.Prelude.{◌≡◌, ◌≤◌, IfOk, OnOk};
+ghost use Rattle.std.specs.Io.KnownBytes.{Appends};
+ghost use Rattle.std.specs.String.{string_bytes};
+ghost use Rattle.press_main.specs.Assembly.{ReadWhole, Assembled, AssembledTo, Disassembled, DisassembledTo};
+
 use press_asm::{AssembleError, assemble};
 use press_disasm::disassemble;
 use press_units::NO_MEMORY;
@@ -41,7 +46,10 @@ impl From<AllocError> for TextError {
 }
 
 /// All that a reader has.
-fn read_all<R: Read>(alloc: Global, reader: &mut R) -> Result<Vec<u8>, TextError> {
+fn read_all<R: Read>(alloc: Global, reader: &mut R) -> Result<Vec<u8>, TextError>
+    ensures { IfOk result (λ all.
+        ReadWhole (R.remaining reader.old) (R.remaining reader.new) all.items) }
+{
     let mut piece = [0; PIECE];
     let mut all = Vec::new(alloc);
     for _ in 0..MOST_READS {
@@ -83,7 +91,10 @@ fn first_fault(alloc: Global, bytes: &[u8], place: usize) -> TextError {
 }
 
 /// The bytes of the assembly text that a reader has. A line that is not UTF-8 is a bad line.
-pub fn assembled<R: Read>(alloc: Global, reader: &mut R) -> Result<Vec<u8>, TextError> {
+pub fn assembled<R: Read>(alloc: Global, reader: &mut R) -> Result<Vec<u8>, TextError>
+    ensures { IfOk result (λ bytes.
+        Assembled (R.remaining reader.old) (R.remaining reader.new) bytes.items) }
+{
     let bytes = read_all(alloc, reader)?;
     match str::from_utf8(&bytes) {
         Ok(text) => assemble(alloc, text).map_err(TextError::Refused),
@@ -92,7 +103,9 @@ pub fn assembled<R: Read>(alloc: Global, reader: &mut R) -> Result<Vec<u8>, Text
 }
 
 /// Writes bytes whole.
-pub fn write_whole<W: Write>(out: &mut W, bytes: &[u8]) -> io::Result<()> {
+pub fn write_whole<W: Write>(out: &mut W, bytes: &[u8]) -> io::Result<()>
+    ensures { OnOk result (Appends (W.contents out.old) (W.contents out.new) bytes.now) }
+{
     out.write_all(bytes)?;
     out.flush()
 }
@@ -104,7 +117,11 @@ pub fn asm_text<R: Read, W: Write, E: Write>(
     reader: &mut R,
     out: &mut W,
     err: &mut E,
-) -> u8 {
+) -> u8
+    ensures status { result ≤ 1 }
+    ensures assembled { result ≡ 0 → AssembledTo (R.remaining reader.old) (R.remaining reader.new)
+        (W.contents out.old) (W.contents out.new) }
+{
     match assembled(alloc, reader) {
         Ok(bytes) => match write_whole(out, &bytes) {
             Ok(()) => 0,
@@ -121,7 +138,11 @@ pub fn disasm_bytes<R: Read, W: Write, E: Write>(
     reader: &mut R,
     out: &mut W,
     err: &mut E,
-) -> u8 {
+) -> u8
+    ensures status { result ≤ 1 }
+    ensures disassembled { result ≡ 0 → DisassembledTo (R.remaining reader.old)
+        (R.remaining reader.new) (W.contents out.old) (W.contents out.new) }
+{
     match disassembled(alloc, reader) {
         Ok(text) => match write_whole(out, text.as_bytes()) {
             Ok(()) => 0,
@@ -135,13 +156,18 @@ pub fn disasm_bytes<R: Read, W: Write, E: Write>(
 }
 
 /// The assembly text of the stream that a reader has.
-fn disassembled<R: Read>(alloc: Global, reader: &mut R) -> Result<String, TextError> {
+fn disassembled<R: Read>(alloc: Global, reader: &mut R) -> Result<String, TextError>
+    ensures { IfOk result (λ text.
+        Disassembled (R.remaining reader.old) (R.remaining reader.new) (string_bytes text)) }
+{
     let bytes = read_all(alloc, reader)?;
     Ok(disassemble(alloc, &bytes)?)
 }
 
 /// Tells a fault. The answer is the status after it.
-pub fn told<E: Write>(error: &TextError, err: &mut E) -> u8 {
+pub fn told<E: Write>(error: &TextError, err: &mut E) -> u8
+    ensures { result ≡ 1 }
+{
     let _ = writeln!(err, "{error}");
     1
 }

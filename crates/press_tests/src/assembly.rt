@@ -122,6 +122,47 @@ fn refuses_each_form(rt: HostRuntime) -> Result<(), Fail> {
     Ok(())
 }
 
+/// The text of a stream assembles to bytes that have the same text, so the same commands.
+fn goes_there_and_back(rt: &(impl Abort + AllocGlobal), stream: &[u8]) -> Result<(), Fail> {
+    let text = disassemble(rt.alloc(), stream)?;
+    let Ok(bytes) = assemble(rt.alloc(), text.as_str()) else {
+        return Err(Fail::from("refused"));
+    };
+    let again = disassemble(rt.alloc(), &bytes)?;
+    assert_eq!(rt; again.as_str(), text.as_str());
+    Ok(())
+}
+
+#[test]
+fn worked_streams_go_there_and_back(rt: HostRuntime) -> Result<(), Fail> {
+    let streams: [&[u8]; 20] = [
+        b"\x1BE\x0C\x1BE",
+        b"\x1BE\x1B*p0x0Y\x1B*c3a2b0P\x1BE",
+        b"\x1B*p10x20Y\x1B*c3a2b0P\x0C",
+        b"\x1B*p10\r\x0C",
+        b"\x1B*p10x20\r",
+        b"\x1B*p1X\x1B&f0S\x1B*p2X\x1B&f0S\x1B&f1S\x1B&f1S\x1B&f1S",
+        b"\x1B*t300R\x1B*r0A\x1B*b1m2W\x02\xF0\x0C",
+        b"\x1B*t300R\x1B*r0A\x1B*b3m2W\x00\xFF\x1B*b0W\x1B*b0m0W\x1B*b3m0W\x1B*rC\x0C",
+        b"\x1B*p0x0Y\x1B*c16a1b0P\x1B*t300R\x1B*r8S\x1B*v1N\x1B*r1A\x1B*b0W\x1B*rC\x0C",
+        b"\x1B*c5G\x1B*c16W\0\0\x01\0\0\x08\0\x08\xFF\xFF\xFF\xFF\xFF\xFF\xFF\xFF\x1B*c2a1b4P\x0C",
+        b"\x1B*c5G\x1B*c15W\0\0\x01\0\0\x08\0\x08\0\0\0\0\0\0\0\x1B*p0x0Y\x1B*c2a1b4P\x0C",
+        b"\x1B*p0x0Y\x1B&f1y0X\x1B*c1a1b0P\x1B*p+2X\x1B&f3X\x1B&f1X\x1B&f3X\x0C",
+        b"\x1B&f2y0X\x1B*c4a1b0P\x0C\x1B&f1X\x1B&f4X\x0C\x0C",
+        b"\x1B%-12345X@PJL SET COPIES=3\r\n@PJL INQUIRE COPIES\r\n@PJL DINQUIRE COPIES\r\n",
+        b"\x1B%-12345X\x1B\x01@PJL ECHO x\n",
+        b"\x1B*t75R\x1B*r1A\x1B*b1W\x80\x0C",
+        b"\x1B&l1O\x1B*p0x0Y\x1B*c3a2b0P\x0C",
+        b"\x1B*c50G\x1B*p0x0Y\x1B*c4a1b2P\x0C",
+        b"\x1B&l1S\x0C\x1BE",
+        b"\x1B%-12345X@PJL USTATUS PAGE=ON\n@PJL ENTER LANGUAGE=PCL\n\x0C",
+    ];
+    for stream in &streams {
+        goes_there_and_back(&rt, stream)?;
+    }
+    Ok(())
+}
+
 #[test]
 fn disassembles_and_assembles(rt: HostRuntime) -> Result<(), Fail> {
     let rows: [(&[u8], &str, &[u8]); 8] = [
