@@ -275,9 +275,9 @@ painted_more old rows bits pattern mode line at skip end index mask source tile 
 -- ---- down a column
 
 -- the rows after the lines below `end`
-pub record PaintedAbove (old rows bits : List ℕ) (pattern : Row) (mode : Mode) (bytes column first skip end : ℕ) : Type 0 where
+pub record PaintedAbove (old rows : List ℕ) (source tile : ℕ → Bool) (mode : Mode) (bytes column first end : ℕ) : Type 0 where
   pub dots : (n c : ℕ) → c < 8 * bytes → row_dot rows (8 * (n * bytes) + c)
-      ≡ mixed_dot ((nat_eq c column && nat_le first n) && nat_lt n end) mode (row_dot bits (skip + (n - first))) (repeated pattern n) (row_dot old (8 * (n * bytes) + c))
+      ≡ mixed_dot ((nat_eq c column && nat_le first n) && nat_lt n end) mode (source n) (tile n) (row_dot old (8 * (n * bytes) + c))
 
 line_before : (b m n : ℕ) → m < n → m * b + b ≤ n * b
 line_before b m n before = omega (arith, mul-le-mul_right {m = suc m} {n = n} b before)
@@ -303,23 +303,33 @@ mask_test c column first n end same from before =
     with_lines : (t : Bool) (first n end : ℕ) → first ≤ n → n < end → t ≡ ((t && nat_le first n) && nat_lt n end)
     with_lines t first n end from before = grind (arith, nat_tests)
 
-not_yet : (c column first n end : ℕ) → end ≤ n → ((nat_eq c column && nat_le first n) && nat_lt n end) ≡ false
-not_yet c column first n end later = grind (arith, nat_tests)
+not_yet : (t : Bool) (first n end : ℕ) → end ≤ n → ((t && nat_le first n) && nat_lt n end) ≡ false
+not_yet t first n end later = grind (arith, nat_tests)
 
 elsewhere_test : (c column first n m : ℕ) → (n ≡ m → c ≡ column → ⊥) → ((nat_eq c column && nat_le first n) && nat_lt n m) ≡ ((nat_eq c column && nat_le first n) && nat_lt n (m + 1))
 elsewhere_test c column first n m not_here = grind (arith, nat_tests)
 
-pub painted_above_more : (old rows bits : List ℕ) (pattern : Row) (mode : Mode) (bytes column first skip i index mask source tile byte : ℕ) → index < length rows → column < 8 * bytes →
+none_above : (t : Bool) (first n : ℕ) → ((t && nat_le first n) && nat_lt n first) ≡ false
+none_above t first n = grind (arith, nat_tests)
+
+pub painted_above_none : (old : List ℕ) (source tile : ℕ → Bool) (mode : Mode) (bytes column first end : ℕ) → end ≡ first → PaintedAbove old old source tile mode bytes column first end
+painted_above_none old source tile mode bytes column first end none = record {
+  dots = λ n c _.
+      sym (ap (λ e. mixed_dot ((nat_eq c column && nat_le first n) && nat_lt n e) mode (source n) (tile n) (row_dot old (8 * (n * bytes) + c))) none
+      ∙ not_mixed _ mode (source n) (tile n) (row_dot old (8 * (n * bytes) + c)) (none_above (nat_eq c column) first n));
+}
+
+pub painted_above_more : (old rows : List ℕ) (source tile : ℕ → Bool) (mode : Mode) (bytes column first i index mask source_byte tile_byte byte : ℕ) → index < length rows → column < 8 * bytes →
     index ≡ (first + i) * bytes + column / 8 →
     ((j : ℕ) → j < 8 → byte_dot mask j ≡ nat_eq j (column % 8)) →
-    ((j : ℕ) → j < 8 → byte_dot source j ≡ row_dot bits (skip + i)) →
-    ((j : ℕ) → j < 8 → byte_dot tile j ≡ repeated pattern (first + i)) →
-    ((j : ℕ) → j < 8 → byte_dot byte j ≡ mixed_dot (byte_dot mask j) mode (byte_dot source j) (byte_dot tile j) (byte_dot (get_or rows index 0) j)) →
-    PaintedAbove old rows bits pattern mode bytes column first skip (first + i) → PaintedAbove old (set rows index byte) bits pattern mode bytes column first skip (first + (i + 1))
-painted_above_more old rows bits pattern mode bytes column first skip i index mask source tile byte within inside is_index masks sources tiles mixed above = record { dots = dot }
+    ((j : ℕ) → j < 8 → byte_dot source_byte j ≡ source (first + i)) →
+    ((j : ℕ) → j < 8 → byte_dot tile_byte j ≡ tile (first + i)) →
+    ((j : ℕ) → j < 8 → byte_dot byte j ≡ mixed_dot (byte_dot mask j) mode (byte_dot source_byte j) (byte_dot tile_byte j) (byte_dot (get_or rows index 0) j)) →
+    PaintedAbove old rows source tile mode bytes column first (first + i) → PaintedAbove old (set rows index byte) source tile mode bytes column first (first + (i + 1))
+painted_above_more old rows source tile mode bytes column first i index mask source_byte tile_byte byte within inside is_index masks sources tiles mixed above = record { dots = dot }
   where
     here_dot : (n c : ℕ) → c < 8 * bytes → (8 * (n * bytes) + c) / 8 ≡ index → row_dot (set rows index byte) (8 * (n * bytes) + c)
-        ≡ mixed_dot ((nat_eq c column && nat_le first n) && nat_lt n (first + (i + 1))) mode (row_dot bits (skip + (n - first))) (repeated pattern n) (row_dot old (8 * (n * bytes) + c))
+        ≡ mixed_dot ((nat_eq c column && nat_le first n) && nat_lt n (first + (i + 1))) mode (source n) (tile n) (row_dot old (8 * (n * bytes) + c))
     here_dot n c low here =
         let p : ℕ = 8 * (n * bytes) + c in
         let bytes_of : n * bytes + c / 8 ≡ (first + i) * bytes + column / 8 = omega arith in
@@ -330,25 +340,25 @@ painted_above_more old rows bits pattern mode bytes column first skip i index ma
         let low_bit : (8 * (n * bytes) + c) % 8 < 8 = omega arith in
         let is_mask : byte_dot mask (p % 8) ≡ ((nat_eq c column && nat_le first n) && nat_lt n (first + (i + 1))) =
         masks (p % 8) low_bit ∙ ap (λ b. nat_eq b (column % 8)) bit ∙ mask_test c column first n (first + (i + 1)) same_byte (omega arith) (omega arith) in
-        let is_source : byte_dot source (p % 8) ≡ row_dot bits (skip + (n - first)) = sources (p % 8) low_bit ∙ ap (λ k. row_dot bits (skip + k)) (omega arith) in
-        let is_tile : byte_dot tile (p % 8) ≡ repeated pattern n = tiles (p % 8) low_bit ∙ ap (repeated pattern) (sym line) in
+        let is_source : byte_dot source_byte (p % 8) ≡ source n = sources (p % 8) low_bit ∙ ap source (sym line) in
+        let is_tile : byte_dot tile_byte (p % 8) ≡ tile n = tiles (p % 8) low_bit ∙ ap tile (sym line) in
         let is_before : byte_dot (get_or rows index 0) (p % 8) ≡ row_dot old p =
         row_dot-of_byte rows index p here
         ∙ above.dots n c low
-        ∙ not_mixed _ mode (row_dot bits (skip + (n - first))) (repeated pattern n) (row_dot old p) (not_yet c column first n (first + i) (omega arith)) in
+        ∙ not_mixed _ mode (source n) (tile n) (row_dot old p) (not_yet (nat_eq c column) first n (first + i) (omega arith)) in
         row_dot-set_same rows index byte p within here
         ∙ mixed (p % 8) low_bit
         ∙ (λ k. mixed_dot (is_mask k) mode (is_source k) (is_tile k) (is_before k))
 
     dot : (n c : ℕ) → c < 8 * bytes → row_dot (set rows index byte) (8 * (n * bytes) + c)
-        ≡ mixed_dot ((nat_eq c column && nat_le first n) && nat_lt n (first + (i + 1))) mode (row_dot bits (skip + (n - first))) (repeated pattern n) (row_dot old (8 * (n * bytes) + c))
+        ≡ mixed_dot ((nat_eq c column && nat_le first n) && nat_lt n (first + (i + 1))) mode (source n) (tile n) (row_dot old (8 * (n * bytes) + c))
     dot n c low =
         elim (cases_eq ((8 * (n * bytes) + c) / 8) index) [
           | inl here ↦ here_dot n c low here
           | inr there ↦
               row_dot-set_other rows index byte (8 * (n * bytes) + c) there
               ∙ above.dots n c low
-              ∙ ap (λ t. mixed_dot t mode (row_dot bits (skip + (n - first))) (repeated pattern n) (row_dot old (8 * (n * bytes) + c)))
+              ∙ ap (λ t. mixed_dot t mode (source n) (tile n) (row_dot old (8 * (n * bytes) + c)))
               (elsewhere_test c column first n (first + i) (λ line place. there (place_of n c line place))
               ∙ ap (λ m. (nat_eq c column && nat_le first n) && nat_lt n m) (next first i))
         ]
@@ -360,3 +370,81 @@ painted_above_more old rows bits pattern mode bytes column first skip i index ma
         place_of n c line place =
             let same_bytes : n * bytes ≡ (first + i) * bytes = ap (λ m. m * bytes) line in
             omega arith
+
+-- ---- down a column, eight dots at a time
+
+begun_of : (t : Bool) (at n end : ℕ) → ((t && nat_le at n) && nat_lt n end) ≡ true → at ≤ n
+begun_of t at n end test = grind (arith, nat_tests)
+
+left_of : (t : Bool) (at n end : ℕ) → ((t && nat_le at n) && nat_lt n end) ≡ true → n < end
+left_of t at n end test = grind (arith, nat_tests)
+
+-- eight dots that were painted are dots of the source and of the pattern
+pub eight_between : (old rows : List ℕ) (source tile : ℕ → Bool) (mode : Mode) (bytes column at count source_byte tile_byte : ℕ) → count ≤ 8 →
+    ((j : ℕ) → j < 8 → byte_dot source_byte j ≡ source (at + j)) →
+    ((j : ℕ) → j < 8 → byte_dot tile_byte j ≡ tile (at + j)) →
+    ((n c : ℕ) → c < 8 * bytes → row_dot rows (8 * (n * bytes) + c)
+    ≡ mixed_dot ((nat_eq c column && nat_le at n) && nat_lt n (at + count)) mode (byte_dot source_byte (n - at)) (byte_dot tile_byte (n - at)) (row_dot old (8 * (n * bytes) + c))) →
+    PaintedAbove old rows source tile mode bytes column at (at + count)
+eight_between old rows source tile mode bytes column at count source_byte tile_byte few sources tiles laid = record {
+  dots = λ n c low.
+      let test : Bool = (nat_eq c column && nat_le at n) && nat_lt n (at + count) in
+      let is : (bits : ℕ) (dot : ℕ → Bool) → ((j : ℕ) → j < 8 → byte_dot bits j ≡ dot (at + j)) → test ≡ true → byte_dot bits (n - at) ≡ dot n =
+      λ bits dot dots t.
+          (let begun : at ≤ n = begun_of (nat_eq c column) at n (at + count) t in
+          let left : n < at + count = left_of (nat_eq c column) at n (at + count) t in
+          dots (n - at) (omega arith) ∙ ap dot (omega arith)) in
+      laid n c low
+      ∙ mixed_when test mode (byte_dot source_byte (n - at)) (source n) (byte_dot tile_byte (n - at)) (tile n) (row_dot old (8 * (n * bytes) + c)) (is source_byte source sources) (is tile_byte tile tiles);
+}
+
+-- white dots of a transparent source
+mixed_white : (inside : Bool) (mode : Mode) (pattern before : Bool) → mode.source_opaque ≡ false → before ≡ mixed_dot inside mode false pattern before
+mixed_white true mode pattern before transparent =
+    sym (ap (λ opaque. mixed_dot true (record { source_opaque = opaque; pattern_opaque = mode.pattern_opaque }) false pattern before) transparent)
+mixed_white false mode pattern before transparent = refl
+
+-- eight white dots of a transparent source leave the rows as they are
+pub white_between : (rows : List ℕ) (source tile : ℕ → Bool) (mode : Mode) (bytes column at count : ℕ) → count ≤ 8 → mode.source_opaque ≡ false →
+    ((j : ℕ) → j < 8 → source (at + j) ≡ false) → PaintedAbove rows rows source tile mode bytes column at (at + count)
+white_between rows source tile mode bytes column at count few transparent white = record {
+  dots = λ n c low.
+      let test : Bool = (nat_eq c column && nat_le at n) && nat_lt n (at + count) in
+      let is : test ≡ true → false ≡ source n =
+      λ t.
+          (let begun : at ≤ n = begun_of (nat_eq c column) at n (at + count) t in
+          let left : n < at + count = left_of (nat_eq c column) at n (at + count) t in
+          sym (ap source (omega arith) ∙ white (n - at) (omega arith))) in
+      mixed_white test mode (tile n) (row_dot rows (8 * (n * bytes) + c)) transparent
+      ∙ mixed_when test mode false (source n) (tile n) (tile n) (row_dot rows (8 * (n * bytes) + c)) is (λ _. refl);
+}
+
+same_before : (t : Bool) (first n d e : ℕ) → n < d → d ≤ e → ((t && nat_le first n) && nat_lt n d) ≡ ((t && nat_le first n) && nat_lt n e)
+same_before t first n d e before later = grind (arith, nat_tests)
+
+not_begun_there : (t : Bool) (at n end : ℕ) → n < at → ((t && nat_le at n) && nat_lt n end) ≡ false
+not_begun_there t at n end before = grind (arith, nat_tests)
+
+same_behind : (t : Bool) (first at n end : ℕ) → first ≤ at → at ≤ n → ((t && nat_le at n) && nat_lt n end) ≡ ((t && nat_le first n) && nat_lt n end)
+same_behind t first at n end from behind = grind (arith, nat_tests)
+
+-- lines that are painted below those that are painted
+pub painted_above_then : (old rows rows' : List ℕ) (source tile : ℕ → Bool) (mode : Mode) (bytes column first at end : ℕ) → first ≤ at → at ≤ end →
+    PaintedAbove old rows source tile mode bytes column first at → PaintedAbove rows rows' source tile mode bytes column at end → PaintedAbove old rows' source tile mode bytes column first end
+painted_above_then old rows rows' source tile mode bytes column first at end from later above below = record { dots = dot }
+  where
+    dot : (n c : ℕ) → c < 8 * bytes → row_dot rows' (8 * (n * bytes) + c)
+        ≡ mixed_dot ((nat_eq c column && nat_le first n) && nat_lt n end) mode (source n) (tile n) (row_dot old (8 * (n * bytes) + c))
+    dot n c low =
+        let p : ℕ = 8 * (n * bytes) + c in
+        elim (cases_lt n at) [
+          | inl before ↦
+              below.dots n c low
+              ∙ not_mixed _ mode (source n) (tile n) (row_dot rows p) (not_begun_there (nat_eq c column) at n end before)
+              ∙ above.dots n c low
+              ∙ ap (λ t. mixed_dot t mode (source n) (tile n) (row_dot old p)) (same_before (nat_eq c column) first n at end before later)
+          | inr behind ↦
+              below.dots n c low
+              ∙ (λ i. mixed_dot (same_behind (nat_eq c column) first at n end from behind i) mode (source n) (tile n)
+              ((above.dots n c low ∙ not_mixed _ mode (source n) (tile n) (row_dot old p) (not_yet (nat_eq c column) first n at behind)) i))
+        ]

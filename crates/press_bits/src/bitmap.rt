@@ -169,10 +169,9 @@ impl Bitmap {
     pub fn count_black(&self) -> u32
         ensures { result ≡ count_black self.now }
     {
-        let bytes = line_bytes(self.width);
         let mut black = 0;
         for y in 0..self.height {
-            black += dot_bytes::count_black(&self.rows, 8 * (y as usize * bytes), self.width);
+            black += dot_bytes::count_black(self.line(y));
         }
         black
     }

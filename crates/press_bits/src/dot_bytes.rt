@@ -5,12 +5,20 @@ ghost use Rattle.std.specs.Prelude.{◌≡◌, ℕ, ◌+◌, ◌*◌, ◌^◌, �
 ghost use Rattle.std.specs.List.{count_by, range_with_len};
 ghost use Rattle.press_bits.specs.Mark.{row_dot, byte_dot};
 
+/// Whether dot `j` of a byte is black.
+pub(crate) fn is_dot_black(byte: u8, j: usize) -> bool
+    requires { j < 8 }
+    ensures { result ≡ byte_dot byte j }
+{
+    (byte >> (7 - j)) & 1 == 1
+}
+
 /// Whether dot `i` of the bytes is black.
 pub(crate) fn is_black(bits: &[u8], i: usize) -> bool
     requires { i < 8 * length bits.now }
     ensures { result ≡ row_dot bits.now i }
 {
-    (bits[i / 8] >> (7 - i % 8)) & 1 == 1
+    is_dot_black(bits[i / 8], i % 8)
 }
 
 /// The byte at this index, or eight white dots past the last one.
@@ -34,18 +42,16 @@ pub(crate) fn eight_dots(bits: &[u8], first: usize) -> u8
     ((pair >> (8 - first % 8)) & 255) as u8
 }
 
-/// How many of the `count` dots from dot `first` on are black.
-pub(crate) fn count_black(rows: &[u8], first: usize, count: u32) -> u32
-    requires within { first + count ≤ 8 * length rows.now }
-    requires small { length rows.now < 2 ^ 40 }
-    ensures count { result ≡ count_by (λ x. row_dot rows.now (first + x)) (range_with_len 0 count) }
-    ensures most { result ≤ count }
+/// How many dots of the bytes are black.
+pub(crate) fn count_black(bytes: &[u8]) -> u32
+    requires { length bytes.now < 2 ^ 20 }
+    ensures count { result
+        ≡ count_by (row_dot bytes.now) (range_with_len 0 (8 * length bytes.now)) }
+    ensures most { result ≤ 8 * length bytes.now }
 {
     let mut black = 0;
-    for x in 0..count {
-        if is_black(rows, first + x as usize) {
-            black += 1;
-        }
+    for byte in bytes {
+        black += byte.count_ones();
     }
     black
 }

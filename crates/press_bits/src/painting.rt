@@ -3,7 +3,7 @@ ghost use Rattle.std.specs.Prelude.{◌≡◌, ℕ, ◌+◌, ◌-◌, ◌*◌, �
 ghost use Rattle.press_bits.specs.Mark.{row, row_dot, byte_dot, repeated};
 ghost use Rattle.press_bits.specs.DotRows.{mixed_dot};
 
-use crate::dot_bytes::{eight_dots, is_black};
+use crate::dot_bytes::{eight_dots, is_black, is_dot_black};
 use crate::dot_row::DotRow;
 use crate::mode::Mode;
 
@@ -198,6 +198,71 @@ pub(crate) fn paint_across(
     }
 }
 
+/// Paints at most eight source dots, through as many pattern dots, down a column of lines of `bytes` bytes, from line `first`
+/// on.
+fn paint_eight_down(
+    rows: &mut [u8],
+    bytes: usize,
+    column: usize,
+    first: usize,
+    count: usize,
+    source: u8,
+    tile: u8,
+    mode: Mode,
+)
+    requires few { count ≤ 8 }
+    requires inside { column < 8 * bytes }
+    requires within { (first + count) * bytes ≤ length rows.old }
+    requires small { length rows.old < 2 ^ 40 }
+    ensures { (n c : ℕ) → c < 8 * bytes → row_dot rows.new (8 * (n * bytes) + c)
+        ≡ mixed_dot (c == column && nat_le first n && nat_lt n (first + count)) mode
+        (byte_dot source (n - first)) (byte_dot tile (n - first))
+        (row_dot rows.old (8 * (n * bytes) + c)) }
+{
+    let mask = 0x80 >> (column % 8);
+    let mut index = first * bytes + column / 8;
+    for i in 0..count {
+        let dot = eight_alike(is_dot_black(source, i));
+        let through = eight_alike(is_dot_black(tile, i));
+        rows[index] = mixed_byte(rows[index], dot, through, mask, mode);
+        index += bytes;
+    }
+}
+
+/// Paints a run of source dots, through a pattern of at least eight dots, down a column of lines of `bytes` bytes.
+fn paint_wide_down(
+    rows: &mut [u8],
+    bytes: usize,
+    column: usize,
+    run: Run,
+    source: DotRow<'_>,
+    pattern: DotRow<'_>,
+    mode: Mode,
+)
+    requires inside { column < 8 * bytes }
+    requires within { (run.first + run.count) * bytes ≤ length rows.old }
+    requires small { length rows.old < 2 ^ 40 }
+    requires enough { run.skip + run.count ≤ source.dots }
+    requires wide { 8 ≤ pattern.dots }
+    ensures { (n c : ℕ) → c < 8 * bytes → row_dot rows.new (8 * (n * bytes) + c)
+        ≡ mixed_dot (c == column && nat_le run.first n
+        && nat_lt n (run.first + run.count)) mode
+        (row_dot source.entry.bits.now (run.skip + (n - run.first)))
+        (repeated (row pattern.entry) n) (row_dot rows.old (8 * (n * bytes) + c)) }
+{
+    let mut phase = run.first % pattern.dots;
+    for index in 0..(run.count + 7) / 8 {
+        let done = 8 * index;
+        let dots = eight_dots(source.bits, run.skip + done);
+        if dots != 0 || mode.source_opaque {
+            let count = (run.count - done).min(8);
+            let tile = pattern_byte(pattern, phase);
+            paint_eight_down(rows, bytes, column, run.first + done, count, dots, tile, mode);
+        }
+        phase = further(phase, 8, pattern.dots);
+    }
+}
+
 /// Paints a run of source dots, through a pattern, down a column of lines of `bytes` bytes.
 pub(crate) fn paint_down(
     rows: &mut [u8],
@@ -219,14 +284,14 @@ pub(crate) fn paint_down(
         (row_dot source.entry.bits.now (run.skip + (n - run.first)))
         (repeated (row pattern.entry) n) (row_dot rows.old (8 * (n * bytes) + c)) }
 {
-    let mask = 0x80 >> (column % 8);
-    let mut index = run.first * bytes + column / 8;
-    let mut phase = run.first % pattern.dots;
-    for i in 0..run.count {
-        let dot = eight_alike(is_black(source.bits, run.skip + i));
-        let tile = eight_alike(is_black(pattern.bits, phase));
-        rows[index] = mixed_byte(rows[index], dot, tile, mask, mode);
-        index += bytes;
-        phase = further(phase, 1, pattern.dots);
+    if pattern.dots >= 8 {
+        paint_wide_down(rows, bytes, column, run, source, pattern, mode);
+    } else {
+        let eight_times = eightfold(pattern);
+        let unrolled = DotRow {
+            bits: &eight_times,
+            dots: 8 * pattern.dots,
+        };
+        paint_wide_down(rows, bytes, column, run, source, unrolled, mode);
     }
 }
