@@ -1,5 +1,7 @@
 ghost use Rattle.std.specs.Prelude.{◌*◌, ◌≤◌, length};
 
+use crate::dot_bytes::eight_dots;
+
 /// A row of dots: the first `dots` dots of the bytes. The most significant bit of the first byte is the leftmost dot, and 1
 /// is black.
 ///
@@ -23,5 +25,18 @@ impl DotRow<'static> {
             bits: &[0xFF],
             dots: 8,
         }
+    }
+}
+
+impl DotRow<'_> {
+    ghost use Rattle.std.specs.Prelude.{◌≡◌, ℕ, ◌+◌, ◌<◌};
+    ghost use Rattle.press_bits.specs.Mark.{row, row_dot, byte_dot};
+
+    /// The eight dots from dot `first` on, the first of them in the most significant bit; white past the last byte.
+    pub fn eight_from(self, first: usize) -> u8
+        ensures { (j : ℕ) → j < 8
+            → byte_dot result j ≡ row_dot (row self.entry).bits (first + j) }
+    {
+        eight_dots(self.bits, first)
     }
 }

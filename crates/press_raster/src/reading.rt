@@ -34,8 +34,8 @@ impl Reading {
         }
     }
 
-    /// Eight dots of what is read, from dot `first` on.
-    fn byte(self, source: DotRow<'_>, first: usize) -> u8
+    /// Eight dots of what is read, from dot `first` on, dot by dot.
+    fn byte_by_dots(self, source: DotRow<'_>, first: usize) -> u8
         requires some { 1 ≤ source.dots }
         requires size { 1 ≤ self.size }
         requires small { first < 2 ^ 60 }
@@ -47,6 +47,21 @@ impl Reading {
             byte = byte * 2 + if black { 1 } else { 0 };
         }
         byte
+    }
+
+    /// Eight dots of what is read, from dot `first` on.
+    fn byte(self, source: DotRow<'_>, first: usize) -> u8
+        requires some { 1 ≤ source.dots }
+        requires size { 1 ≤ self.size }
+        requires small { first < 2 ^ 60 }
+        ensures { result ≡ byte_where (λ j. read_dot self (row source.entry) (first + j)) }
+    {
+        if let Some(last) = self.last {
+            if self.size == 1 && first + 7 <= last && last - first < source.dots {
+                return source.eight_from(last - first - 7).reverse_bits();
+            }
+        }
+        self.byte_by_dots(source, first)
     }
 
     /// Reads as many dots as there is room for.

@@ -1,11 +1,9 @@
-use Rattle.std.proofs.Common.{◌≡◌, ◌+◌, ap, sym, ◌∙◌, ℕ, Bool, arith}
+use Rattle.std.proofs.Common.{◌∙◌}
 use Rattle.press_bits.specs.Mark.{row}
-use Rattle.press_pattern.proofs.ByteLemmas.{first_dots, byte_where-first_dots}
-use Rattle.press_raster.specs.Reading.{read_dot}
+use Rattle.press_raster.proofs.ReadingLemmas.{reverse_bits-read}
 use Rattle.press_raster.proofs.reading.Reading.byte.Goals as goal
 
-pub returns : goal.returns
-returns c =
-    let rule : ℕ → Bool = λ j. read_dot c.args.self (row c.args.source) (c.args.first + j) in
-    let eight : c.loop-j.j ≡ 8 = omega arith in
-    c.loop-j.invariant.0 ∙ ap (first_dots rule) eight ∙ sym (byte_where-first_dots rule)
+pub returns-then-last-first : goal.returns-then-last-first
+returns-then-last-first c =
+    c.reverse_bits.ensures
+    ∙ reverse_bits-read (row c.args.source) c.eight_from.result c.args.first c.in-Some.last c.args.self c.in-Some.is c.if-self-eq1.true c.if-first-last.true c.if-last-first.true c.eight_from.ensures

@@ -2,7 +2,7 @@ use Rattle.std.proofs.Common.{◌≡◌, ◌+◌, ◌<◌, ◌^◌}
 use Rattle.press_bits.specs.Mark.{row}
 use Rattle.press_pattern.proofs.ByteLemmas.{first_dots}
 use Rattle.press_raster.specs.Reading.{read_dot}
-use Rattle.press_raster.proofs.reading.Reading.byte.Given as goal
+use Rattle.press_raster.proofs.reading.Reading.byte_by_dots.Given as goal
 
 -- the dots so far, as a number
 abbrev pub invariant-loop-j : goal.invariant-loop-j
