@@ -1,4 +1,4 @@
-ghost use Rattle.std.specs.Prelude.{◌≡◌, OnOk, OnErr};
+ghost use Rattle.std.specs.Prelude.{◌≡◌, None, IsOk, OnOk, OnErr};
 ghost use Rattle.press_bits.specs.Mark.{painted};
 ghost use Rattle.press_pattern.specs.Ink.{ink_of};
 ghost use Rattle.press_fill.specs.Fill.{fill_mark, filled};
@@ -62,7 +62,7 @@ fn fill_with(
 ///
 /// # Errors
 ///
-/// Where memory ran out; the page is then as it was.
+/// Where memory ran out for a pattern that exists; the page is then as it was.
 ///
 /// Source: PCL 5 Printer Language Technical Reference Manual, Rectangular Area Fill Graphics, and The PCL Print Model.
 pub fn fill(
@@ -75,6 +75,8 @@ pub fn fill(
 ) -> Result<(), AllocError>
     ensures filled { OnOk result (page.new ≡ filled environment.now.paper.orientation area
         (ink_of patterns.now pattern mode) page.old) }
+    // a pattern that does not exist takes no memory
+    ensures missing { ink_of patterns.now pattern mode ≡ None → IsOk result }
     ensures unchanged { OnErr result (page.new ≡ page.old) }
 {
     let Some(ink) = patterns.ink(pattern, mode) else {

@@ -1,6 +1,6 @@
 //! Raster graphics, and the transfer of its rows.
 
-ghost use Rattle.std.specs.Prelude.{◌≡◌, ◌<◌, ◌^◌, None, IfOk, OnOk, OnErr, is_some, unsigned_abs};
+ghost use Rattle.std.specs.Prelude.{◌≡◌, ◌<◌, ◌^◌, false, None, IfOk, IsOk, OnOk, OnErr, is_some, unsigned_abs};
 ghost use Rattle.press_raster.specs.Graphics.{position_of, started, moved_down, is_within, takes_row};
 ghost use Rattle.press_raster.specs.Transfer.{corner, page_with_row, transferred};
 
@@ -172,7 +172,7 @@ impl Raster {
     ///
     /// # Errors
     ///
-    /// Where memory ran out; page and raster graphics are then as they were.
+    /// Where memory ran out for a row that is taken; page and raster graphics are then as they were.
     ///
     /// Source: PCL 5 Printer Language Technical Reference Manual, Raster Graphics, Transfer Raster Data by Row command.
     pub fn transfer(
@@ -187,6 +187,8 @@ impl Raster {
         ensures painted { OnOk result (page.new
             ≡ page_with_row place.now settings ink.now «data».now self.old page.old) }
         ensures seed { OnOk result (self.new ≡ transferred place.now settings «data».now self.old) }
+        // a row without effect takes no memory
+        ensures untaken { takes_row settings self.old ≡ false → IsOk result }
         ensures same_page { OnErr result (page.new ≡ page.old) }
         ensures same_raster { OnErr result (self.new ≡ self.old) }
     {
