@@ -88,15 +88,18 @@ ones_of_byte : (b : ℕ) → b < 256 → count_ones b ≡ bit_at b 7 + bit_at b 
 ones_of_byte b small =
     let past : b / 256 ≡ 0 = omega arith in
     let none : count_ones (b / 256) ≡ 0 = ap count_ones past ∙ bit_ones 0 (omega arith) in
-    omega (arith, none,
-    ones_halved b b 0 (b / 2) (omega arith) refl,
-    ones_halved b (b / 2) 1 (b / 4) (omega arith) (omega arith),
-    ones_halved b (b / 4) 2 (b / 8) (omega arith) (omega arith),
-    ones_halved b (b / 8) 3 (b / 16) (omega arith) (omega arith),
-    ones_halved b (b / 16) 4 (b / 32) (omega arith) (omega arith),
-    ones_halved b (b / 32) 5 (b / 64) (omega arith) (omega arith),
-    ones_halved b (b / 64) 6 (b / 128) (omega arith) (omega arith),
-    ones_halved b (b / 128) 7 (b / 256) (omega arith) (omega arith))
+    omega (
+      arith,
+      none,
+      ones_halved b b 0 (b / 2) (omega arith) refl,
+      ones_halved b (b / 2) 1 (b / 4) (omega arith) (omega arith),
+      ones_halved b (b / 4) 2 (b / 8) (omega arith) (omega arith),
+      ones_halved b (b / 8) 3 (b / 16) (omega arith) (omega arith),
+      ones_halved b (b / 16) 4 (b / 32) (omega arith) (omega arith),
+      ones_halved b (b / 32) 5 (b / 64) (omega arith) (omega arith),
+      ones_halved b (b / 64) 6 (b / 128) (omega arith) (omega arith),
+      ones_halved b (b / 128) 7 (b / 256) (omega arith) (omega arith),
+    )
 
 -- one dot more is counted
 dot_more : (bytes : List ℕ) (k i j n n' : ℕ) → i + j ≡ 7 → n ≡ 8 * k + j → n' ≡ n + 1 →
@@ -114,15 +117,18 @@ dot_more bytes k i j n n' turned place next =
 pub byte_more : (bytes : List ℕ) (k : ℕ) → get_or bytes k 0 < 256 →
     count_by (row_dot bytes) (range_with_len 0 (8 * (k + 1))) ≡ count_by (row_dot bytes) (range_with_len 0 (8 * k)) + count_ones (get_or bytes k 0)
 byte_more bytes k small =
-    omega (arith, ones_of_byte (get_or bytes k 0) small,
-    dot_more bytes k 7 0 (8 * k) (8 * k + 1) refl (omega arith) refl,
-    dot_more bytes k 6 1 (8 * k + 1) (8 * k + 2) refl refl (omega arith),
-    dot_more bytes k 5 2 (8 * k + 2) (8 * k + 3) refl refl (omega arith),
-    dot_more bytes k 4 3 (8 * k + 3) (8 * k + 4) refl refl (omega arith),
-    dot_more bytes k 3 4 (8 * k + 4) (8 * k + 5) refl refl (omega arith),
-    dot_more bytes k 2 5 (8 * k + 5) (8 * k + 6) refl refl (omega arith),
-    dot_more bytes k 1 6 (8 * k + 6) (8 * k + 7) refl refl (omega arith),
-    dot_more bytes k 0 7 (8 * k + 7) (8 * (k + 1)) refl refl (omega arith))
+    omega (
+      arith,
+      ones_of_byte (get_or bytes k 0) small,
+      dot_more bytes k 7 0 (8 * k) (8 * k + 1) refl (omega arith) refl,
+      dot_more bytes k 6 1 (8 * k + 1) (8 * k + 2) refl refl (omega arith),
+      dot_more bytes k 5 2 (8 * k + 2) (8 * k + 3) refl refl (omega arith),
+      dot_more bytes k 4 3 (8 * k + 3) (8 * k + 4) refl refl (omega arith),
+      dot_more bytes k 3 4 (8 * k + 4) (8 * k + 5) refl refl (omega arith),
+      dot_more bytes k 2 5 (8 * k + 5) (8 * k + 6) refl refl (omega arith),
+      dot_more bytes k 1 6 (8 * k + 6) (8 * k + 7) refl refl (omega arith),
+      dot_more bytes k 0 7 (8 * k + 7) (8 * (k + 1)) refl refl (omega arith),
+    )
 
 -- the black dots of a line are those of its bytes, whose last bits are white
 pub count-line : (page : Page) (y : ℕ) (bytes : List ℕ) → IsLine page y bytes →

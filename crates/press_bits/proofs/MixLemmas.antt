@@ -391,9 +391,9 @@ eight_between old rows source tile mode bytes column at count source_byte tile_b
       let test : Bool = (nat_eq c column && nat_le at n) && nat_lt n (at + count) in
       let is : (bits : ℕ) (dot : ℕ → Bool) → ((j : ℕ) → j < 8 → byte_dot bits j ≡ dot (at + j)) → test ≡ true → byte_dot bits (n - at) ≡ dot n =
       λ bits dot dots t.
-          (let begun : at ≤ n = begun_of (nat_eq c column) at n (at + count) t in
-          let left : n < at + count = left_of (nat_eq c column) at n (at + count) t in
-          dots (n - at) (omega arith) ∙ ap dot (omega arith)) in
+      (let begun : at ≤ n = begun_of (nat_eq c column) at n (at + count) t in
+      let left : n < at + count = left_of (nat_eq c column) at n (at + count) t in
+      dots (n - at) (omega arith) ∙ ap dot (omega arith)) in
       laid n c low
       ∙ mixed_when test mode (byte_dot source_byte (n - at)) (source n) (byte_dot tile_byte (n - at)) (tile n) (row_dot old (8 * (n * bytes) + c)) (is source_byte source sources) (is tile_byte tile tiles);
 }
@@ -412,9 +412,9 @@ white_between rows source tile mode bytes column at count few transparent white 
       let test : Bool = (nat_eq c column && nat_le at n) && nat_lt n (at + count) in
       let is : test ≡ true → false ≡ source n =
       λ t.
-          (let begun : at ≤ n = begun_of (nat_eq c column) at n (at + count) t in
-          let left : n < at + count = left_of (nat_eq c column) at n (at + count) t in
-          sym (ap source (omega arith) ∙ white (n - at) (omega arith))) in
+      (let begun : at ≤ n = begun_of (nat_eq c column) at n (at + count) t in
+      let left : n < at + count = left_of (nat_eq c column) at n (at + count) t in
+      sym (ap source (omega arith) ∙ white (n - at) (omega arith))) in
       mixed_white test mode (tile n) (row_dot rows (8 * (n * bytes) + c)) transparent
       ∙ mixed_when test mode false (source n) (tile n) (tile n) (row_dot rows (8 * (n * bytes) + c)) is (λ _. refl);
 }

@@ -257,7 +257,16 @@ fn paint_wide_down(
         if dots != 0 || mode.source_opaque {
             let count = (run.count - done).min(8);
             let tile = pattern_byte(pattern, phase);
-            paint_eight_down(rows, bytes, column, run.first + done, count, dots, tile, mode);
+            paint_eight_down(
+                rows,
+                bytes,
+                column,
+                run.first + done,
+                count,
+                dots,
+                tile,
+                mode,
+            );
         }
         phase = further(phase, 8, pattern.dots);
     }

@@ -56,12 +56,12 @@ unfolding byte_dot
 reverse_bits-byte_where byte rule dots =
     reverse_bits_onto-first_dots 8 0 byte rule
     (λ i low.
-        (let place : i ≡ 7 - (7 - i) = omega (arith, low) in
-        let from : i ≡ 0 + i = omega arith in
-        ap (bit_at byte) place
-        ∙ bit_of_test (bit_at byte (7 - (7 - i))) (bit_at-lt byte (7 - (7 - i)))
-        ∙ ap bit_of (dots i low)
-        ∙ ap (λ p. bit_of (rule p)) from))
+    (let place : i ≡ 7 - (7 - i) = omega (arith, low) in
+    let from : i ≡ 0 + i = omega arith in
+    ap (bit_at byte) place
+    ∙ bit_of_test (bit_at byte (7 - (7 - i))) (bit_at-lt byte (7 - (7 - i)))
+    ∙ ap bit_of (dots i low)
+    ∙ ap (λ p. bit_of (rule p)) from))
     ∙ sym (byte_where-first_dots rule)
 
 -- eight dots of a row that are read backwards, each once
@@ -72,13 +72,13 @@ unfolding repeated
 reverse_bits-read source byte first last reading back once begun within dots =
     reverse_bits-byte_where byte (λ j. read_dot reading source (first + j))
     (λ j low.
-        (let turned : 7 - j < 8 = omega arith in
-        let place : last - first - 7 + (7 - j) ≡ last - (first + j) = omega (arith, low, begun) in
-        let whole : last - (first + j) ≡ (last - (first + j)) / 1 = omega arith in
-        let inside : (last - (first + j)) / 1 < source.dots = omega (arith, low, begun, within) in
-        dots (7 - j) turned
-        ∙ ap (row_dot source.bits) (place ∙ whole ∙ sym (mod-eq_of_lt inside))
-        ∙ (λ t. row_dot source.bits (place_from (sym back t) (first + j) / sym once t % source.dots))))
+    (let turned : 7 - j < 8 = omega arith in
+    let place : last - first - 7 + (7 - j) ≡ last - (first + j) = omega (arith, low, begun) in
+    let whole : last - (first + j) ≡ (last - (first + j)) / 1 = omega arith in
+    let inside : (last - (first + j)) / 1 < source.dots = omega (arith, low, begun, within) in
+    dots (7 - j) turned
+    ∙ ap (row_dot source.bits) (place ∙ whole ∙ sym (mod-eq_of_lt inside))
+    ∙ (λ t. row_dot source.bits (place_from (sym back t) (first + j) / sym once t % source.dots))))
 
 -- ---- dots along a line
 

@@ -1,6 +1,6 @@
 //! Rows of dots that are read with each dot so many times, forward or backwards.
 
-ghost use Rattle.std.specs.Prelude.{◌≡◌, ℕ, ◌+◌, ◌*◌, ◌^◌, ◌<◌, ◌≤◌, length};
+ghost use Rattle.std.specs.Prelude.{◌≡◌, ℕ, ◌+◌, ◌*◌, ◌%◌, ◌^◌, ◌<◌, ◌≤◌, length};
 ghost use Rattle.press_bits.specs.Mark.{row, row_dot, repeated};
 ghost use Rattle.press_pattern.specs.Tiling.{byte_where};
 ghost use Rattle.press_raster.specs.Reading.{place_from, read_dot};
@@ -14,12 +14,21 @@ pub(crate) struct Reading {
     pub(crate) last: Option<usize>,
 }
 
+/// Where dot `i` of so many dots that are repeated without end stands.
+fn place_in(i: usize, dots: usize) -> usize
+    requires { 1 ≤ dots }
+    ensures place { result ≡ i % dots }
+    ensures inside { result < dots }
+{
+    if i < dots { i } else { i % dots }
+}
+
 /// Whether dot `i` of a row that is repeated without end is black.
 fn is_black(source: DotRow<'_>, i: usize) -> bool
     requires { 1 ≤ source.dots }
     ensures { result ≡ repeated (row source.entry) i }
 {
-    let place = i % source.dots;
+    let place = place_in(i, source.dots);
     (source.bits[place / 8] >> (7 - place % 8)) & 1 == 1
 }
 
