@@ -1,2 +1,3 @@
+pub mod FuseLemmas
 pub mod SendingLemmas
 pub mod TemplateLemmas

@@ -4,7 +4,9 @@ use Rattle.std.specs.String.{string_bytes}
 use Rattle.press_sink.specs.declared.sheet.Delivery.{Delivery}
 use Rattle.press_sink.specs.declared.list_sink.ListSink.{ListSink}
 use Rattle.press_sink.specs.declared.list_replies.ListReplies.{ListReplies}
+use Rattle.press_sink.specs.declared.fuse_replies.FuseReplies.{FuseReplies}
 use Rattle.press_sink.specs.declared.fuse_sink.FuseSink.{FuseSink}
+use Rattle.press_sink.specs.declared.write_replies.WriteReplies.{WriteReplies}
 use Rattle.press_sink.specs.declared.template.Template.{Template}
 use Rattle.press_sink.specs.declared.folder_sink.FolderSink.{FolderSink}
 use Rattle.press_sink.specs.Template.{NameParts}
@@ -34,6 +36,30 @@ left_after (Some (suc left)) = Some left
 -- how many faults a fuse sink had that were its own
 abbrev pub own_faults : {S : Type 0} → FuseSink S → ℕ
 own_faults fuse = fuse.faults
+
+-- the sink to which a fuse of replies passes them on
+abbrev pub inner_replies : {S : Type 0} → FuseReplies S → S
+inner_replies fuse = fuse.sink
+
+-- how many more replies it passes on before the one that has a fault, where that has not been
+abbrev pub replies_left : {S : Type 0} → FuseReplies S → Option ℕ
+replies_left fuse = fuse.left
+
+-- how many bytes of that reply it passes on
+abbrev pub front_of : {S : Type 0} → FuseReplies S → ℕ
+front_of fuse = fuse.front
+
+-- how many faults it had that were its own
+abbrev pub own_reply_faults : {S : Type 0} → FuseReplies S → ℕ
+own_reply_faults fuse = fuse.faults
+
+-- the writer to which replies are written
+abbrev pub reply_writer : {W : Type 0} → WriteReplies W → W
+reply_writer sink = sink.writer
+
+-- how many replies failed there
+abbrev pub write_faults : {W : Type 0} → WriteReplies W → ℕ
+write_faults sink = sink.faults
 
 -- what stands before and behind the place of the number in a template
 abbrev pub parts_of : Template → NameParts

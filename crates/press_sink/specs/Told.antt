@@ -38,6 +38,10 @@ nothing_told faults = record { delivered = None; faults = faults }
 abbrev pub with_own_faults : SheetsTold → ℕ → SheetsTold
 with_own_faults told own = record { delivered = told.delivered; faults = min (told.faults + own) most_faults }
 
+-- the same of replies
+abbrev pub replies_with_own_faults : RepliesTold → ℕ → RepliesTold
+replies_with_own_faults told own = record { replied = told.replied; faults = min (told.faults + own) most_faults }
+
 -- Both sinks can count one more fault.
 pub record CanCount (told : Told) : Type 0 where
   pub sheets : told.sheets.faults < most_faults
@@ -57,3 +61,7 @@ Replies old bytes (Ok _) new = Appends old.replied new.replied bytes × (new.fau
 Replies old bytes (Err reply_errors.ReplyFault) new =
     (front back : List ℕ) × (bytes ≡ front ++ back) × Appends old.replied new.replied front × (old.faults < new.faults)
 Replies old bytes (Err reply_errors.NoMemory) new = Keeps old.replied new.replied × (new.faults ≡ old.faults)
+
+-- A reply was handed on to a sink, whatever that answered.
+abbrev pub HandsOn : RepliesTold → List ℕ → RepliesTold → Type 0
+HandsOn old bytes new = (answer : Result (Unit {0}) ReplyError) × Replies old bytes answer new

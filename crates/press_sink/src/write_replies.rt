@@ -1,0 +1,73 @@
+ghost use Rattle.std.specs.Prelude.{◌≡◌};
+ghost use Rattle.press_pbm.specs.Spelling.{Writes};
+ghost use Rattle.press_sink.specs.Kept.{reply_writer, write_faults};
+
+use crate::fault::ReplyError;
+use crate::sink::ReplySink;
+use std::io::{self, ErrorKind, Write};
+
+/// The most writes of one reply.
+const MOST_WRITES: u32 = u32::MAX;
+
+/// A sink that writes replies to a writer, and counts the replies at which a write failed. It does not flush the writer.
+#[derive(Drop)]
+pub struct WriteReplies<W: Write + Drop> {
+    writer: W,
+    faults: u64,
+}
+
+impl<W: Write + Drop> WriteReplies<W> {
+    /// A sink over a writer, without a fault so far.
+    pub fn new(writer: W) -> Self
+        ensures writer { reply_writer result ≡ writer }
+        ensures faults { write_faults result ≡ 0 }
+    {
+        WriteReplies { writer, faults: 0 }
+    }
+
+    /// The writer.
+    pub fn into_inner(self) -> W
+        ensures { result ≡ reply_writer self }
+    {
+        let WriteReplies { writer, faults: _ } = self;
+        writer
+    }
+}
+
+/// Writes all the bytes, or a front of them where a write failed.
+fn write_whole<W: Write>(writer: &mut W, bytes: &[u8]) -> io::Result<()>
+    ensures { Writes result (W.contents writer.old) (W.contents writer.new) bytes.now }
+{
+    let mut rest = bytes;
+    for _ in 0..MOST_WRITES {
+        if rest.is_empty() {
+            return Ok(());
+        }
+        match writer.write(rest) {
+            Ok(0) => return Err(io::Error::from(ErrorKind::WriteZero)),
+            Ok(count) => rest = &rest[count..],
+            Err(error) => {
+                if error.kind() != ErrorKind::Interrupted {
+                    return Err(error);
+                }
+            }
+        }
+    }
+    Err(io::Error::from(ErrorKind::Interrupted))
+}
+
+impl<W: Write + Drop> ReplySink for WriteReplies<W> {
+    ghost told = { λ sink. record { replied = W.contents sink.writer; faults = sink.faults } };
+
+    fn faults(&self) -> u64 {
+        self.faults
+    }
+
+    fn reply(&mut self, bytes: &[u8]) -> Result<(), ReplyError> {
+        if write_whole(&mut self.writer, bytes).is_ok() {
+            return Ok(());
+        }
+        self.faults += 1;
+        Err(ReplyError::ReplyFault)
+    }
+}
