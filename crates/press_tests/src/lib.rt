@@ -21,6 +21,8 @@ mod macros;
 #[cfg(test)]
 mod patterns;
 #[cfg(test)]
+mod pjl;
+#[cfg(test)]
 mod placement;
 #[cfg(test)]
 mod positions;
@@ -28,6 +30,8 @@ mod positions;
 mod queue;
 #[cfg(test)]
 mod raster;
+#[cfg(test)]
+mod replies;
 #[cfg(test)]
 mod rows;
 #[cfg(test)]

@@ -1,0 +1,107 @@
+//! Replies to a writer, and replies of which one fails.
+use press_pbm::FuseWrite;
+use press_sink::{FuseReplies, ListReplies, ReplyError, ReplySink, WriteReplies};
+use std::io::{self, Write};
+use std::process::Abort;
+use std::test::Fail;
+
+/// A writer that takes so many bytes at most in one call, and keeps them.
+#[derive(Drop)]
+struct Slow {
+    bytes: Vec<u8>,
+    most: usize,
+}
+
+impl Write for Slow {
+    ghost use Rattle.std.specs.Prelude.{Some};
+
+    ghost contents = { λ slow. Some slow.bytes.items };
+
+    fn write(&mut self, buf: &[u8]) -> io::Result<usize> {
+        let count = buf.len().min(self.most);
+        self.bytes.extend_from_slice(&buf[..count])?;
+        Ok(count)
+    }
+
+    fn flush(&mut self) -> io::Result<()> {
+        Ok(())
+    }
+}
+
+/// Hands over a reply, and tells whether the sink had a fault.
+fn has_fault<S: ReplySink>(rt: &impl Abort, sink: &mut S, bytes: &[u8]) -> bool {
+    assert!(rt; sink.faults() < u64::MAX);
+    matches!(sink.reply(bytes), Err(ReplyError::ReplyFault))
+}
+
+#[test]
+fn replies_are_written_whole(rt: HostRuntime) -> Result<(), Fail> {
+    for most in 1..8 {
+        let bytes = Vec::with_capacity(rt.alloc(), 16)?;
+        let mut sink = WriteReplies::new(Slow { bytes, most });
+        sink.reply(b"one")?;
+        sink.reply(b"")?;
+        sink.reply(b" and two")?;
+        assert_eq!(rt; sink.faults(), 0);
+        assert_eq!(rt;
+            sink.into_inner().bytes.as_slice(),
+            b"one and two".as_slice()
+        );
+    }
+    Ok(())
+}
+
+#[test]
+fn each_write_may_fail(rt: HostRuntime) -> Result<(), Fail> {
+    for calls in 0..6 {
+        let bytes = Vec::with_capacity(rt.alloc(), 16)?;
+        let mut sink = WriteReplies::new(FuseWrite::new(Slow { bytes, most: 2 }, calls));
+        assert!(rt; has_fault(&rt, &mut sink, b"abcde") == (calls < 3));
+        assert!(rt; has_fault(&rt, &mut sink, b"fghij") == (3 <= calls));
+        assert_eq!(rt; sink.faults(), 1);
+        let written: &[u8] = match calls {
+            0 => b"fghij",
+            1 => b"abfghij",
+            2 => b"abcdfghij",
+            3 => b"abcde",
+            4 => b"abcdefg",
+            _ => b"abcdefghi",
+        };
+        assert_eq!(rt; sink.into_inner().into_inner().bytes.as_slice(), written);
+    }
+    Ok(())
+}
+
+#[test]
+fn a_writer_that_takes_nothing_is_a_fault(rt: HostRuntime) -> Result<(), Fail> {
+    let bytes = Vec::new(rt.alloc());
+    let mut sink = WriteReplies::new(Slow { bytes, most: 0 });
+    assert!(rt; has_fault(&rt, &mut sink, b"a"));
+    assert!(rt; has_fault(&rt, &mut sink, b"b"));
+    assert_eq!(rt; sink.faults(), 2);
+    assert!(rt; !has_fault(&rt, &mut sink, b""));
+    assert_eq!(rt; sink.faults(), 2);
+    Ok(())
+}
+
+#[test]
+fn one_reply_alone_has_a_fault(rt: HostRuntime) -> Result<(), Fail> {
+    let rows: [(u64, usize, &[u8]); 5] = [
+        (0, 0, b"twothree"),
+        (0, 2, b"ontwothree"),
+        (1, 9, b"onetwothree"),
+        (2, 1, b"onetwot"),
+        (3, 1, b"onetwothree"),
+    ];
+    let replies: [&[u8]; 3] = [b"one", b"two", b"three"];
+    for (fails_at, front, wanted) in rows {
+        let mut fuse = FuseReplies::new(ListReplies::new(rt.alloc()), fails_at, front);
+        for (place, reply) in replies.iter().enumerate() {
+            let fault = has_fault(&rt, &mut fuse, *reply);
+            assert_eq!(rt; fault, place as u64 == fails_at);
+        }
+        assert_eq!(rt; fuse.faults(), u64::from(fails_at < 3));
+        assert_eq!(rt; fuse.sink().bytes(), wanted);
+    }
+    Ok(())
+}
