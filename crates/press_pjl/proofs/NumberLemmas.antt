@@ -1,5 +1,5 @@
 -- Numbers that were cut to one above the most.
-use Rattle.std.proofs.Common.{◌≡◌, ◌≤◌, ℕ, min, None, nat_le, ◌⊎◌, inl, inr, ap, refl, sym, ◌∙◌, arith}
+use Rattle.std.proofs.Common.{◌≡◌, ℕ, min, arith}
 use Rattle.std.proofs.lemmas.Grind.{common_steps}
 use Rattle.press_pjl.specs.Variables.{within}
 

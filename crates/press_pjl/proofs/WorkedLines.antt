@@ -1,13 +1,12 @@
 -- Worked lines of the job language, computed on the definitions.
-use Rattle.std.proofs.Common.{◌≡◌, ℕ, List, [], ◌∷◌, ◌++◌, map, true, false, Option, Some, None, refl, codes}
+use Rattle.std.proofs.Common.{◌≡◌, ℕ, List, [], ◌∷◌, ◌++◌, map, true, false, refl, codes}
 use Rattle.std.specs.Fmt.{digits}
 use Rattle.press_page.specs.Environment.{factory}
-use Rattle.press_page.specs.declared.defaults.Defaults.{Defaults}
 use Rattle.press_page.specs.declared.paper.PageSize.TheVariants.{A4}
 use Rattle.press_page.specs.declared.paper.Orientation.TheVariants.{Landscape}
-use Rattle.press_pjl.specs.Variables.{entry_of, all_variables, value_text}
-use Rattle.press_pjl.specs.Replies.{page_reply, echo_of}
-use Rattle.press_pjl.specs.Lines.{Done, effect, power_on, nothing, replies, sets_current, sets_default, starts_job, initializes, switches, after_line}
+use Rattle.press_pjl.specs.Variables.{entry_of, all_variables}
+use Rattle.press_pjl.specs.Replies.{page_reply}
+use Rattle.press_pjl.specs.Lines.{Done, effect, power_on, nothing, replies, sets_current, sets_default, switches, after_line}
 use Rattle.press_pjl.specs.declared.effect.Facts.{Facts}
 use Rattle.press_pjl.specs.declared.environment.PjlEnv.{PjlEnv}
 

@@ -96,18 +96,18 @@ abbrev pub where_alone : (line : List ℕ) → (PjlEnv → Done) → PjlEnv → 
 where_alone line does env = if length (asked_name line) == 0 then does env else nothing env
 
 -- The reply to a query of a name, by its value if it has one; without a name there is none.
-abbrev pub answer_of : (command name : List ℕ) (value : Option (List ℕ)) → List ℕ
+abbrev pub answer_of : Command → (name : List ℕ) (value : Option (List ℕ)) → List ℕ
 answer_of command name value =
-    if length name == 0 then [] else reply_of command name (unwrap_or value unknown)
+    if length name == 0 then [] else reply_of (command_name command) name (unwrap_or value unknown)
 
 -- to INQUIRE and DINQUIRE: the value of a variable
-abbrev pub inquired : (command line : List ℕ) → Defaults → List ℕ
+abbrev pub inquired : Command → (line : List ℕ) → Defaults → List ℕ
 inquired command line values = answer_of command (asked_name line) (value_text (asked_name line) values)
 
 -- to INFO: what is known of the press
 abbrev pub informed : (line : List ℕ) → Facts → List ℕ
 informed line facts =
-    answer_of (codes "INFO") (asked_name line) (option_map (fact_text facts) (fact_named (asked_name line)))
+    answer_of commands.Info (asked_name line) (option_map (fact_text facts) (fact_named (asked_name line)))
 
 -- what USTATUS switches on or off: PAGE alone
 abbrev pub asked_switch : (line : List ℕ) → Option Bool
@@ -126,8 +126,8 @@ row commands.Set line facts env =
     where_known (assigned (name_of line) (assigned_value line) env.current) sets_current env
 row commands.Default line facts env =
     where_known (assigned (name_of line) (assigned_value line) env.default) sets_default env
-row commands.Inquire line facts env = replies (inquired (codes "INQUIRE") line env.current) env
-row commands.InquireDefault line facts env = replies (inquired (codes "DINQUIRE") line env.default) env
+row commands.Inquire line facts env = replies (inquired commands.Inquire line env.current) env
+row commands.InquireDefault line facts env = replies (inquired commands.InquireDefault line env.default) env
 row commands.Echo line facts env = replies (echo_of (command_rest line)) env
 row commands.Info line facts env = replies (informed line facts) env
 row commands.Status line facts env = where_known (asked_switch line) switches env

@@ -1,5 +1,5 @@
 -- What the press replies (PJL Technical Reference Manual, the replies of status readback commands).
-use Rattle.std.specs.Prelude.{ℕ, List, [], ◌∷◌, ◌++◌, Option, Some, None, unwrap_or, option_map, codes, decimal}
+use Rattle.std.specs.Prelude.{ℕ, List, [], ◌∷◌, ◌++◌, Option, codes, decimal}
 use Rattle.press_cmd.specs.Language.{raised}
 use Rattle.press_pjl.specs.Names.{named}
 use Rattle.press_pjl.specs.declared.effect.Facts.{Facts}

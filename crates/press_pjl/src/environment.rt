@@ -4,7 +4,7 @@ ghost use Rattle.press_pjl.specs.Lines.{effect, asked_name, asked_switch, inquir
 use crate::command::Command;
 use crate::effect::{Facts, PjlEffect, ReplyBytes};
 use crate::fact::Fact;
-use crate::named::find_named;
+use crate::named::{Named, find_named};
 use crate::reply::{REPLY_END, append_front, echo};
 use crate::variable::{SWITCHES, Variable, assigned};
 use press_cmd::pjl;
@@ -72,19 +72,19 @@ fn asked_switch(line: &[u8]) -> Option<bool>
 /// The reply to a query of a variable.
 fn inquire(
     alloc: Global,
-    command: &[u8],
+    command: Command,
     line: &[u8],
     values: &Defaults,
 ) -> Result<ReplyBytes, AllocError>
-    ensures reply { IfOk result (λ reply. reply ≡ inquired command.now line.now values.now) }
-    ensures memory { IsErr result → inquired command.now line.now values.now ≢ [] }
+    ensures reply { IfOk result (λ reply. reply ≡ inquired command line.now values.now) }
+    ensures memory { IsErr result → inquired command line.now values.now ≢ [] }
 {
     let name = asked_name(line);
     let mut out = Vec::new(alloc);
     if name.is_empty() {
         return Ok(ReplyBytes::of(out));
     }
-    append_front(command, name, &mut out)?;
+    append_front(command.name(), name, &mut out)?;
     match Variable::of(name) {
         Some(variable) => variable.append_value(values, &mut out)?,
         None => out.extend_from_slice(&UNKNOWN)?,
@@ -103,7 +103,7 @@ fn inform(alloc: Global, line: &[u8], facts: &Facts) -> Result<ReplyBytes, Alloc
     if name.is_empty() {
         return Ok(ReplyBytes::of(out));
     }
-    append_front(b"INFO", name, &mut out)?;
+    append_front(Command::Info.name(), name, &mut out)?;
     match Fact::of(name) {
         Some(fact) => fact.append(facts, &mut out)?,
         None => out.extend_from_slice(&UNKNOWN)?,
@@ -213,10 +213,8 @@ impl PjlEnv {
             Command::Initialize => Ok(self.initialize(alloc, line)),
             Command::Set => Ok(self.set(alloc, line)),
             Command::Default => Ok(self.set_default(alloc, line)),
-            Command::Inquire => inquire(alloc, b"INQUIRE", line, &self.current).map(replying),
-            Command::InquireDefault => inquire(alloc, b"DINQUIRE", line, &self.default).map(
-                replying,
-            ),
+            Command::Inquire => inquire(alloc, command, line, &self.current).map(replying),
+            Command::InquireDefault => inquire(alloc, command, line, &self.default).map(replying),
             Command::Echo => echo(alloc, pjl::command_of(line).1).map(replying),
             Command::Info => inform(alloc, line, facts).map(replying),
             Command::Status => Ok(self.switch_status(alloc, line)),
