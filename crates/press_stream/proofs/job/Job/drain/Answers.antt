@@ -1,0 +1,28 @@
+use Rattle.std.proofs.Common.{[], ◌∷◌, ◌++◌, ◌∙◌, refl}
+use Rattle.std.proofs.lemmas.Result.{err_from_is_err_and}
+use Rattle.press_stream.proofs.Going.{Goes-none, can_count-then}
+use Rattle.press_stream.proofs.Faults.{Faults-after, Goes-after}
+use Rattle.press_stream.proofs.job.Job.drain.Goals as goal
+
+pub loop-init : goal.loop-init
+loop-init g c = record {
+  given = [];
+  goes = Goes-none c.args.self.now c.args.tag _ c.requires.running;
+  still = refl;
+  can_count = c.requires.can_count;
+}
+
+pub returns-in_err-step : goal.returns-in_err-step
+returns-in_err-step g c =
+    let p = err_from_is_err_and c.from_residual.result c.from_residual.ensures.1 in
+    rw (p.1, p.2) (Faults-after c.args.self.now c.loop.self c.step.new.self [] c.loop.invariant.given c.args.tag _ _ _ _ c.loop.invariant.goes (rw c.in_err-step.was at c.step.ensures))
+
+pub loop-preserved : goal.loop-preserved
+loop-preserved g c =
+    let ran = rw (c.in_ok-step.was, c.in-Ran.is) at c.step.ensures in
+    record {
+      given = c.loop.invariant.given ++ ran.command ∷ [];
+      goes = Goes-after c.args.self.now c.loop.self c.step.new.self [] c.loop.invariant.given (ran.command ∷ []) c.args.tag _ _ _ c.loop.invariant.goes ran.goes;
+      still = ran.still ∙ c.loop.invariant.still;
+      can_count = can_count-then (ran.command ∷ []) c.loop.self.machine c.step.new.self.machine c.args.tag _ _ ran.goes.carried c.loop.invariant.can_count;
+    }

@@ -1,0 +1,144 @@
+-- What a job answers.
+use Rattle.std.specs.Prelude.{◌≡◌, ◌<◌, ℕ, List, [], ◌∷◌, Option, Some, None, IsSome, Result, Ok, Err, false, ◌⊎◌, ⊤}
+use Rattle.std.specs.Io.KnownBytes.{Consumes, IsAtEnd}
+use Rattle.press_cmd.specs.Token.{Token}
+use Rattle.press_cmd.specs.Kinds.{kind_of}
+use Rattle.press_cmd.specs.declared.variant.Kind.{Kind}
+use Rattle.press_scan.specs.Held.{Held}
+use Rattle.press_scan.specs.Gives.{Passes, IsDone}
+use Rattle.press_sink.specs.Told.{Told}
+use Rattle.press_sink.specs.Sending.{AtSheet, AtReply, ForMemory}
+use Rattle.press_engine.specs.declared.machine.Machine.{Machine}
+use Rattle.press_engine.specs.declared.fault.EngineError.{EngineError}
+use Rattle.press_engine.specs.declared.fault.EngineError.TheVariants as engine_errors
+use Rattle.press_stream.specs.declared.fault.JobError.{JobError}
+use Rattle.press_stream.specs.declared.fault.JobError.TheVariants as errors
+use Rattle.press_stream.specs.declared.step.Step.{Step}
+use Rattle.press_stream.specs.declared.step.Step.TheVariants as answers
+use Rattle.press_stream.specs.State.{JobState, IsHungry, IsOver, IsAfterEnd, pushed, most_steps}
+use Rattle.press_stream.specs.Meaning.{Carried, Stopped, Goes, Stops}
+
+-- an engine's error as a job's
+abbrev pub job_error : EngineError → JobError
+job_error engine_errors.SinkFault = errors.SinkFault
+job_error engine_errors.ReplyFault = errors.ReplyFault
+job_error engine_errors.Failed = errors.Failed
+job_error engine_errors.NoMemory = errors.NoMemory
+
+-- One command was handed to an engine.
+abbrev pub CarriesOne : Token → Option Machine → ℕ → Result Kind JobError → Option Machine → Told → Told → Type 0
+CarriesOne command old tag (Ok kind) new before after = (kind ≡ kind_of command) × Carried (command ∷ []) old new tag before after
+CarriesOne command old tag (Err errors.SinkFault) new before after = (new ≡ None) × Stopped (command ∷ []) old tag AtSheet before after
+CarriesOne command old tag (Err errors.ReplyFault) new before after = (new ≡ None) × Stopped (command ∷ []) old tag AtReply before after
+CarriesOne command old tag (Err errors.NoMemory) new before after = (new ≡ None) × Stopped (command ∷ []) old tag ForMemory before after
+CarriesOne command old tag (Err errors.Failed) new before after = (old ≡ None) × (new ≡ None) × (after ≡ before)
+CarriesOne command old tag (Err errors.ReadFault) new before after = ⊥
+CarriesOne command old tag (Err errors.AfterEnd) new before after = ⊥
+
+-- The next command that a scanner holds was handed to an engine; or it holds none, and nothing changed.
+abbrev pub CarriesNext : Held → Option Machine → ℕ → Result (Option Kind) JobError → Held → Option Machine → Told → Told → Type 0
+CarriesNext held old tag (Ok (Some kind)) next new before after =
+    (command : Token) × Passes held command next × CarriesOne command old tag (Ok kind) new before after
+CarriesNext held old tag (Ok None) next new before after = IsDone held × (next ≡ held) × (new ≡ old) × (after ≡ before)
+CarriesNext held old tag (Err error) next new before after =
+    (command : Token) × Passes held command next × CarriesOne command old tag (Err error) new before after
+
+-- A job with these bytes behind what it held stopped at a fault, and has failed for good: of what it owed, so much went out.
+-- A job that had failed before lets nothing out.
+abbrev pub Faults : JobState → List ℕ → ℕ → JobError → JobState → Told → Told → Type 0
+Faults old bytes tag errors.SinkFault new before after = (new.machine ≡ None) × Stops old bytes tag AtSheet before after
+Faults old bytes tag errors.ReplyFault new before after = (new.machine ≡ None) × Stops old bytes tag AtReply before after
+Faults old bytes tag errors.NoMemory new before after = (new.machine ≡ None) × Stops old bytes tag ForMemory before after
+Faults old bytes tag errors.Failed new before after = (old.machine ≡ None) × (new ≡ old) × (after ≡ before)
+Faults old bytes tag errors.ReadFault new before after = ⊥
+Faults old bytes tag errors.AfterEnd new before after = ⊥
+
+-- A piece was pushed: it stands behind what was held; or memory ran out, and the job has failed for good; or it was refused,
+-- and nothing changed.
+abbrev pub Pushes : JobState → List ℕ → Result (Unit {0}) JobError → JobState → Type 0
+Pushes old piece (Ok _) new = IsSome old.machine × (old.held.ended ≡ false) × (new ≡ pushed piece old)
+Pushes old piece (Err errors.NoMemory) new = IsSome old.machine × (old.held.ended ≡ false) × (new.machine ≡ None)
+Pushes old piece (Err errors.Failed) new = (old.machine ≡ None) × (new ≡ old)
+Pushes old piece (Err errors.AfterEnd) new = IsAfterEnd old × (new ≡ old)
+Pushes old piece (Err errors.SinkFault) new = ⊥
+Pushes old piece (Err errors.ReplyFault) new = ⊥
+Pushes old piece (Err errors.ReadFault) new = ⊥
+
+-- whether a job takes more bytes, by what is answered
+abbrev pub IsGoing : JobState → Result (Unit {0}) JobError → Type 0
+IsGoing job (Ok _) = IsSome job.machine × (job.held.ended ≡ false)
+IsGoing job (Err errors.Failed) = job.machine ≡ None
+IsGoing job (Err errors.AfterEnd) = IsAfterEnd job
+IsGoing job (Err errors.SinkFault) = ⊥
+IsGoing job (Err errors.ReplyFault) = ⊥
+IsGoing job (Err errors.ReadFault) = ⊥
+IsGoing job (Err errors.NoMemory) = ⊥
+
+-- a refusal that comes before anything is read
+abbrev pub IsEarly : Result (Unit {0}) JobError → Type 0
+IsEarly (Err errors.Failed) = ⊤
+IsEarly (Err errors.AfterEnd) = ⊤
+IsEarly _ = ⊥
+
+-- One command of this kind was carried out.
+pub record RanOne (old : JobState) (tag : ℕ) (kind : Kind) (new : JobState) (before after : Told) : Type 0 where
+  pub command : Token
+  pub is_kind : kind ≡ kind_of command
+  pub goes : Goes old [] (command ∷ []) tag new before after
+  pub fewer : most_steps new < most_steps old
+  pub still : new.held.ended ≡ old.held.ended
+
+-- A step was taken; or the bytes so far are used up, or no step is left, and nothing changed; or the job stopped at a fault.
+abbrev pub Takes : JobState → ℕ → Result Step JobError → JobState → Told → Told → Type 0
+Takes old tag (Ok (answers.Ran kind)) new before after = RanOne old tag kind new before after
+Takes old tag (Ok answers.Hungry) new before after = IsHungry old × (new ≡ old) × (after ≡ before)
+Takes old tag (Ok answers.Ended) new before after = IsOver old × (new ≡ old) × (after ≡ before)
+Takes old tag (Err error) new before after = Faults old [] tag error new before after
+
+-- the job is hungry, or no step is left
+abbrev pub IsIdle : JobState → Type 0
+IsIdle job = IsHungry job ⊎ IsOver job
+
+-- A job carried out what it holds, until it is hungry or no step is left.
+abbrev pub Drains : JobState → ℕ → Result (Unit {0}) JobError → JobState → Told → Told → Type 0
+Drains old tag (Ok _) new before after =
+    (given : List Token) × Goes old [] given tag new before after × IsIdle new × (new.held.ended ≡ old.held.ended)
+Drains old tag (Err error) new before after = Faults old [] tag error new before after
+
+-- A piece was handed to a job, which carried out the commands so far; or it was refused after the end of input, and nothing
+-- changed.
+abbrev pub Feeds : JobState → List ℕ → ℕ → Result (Unit {0}) JobError → JobState → Told → Told → Type 0
+Feeds old piece tag (Ok _) new before after = (given : List Token) × Goes old piece given tag new before after × IsHungry new
+Feeds old piece tag (Err errors.AfterEnd) new before after = IsAfterEnd old × (new ≡ old) × (after ≡ before)
+Feeds old piece tag (Err error) new before after = Faults old piece tag error new before after
+
+-- The end of input was given to a job, which carried out all that it owed.
+abbrev pub Finishes : JobState → ℕ → Result (Unit {0}) JobError → JobState → Told → Told → Type 0
+Finishes old tag (Ok _) new before after = (given : List Token) × Goes old [] given tag new before after × IsOver new
+Finishes old tag (Err error) new before after = Faults old [] tag error new before after
+
+-- the error that was answered, if one was
+abbrev pub fault_of : {X : Type 0} → Result X JobError → Option JobError
+fault_of (Ok _) = None
+fault_of (Err error) = Some error
+
+-- These bytes were read of a reader and handed to a job, by what the reader had and what it has left: all that it had, where
+-- there was no error.
+pub record Reads (had left : Option (List ℕ)) (error : Option JobError) (bytes : List ℕ) : Type 0 where
+  pub lost : Consumes had left bytes
+  pub at_end : error ≡ None → IsAtEnd left
+
+-- Of these bytes that were read so much was carried out, by what was answered: all, and what is owed at their end; or a read
+-- failed, and their commands so far; or as far as a fault allowed; or nothing after the end of input.
+abbrev pub RunsThrough : JobState → List ℕ → ℕ → Result (Unit {0}) JobError → JobState → Told → Told → Type 0
+RunsThrough old bytes tag (Ok _) new before after = (given : List Token) × Goes old bytes given tag new before after × IsOver new
+RunsThrough old bytes tag (Err errors.ReadFault) new before after =
+    (new.machine ≡ None) × (given : List Token) × (last : JobState) × Goes old bytes given tag last before after × IsHungry last
+RunsThrough old bytes tag (Err errors.AfterEnd) new before after = IsAfterEnd old × (bytes ≡ []) × (new ≡ old) × (after ≡ before)
+RunsThrough old bytes tag (Err error) new before after = Faults old bytes tag error new before after
+
+-- A job ran a stream that a reader had.
+pub record RunsReader (old : JobState) (had left : Option (List ℕ)) (tag : ℕ) (result : Result (Unit {0}) JobError) (new : JobState) (before after : Told) : Type 0 where
+  pub bytes : List ℕ
+  pub read : Reads had left (fault_of result) bytes
+  pub through : RunsThrough old bytes tag result new before after

@@ -1,0 +1,73 @@
+-- A job as callers see it.
+use Rattle.std.specs.Prelude.{◌≡◌, ◌+◌, ℕ, List, [], ◌++◌, Bool, true, false, Option, Some, None, IsSome, length, if◌then◌else◌}
+use Rattle.press_cmd.specs.Mode.{Exit}
+use Rattle.press_cmd.specs.Split.{NoHead}
+use Rattle.press_scan.specs.Held.{Held}
+use Rattle.press_engine.specs.declared.engine.Engine.{Engine}
+use Rattle.press_engine.specs.declared.machine.Machine.{Machine}
+use Rattle.press_engine.specs.Engine.{live}
+use Rattle.press_engine.specs.Machine.{power_on}
+use Rattle.press_stream.specs.declared.phase.Phase.{Phase}
+use Rattle.press_stream.specs.declared.phase.Phase.TheVariants as phases
+
+-- What its scanner holds; its machine, and none once the job has failed; and whether the universal exit that is added at the
+-- end of the stream was carried out.
+pub record JobState : Type 0 where
+  pub held : Held
+  pub machine : Option Machine
+  pub exited : Bool
+
+-- a job at the beginning of a stream
+abbrev pub opened : JobState
+opened = record { held = record { mode = Exit; bytes = []; ended = false }; machine = Some power_on; exited = false }
+
+-- with a piece behind what it holds
+abbrev pub pushed : List ℕ → JobState → JobState
+pushed piece job = record job { held = record job.held { bytes = job.held.bytes ++ piece } }
+
+-- with the end of input given
+abbrev pub ended : JobState → JobState
+ended job = record job { held = record job.held { ended = true } }
+
+-- The commands of the bytes so far are carried out, and more bytes may come.
+pub record IsHungry (job : JobState) : Type 0 where
+  pub running : IsSome job.machine
+  pub going : job.held.ended ≡ false
+  pub short : NoHead job.held.mode job.held.bytes
+
+-- No step is left: the job has not failed, the end of input was given, nothing is held, and the added universal exit was
+-- carried out.
+pub record IsOver (job : JobState) : Type 0 where
+  pub running : IsSome job.machine
+  pub ended : job.held.ended ≡ true
+  pub nothing : job.held.bytes ≡ []
+  pub exited : job.exited ≡ true
+
+-- the job has not failed, and the end of input was given
+abbrev pub IsAfterEnd : JobState → Type 0
+IsAfterEnd job = IsSome job.machine × (job.held.ended ≡ true)
+
+-- so many steps are left at most, where no more bytes come
+abbrev pub most_steps : JobState → ℕ
+most_steps job = length job.held.bytes + (if job.exited then 0 else 1)
+
+-- the machine of an engine in a phase
+abbrev pub machine_in : Phase → Engine → Option Machine
+machine_in phases.Failed engine = None
+machine_in phases.Running engine = live engine
+machine_in phases.Over engine = live engine
+
+abbrev pub is_over : Phase → Bool
+is_over phases.Over = true
+is_over phases.Running = false
+is_over phases.Failed = false
+
+-- what scanner, engine and phase stand for
+abbrev pub state_of : Held → Engine → Phase → JobState
+state_of held engine phase = record { held = held; machine = machine_in phase engine; exited = is_over phase }
+
+-- what is true of them
+abbrev pub Fits : Held → Engine → Phase → Type 0
+Fits held engine phases.Failed = Unit {0}
+Fits held engine phases.Running = IsSome (live engine)
+Fits held engine phases.Over = IsSome (live engine) × (held.ended ≡ true) × (held.bytes ≡ [])

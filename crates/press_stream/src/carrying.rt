@@ -1,0 +1,79 @@
+ghost use Rattle.std.specs.Prelude.{◌≡◌, IsSome, IsOk};
+ghost use Rattle.press_cmd.specs.View.{token};
+ghost use Rattle.press_sink.specs.Told.{both, CanCount};
+ghost use Rattle.press_engine.specs.Engine.{live};
+ghost use Rattle.press_stream.specs.Answers.{CarriesOne, CarriesNext, Takes};
+ghost use Rattle.press_stream.specs.State.{state_of, Fits};
+ghost use Rattle.press_stream.specs.declared.phase.Phase.TheVariants.{Running};
+
+use crate::fault::JobError;
+use crate::phase::Phase;
+use crate::step::Step;
+use press_cmd::{Command, Kind, kind};
+use press_engine::Engine;
+use press_scan::Scanner;
+use press_sink::{ReplySink, SheetSink};
+
+/// Hands one command to an engine. The answer is its kind.
+fn carry<S: SheetSink, P: ReplySink>(
+    engine: &mut Engine,
+    command: Command<'_>,
+    tag: u64,
+    sheets: &mut S,
+    replies: &mut P,
+) -> Result<Kind, JobError>
+    requires can_count { CanCount (both (S.told sheets.old) (P.told replies.old)) }
+    ensures { CarriesOne (token command.entry) (live engine.old) tag result (live engine.new)
+        (both (S.told sheets.old) (P.told replies.old)) (both (S.told sheets.new) (P.told replies.new)) }
+{
+    let kind = kind(&command);
+    engine.run_command(command, tag, sheets, replies)?;
+    Ok(kind)
+}
+
+/// Hands the next command that a scanner holds to an engine, if it holds one. The answer is its kind.
+fn carry_next<S: SheetSink, P: ReplySink>(
+    scanner: &mut Scanner,
+    engine: &mut Engine,
+    tag: u64,
+    sheets: &mut S,
+    replies: &mut P,
+) -> Result<Option<Kind>, JobError>
+    requires can_count { CanCount (both (S.told sheets.old) (P.told replies.old)) }
+    ensures { CarriesNext scanner.old (live engine.old) tag result scanner.new (live engine.new)
+        (both (S.told sheets.old) (P.told replies.old)) (both (S.told sheets.new) (P.told replies.new)) }
+{
+    match scanner.next()? {
+        Some(command) => Ok(Some(carry(engine, command, tag, sheets, replies)?)),
+        None => Ok(None),
+    }
+}
+
+/// Takes a step of a job that runs: the next command, or, where the input ended and nothing is held, the universal exit that
+/// is added, after which the job is over.
+pub fn take<S: SheetSink, P: ReplySink>(
+    scanner: &mut Scanner,
+    engine: &mut Engine,
+    phase: &mut Phase,
+    tag: u64,
+    sheets: &mut S,
+    replies: &mut P,
+) -> Result<Step, JobError>
+    requires running { IsSome (live engine.old) }
+    requires phase { phase.old ≡ Running }
+    requires can_count { CanCount (both (S.told sheets.old) (P.told replies.old)) }
+    ensures takes { Takes (state_of scanner.old engine.old Running) tag result
+        (state_of scanner.new engine.new phase.new)
+        (both (S.told sheets.old) (P.told replies.old)) (both (S.told sheets.new) (P.told replies.new)) }
+    ensures fits { IsOk result → Fits scanner.new engine.new phase.new }
+{
+    if let Some(kind) = carry_next(scanner, engine, tag, sheets, replies)? {
+        return Ok(Step::Ran(kind));
+    }
+    if !scanner.ended() {
+        return Ok(Step::Hungry);
+    }
+    let kind = carry(engine, Command::Uel, tag, sheets, replies)?;
+    *phase = Phase::Over;
+    Ok(Step::Ran(kind))
+}

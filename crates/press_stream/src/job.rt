@@ -1,0 +1,280 @@
+use crate::carrying::take;
+use crate::fault::JobError;
+use crate::phase::Phase;
+use crate::reading::{MOST_READS, PIECE, Piece, ReadCount, read_piece};
+use crate::step::Step;
+use press_engine::{Engine, View};
+use press_scan::Scanner;
+use press_sink::{ReplySink, SheetSink};
+use std::alloc::{AllocError, Global};
+use std::io::Read;
+use std::marker::Model;
+
+/// A stream that is carried out as its pieces come: what a scanner finds in them is handed to an engine.
+///
+/// Contracts see what the scanner holds, the engine's machine (none once the job has failed), and whether the universal exit
+/// that is added at the end of the stream was carried out. Each call speaks from what was held before it; the law
+/// `laws::chain` says that what went out is then that of all bytes handed in.
+///
+/// Every call that is lent sinks delivers sheets under the tag. After `SinkFault` (301), `ReplyFault` (302), `ReadFault`
+/// (304) and `NoMemory` the job has failed, and answers `Failed` (303) from then on.
+#[derive(Drop)]
+pub struct Job {
+    scanner: Scanner,
+    engine: Engine,
+    phase: Phase,
+}
+
+impl Model for Job {
+    ghost use Rattle.press_stream.specs.State.{JobState, state_of, Fits};
+    ghost use Rattle.std.specs.Coded.{codes};
+    ghost use Rattle.press_engine.specs.contracts.machine.Machine as machine;
+
+    ghost Value = { JobState };
+
+    ghost coded = { Prim.hlevel (codes, machine.the_row.coded) };
+
+    ghost view = { λ job. state_of job.scanner job.engine job.phase };
+
+    ghost invariant = { λ job. Fits job.scanner job.engine job.phase };
+}
+
+impl Job {
+    ghost use Rattle.std.specs.Prelude.{◌≡◌, ◌≤◌, ◌⊎◌, ◌↔◌, true, false, None, IfOk, IfSome, IsTrue, IsSome, IsErrOf};
+    ghost use Rattle.press_sink.specs.Told.{both, CanCount};
+    ghost use Rattle.press_engine.specs.Engine.{view_of};
+    ghost use Rattle.press_stream.specs.State.{opened, ended, IsOver};
+    ghost use Rattle.press_stream.specs.Answers.{Pushes, IsGoing, IsEarly, Takes, Drains, Feeds, Finishes, RunsReader};
+    ghost use Rattle.press_stream.specs.Pieces.{most_reads};
+
+    /// A job at the beginning of a stream, with an engine after power on.
+    ///
+    /// # Errors
+    ///
+    /// Where memory ran out.
+    pub fn open(alloc: Global) -> Result<Self, AllocError>
+        ensures { IfOk result (λ job. job ≡ opened) }
+    {
+        Ok(Job {
+            scanner: Scanner::new(alloc),
+            engine: Engine::power_on(alloc)?,
+            phase: Phase::Running,
+        })
+    }
+
+    /// Takes the next piece of the stream, and carries nothing out.
+    ///
+    /// # Errors
+    ///
+    /// `Failed` (303); `AfterEnd` (305): the end of input was given, and nothing changes. After `NoMemory` the job has failed.
+    pub fn push(&mut self, piece: &[u8]) -> Result<(), JobError>
+        ensures { Pushes self.old piece.now result self.new }
+    {
+        self.check_going()?;
+        if self.scanner.feed(piece).is_err() {
+            self.phase = Phase::Failed;
+            return Err(JobError::NoMemory);
+        }
+        Ok(())
+    }
+
+    /// Gives the end of input: what is held is closed, and one universal exit comes after it.
+    pub fn end_input(&mut self)
+        ensures { self.new ≡ ended self.old }
+    {
+        self.scanner.end_input();
+    }
+
+    /// Takes a step: one command is carried out whole, with the bodies that it starts. After the end of input the last step
+    /// is the universal exit that is added. `Hungry`: no whole command is there; `Ended`: no step is left; neither changes
+    /// anything.
+    ///
+    /// # Errors
+    ///
+    /// `SinkFault` (301) and `ReplyFault` (302): a sink had a fault, and nothing came after it. `Failed` (303).
+    pub fn step<S: SheetSink, P: ReplySink>(
+        &mut self,
+        tag: u64,
+        sheets: &mut S,
+        replies: &mut P,
+    ) -> Result<Step, JobError>
+        requires { CanCount (both (S.told sheets.old) (P.told replies.old)) }
+        ensures { Takes self.old tag result self.new
+            (both (S.told sheets.old) (P.told replies.old)) (both (S.told sheets.new) (P.told replies.new)) }
+    {
+        match self.phase {
+            Phase::Failed => Err(JobError::Failed),
+            Phase::Over => Ok(Step::Ended),
+            Phase::Running => {
+                let answer = take(
+                    &mut self.scanner,
+                    &mut self.engine,
+                    &mut self.phase,
+                    tag,
+                    sheets,
+                    replies,
+                );
+                if answer.is_err() {
+                    self.phase = Phase::Failed;
+                }
+                answer
+            }
+        }
+    }
+
+    /// Whether no step is left. Before the end of input, and in a job that has failed, it is false.
+    pub fn ended(&self) -> bool
+        ensures { IsTrue result ↔ IsOver self.now }
+    {
+        matches!(self.phase, Phase::Over)
+    }
+
+    /// What can be seen of the engine. Of a job that has failed nothing is said.
+    pub fn view(&self) -> View<'_>
+        ensures view { IfSome self.now.machine (λ machine. result ≡ view_of result.stack machine) }
+        ensures stack { IfSome self.now.machine
+            (λ machine. result.stack.now ≡ machine.state.cursor.stack) }
+    {
+        self.engine.view()
+    }
+
+    /// Takes the next piece of the stream, and carries out the commands so far: those of all bytes handed in.
+    ///
+    /// # Errors
+    ///
+    /// `SinkFault` (301) and `ReplyFault` (302): a sink had a fault, and nothing came after it. `Failed` (303). `AfterEnd`
+    /// (305): the end of input was given, and nothing changes.
+    pub fn feed<S: SheetSink, P: ReplySink>(
+        &mut self,
+        piece: &[u8],
+        tag: u64,
+        sheets: &mut S,
+        replies: &mut P,
+    ) -> Result<(), JobError>
+        requires { CanCount (both (S.told sheets.old) (P.told replies.old)) }
+        ensures { Feeds self.old piece.now tag result self.new
+            (both (S.told sheets.old) (P.told replies.old)) (both (S.told sheets.new) (P.told replies.new)) }
+    {
+        self.push(piece)?;
+        self.drain(tag, sheets, replies)
+    }
+
+    /// Gives the end of input, and carries out all that is left: what closes the bytes handed in, and one universal exit.
+    ///
+    /// # Errors
+    ///
+    /// `SinkFault` (301) and `ReplyFault` (302): a sink had a fault, and nothing came after it. `Failed` (303).
+    pub fn finish<S: SheetSink, P: ReplySink>(
+        &mut self,
+        tag: u64,
+        sheets: &mut S,
+        replies: &mut P,
+    ) -> Result<(), JobError>
+        requires { CanCount (both (S.told sheets.old) (P.told replies.old)) }
+        ensures { Finishes self.old tag result self.new
+            (both (S.told sheets.old) (P.told replies.old)) (both (S.told sheets.new) (P.told replies.new)) }
+    {
+        if matches!(self.phase, Phase::Failed) {
+            return Err(JobError::Failed);
+        }
+        self.end_input();
+        self.drain(tag, sheets, replies)
+    }
+
+    /// Reads the rest of a stream to its end, and carries it out piece by piece: the commands of a piece before the next one
+    /// is read. It reads at most 4,294,967,295 times; a read that was interrupted is one of them.
+    ///
+    /// # Errors
+    ///
+    /// `SinkFault` (301) and `ReplyFault` (302): a sink had a fault, and nothing came after it. `Failed` (303) and `AfterEnd`
+    /// (305), where the end of input was given: nothing was read. `ReadFault` (304): a read failed, or one more would be too
+    /// many; the commands of the bytes so far were carried out.
+    pub fn run<R: Read, S: SheetSink, P: ReplySink>(
+        &mut self,
+        reader: &mut R,
+        tag: u64,
+        sheets: &mut S,
+        replies: &mut P,
+    ) -> Result<(), JobError>
+        requires { CanCount (both (S.told sheets.old) (P.told replies.old)) }
+        ensures runs { RunsReader self.old (R.remaining reader.old) (R.remaining reader.new) tag result self.new
+            (both (S.told sheets.old) (P.told replies.old)) (both (S.told sheets.new) (P.told replies.new)) }
+        ensures unread { IsEarly result → reader.new ≡ reader.old }
+    {
+        self.check_going()?;
+        let mut count = ReadCount {
+            reads: 0,
+            failed: false,
+        };
+        self.run_counted(reader, &mut count, tag, sheets, replies)
+    }
+
+    /// The job has not failed, and the end of input was not given.
+    fn check_going(&self) -> Result<(), JobError>
+        ensures { IsGoing self.now result }
+    {
+        let ended = self.scanner.ended();
+        match self.phase {
+            Phase::Failed => Err(JobError::Failed),
+            _ if ended => Err(JobError::AfterEnd),
+            _ => Ok(()),
+        }
+    }
+
+    /// Takes steps until there is none to take.
+    fn drain<S: SheetSink, P: ReplySink>(
+        &mut self,
+        tag: u64,
+        sheets: &mut S,
+        replies: &mut P,
+    ) -> Result<(), JobError>
+        requires running { IsSome self.old.machine }
+        requires can_count { CanCount (both (S.told sheets.old) (P.told replies.old)) }
+        ensures { Drains self.old tag result self.new
+            (both (S.told sheets.old) (P.told replies.old)) (both (S.told sheets.new) (P.told replies.new)) }
+    {
+        while let Step::Ran(_) = self.step(tag, sheets, replies)? {}
+        Ok(())
+    }
+
+    /// Reads the rest of a stream piece by piece, and counts the reads.
+    fn run_counted<R: Read, S: SheetSink, P: ReplySink>(
+        &mut self,
+        reader: &mut R,
+        count: &mut ReadCount,
+        tag: u64,
+        sheets: &mut S,
+        replies: &mut P,
+    ) -> Result<(), JobError>
+        requires running { IsSome self.old.machine }
+        requires going { self.old.held.ended ≡ false }
+        requires none { count.old.reads ≡ 0 }
+        requires can_count { CanCount (both (S.told sheets.old) (P.told replies.old)) }
+        ensures runs { RunsReader self.old (R.remaining reader.old) (R.remaining reader.new) tag result self.new
+            (both (S.told sheets.old) (P.told replies.old)) (both (S.told sheets.new) (P.told replies.new)) }
+        ensures bound { count.new.reads ≤ most_reads }
+        ensures fault { IsErrOf result JobError.ReadFault
+            → (count.new.failed ≡ true) ⊎ (count.new.reads ≡ most_reads) }
+    {
+        self.drain(tag, sheets, replies)?;
+        let mut piece = [0; PIECE];
+        while count.reads < MOST_READS {
+            match read_piece(reader, &mut piece, count) {
+                Piece::Bytes(0) => return self.finish(tag, sheets, replies),
+                Piece::Bytes(length) => self.feed(&piece[..length], tag, sheets, replies)?,
+                Piece::Interrupted => {}
+                Piece::Failed => return Err(self.read_fault()),
+            }
+        }
+        Err(self.read_fault())
+    }
+
+    /// The job has failed, since a read failed or there were too many.
+    fn read_fault(&mut self) -> JobError
+        ensures failed { self.new.machine ≡ None }
+        ensures fault { result ≡ JobError.ReadFault }
+    {
+        self.phase = Phase::Failed;
+        JobError::ReadFault
+    }
+}
