@@ -1,4 +1,3 @@
-pub mod Carrying
 pub mod Lines
 pub mod PrintedLemmas
 mod WordsLemmas

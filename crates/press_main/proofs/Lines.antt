@@ -8,10 +8,19 @@ use Rattle.press_sink.specs.Sides.{Sides}
 use Rattle.press_sink.specs.declared.sheet.Delivery.{Delivery}
 use Rattle.press_sink.specs.Told.{Told}
 use Rattle.press_sink.specs.Sending.{sheets_of, sheets_in, under_tag, reply_bytes_of}
-use Rattle.press_engine.specs.declared.engine.Engine.{Engine}
-use Rattle.press_main.specs.declared.printing.RunError.{RunError}
+use Rattle.press_stream.specs.declared.fault.JobError.{JobError}
+use Rattle.press_stream.specs.State.{JobState}
+use Rattle.press_stream.specs.Meaning.{meaning_of, at_end}
+use Rattle.press_stream.specs.Answers.{Reads, fault_of}
+use Rattle.press_stream.specs.Printed.{Printed}
 use Rattle.press_main.specs.Listing.{sheet_lines, lines_from, Lists}
-use Rattle.press_main.specs.Printing.{Reads, Printed, machine_of, fault_of, meaning_of, at_end}
+use Rattle.press_main.specs.Printing.{machine_of}
+
+-- the fact of an answer that had no error
+pub at_ok : {X E : Type 0} (P : Type 0) (result : Result X E) (value : X) → OnOk result P → result ≡ Ok value → P
+at_ok {X} {E} P result value h p =
+    let Q : Result X E → Type 0 = λ one. OnOk one P in
+    subst Q p h
 
 -- one sheet more
 lines_from-push : (number : ℕ) (sheets : List Sides) (sheet : Sides) → lines_from number (sheets ++ sheet ∷ []) ≡ lines_from number sheets ++ sheet_lines (number + length sheets) sheet
@@ -48,14 +57,14 @@ same_list one other e = cc
 -- a reader that had no fault was read to its end
 read_all : (bytes : List ℕ) (left : Option (List ℕ)) (read : List ℕ) → Reads (Some bytes) left None read → read ≡ bytes
 read_all bytes None read reads = absurd reads.lost
-read_all bytes (Some rest) read reads = sym (reads.lost ∙ ap (λ last. (read ++ reads.more) ++ last) reads.behind.1 ∙ append-nil (read ++ reads.more) ∙ ap (λ more. read ++ more) reads.behind.0 ∙ append-nil read)
+read_all bytes (Some rest) read reads = sym (reads.lost ∙ ap (λ last. read ++ last) (reads.at_end refl) ∙ append-nil read)
 
 -- what list sinks took of a stream that was printed is listed
-pub lists-printed : (printed : Result Engine RunError) (known left old new : Option (List ℕ)) (tag : ℕ) (before after : Told) (deliveries : List Delivery) (replies : List ℕ) → before.sheets.delivered ≡ Some [] → before.replies.replied ≡ Some [] → after.sheets.delivered ≡ Some deliveries → after.replies.replied ≡ Some replies → Printed known left tag (fault_of printed) (machine_of printed) before after → is_err printed ≡ false → Appends old new (lines_from 1 (sheets_in deliveries) ++ replies) → IfSome known (λ bytes. Lists bytes old new)
-lists-printed (Ok engine) None left old new tag before after deliveries replies p q r s prints no_fault appends = tt
-lists-printed (Ok engine) (Some bytes) left old new tag before after deliveries replies p q r s prints no_fault appends =
+pub lists-printed : (printed : Result JobState JobError) (known left old new : Option (List ℕ)) (tag : ℕ) (before after : Told) (deliveries : List Delivery) (replies : List ℕ) → before.sheets.delivered ≡ Some [] → before.replies.replied ≡ Some [] → after.sheets.delivered ≡ Some deliveries → after.replies.replied ≡ Some replies → Printed known left tag (fault_of printed) (machine_of printed) before after → is_err printed ≡ false → Appends old new (lines_from 1 (sheets_in deliveries) ++ replies) → IfSome known (λ bytes. Lists bytes old new)
+lists-printed (Ok job) None left old new tag before after deliveries replies p q r s prints no_fault appends = tt
+lists-printed (Ok job) (Some bytes) left old new tag before after deliveries replies p q r s prints no_fault appends =
     let commands = prints.printed.commands in
-    let went = prints.printed.carried.went in
+    let went = prints.printed.went in
     let outputs = (meaning_of (at_end commands)).outputs in
     let sheets = sheets_of outputs in
     let told : deliveries ≡ under_tag tag sheets = same_list deliveries (under_tag tag sheets) (sym r ∙ went.delivered ∙ ap (λ one. option_map (λ all. all ++ under_tag tag sheets) one) p) in

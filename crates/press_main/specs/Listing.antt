@@ -7,7 +7,7 @@ use Rattle.press_cmd.specs.Token.{Token}
 use Rattle.press_cmd.specs.Split.{Closed}
 use Rattle.press_sink.specs.Sides.{Sides}
 use Rattle.press_sink.specs.Sending.{Output, sheets_of, reply_bytes_of}
-use Rattle.press_main.specs.Printing.{meaning_of, at_end}
+use Rattle.press_stream.specs.Meaning.{meaning_of, at_end}
 
 -- The line of a side: the number of its sheet, which side it is, width and height in dots, and how many dots are black.
 unfoldable pub side_line : ℕ → List ℕ → Page → List ℕ

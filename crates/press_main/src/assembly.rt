@@ -6,6 +6,7 @@ ghost use Rattle.press_main.specs.Assembly.{ReadWhole, Assembled, AssembledTo, D
 
 use press_asm::{AssembleError, assemble};
 use press_disasm::disassemble;
+use press_stream::READ_FAULT;
 use press_units::NO_MEMORY;
 use std::alloc::{AllocError, Global};
 use std::io::{self, ErrorKind, Read, Write};
@@ -22,7 +23,7 @@ const PIECE: usize = 16_384;
 #[derive(Debug, Drop, Error)]
 pub enum TextError {
     /// A read failed, or there were too many.
-    #[error("fault 304")]
+    #[error("{text}", text = READ_FAULT)]
     ReadFault,
     /// The text is refused.
     #[error("{0}")]

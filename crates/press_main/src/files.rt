@@ -4,7 +4,7 @@ ghost use Rattle.press_sink.specs.Told.{most_faults};
 ghost use Rattle.press_sink.specs.Template.{IsNoTemplate};
 ghost use Rattle.press_main.specs.Files.{PrintsFiles, PrintsTo};
 
-use crate::printing::run;
+use crate::stream::print_stream;
 use press_sink::{FolderSink, ListReplies, REPLY_FAULT, SheetSink};
 use std::alloc::Global;
 use std::fs::Files;
@@ -51,7 +51,7 @@ fn print_to<R: Read, S: SheetSink, W: Write, E: Write>(
         (S.told sheets.old) (S.told sheets.new) (W.contents out.old) (W.contents out.new) }
 {
     let mut replies = ListReplies::new(alloc);
-    let printed = run(alloc, reader, 0, sheets, &mut replies);
+    let printed = print_stream(alloc, reader, 0, sheets, &mut replies);
     let replied = write_replies(out, replies.bytes());
     if let Err(fault) = &printed {
         let _ = writeln!(err, "{fault}");

@@ -3,7 +3,7 @@ ghost use Rattle.std.specs.Io.KnownBytes.{Appends};
 ghost use Rattle.press_main.specs.Listing.{side_line, sheet_lines, lines_from, Lists};
 ghost use Rattle.press_sink.specs.Sending.{sheets_in};
 
-use crate::printing::run;
+use crate::stream::print_stream;
 use press_bits::Bitmap;
 use press_sink::{Delivery, ListReplies, ListSink, Sheet};
 use std::alloc::Global;
@@ -25,7 +25,7 @@ pub fn print_list<R: Read, W: Write, E: Write>(
 {
     let mut sheets = ListSink::new(alloc);
     let mut replies = ListReplies::new(alloc);
-    let printed = run(alloc, reader, 0, &mut sheets, &mut replies);
+    let printed = print_stream(alloc, reader, 0, &mut sheets, &mut replies);
     let listed = list(out, sheets.deliveries(), replies.bytes());
     if let Err(fault) = &printed {
         let _ = writeln!(err, "{fault}");

@@ -11,11 +11,10 @@ mod files;
 mod listing;
 #[cfg(test)]
 mod mark_tests;
-mod printing;
 mod program;
-mod reading;
 #[cfg(test)]
 mod row_tests;
+mod stream;
 #[cfg(test)]
 mod tests;
 mod words;

@@ -1,8 +1,8 @@
 use crate::assembly::{TextError, assembled, disasm_bytes, told, write_whole};
 use crate::files::print_files;
 use crate::listing::print_list;
-use crate::printing::RunError;
 use crate::words::{Input, Output, Refusal, Request, request_of};
+use press_stream::JobError;
 use press_units::NO_MEMORY;
 use std::alloc::Global;
 use std::fs;
@@ -59,7 +59,7 @@ fn print<F: Files, S: Read, W: Write, E: Write>(
     match fs::open(files, name) {
         Ok(mut file) => print_from(alloc, files, &mut file, &request.output, out, err),
         Err(_) => {
-            let _ = writeln!(err, "{}", RunError::ReadFault);
+            let _ = writeln!(err, "{}", JobError::ReadFault);
             1
         }
     }

@@ -1,11 +1,12 @@
 //! Streams that are printed whole, with the pages that they must give.
 use crate::listing::print_list;
-use crate::printing::{RunError, run};
+use crate::stream::print_stream;
 use crate::row_tests::row_of;
 use press_bits::{Bitmap, BlankError};
 use press_cmd::{Command, ControlByte};
 use press_engine::{Engine, EngineError, Last};
 use press_sink::{ListReplies, ListSink, ReplyError, Sheet, SheetSink, SinkError};
+use press_stream::JobError;
 use std::io::{self, ErrorKind, Read, Write};
 use std::test::Fail;
 
@@ -90,7 +91,7 @@ fn streams_give_their_pages(rt: HostRuntime) -> Result<(), Fail> {
         let mut reader = stream.as_slice();
         let mut sink = ListSink::new(rt.alloc());
         let mut replies = ListReplies::new(rt.alloc());
-        let engine = run(rt.alloc(), &mut reader, 7, &mut sink, &mut replies)?;
+        let job = print_stream(rt.alloc(), &mut reader, 7, &mut sink, &mut replies)?;
         assert_eq!(rt; sink.deliveries().len(), sheets as usize, "{line}");
         if let Some(first) = sink.deliveries().first() {
             assert_eq!(rt; first.tag, 7);
@@ -100,9 +101,9 @@ fn streams_give_their_pages(rt: HostRuntime) -> Result<(), Fail> {
             assert_eq!(rt; first.sheet.front.height(), 3300);
         }
         assert!(rt; replies.bytes().is_empty());
-        assert_eq!(rt; engine.view().x.0, 0);
-        assert_eq!(rt; engine.view().y.0, 900);
-        assert!(rt; !engine.view().marked);
+        assert_eq!(rt; job.view().x.0, 0);
+        assert_eq!(rt; job.view().y.0, 900);
+        assert!(rt; !job.view().marked);
     }
     Ok(())
 }
@@ -161,9 +162,9 @@ fn a_sink_that_refuses_ends_the_run(rt: HostRuntime) -> Result<(), Fail> {
             has_memory,
         };
         let mut replies = ListReplies::new(rt.alloc());
-        match run(rt.alloc(), &mut reader, 0, &mut sink, &mut replies) {
-            Err(RunError::SinkFault) => assert!(rt; has_memory),
-            Err(RunError::NoMemory) => assert!(rt; !has_memory),
+        match print_stream(rt.alloc(), &mut reader, 0, &mut sink, &mut replies) {
+            Err(JobError::SinkFault) => assert!(rt; has_memory),
+            Err(JobError::NoMemory) => assert!(rt; !has_memory),
             _ => assert!(rt; false, "the refusal is answered"),
         }
         assert_eq!(rt; sink.faults(), u64::from(has_memory));
@@ -205,10 +206,10 @@ fn faults_are_told_by_their_numbers(rt: HostRuntime) -> Result<(), Fail> {
         EngineError::ReplyFault,
         EngineError::Failed,
         EngineError::NoMemory,
-        RunError::SinkFault,
-        RunError::ReplyFault,
-        RunError::ReadFault,
-        RunError::NoMemory
+        JobError::SinkFault,
+        JobError::ReplyFault,
+        JobError::ReadFault,
+        JobError::NoMemory
     )?;
     let wanted = "\
 fault 101, fault memory; fault 301, fault memory; fault 302, fault memory; \

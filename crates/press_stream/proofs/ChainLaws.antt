@@ -62,7 +62,7 @@ at_its_end all given tag job before after goes over =
       went = subst Q same (subst P is goes.carried.went);
     }
 
-Prints-stops : (bytes : List ℕ) (tag : ℕ) (ending : Ending) (before after : Told) → (ending ≡ Complete → ⊥) → Stops opened bytes tag ending before after → (new : Option Machine) → Prints bytes tag ending new before after
+pub Prints-stops : (bytes : List ℕ) (tag : ℕ) (ending : Ending) (before after : Told) → (ending ≡ Complete → ⊥) → Stops opened bytes tag ending before after → (new : Option Machine) → Prints bytes tag ending new before after
 Prints-stops bytes tag ending before after stops (commands, owes, stopped) new =
     let is = from_power_on stopped.from stopped.starts in
     let P : Machine → Type 0 = λ machine. WentOut tag (run_all commands machine).outputs ending before after in

@@ -39,6 +39,8 @@ mod scanner;
 #[cfg(test)]
 mod sinks;
 #[cfg(test)]
+mod stream_tests;
+#[cfg(test)]
 mod tickets;
 #[cfg(test)]
 mod values;

@@ -1,19 +1,21 @@
 use Rattle.std.proofs.Common.{rules, ℕ, List, ap, subst}
 use Rattle.press_sink.specs.Told.{both}
 use Rattle.press_main.specs.Files.{replies_told}
-use Rattle.press_main.specs.Printing.{Printed, fault_of, machine_of}
+use Rattle.press_stream.specs.Answers.{fault_of}
+use Rattle.press_stream.specs.Printed.{Printed}
+use Rattle.press_main.specs.Printing.{machine_of}
 use Rattle.press_main.proofs.files.print_to.Goals as goal
 
 pub returns-in-Ok-clause-prints : goal.returns-in-Ok-clause-prints
 returns-in-Ok-clause-prints g c =
     let before = g.S.SheetSink.told c.args.sheets.now in
-    let after = both (g.S.SheetSink.told c.run-printed.new.sheets) (replies_told c.run-printed.new.replies.bytes.items) in
-    let P : List ℕ → Type 0 = λ replied. Printed (g.R.Read.remaining c.args.reader.now) (g.R.Read.remaining c.run-printed.new.reader) 0 (fault_of c.run-printed.result) (machine_of c.run-printed.result) (both before (replies_told replied)) after in
+    let after = both (g.S.SheetSink.told c.print_stream-printed.new.sheets) (replies_told c.print_stream-printed.new.replies.bytes.items) in
+    let P : List ℕ → Type 0 = λ replied. Printed (g.R.Read.remaining c.args.reader.now) (g.R.Read.remaining c.print_stream-printed.new.reader) 0 (fault_of c.print_stream-printed.result) (machine_of c.print_stream-printed.result) (both before (replies_told replied)) after in
     record {
-      error = fault_of c.run-printed.result;
-      machine = machine_of c.run-printed.result;
-      replies = c.run-printed.new.replies.bytes.items;
-      printed = subst P c.new-replies.ensures c.run-printed.ensures;
+      error = fault_of c.print_stream-printed.result;
+      machine = machine_of c.print_stream-printed.result;
+      replies = c.print_stream-printed.new.replies.bytes.items;
+      printed = subst P c.new-replies.ensures c.print_stream-printed.ensures;
       no_error = λ _. ap fault_of c.in-Ok.is;
       replied = λ _. search rules;
     }

@@ -1,0 +1,32 @@
+ghost use Rattle.press_sink.specs.Told.{both, CanCount};
+ghost use Rattle.press_stream.specs.Answers.{fault_of};
+ghost use Rattle.press_stream.specs.Printed.{Printed};
+ghost use Rattle.press_main.specs.Printing.{machine_of};
+
+use press_sink::{ReplySink, SheetSink};
+use press_stream::{Job, JobError};
+use std::alloc::Global;
+use std::io::Read;
+
+/// Prints the stream that a reader has, from power on: its sheets are delivered under the tag, and the job is handed back.
+///
+/// # Errors
+///
+/// `ReadFault` (304): a read failed; the commands that were whole by then were carried out. `SinkFault` (301) and
+/// `ReplyFault` (302): a sink had a fault, and nothing came after it.
+pub fn print_stream<R: Read, S: SheetSink, P: ReplySink>(
+    alloc: Global,
+    reader: &mut R,
+    tag: u64,
+    sheets: &mut S,
+    replies: &mut P,
+) -> Result<Job, JobError>
+    requires { CanCount (both (S.told sheets.old) (P.told replies.old)) }
+    ensures { Printed (R.remaining reader.old) (R.remaining reader.new) tag (fault_of result)
+        (machine_of result)
+        (both (S.told sheets.old) (P.told replies.old)) (both (S.told sheets.new) (P.told replies.new)) }
+{
+    let mut job = Job::open(alloc)?;
+    job.run(reader, tag, sheets, replies)?;
+    Ok(job)
+}
