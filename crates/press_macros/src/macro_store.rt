@@ -1,4 +1,4 @@
-ghost use Rattle.std.specs.Prelude.{◌≡◌, IfOk, OnOk, OnErr, IsSome, IsNone};
+ghost use Rattle.std.specs.Prelude.{◌≡◌, IfOk, IsErr, OnOk, OnErr, IsSome, IsNone};
 ghost use Rattle.press_cmd.specs.View.{token};
 ghost use Rattle.press_macros.specs.Macros.{no_macros, defining, begun, recorded, ended, abandoned, body_of, without, all_deleted, permanent_only, made};
 
@@ -145,7 +145,8 @@ impl MacroStore {
     ///
     /// Where memory ran out.
     pub fn body(&self, id: u16) -> Result<Option<Body>, AllocError>
-        ensures { IfOk result (λ body. body ≡ body_of self.now id) }
+        ensures body { IfOk result (λ body. body ≡ body_of self.now id) }
+        ensures memory { IsErr result → IsSome (body_of self.now id) }
     {
         match self.stored.get(&id) {
             Some(found) => Ok(Some(found.body()?)),
