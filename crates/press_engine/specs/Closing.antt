@@ -14,7 +14,8 @@ use Rattle.press_engine.specs.declared.effect.Selection.{Selection}
 use Rattle.press_engine.specs.declared.effect.Selection.TheVariants.{NextSide, Front, Back}
 use Rattle.press_engine.specs.declared.state.State.{State}
 use Rattle.press_engine.specs.Motion.{to_first_line, to_home}
-use Rattle.press_engine.specs.Outcome.{Outcome, done, after_outputs, counted, Effect, Changes, Makes, Goes, Closes, reset_fields, ended_raster, is_marked, with_environment}
+use Rattle.press_macros.specs.Macros.{abandoned}
+use Rattle.press_engine.specs.Outcome.{Outcome, done, after_outputs, counted, Effect, Changes, Makes, Goes, Closes, Starts, reset_fields, ended_raster, is_marked, with_environment, with_macros}
 use Rattle.press_engine.specs.Outputs.{copies_out}
 use Rattle.press_engine.specs.Place.{blank_page}
 
@@ -70,13 +71,17 @@ turn_to NextSide state = done state
 turn_to Front state = front_alone state
 turn_to Back state = done (blank_front state)
 
+-- the overlay off
+abbrev pub overlay_off : State → State
+overlay_off state = record state { overlay = None }
+
 -- A change of the page: where another size or other sides come, and at a reset, a front that waits goes out alone before.
 abbrev pub change_page : PageChange → State → Outcome
 change_page page_changes.Reset state = then_change reset_fields (front_alone state)
 change_page (page_changes.Size size) state =
-    then_change (λ after. to_home (with_environment (with_page_size size) after)) (front_alone state)
+    then_change (λ after. to_home (overlay_off (with_environment (with_page_size size) after))) (front_alone state)
 change_page (page_changes.Orientation orientation) state =
-    done (to_home (with_environment (with_orientation orientation) state))
+    done (to_home (overlay_off (with_environment (with_orientation orientation) state)))
 change_page (page_changes.Sides sides) state =
     then_change (λ after. to_home (with_environment (with_printed_sides sides) after)) (front_alone state)
 
@@ -90,20 +95,22 @@ ended closed closers.Feed state = done (fed closed state)
 ended closed (closers.Side selection) state = turn_to selection (fed closed state)
 ended closed (closers.Change change) state = change_page change state
 
--- What a row leaves: where it closes the page, the close and then what the closing command does after it.
+-- What a row leaves where no body runs: where it closes the page, the close and then what the closing command does after it.
 abbrev pub settle : Effect → Outcome
 settle (Changes state) = done state
 settle (Makes state) = done state
 settle (Goes closer state) = ended false closer state
 settle (Closes closer state) = after_outputs (close state).outputs (ended true closer (close state).state)
+settle (Starts commands end state) = done state
 
 -- A page with a mark closes.
 abbrev pub close_if_marked : Closer → State → Effect
 close_if_marked closer state = if is_marked state then Closes closer state else Goes closer state
 
--- ESC E, printer reset, and the universal exit: HP-GL/2 is off first
+-- ESC E, printer reset, and the universal exit: HP-GL/2 is off first, and an open macro definition is dropped
 abbrev pub reset : State → Effect
-reset state = close_if_marked (closers.Change page_changes.Reset) (record state { hp_gl = false })
+reset state =
+    close_if_marked (closers.Change page_changes.Reset) (with_macros abandoned (record state { hp_gl = false }))
 
 -- where a command is asked for by its value, a page with a mark closes
 abbrev pub close_if_asked : Option Closer → State → Effect

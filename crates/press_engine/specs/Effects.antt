@@ -9,3 +9,4 @@ effect_of state effects.Changes = rows.Changes state
 effect_of state effects.Makes = rows.Makes state
 effect_of state (effects.Goes closer) = rows.Goes closer state
 effect_of state (effects.Closes closer) = rows.Closes closer state
+effect_of state (effects.Starts body end) = rows.Starts body end state

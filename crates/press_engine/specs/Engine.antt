@@ -3,6 +3,7 @@ use Rattle.std.specs.Prelude.{◌≡◌, ◌≢◌, ◌⊎◌, ℕ, pos, false, 
 use Rattle.std.specs.Borrow.{Bor}
 use Rattle.press_cmd.specs.Token.{Token}
 use Rattle.press_cursor.specs.declared.stack.CursorPosition.{CursorPosition}
+use Rattle.press_macros.specs.Macros.{defining}
 use Rattle.press_raster.specs.Graphics.{position_of}
 use Rattle.press_sink.specs.Told.{Told}
 use Rattle.press_sink.specs.Sending.{Output, Complete, AtSheet, AtReply, ForMemory, WentOut}
@@ -12,10 +13,11 @@ use Rattle.press_engine.specs.declared.fault.EngineError.TheVariants as engine_e
 use Rattle.press_engine.specs.declared.machine.Machine.{Machine}
 use Rattle.press_engine.specs.declared.view.View.{View}
 use Rattle.press_engine.specs.declared.state.State.{State}
-use Rattle.press_engine.specs.Outcome.{Outcome, Effect, Changes, Makes, Goes, Closes, is_marked}
+use Rattle.press_engine.specs.Outcome.{Outcome, Effect, Changes, Makes, Goes, Closes, Starts, is_marked}
 use Rattle.press_engine.specs.Closing.{ended}
 use Rattle.press_engine.specs.Table.{effect_on}
-use Rattle.press_engine.specs.Machine.{run}
+use Rattle.press_engine.specs.Machine.{Run, run}
+use Rattle.press_engine.specs.declared.effect.Source.TheVariants.{Stream}
 
 -- the engine's machine, and none where an earlier command had a fault
 abbrev pub live : Engine → Option Machine
@@ -29,11 +31,11 @@ Sends tag outputs (Err engine_errors.ReplyFault) before after = WentOut tag outp
 Sends tag outputs (Err engine_errors.NoMemory) before after = WentOut tag outputs ForMemory before after
 Sends tag outputs (Err engine_errors.Failed) before after = ⊥
 
--- A command was carried out. Where all went well, the new machine is the command's; and its outputs went out as far as the
--- answer says.
-pub record Performs (machine : Machine) (command : Token) (tag : ℕ) (result : Result (Unit {0}) EngineError) (new : Machine) (before after : Told) : Type 0 where
-  pub left : OnOk result (new ≡ (run command machine).machine)
-  pub sends : Sends tag (run command machine).outputs result before after
+-- A run was carried out. Where all went well, the new machine is the run's; and its outputs went out as far as the answer
+-- says.
+pub record Performs (run : Run) (tag : ℕ) (result : Result (Unit {0}) EngineError) (new : Machine) (before after : Told) : Type 0 where
+  pub left : OnOk result (new ≡ run.machine)
+  pub sends : Sends tag run.outputs result before after
 
 -- A command was handed to an engine with this machine. Where all went well, the new machine is the command's, and its
 -- outputs went out; else the engine has failed, and the outputs went out as far as the answer says.
@@ -50,18 +52,19 @@ Runs None command tag result new before after = (new ≡ None) × (after ≡ bef
 abbrev pub Shows : (before : State) → Outcome → Type 0
 Shows before outcome = (outcome.outputs ≢ []) ⊎ (outcome.state.pending ≢ before.pending)
 
--- Memory may be taken where a mark is made or a pattern is defined, where the page closes, and where, in the place of a close,
--- something goes out or a front begins to wait; and nowhere else.
+-- Memory may be taken where a mark is made, a pattern defined or a macro recorded, where the page closes, where, in the place
+-- of a close, something goes out or a front begins to wait, and where a body starts; and nowhere else.
 abbrev pub TakesMemory : Effect → Type 0
 TakesMemory (Changes state) = ⊥
 TakesMemory (Makes state) = Unit {0}
 TakesMemory (Goes closer state) = Shows state (ended false closer state)
 TakesMemory (Closes closer state) = Unit {0}
+TakesMemory (Starts commands end state) = Unit {0}
 
 -- the same for the command of an engine with this machine
 abbrev pub NeedsMemory : Option Machine → Token → Type 0
 NeedsMemory None command = ⊥
-NeedsMemory (Some machine) command = TakesMemory (effect_on command machine.state)
+NeedsMemory (Some machine) command = TakesMemory (effect_on Stream command machine.state)
 
 -- What can be seen of a machine, with its cursor's stack lent.
 abbrev pub view_of : Bor (List CursorPosition) → Machine → View
@@ -75,6 +78,9 @@ view_of stack machine = record {
   sheets = machine.state.sheets;
   environment = machine.state.environment;
   drawing = machine.state.drawing;
+  macro_id = machine.state.macro_id;
+  overlay = machine.state.overlay;
+  defining = defining machine.state.macros;
   raster = position_of machine.state.graphics;
   hp_gl = machine.state.hp_gl;
   marked = is_marked machine.state;

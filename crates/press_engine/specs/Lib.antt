@@ -1,9 +1,12 @@
+pub mod Calls
 pub mod Closing
 pub mod Drawing
 pub mod Effects
 pub mod Engine
 pub mod Filling
+pub mod Laws
 pub mod Machine
+pub mod Macros
 pub mod Motion
 pub mod Operation
 pub mod Outcome
@@ -13,6 +16,7 @@ pub mod Place
 pub mod Raster
 pub mod Rectangle
 pub mod Table
+pub mod Trace
 pub use Rattle.press_bits.specs.Mark
 pub use Rattle.press_bits.specs.Page
 pub use Rattle.press_cmd.specs.Kinds

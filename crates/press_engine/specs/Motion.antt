@@ -1,6 +1,6 @@
 -- Rows that move the cursor (PCL 5 Printer Language Technical Reference Manual, cursor positioning). Each row names its
 -- command. The cursor stays on the logical page, and raster graphics ends.
-use Rattle.std.specs.Prelude.{ℕ, ℤ, pos, Bool, true, false, is_some, ◌==◌, not, if◌then◌else◌}
+use Rattle.std.specs.Prelude.{ℕ, ℤ, pos, Bool, true, false, is_some, ◌==◌, ◌&&◌, not, if◌then◌else◌}
 use Rattle.std.specs.Ordering.{int_eq}
 use Rattle.press_units.specs.Measure.{pcl_unit}
 use Rattle.press_units.specs.Position.{position_of}
@@ -9,6 +9,8 @@ use Rattle.press_cursor.specs.Stack.{has_room, newest}
 use Rattle.press_page.specs.Environment.{asked_top, asked_left, asked_right, set_top_margin, set_perforation_skip, set_left_margin, set_right_margin, passes_text}
 use Rattle.press_page.specs.Settings.{half_line}
 use Rattle.press_engine.specs.declared.effect.Closer.TheVariants as closers
+use Rattle.press_engine.specs.declared.effect.Source.{Source}
+use Rattle.press_engine.specs.declared.effect.Source.TheVariants as sources
 use Rattle.press_engine.specs.declared.state.State.{State}
 use Rattle.press_engine.specs.Outcome.{Effect, Closes, Changes, bounds, ended_raster_if, moved, with_environment}
 
@@ -49,10 +51,15 @@ abbrev pub to_home : State → State
 to_home state =
     moved (moved_home state.environment.margins.left state.environment.settings.vertical_motion (bounds state) state.cursor) state
 
--- A feed goes down by a distance; where it would pass the end of the text, the page closes instead.
-abbrev pub feed : (distance : ℕ) → State → Effect
-feed distance state =
-    if passes_text state.cursor.y distance state.environment then Closes closers.Feed state
+-- whether a command comes from the body of an overlay, or of a macro that it started
+abbrev pub in_overlay : Source → Bool
+in_overlay sources.Overlay = true
+in_overlay other = false
+
+-- A feed goes down by a distance; where it would pass the end of the text, the page closes instead, but not in an overlay.
+abbrev pub feed : Source → (distance : ℕ) → State → Effect
+feed source distance state =
+    if passes_text state.cursor.y distance state.environment && not (in_overlay source) then Closes closers.Feed state
     else Changes (moved (moved_y (pos distance) true (bounds state) state.cursor) state)
 
 -- a carriage return before a line feed or a form feed, where line termination says so
@@ -61,15 +68,15 @@ returned state =
     if state.environment.settings.line_termination.return_before_feed then to_left_margin state else state
 
 -- LF
-abbrev pub line_feed : State → Effect
-line_feed state =
+abbrev pub line_feed : Source → State → Effect
+line_feed source state =
     let after = returned state in
-    feed after.environment.settings.vertical_motion after
+    feed source after.environment.settings.vertical_motion after
 
 -- CR; a line feed follows where line termination says so
-abbrev pub carriage_return : State → Effect
-carriage_return state =
-    if state.environment.settings.line_termination.feed_after_return then line_feed (to_left_margin state)
+abbrev pub carriage_return : Source → State → Effect
+carriage_return source state =
+    if state.environment.settings.line_termination.feed_after_return then line_feed source (to_left_margin state)
     else Changes (to_left_margin state)
 
 -- FF
@@ -77,8 +84,8 @@ abbrev pub form_feed : State → Effect
 form_feed state = Closes closers.Feed (returned state)
 
 -- ESC =, half-line feed
-abbrev pub half_line_feed : State → Effect
-half_line_feed state = feed (half_line state.environment.settings.vertical_motion) state
+abbrev pub half_line_feed : Source → State → Effect
+half_line_feed source state = feed source (half_line state.environment.settings.vertical_motion) state
 
 -- ESC&f#S, push/pop cursor position: 0 pushes, 1 pops; where there is room, and where there is one to pop, raster graphics ends
 abbrev pub push : State → State

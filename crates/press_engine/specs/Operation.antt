@@ -5,7 +5,7 @@ use Rattle.std.specs.Prelude.{ℕ, ◌==◌, ◌&&◌, List, [], ◌∷◌, Opti
 use Rattle.press_cmd.specs.declared.variant.Kind.{Kind}
 use Rattle.press_cmd.specs.declared.variant.Kind.TheVariants as kinds
 use Rattle.press_engine.specs.declared.operation.Operation.{Operation}
-use Rattle.press_engine.specs.declared.operation.Operation.TheVariants.{Nothing, CarriageReturn, LineFeed, FormFeed, HalfLineFeed, ClearMargins, Reset, EnterHpGl, LeaveHpGl, UnitOfMeasure, MoveColumns, MoveRows, MoveHorizontally, MoveVertically, SelectSide, LeftMargin, RightMargin, PushOrPop, LineTermination, HorizontalMotion, SelectPageSize, VerticalMotion, LineSpacing, TopMargin, TextLength, EjectPage, PerforationSkip, SelectOrientation, SelectSides, Copies, RectangleWidth, RectangleHeight, PatternId, RectangleWidthInDecipoints, Fill, ControlPatterns, RectangleHeightInDecipoints, DefinePattern, SourceTransparency, PatternTransparency, SelectPattern, RasterResolution, StartRaster, EndRaster, EndRasterAndMethod, SourceWidth, SourceHeight, SetMethod, TransferRow, OffsetRaster, MoveX, MoveY}
+use Rattle.press_engine.specs.declared.operation.Operation.TheVariants.{Nothing, CarriageReturn, LineFeed, FormFeed, HalfLineFeed, ClearMargins, Reset, EnterHpGl, LeaveHpGl, UnitOfMeasure, MoveColumns, MoveRows, MoveHorizontally, MoveVertically, SelectSide, LeftMargin, RightMargin, PushOrPop, LineTermination, HorizontalMotion, SelectPageSize, VerticalMotion, LineSpacing, TopMargin, TextLength, EjectPage, PerforationSkip, SelectOrientation, SelectSides, Copies, RectangleWidth, RectangleHeight, PatternId, RectangleWidthInDecipoints, Fill, ControlPatterns, RectangleHeightInDecipoints, DefinePattern, SourceTransparency, PatternTransparency, SelectPattern, RasterResolution, StartRaster, EndRaster, EndRasterAndMethod, SourceWidth, SourceHeight, SetMethod, TransferRow, OffsetRaster, MoveX, MoveY, MacroId, ControlMacro, JobLanguage}
 
 -- the row beside a byte; a command without a row has no effect
 abbrev pub row_at : ℕ → List (ℕ × Operation) → Operation
@@ -51,6 +51,8 @@ and_a_rows =
 abbrev pub and_f_rows : List (ℕ × Operation)
 and_f_rows =
     (code "S", PushOrPop)
+    ∷ (code "X", ControlMacro)
+    ∷ (code "Y", MacroId)
     ∷ []
 
 -- ESC&k#
@@ -171,5 +173,5 @@ operation_of (kinds.Control byte) = row_at byte control_rows
 operation_of (kinds.Param character group end) = parameter_operation character group end
 operation_of (kinds.Text byte) = Nothing
 operation_of kinds.Broken = Nothing
-operation_of kinds.PjlLine = Nothing
+operation_of kinds.PjlLine = JobLanguage
 operation_of (kinds.Foreign byte) = Nothing

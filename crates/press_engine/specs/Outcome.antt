@@ -4,11 +4,14 @@ use Rattle.std.specs.FinMap as maps
 use Rattle.press_cursor.specs.Cursor.{home}
 use Rattle.press_cursor.specs.CursorState.{CursorState}
 use Rattle.press_cursor.specs.declared.logical_page.LogicalPage.{LogicalPage}
+use Rattle.press_cmd.specs.Token.{Token}
+use Rattle.press_macros.specs.Macros.{Macros, no_macros, permanent_only as permanent_macros}
 use Rattle.press_page.specs.Environment.{factory, reset_environment, logical_page_of}
 use Rattle.press_page.specs.declared.environment.PageEnv.{PageEnv}
 use Rattle.press_pattern.specs.Store.{permanent_only}
 use Rattle.press_units.specs.Limits.{greatest_of_64_bits}
 use Rattle.press_sink.specs.Sending.{Output}
+use Rattle.press_engine.specs.declared.effect.BodyEnd.{BodyEnd}
 use Rattle.press_engine.specs.declared.effect.Closer.{Closer}
 use Rattle.press_engine.specs.declared.drawing.Drawing.{Drawing}
 use Rattle.press_engine.specs.declared.state.State.{State}
@@ -31,38 +34,48 @@ after_outputs outputs outcome = record { state = outcome.state; outputs = output
 abbrev pub counted : ℕ → ℕ → ℕ
 counted count more = min (count + more) greatest_of_64_bits
 
--- What a row gives: a state, and nothing goes out; the same where a mark is made on the page or a pattern is defined; that a
--- page without a mark stays, and the command does at once what it does after a close; or that the page closes.
+-- What a row gives: a state, and nothing goes out; the same where a mark is made on the page, a pattern is defined or a macro is
+-- recorded; that a page without a mark stays, and the command does at once what it does after a close; that the page
+-- closes; or that the body of a macro starts, with what comes at its end.
 pub data Effect : Type 0 where
   Changes : State → Effect
   Makes : State → Effect
   Goes : Closer → State → Effect
   Closes : Closer → State → Effect
+  Starts : List Token → BodyEnd → State → Effect
 
 -- the page environment after a reset: by the factory values of the job language's variables
 abbrev pub default_environment : PageEnv
 default_environment = reset_environment factory
 
--- What a reset sets: page environment, drawing, no temporary pattern, raster graphics off, and the cursor at home with nothing pushed.
+-- What a reset sets: page environment, drawing and macro ID, overlay and HP-GL/2 off, no temporary pattern or macro, raster
+-- graphics off, and the cursor at home with nothing pushed.
 abbrev pub reset_fields : State → State
 reset_fields state =
     record state {
       environment = default_environment;
       drawing = initial_drawing;
+      macro_id = 0;
+      overlay = None;
+      hp_gl = false;
       patterns = permanent_only state.patterns;
+      macros = permanent_macros state.macros;
       graphics = None;
       cursor = home default_environment.margins.left default_environment.settings.vertical_motion (logical_page_of default_environment);
     }
 
--- After power on: what a reset sets, HP-GL/2 off, no sheet, no user-defined pattern, and a blank page without a mark.
+-- After power on: what a reset sets, no sheet, no user-defined pattern, no macro, and a blank page without a mark.
 abbrev pub power_on_state : State
 power_on_state = record {
   environment = default_environment;
   drawing = initial_drawing;
+  macro_id = 0;
+  overlay = None;
   cursor = home default_environment.margins.left default_environment.settings.vertical_motion (logical_page_of default_environment);
   hp_gl = false;
   sheets = 0;
   patterns = maps.empty;
+  macros = no_macros;
   graphics = None;
   page = None;
   pending = None;
@@ -90,6 +103,10 @@ moved cursor state = record state { cursor = cursor; graphics = None }
 -- a change of the drawing alone
 abbrev pub with_drawing : (Drawing → Drawing) → State → State
 with_drawing change state = record state { drawing = change state.drawing }
+
+-- a change of the macros alone
+abbrev pub with_macros : (Macros → Macros) → State → State
+with_macros change state = record state { macros = change state.macros }
 
 -- a change of the page environment alone
 abbrev pub with_environment : (PageEnv → PageEnv) → State → State

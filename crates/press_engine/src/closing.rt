@@ -17,7 +17,7 @@ impl State {
     ghost use Rattle.press_engine.specs.Motion.{to_home};
     ghost use Rattle.press_engine.specs.Outcome.{after_outputs, counted, is_marked, with_environment};
     ghost use Rattle.press_engine.specs.Outputs.{outputs_of, finished_of};
-    ghost use Rattle.press_engine.specs.Closing.{page_now, close, front_alone, blank_front, turn_to, change_page, ended, settle, close_if_marked, reset, select_page_size, select_orientation, select_sides, eject_page, select_side};
+    ghost use Rattle.press_engine.specs.Closing.{page_now, close, front_alone, overlay_off, blank_front, turn_to, change_page, ended, settle, close_if_marked, reset, select_page_size, select_orientation, select_sides, eject_page, select_side};
 
     /// Whether a mark was made on the page.
     pub fn is_marked(&self) -> bool
@@ -121,19 +121,23 @@ impl State {
         }
     }
 
-    /// Another page size; the cursor goes home.
+    /// Another page size: the overlay is off, and the cursor goes home.
     fn change_page_size(&mut self, size: PageSize)
-        ensures { self.new ≡ to_home (with_environment (with_page_size size) self.old) }
+        ensures { self.new
+            ≡ to_home (overlay_off (with_environment (with_page_size size) self.old)) }
     {
         self.environment.change_page_size(size);
+        self.overlay = None;
         self.move_home();
     }
 
-    /// Another orientation; the cursor goes home.
+    /// Another orientation: the overlay is off, and the cursor goes home.
     fn change_orientation(&mut self, orientation: Orientation)
-        ensures { self.new ≡ to_home (with_environment (with_orientation orientation) self.old) }
+        ensures { self.new
+            ≡ to_home (overlay_off (with_environment (with_orientation orientation) self.old)) }
     {
         self.environment.change_orientation(orientation);
+        self.overlay = None;
         self.move_home();
     }
 
@@ -202,7 +206,7 @@ impl State {
         ensures memory { IsErr result → TakesMemory (effect_of self.old effect) }
     {
         match effect {
-            Effect::Changes | Effect::Makes => Ok(Sent::Nothing),
+            Effect::Changes | Effect::Makes | Effect::Starts(_, _) => Ok(Sent::Nothing),
             Effect::Goes(closer) => {
                 let alone = self.end(alloc, closer, false)?;
                 Ok(Sent::Sheets {
@@ -229,11 +233,12 @@ impl State {
         }
     }
 
-    /// `ESC E` and the universal exit.
+    /// `ESC E` and the universal exit: an open macro definition is dropped, too.
     pub fn reset(&mut self) -> Effect
         ensures { effect_of self.new result ≡ reset self.old }
     {
         self.hp_gl = false;
+        self.macros.abandon();
         self.close_if_marked(Closer::Change(PageChange::Reset))
     }
 

@@ -1,6 +1,8 @@
 ghost use Rattle.std.specs.Prelude.{◌≡◌};
 ghost use Rattle.press_engine.specs.Closing.{selection_of};
 
+use crate::calls::Kept;
+use press_macros::Body;
 use press_page::{Orientation, PageSize, Sides};
 use press_sink::Sheet;
 
@@ -51,17 +53,38 @@ pub enum Closer {
     Change(PageChange),
 }
 
-/// What a row of the command table gives.
+/// Where a command comes from.
 #[derive(Clone, Copy, Debug, PartialEq, Eq)]
+pub enum Source {
+    Stream,
+    /// The body of a macro, outside an overlay.
+    Macro,
+    /// The body of the overlay, or of a macro that it started.
+    Overlay,
+}
+
+/// What comes when the body of a macro is used up.
+#[derive(Clone, Copy, Debug)]
+pub enum BodyEnd {
+    /// The macro was executed: what it changed stays.
+    Execute,
+    /// It was called: what was kept at its start is restored.
+    Call(Kept),
+}
+
+/// What a row of the command table gives.
+#[derive(Drop)]
 pub enum Effect {
     /// The row is carried out, and nothing goes out. No memory was taken.
     Changes,
-    /// The same, and memory may have been taken: a mark was made on the page, or a pattern defined.
+    /// The same, and memory may have been taken: a mark was made on the page, a pattern defined, or a macro recorded.
     Makes,
     /// A page without a mark stays, and the command does what it does after a close.
     Goes(Closer),
     /// The page closes.
     Closes(Closer),
+    /// The body of a macro starts, where one more may run.
+    Starts(Body, BodyEnd),
 }
 
 impl Selection {

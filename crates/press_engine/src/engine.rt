@@ -1,5 +1,5 @@
 use crate::fault::EngineError;
-use crate::machine::Machine;
+use crate::machine::{LEVELS, Machine};
 use crate::view::View;
 use press_cmd::Command;
 use press_sink::{ReplySink, SheetSink};
@@ -61,7 +61,7 @@ impl Engine {
         }
         let outcome = self
             .machine
-            .carry_out(self.alloc, command, tag, sheets, replies);
+            .run(self.alloc, LEVELS, command, tag, sheets, replies);
         self.failed = outcome.is_err();
         outcome
     }
@@ -106,6 +106,9 @@ impl Engine {
             sheets: state.sheets,
             environment: state.environment,
             drawing: state.drawing,
+            macro_id: state.macro_id,
+            overlay: state.overlay,
+            defining: state.macros.defining(),
             raster: state.graphics.position(),
             hp_gl: state.hp_gl,
             marked: state.is_marked(),

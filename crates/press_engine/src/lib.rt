@@ -1,6 +1,7 @@
 //! The engine: the command table of PCL 5 at work, on every page size and orientation.
 #![tactic(auto)]
 
+mod calls;
 mod canvas;
 mod closing;
 mod drawing;
@@ -8,7 +9,10 @@ mod effect;
 mod engine;
 mod fault;
 mod filling;
+pub mod laws;
 mod machine;
+mod macro_control;
+mod macros;
 mod motion;
 mod operation;
 mod pattern_control;

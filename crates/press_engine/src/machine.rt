@@ -1,9 +1,17 @@
+use crate::effect::{BodyEnd, Effect, Sent, Source};
 use crate::fault::EngineError;
 use crate::sender::send;
 use crate::state::State;
 use press_cmd::{Command, Kind, kind};
+use press_macros::Body;
 use press_sink::{ReplySink, SheetSink};
 use std::alloc::{AllocError, Global};
+
+/// How many macros may run at a time outside an overlay.
+pub const LEVELS: u8 = 2;
+
+/// How many macros an overlay may run at a time.
+const OVERLAY_LEVELS: u8 = 1;
 
 /// What the last step took.
 #[derive(Clone, Copy, Debug, PartialEq, Eq)]
@@ -12,6 +20,8 @@ pub enum Last {
     Nothing,
     /// A command of this kind was carried out.
     Ran(Kind),
+    /// A command was recorded in the open macro definition.
+    Recorded,
 }
 
 /// The state with the count of steps.
@@ -20,17 +30,35 @@ pub struct Machine {
     pub state: State,
     /// How many steps were taken; the greatest number stays.
     pub step: u64,
-    /// How many macro bodies run.
+    /// How many bodies run: macros, and an overlay.
     pub depth: u8,
     pub last: Last,
 }
 
+impl Source {
+    ghost use Rattle.std.specs.Prelude.{◌≡◌};
+    ghost use Rattle.press_engine.specs.Machine.{source_at};
+
+    /// Where commands come from outside an overlay, where so many macros may start.
+    fn at(levels: u8) -> Self
+        ensures { result ≡ source_at levels }
+    {
+        if levels == LEVELS {
+            Source::Stream
+        } else {
+            Source::Macro
+        }
+    }
+}
+
 impl Machine {
-    ghost use Rattle.std.specs.Prelude.{IfOk, IsErrOf, ◌≡◌};
+    ghost use Rattle.std.specs.Prelude.{◌≡◌, IfOk, IsErr, IsErrOf};
     ghost use Rattle.press_sink.specs.Told.{both, CanCount};
     ghost use Rattle.press_cmd.specs.View.{token};
+    ghost use Rattle.press_engine.specs.Effects.{effect_of};
     ghost use Rattle.press_engine.specs.Engine.{Performs, TakesMemory};
-    ghost use Rattle.press_engine.specs.Machine.{power_on};
+    ghost use Rattle.press_engine.specs.Machine.{power_on, with_state, taken, deeper, entered, left, change_each, run_over, overlay_entered, overlay_left, run_overlay, settled, run_each, ended, source_at, run_at};
+    ghost use Rattle.press_engine.specs.Outputs.{outputs_of};
     ghost use Rattle.press_engine.specs.Table.{effect_on};
 
     /// The machine after power on.
@@ -57,27 +85,195 @@ impl Machine {
         })
     }
 
-    /// Carries one command out: its row, the page close that the row may ask for, and then what goes out.
-    pub fn carry_out<S: SheetSink, R: ReplySink>(
+    /// Takes a command, which is one more step: it is recorded, or its row is carried out.
+    fn take(
         &mut self,
         alloc: Global,
+        source: Source,
+        command: &Command<'_>,
+    ) -> Result<Effect, AllocError>
+        ensures effect { IfOk result (λ effect. effect_of self.new.state effect
+            ≡ effect_on source (token command.now) self.old.state) }
+        ensures taken { IfOk result (λ _.
+            self.new ≡ with_state self.new.state (taken (token command.now) self.old)) }
+        ensures memory { IsErr result
+            → TakesMemory (effect_on source (token command.now) self.old.state) }
+    {
+        let last = if self.state.records(command) {
+            Last::Recorded
+        } else {
+            Last::Ran(kind(command))
+        };
+        let effect = self.state.row(alloc, source, command)?;
+        self.step = self.step.saturating_add(1);
+        self.last = last;
+        Ok(effect)
+    }
+
+    /// The body of a macro starts.
+    fn enter(&mut self, end: &BodyEnd)
+        ensures { self.new ≡ entered end.now self.old.state self.old }
+    {
+        self.state.start_body(end);
+        self.depth = self.depth.saturating_add(1);
+    }
+
+    /// The body of a macro is used up; so many bodies run then.
+    fn leave(&mut self, end: BodyEnd, depth: u8)
+        ensures { self.new ≡ left end depth self.old }
+    {
+        self.state.end_body(end);
+        self.depth = depth;
+    }
+
+    /// Carries a command of an overlay out, where so many macros may start.
+    #[cycle(overlay)]
+    fn run_over(
+        &mut self,
+        alloc: Global,
+        levels: u8,
+        command: Command<'_>,
+    ) -> Result<(), AllocError>
+        ensures { IfOk result (λ _. self.new ≡ run_over levels (token command.entry) self.old) }
+    {
+        let effect = self.take(alloc, Source::Overlay, &command)?;
+        let Effect::Starts(body, end) = effect else {
+            return Ok(());
+        };
+        if levels == 0 {
+            return Ok(());
+        }
+        let depth = self.depth;
+        self.enter(&end);
+        self.run_each_over(alloc, levels - 1, body)?;
+        self.leave(end, depth);
+        Ok(())
+    }
+
+    /// Carries the commands of a body in an overlay out, where so many macros may start.
+    #[cycle(overlay)]
+    fn run_each_over(
+        &mut self,
+        alloc: Global,
+        levels: u8,
+        mut body: Body,
+    ) -> Result<(), AllocError>
+        ensures { IfOk result (λ _. self.new ≡ change_each (run_over levels) body self.old) }
+    {
+        while let Some(command) = body.next() {
+            self.run_over(alloc, levels, command)?;
+        }
+        Ok(())
+    }
+
+    /// Runs the overlay, where it is on and its macro exists.
+    fn run_overlay(&mut self, alloc: Global) -> Result<(), AllocError>
+        ensures { IfOk result (λ _. self.new ≡ run_overlay self.old) }
+    {
+        let Some(body) = self.state.overlay_body()? else {
+            return Ok(());
+        };
+        let depth = self.depth;
+        let kept = self.state.kept();
+        let position = self.state.cursor.position();
+        self.state.start_overlay();
+        self.depth = depth.saturating_add(1);
+        self.run_each_over(alloc, OVERLAY_LEVELS, body)?;
+        self.state.end_overlay(kept, position);
+        self.depth = depth;
+        Ok(())
+    }
+
+    /// What an effect leaves where no body starts: before a page closes, the overlay runs.
+    fn settle(&mut self, alloc: Global, effect: Effect) -> Result<Sent, AllocError>
+        ensures settled { IfOk result (λ sent. record { machine = self.new; outputs = outputs_of sent }
+            ≡ settled self.old (effect_of self.old.state effect)) }
+        ensures memory { IsErr result → TakesMemory (effect_of self.old.state effect) }
+    {
+        match effect {
+            Effect::Closes(closer) => {
+                self.run_overlay(alloc)?;
+                self.state.settle(alloc, Effect::Closes(closer))
+            }
+            other => self.state.settle(alloc, other),
+        }
+    }
+
+    /// Settles an effect, and hands out what goes out.
+    fn send_settled<S: SheetSink, R: ReplySink>(
+        &mut self,
+        alloc: Global,
+        effect: Effect,
+        tag: u64,
+        sheets: &mut S,
+        replies: &mut R,
+    ) -> Result<(), EngineError>
+        requires { CanCount (both (S.told sheets.old) (R.told replies.old)) }
+        ensures performs { Performs (settled self.old (effect_of self.old.state effect)) tag result self.new
+            (both (S.told sheets.old) (R.told replies.old)) (both (S.told sheets.new) (R.told replies.new)) }
+        ensures memory { IsErrOf result EngineError.NoMemory
+            → TakesMemory (effect_of self.old.state effect) }
+    {
+        let Ok(sent) = self.settle(alloc, effect) else {
+            return Err(EngineError::NoMemory);
+        };
+        send(&sent, tag, sheets, replies)
+    }
+
+    /// Carries one command out, with the bodies that it starts, where so many macros may start outside an overlay.
+    #[cycle(run)]
+    pub fn run<S: SheetSink, R: ReplySink>(
+        &mut self,
+        alloc: Global,
+        levels: u8,
         command: Command<'_>,
         tag: u64,
         sheets: &mut S,
         replies: &mut R,
     ) -> Result<(), EngineError>
         requires { CanCount (both (S.told sheets.old) (R.told replies.old)) }
-        ensures performs { Performs self.old (token command.entry) tag result self.new
+        ensures performs { Performs (run_at levels (token command.entry) self.old) tag result self.new
             (both (S.told sheets.old) (R.told replies.old)) (both (S.told sheets.new) (R.told replies.new)) }
         ensures memory { IsErrOf result EngineError.NoMemory
-            → TakesMemory (effect_on (token command.entry) self.old.state) }
+            → TakesMemory (effect_on (source_at levels) (token command.entry) self.old.state) }
     {
-        let kind = kind(&command);
-        let Ok(sent) = self.state.whole_row(alloc, command) else {
+        let Ok(effect) = self.take(alloc, Source::at(levels), &command) else {
             return Err(EngineError::NoMemory);
         };
-        self.step = self.step.saturating_add(1);
-        self.last = Last::Ran(kind);
-        send(&sent, tag, sheets, replies)
+        match effect {
+            Effect::Starts(body, end) => {
+                if levels == 0 {
+                    return Ok(());
+                }
+                self.run_body(alloc, levels - 1, body, end, tag, sheets, replies)
+            }
+            other => self.send_settled(alloc, other, tag, sheets, replies),
+        }
+    }
+
+    /// Runs the body of a macro from its start to its end, where so many macros may start in it.
+    #[cycle(run)]
+    fn run_body<S: SheetSink, R: ReplySink>(
+        &mut self,
+        alloc: Global,
+        levels: u8,
+        mut body: Body,
+        end: BodyEnd,
+        tag: u64,
+        sheets: &mut S,
+        replies: &mut R,
+    ) -> Result<(), EngineError>
+        requires { CanCount (both (S.told sheets.old) (R.told replies.old)) }
+        ensures { Performs (ended end self.old.depth
+            (run_each (run_at levels) body (entered end self.old.state self.old))) tag result self.new
+            (both (S.told sheets.old) (R.told replies.old)) (both (S.told sheets.new) (R.told replies.new)) }
+    {
+        let depth = self.depth;
+        self.enter(&end);
+        while let Some(command) = body.next() {
+            self.run(alloc, levels, command, tag, sheets, replies)?;
+        }
+        self.leave(end, depth);
+        Ok(())
     }
 }

@@ -1,8 +1,20 @@
 //! The rows that move the cursor.
 
-use crate::effect::{Closer, Effect};
+use crate::effect::{Closer, Effect, Source};
 use crate::state::State;
 use press_units::{Pos, Unit, Value, to_pos};
+
+impl Source {
+    ghost use Rattle.std.specs.Prelude.{◌≡◌};
+    ghost use Rattle.press_engine.specs.Motion.{in_overlay};
+
+    /// Whether an overlay runs.
+    pub fn in_overlay(self) -> bool
+        ensures { result ≡ in_overlay self }
+    {
+        matches!(self, Source::Overlay)
+    }
+}
 
 impl State {
     ghost use Rattle.std.specs.Prelude.{◌≡◌};
@@ -71,11 +83,12 @@ impl State {
         self.graphics.end();
     }
 
-    /// Moves down by a distance, or asks for the close of the page where the end of the text would be passed.
-    fn feed(&mut self, distance: u16) -> Effect
-        ensures { effect_of self.new result ≡ feed distance self.old }
+    /// Moves down by a distance, or asks for the close of the page where the end of the text would be passed and no overlay runs.
+    fn feed(&mut self, source: Source, distance: u16) -> Effect
+        ensures { effect_of self.new result ≡ feed source distance self.old }
     {
-        if self.environment.passes_text(self.cursor.y(), distance) {
+        let passes = self.environment.passes_text(self.cursor.y(), distance);
+        if passes && !source.in_overlay() {
             return Effect::Closes(Closer::Feed);
         }
         let page = self.bounds();
@@ -99,21 +112,22 @@ impl State {
     }
 
     /// LF.
-    pub fn line_feed(&mut self) -> Effect
-        ensures { effect_of self.new result ≡ line_feed self.old }
+    pub fn line_feed(&mut self, source: Source) -> Effect
+        ensures { effect_of self.new result ≡ line_feed source self.old }
     {
         self.return_before_feed();
-        self.feed(self.environment.settings.vertical_motion)
+        let settings = self.environment.settings;
+        self.feed(source, settings.vertical_motion)
     }
 
     /// CR.
-    pub fn carriage_return(&mut self) -> Effect
-        ensures { effect_of self.new result ≡ carriage_return self.old }
+    pub fn carriage_return(&mut self, source: Source) -> Effect
+        ensures { effect_of self.new result ≡ carriage_return source self.old }
     {
         let feeds = self.environment.settings.line_termination.feed_after_return;
         self.move_to_left_margin();
         if feeds {
-            self.line_feed()
+            self.line_feed(source)
         } else {
             Effect::Changes
         }
@@ -128,11 +142,11 @@ impl State {
     }
 
     /// `ESC =`.
-    pub fn half_line_feed(&mut self) -> Effect
-        ensures { effect_of self.new result ≡ half_line_feed self.old }
+    pub fn half_line_feed(&mut self, source: Source) -> Effect
+        ensures { effect_of self.new result ≡ half_line_feed source self.old }
     {
         let settings = self.environment.settings;
-        self.feed(settings.half_line())
+        self.feed(source, settings.half_line())
     }
 
     /// `&f#S`: pushes the position of the cursor, or pops one.

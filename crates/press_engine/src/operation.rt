@@ -110,6 +110,12 @@ pub enum Operation {
     MoveX,
     /// `ESC * p # Y`, in PCL units.
     MoveY,
+    /// `ESC & f # Y`.
+    MacroId,
+    /// `ESC & f # X`.
+    ControlMacro,
+    /// A line of the job language.
+    JobLanguage,
 }
 
 /// The row of a command's kind in the command table.
@@ -119,6 +125,7 @@ pub fn operation_of(kind: Kind) -> Operation
     match kind {
         Kind::Escape(byte) => escape_operation(byte),
         Kind::Uel => Operation::Reset,
+        Kind::PjlLine => Operation::JobLanguage,
         Kind::Control(byte) => control_operation(byte),
         Kind::Param {
             character,
@@ -211,12 +218,14 @@ fn and_a_operation(end: u8) -> Operation
     }
 }
 
-/// `ESC & f`: the cursor's stack.
+/// `ESC & f`: the cursor's stack, and macros.
 fn and_f_operation(end: u8) -> Operation
     ensures { result ≡ row_at end and_f_rows }
 {
     match end {
         b'S' => Operation::PushOrPop,
+        b'X' => Operation::ControlMacro,
+        b'Y' => Operation::MacroId,
         _ => Operation::Nothing,
     }
 }

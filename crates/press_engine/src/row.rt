@@ -1,6 +1,6 @@
 //! The row of a command.
 
-use crate::effect::{Effect, Sent};
+use crate::effect::{Effect, Source};
 use crate::operation::{Operation, operation_of};
 use crate::state::State;
 use press_cmd::{Command, kind};
@@ -9,13 +9,31 @@ use std::alloc::{AllocError, Global};
 
 impl Operation {
     ghost use Rattle.std.specs.Prelude.{◌≡◌};
-    ghost use Rattle.press_engine.specs.Table.{works_in_hp_gl};
+    ghost use Rattle.press_engine.specs.Table.{works_in_hp_gl, works_in_overlay};
 
     /// Whether the row has effect while HP-GL/2 is on.
     fn works_in_hp_gl(self) -> bool
         ensures { result ≡ works_in_hp_gl self }
     {
-        matches!(self, Operation::Reset | Operation::LeaveHpGl)
+        matches!(
+            self,
+            Operation::Reset | Operation::LeaveHpGl | Operation::JobLanguage
+        )
+    }
+
+    /// Whether the row has effect in an overlay, where no page closes.
+    fn works_in_overlay(self) -> bool
+        ensures { result ≡ works_in_overlay self }
+    {
+        !matches!(
+            self,
+            Operation::FormFeed
+                | Operation::SelectPageSize
+                | Operation::SelectOrientation
+                | Operation::SelectSides
+                | Operation::EjectPage
+                | Operation::SelectSide
+        )
     }
 }
 
@@ -23,30 +41,29 @@ impl State {
     ghost use Rattle.std.specs.Prelude.{◌≡◌, IfOk, IsErr};
     ghost use Rattle.press_cmd.specs.View.{token};
     ghost use Rattle.press_engine.specs.Effects.{effect_of};
-    ghost use Rattle.press_engine.specs.Closing.{settle};
     ghost use Rattle.press_engine.specs.Engine.{TakesMemory};
-    ghost use Rattle.press_engine.specs.Outputs.{outputs_of};
-    ghost use Rattle.press_engine.specs.Table.{row, effect_on};
+    ghost use Rattle.press_engine.specs.Table.{row, is_skipped, effect_on};
 
-    /// What a row does with a command.
+    /// What a row does with a command, by where the command comes from.
     fn apply(
         &mut self,
         alloc: Global,
+        source: Source,
         operation: Operation,
         command: &Command<'_>,
     ) -> Result<Effect, AllocError>
         ensures effect { IfOk result (λ effect.
-            effect_of self.new effect ≡ row operation (token command.now) self.old) }
+            effect_of self.new effect ≡ row source operation (token command.now) self.old) }
         ensures memory { IsErr result
-            → TakesMemory (row operation (token command.now) self.old) }
+            → TakesMemory (row source operation (token command.now) self.old) }
     {
         let value = command.value();
         match operation {
-            Operation::Nothing => {}
-            Operation::CarriageReturn => return Ok(self.carriage_return()),
-            Operation::LineFeed => return Ok(self.line_feed()),
+            Operation::Nothing | Operation::JobLanguage => {}
+            Operation::CarriageReturn => return Ok(self.carriage_return(source)),
+            Operation::LineFeed => return Ok(self.line_feed(source)),
             Operation::FormFeed => return Ok(self.form_feed()),
-            Operation::HalfLineFeed => return Ok(self.half_line_feed()),
+            Operation::HalfLineFeed => return Ok(self.half_line_feed(source)),
             Operation::ClearMargins => self.environment.clear_margins(),
             Operation::Reset => return Ok(self.reset()),
             Operation::EnterHpGl => self.hp_gl = true,
@@ -104,32 +121,40 @@ impl State {
             Operation::OffsetRaster => self.offset_raster(value),
             Operation::MoveX => self.move_along(self.pcl_unit(), value),
             Operation::MoveY => self.move_down(self.pcl_unit(), value),
+            Operation::MacroId => self.set_macro_id(value),
+            Operation::ControlMacro => return self.control_macro(source, value),
         }
         Ok(Effect::Changes)
     }
 
-    /// What the row of a command's kind gives.
-    fn row(&mut self, alloc: Global, command: Command<'_>) -> Result<Effect, AllocError>
-        ensures effect { IfOk result (λ effect.
-            effect_of self.new effect ≡ effect_on (token command.entry) self.old) }
-        ensures memory { IsErr result
-            → TakesMemory (effect_on (token command.entry) self.old) }
+    /// Whether a command has no effect where it stands: HP-GL/2 is skipped, and no page closes in an overlay.
+    fn is_skipped(&self, source: Source, operation: Operation) -> bool
+        ensures { result ≡ is_skipped source operation self.now }
     {
-        let operation = operation_of(kind(&command));
-        if self.hp_gl && !operation.works_in_hp_gl() {
-            return Ok(Effect::Changes);
-        }
-        self.apply(alloc, operation, &command)
+        (self.hp_gl && !operation.works_in_hp_gl())
+            || (source.in_overlay() && !operation.works_in_overlay())
     }
 
-    /// The row of a command's kind, and the page close that it may ask for.
-    pub fn whole_row(&mut self, alloc: Global, command: Command<'_>) -> Result<Sent, AllocError>
-        ensures settled { IfOk result (λ sent. record { state = self.new; outputs = outputs_of sent }
-            ≡ settle (effect_on (token command.entry) self.old)) }
+    /// What a command does: it is recorded and does nothing else, or its kind's row gives what it does.
+    pub fn row(
+        &mut self,
+        alloc: Global,
+        source: Source,
+        command: &Command<'_>,
+    ) -> Result<Effect, AllocError>
+        ensures effect { IfOk result (λ effect.
+            effect_of self.new effect ≡ effect_on source (token command.now) self.old) }
         ensures memory { IsErr result
-            → TakesMemory (effect_on (token command.entry) self.old) }
+            → TakesMemory (effect_on source (token command.now) self.old) }
     {
-        let effect = self.row(alloc, command)?;
-        self.settle(alloc, effect)
+        if self.records(command) {
+            self.macros.record(command)?;
+            return Ok(Effect::Makes);
+        }
+        let operation = operation_of(kind(command));
+        if self.is_skipped(source, operation) {
+            return Ok(Effect::Changes);
+        }
+        self.apply(alloc, source, operation, command)
     }
 }

@@ -3,6 +3,7 @@ ghost use Rattle.std.specs.Prelude.{◌≡◌, IfOk};
 use crate::canvas::Canvas;
 use crate::drawing::Drawing;
 use press_cursor::{Cursor, LogicalPage};
+use press_macros::MacroStore;
 use press_page::{Defaults, PageEnv};
 use press_pattern::Patterns;
 use press_raster::Raster;
@@ -16,12 +17,18 @@ pub struct State {
     pub environment: PageEnv,
     /// How marks are made.
     pub drawing: Drawing,
+    /// The ID under which macros are defined and started.
+    pub macro_id: u16,
+    /// The ID of the macro that is laid under every page.
+    pub overlay: Option<u16>,
     pub cursor: Cursor,
     /// Whether HP-GL/2 is on, which this press skips.
     pub hp_gl: bool,
     /// How many sheets went out, each copy counted; the greatest number stays.
     pub sheets: u64,
     pub patterns: Patterns,
+    /// Macros, and the definition that is open.
+    pub macros: MacroStore,
     /// Raster graphics, off or on.
     pub graphics: Raster,
     /// The page that is being printed, from its first mark on; none is a blank page without a mark.
@@ -55,10 +62,13 @@ impl State {
         State {
             environment,
             drawing: Drawing::initial(),
+            macro_id: 0,
+            overlay: None,
             cursor: Cursor::at_home(environment.margins.left, line, page),
             hp_gl: false,
             sheets: 0,
             patterns: Patterns::new(alloc),
+            macros: MacroStore::new(alloc),
             graphics: Raster::new(alloc),
             page: None,
             pending: None,
@@ -72,17 +82,21 @@ impl State {
         Ok(State {
             environment: self.environment,
             drawing: self.drawing,
+            macro_id: self.macro_id,
+            overlay: self.overlay,
             cursor: self.cursor.clone()?,
             hp_gl: self.hp_gl,
             sheets: self.sheets,
             patterns: self.patterns.copy()?,
+            macros: self.macros.copy()?,
             graphics: self.graphics.copy()?,
             page: copy_page(&self.page)?,
             pending: copy_page(&self.pending)?,
         })
     }
 
-    /// Page environment, drawing and cursor as after power on, raster graphics off, and no temporary pattern.
+    /// Page environment, drawing, macro ID and cursor as after power on, overlay, HP-GL/2 and raster graphics off, and no
+    /// temporary pattern or macro.
     pub fn reset_fields(&mut self)
         ensures { self.new ≡ reset_fields self.old }
     {
@@ -91,7 +105,11 @@ impl State {
         let line = environment.settings.vertical_motion;
         self.environment = environment;
         self.drawing = Drawing::initial();
+        self.macro_id = 0;
+        self.overlay = None;
+        self.hp_gl = false;
         self.patterns.delete_temporary();
+        self.macros.delete_temporary();
         self.graphics.end();
         self.cursor = Cursor::at_home(environment.margins.left, line, page);
     }

@@ -26,6 +26,12 @@ pub struct View<'a> {
     pub environment: PageEnv,
     /// How marks are made.
     pub drawing: Drawing,
+    /// The ID under which macros are defined and started.
+    pub macro_id: u16,
+    /// The ID of the macro that is laid under every page.
+    pub overlay: Option<u16>,
+    /// The ID of the macro definition that is open.
+    pub defining: Option<u16>,
     /// Where rows of raster graphics begin and how many there were, while it is on.
     pub raster: Option<RasterPosition>,
     /// Whether HP-GL/2 is on.

@@ -1,0 +1,112 @@
+-- What a macro call restores, and the environment of an overlay (PCL 5 Printer Language Technical Reference Manual, "Macros").
+use Rattle.std.specs.Prelude.{Bool, ◌==◌, ◌&&◌, ℕ, if◌then◌else◌, List, Option, Some, None}
+use Rattle.press_cmd.specs.Token.{Token}
+use Rattle.press_cursor.specs.Cursor.{at, clamped, position}
+use Rattle.press_macros.specs.Macros.{body_of}
+use Rattle.press_page.specs.Environment.{reset_environment, logical_page_of}
+use Rattle.press_page.specs.declared.environment.PageEnv.{PageEnv}
+use Rattle.press_page.specs.declared.margins.Margins.{Margins}
+use Rattle.press_page.specs.declared.paper.Paper.{Paper}
+use Rattle.press_page.specs.declared.paper.PageSize.{PageSize}
+use Rattle.press_page.specs.declared.paper.PageSize.TheVariants as sizes
+use Rattle.press_page.specs.declared.paper.Orientation.{Orientation}
+use Rattle.press_page.specs.declared.paper.Orientation.TheVariants as orientations
+use Rattle.press_engine.specs.declared.calls.Kept.{Kept}
+use Rattle.press_engine.specs.declared.effect.BodyEnd.{BodyEnd}
+use Rattle.press_engine.specs.declared.effect.BodyEnd.TheVariants as ends
+use Rattle.press_engine.specs.declared.state.State.{State}
+use Rattle.press_engine.specs.Drawing.{initial_drawing}
+use Rattle.press_engine.specs.Motion.{to_home}
+use Rattle.press_engine.specs.Outcome.{bounds, ended_raster}
+use Rattle.press_engine.specs.Place.{resolution}
+
+-- What a call keeps at its start.
+abbrev pub kept_of : State → Kept
+kept_of state = record { environment = state.environment; drawing = state.drawing; macro_id = state.macro_id }
+
+-- sizes and orientations by their numbers in the page size and orientation commands
+abbrev pub number_of_size : PageSize → ℕ
+number_of_size sizes.Executive = 1
+number_of_size sizes.Letter = 2
+number_of_size sizes.Legal = 3
+number_of_size sizes.Ledger = 6
+number_of_size sizes.A4 = 26
+number_of_size sizes.A3 = 27
+
+abbrev pub number_of_orientation : Orientation → ℕ
+number_of_orientation orientations.Portrait = 0
+number_of_orientation orientations.Landscape = 1
+number_of_orientation orientations.ReversePortrait = 2
+number_of_orientation orientations.ReverseLandscape = 3
+
+-- whether papers have the same size and orientation
+abbrev pub lies_as : Paper → Paper → Bool
+lies_as paper other =
+    number_of_size paper.size == number_of_size other.size
+    && number_of_orientation paper.orientation == number_of_orientation other.orientation
+
+-- Margins and text length are restored where page size and orientation are those that were kept.
+abbrev pub restored_margins : (kept now : PageEnv) → Margins
+restored_margins kept now = if lies_as kept.paper now.paper then kept.margins else now.margins
+
+-- The settings are restored; the paper stays.
+abbrev pub restored_environment : (kept now : PageEnv) → PageEnv
+restored_environment kept now =
+    record { settings = kept.settings; margins = restored_margins kept now; paper = now.paper }
+
+-- What was kept is restored; the cursor stays where it is, on the logical page, and raster graphics ends.
+abbrev pub restored : Kept → State → State
+restored kept state =
+    let environment = restored_environment kept.environment state.environment in
+    record state {
+      environment = environment;
+      drawing = kept.drawing;
+      macro_id = kept.macro_id;
+      cursor = clamped (logical_page_of environment) state.cursor;
+      graphics = None;
+    }
+
+-- What comes at the start of a body and at its end: nothing for a macro that is executed; a call ends raster graphics, and
+-- restores what it kept.
+abbrev pub at_start : BodyEnd → State → State
+at_start ends.Execute state = state
+at_start (ends.Call kept) state = ended_raster state
+
+abbrev pub at_end : BodyEnd → State → State
+at_end ends.Execute state = state
+at_end (ends.Call kept) state = restored kept state
+
+-- The page environment of an overlay: what a call restores is as after a reset, copies excepted; the paper stays.
+abbrev pub overlay_environment : PageEnv → PageEnv
+overlay_environment environment =
+    reset_environment (record {
+      copies = environment.settings.copies;
+      size = environment.paper.size;
+      orientation = environment.paper.orientation;
+      duplex = environment.paper.duplex;
+      binding = environment.paper.binding;
+      resolution = resolution;
+    })
+
+-- The body of the overlay, where it is on and its macro exists.
+abbrev pub body_under : Option ℕ → State → Option (List Token)
+body_under None state = None
+body_under (Some id) state = body_of state.macros id
+
+abbrev pub overlay_body : State → Option (List Token)
+overlay_body state = body_under state.overlay state
+
+-- At the start of an overlay its environment holds, the cursor is at home, and raster graphics ends.
+abbrev pub overlaid : State → State
+overlaid state =
+    to_home (record state {
+      environment = overlay_environment state.environment;
+      drawing = initial_drawing;
+      macro_id = 0;
+    })
+
+-- At its end what a call restores is restored, and the cursor is put back where it was before, on the logical page.
+abbrev pub put_back : (before after : State) → State
+put_back before after =
+    let state = restored (kept_of before) after in
+    record state { cursor = at (position before.cursor) (bounds state) state.cursor }

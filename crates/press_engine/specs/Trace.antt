@@ -1,0 +1,80 @@
+-- The trace of commands: the machine after each table step, with what went out in that step. A step takes one command, of the
+-- stream or of the innermost body that runs. In the same step each innermost body that is used up ends, and a page close
+-- that waited for its overlay is finished: that falls into the last item of the body, or, where the body is empty, into the
+-- item that started it.
+use Rattle.std.specs.Prelude.{ℕ, zero, suc, List, [], ◌∷◌, ◌++◌, Option, Some, None}
+use Rattle.press_cmd.specs.Token.{Token}
+use Rattle.press_sink.specs.Sending.{Output}
+use Rattle.press_engine.specs.declared.effect.Closer.{Closer}
+use Rattle.press_engine.specs.declared.effect.Source.TheVariants as sources
+use Rattle.press_engine.specs.declared.machine.Machine.{Machine}
+use Rattle.press_engine.specs.Calls.{overlay_body}
+use Rattle.press_engine.specs.Outcome.{Effect, Closes, Starts}
+use Rattle.press_engine.specs.Machine.{Run, quiet, then_run, with_state, taken, entered, left, state_of, run_over, overlay_levels, overlay_entered, overlay_left, settled_state, levels, source_at}
+use Rattle.press_engine.specs.Table.{effect_on}
+
+-- the machine after the last of the items; the one before, where there is none
+abbrev pub last_machine : (before : Machine) → List Run → Machine
+last_machine before [] = before
+last_machine before (item ∷ items) = last_machine item.machine items
+
+-- the outputs of all items, joined
+abbrev pub joined : List Run → List Output
+joined [] = []
+joined (item ∷ items) = item.outputs ++ joined items
+
+-- what an end does falls into the last of the items
+abbrev pub with_end : (Machine → Run) → Run → List Run → List Run
+with_end end item [] = then_run item.outputs (end item.machine) ∷ []
+with_end end item (next ∷ items) = item ∷ with_end end next items
+
+-- the items of commands, one after another
+unfoldable pub trace_each : (Token → Machine → List Run) → List Token → Machine → List Run
+trace_each one [] machine = []
+trace_each one (command ∷ commands) machine =
+    one command machine ++ trace_each one commands (last_machine machine (one command machine))
+
+-- The items of a body: the step that starts it, which leaves the machine inside it; and its commands, with its end.
+abbrev pub body_items : (Token → Machine → List Run) → (Machine → Run) → List Token → (inside : Machine) → List Run
+body_items one end commands inside = with_end end (quiet inside) (trace_each one commands inside)
+
+-- The items of an effect in an overlay.
+abbrev pub trace_carried_over : (Token → Machine → List Run) → Machine → Effect → List Run
+trace_carried_over one machine (Starts commands end state) =
+    body_items one (λ after. quiet (left end machine.depth after)) commands (entered end state machine)
+trace_carried_over one machine effect = quiet (with_state (state_of effect) machine) ∷ []
+
+unfoldable pub trace_over : (levels : ℕ) → Token → Machine → List Run
+trace_over zero command machine = quiet (run_over 0 command machine) ∷ []
+trace_over (suc levels) command machine =
+    trace_carried_over (trace_over levels) (taken command machine) (effect_on sources.Overlay command machine.state)
+
+-- The items of a page close: the overlay's body, where there is one, and in its end the close.
+abbrev pub close_items_with : Option (List Token) → Closer → Machine → List Run
+close_items_with None closer machine = settled_state machine (Closes closer machine.state) ∷ []
+close_items_with (Some commands) closer machine =
+    body_items (trace_over overlay_levels)
+    (λ after. settled_state (overlay_left machine after) (Closes closer (overlay_left machine after).state))
+    commands (overlay_entered machine)
+
+abbrev pub close_items : Closer → Machine → List Run
+close_items closer machine = close_items_with (overlay_body machine.state) closer machine
+
+-- The items of an effect outside an overlay where no macro starts, and of any.
+abbrev pub trace_settled : Machine → Effect → List Run
+trace_settled machine (Closes closer state) = close_items closer (with_state state machine)
+trace_settled machine effect = settled_state machine effect ∷ []
+
+abbrev pub trace_carried : (Token → Machine → List Run) → Machine → Effect → List Run
+trace_carried one machine (Starts commands end state) =
+    body_items one (λ after. quiet (left end machine.depth after)) commands (entered end state machine)
+trace_carried one machine effect = trace_settled machine effect
+
+unfoldable pub trace_at : (levels : ℕ) → Token → Machine → List Run
+trace_at zero command machine = trace_settled (taken command machine) (effect_on (source_at 0) command machine.state)
+trace_at (suc more) command machine =
+    trace_carried (trace_at more) (taken command machine) (effect_on (source_at (suc more)) command machine.state)
+
+-- The trace of the commands of a stream.
+abbrev pub trace : List Token → Machine → List Run
+trace = trace_each (trace_at levels)

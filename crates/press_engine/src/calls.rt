@@ -1,0 +1,141 @@
+//! What a macro call restores, and the environment of an overlay.
+
+ghost use Rattle.std.specs.Prelude.{◌≡◌};
+ghost use Rattle.press_engine.specs.Calls.{lies_as, restored_environment, overlay_environment};
+
+use crate::canvas::RESOLUTION;
+use crate::drawing::Drawing;
+use crate::effect::BodyEnd;
+use crate::state::State;
+use press_cursor::CursorPosition;
+use press_macros::Body;
+use press_page::{Defaults, PageEnv, Paper};
+use std::alloc::AllocError;
+
+/// What a macro call keeps at its start, and restores at its end.
+#[derive(Clone, Copy, Debug)]
+pub struct Kept {
+    /// Its settings, and its margins where page size and orientation are the same at the end.
+    pub environment: PageEnv,
+    pub drawing: Drawing,
+    pub macro_id: u16,
+}
+
+/// Whether papers have the same size and orientation.
+fn lies_as(paper: Paper, other: Paper) -> bool
+    ensures { result ≡ lies_as paper other }
+{
+    paper.size == other.size && paper.orientation == other.orientation
+}
+
+/// The environment at the end of a call: the settings that were kept, the margins too where the paper lies as it did, and the
+/// paper of now.
+fn restored_environment(kept: PageEnv, now: PageEnv) -> PageEnv
+    ensures { result ≡ restored_environment kept now }
+{
+    let margins = if lies_as(kept.paper, now.paper) {
+        kept.margins
+    } else {
+        now.margins
+    };
+    PageEnv {
+        settings: kept.settings,
+        margins,
+        paper: now.paper,
+    }
+}
+
+/// The environment of an overlay: as after a reset, with the copies and the paper of now.
+fn overlay_environment(environment: PageEnv) -> PageEnv
+    ensures { result ≡ overlay_environment environment }
+{
+    let paper = environment.paper;
+    PageEnv::reset_from(&Defaults {
+        copies: environment.settings.copies,
+        size: paper.size,
+        orientation: paper.orientation,
+        duplex: paper.duplex,
+        binding: paper.binding,
+        resolution: RESOLUTION,
+    })
+}
+
+impl State {
+    ghost use Rattle.std.specs.Prelude.{◌≡◌, IfOk, IsErr, IsSome};
+    ghost use Rattle.press_cursor.specs.Cursor.{at};
+    ghost use Rattle.press_engine.specs.Calls.{kept_of, restored, at_start, at_end, overlay_body, overlaid};
+    ghost use Rattle.press_engine.specs.Outcome.{bounds};
+
+    /// What a call keeps.
+    pub fn kept(&self) -> Kept
+        ensures { result ≡ kept_of self.now }
+    {
+        Kept {
+            environment: self.environment,
+            drawing: self.drawing,
+            macro_id: self.macro_id,
+        }
+    }
+
+    /// Restores what was kept; the cursor stays where it is, on the logical page.
+    pub fn restore(&mut self, kept: Kept)
+        ensures { self.new ≡ restored kept self.old }
+    {
+        self.environment = restored_environment(kept.environment, self.environment);
+        self.drawing = kept.drawing;
+        self.macro_id = kept.macro_id;
+        let page = self.bounds();
+        self.cursor.clamp(page);
+        self.graphics.end();
+    }
+
+    /// What comes at the start of a body.
+    pub fn start_body(&mut self, end: &BodyEnd)
+        ensures { self.new ≡ at_start end.now self.old }
+    {
+        if let BodyEnd::Call(_) = end {
+            self.graphics.end();
+        }
+    }
+
+    /// What comes when a body is used up.
+    pub fn end_body(&mut self, end: BodyEnd)
+        ensures { self.new ≡ at_end end self.old }
+    {
+        match end {
+            BodyEnd::Execute => {}
+            BodyEnd::Call(kept) => self.restore(kept),
+        }
+    }
+
+    /// The body of the overlay, where it is on and its macro exists.
+    pub fn overlay_body(&self) -> Result<Option<Body>, AllocError>
+        ensures { IfOk result (λ body. body ≡ overlay_body self.now) }
+    {
+        match self.overlay {
+            Some(id) => self.macros.body(id),
+            None => Ok(None),
+        }
+    }
+
+    /// The environment of an overlay holds, and the cursor is at home.
+    pub fn start_overlay(&mut self)
+        ensures { self.new ≡ overlaid self.old }
+    {
+        self.environment = overlay_environment(self.environment);
+        self.drawing = Drawing::initial();
+        self.macro_id = 0;
+        self.move_home();
+    }
+
+    /// What was kept before the overlay is restored, and the cursor is put back.
+    pub fn end_overlay(&mut self, kept: Kept, position: CursorPosition)
+        ensures { self.new ≡ record (restored kept self.old) {
+          cursor = at position (bounds (restored kept self.old)) (restored kept self.old).cursor;
+        } }
+    {
+        self.restore(kept);
+        let page = self.bounds();
+        self.cursor.move_to(position, page);
+    }
+}
