@@ -174,10 +174,6 @@ pub repeated_mod : (pattern : Row) (p : ℕ) → row_dot pattern.bits (p % patte
 unfolding repeated
 repeated_mod pattern p = refl
 
-pub repeated_at : (pattern : Row) (phase q : ℕ) → phase ≡ q % pattern.dots → row_dot pattern.bits phase ≡ repeated pattern q
-unfolding repeated
-repeated_at pattern phase q is = ap (row_dot pattern.bits) is
-
 pub phase-more : (next phase q q' step d : ℕ) → next ≡ (phase + step) % d → phase ≡ q % d → q' ≡ q + step → next ≡ q' % d
 phase-more next phase q q' step d is was further = is ∙ ap (λ n. (n + step) % d) was ∙ mod_add q step d ∙ ap (λ n. n % d) (sym further)
 

@@ -10,6 +10,8 @@ mod file_tests;
 mod files;
 mod listing;
 #[cfg(test)]
+mod macro_tests;
+#[cfg(test)]
 mod mark_tests;
 mod program;
 #[cfg(test)]

@@ -107,7 +107,7 @@ const DRAWING: &str = "\
 ^*v1n1O^E 0 0 0 0 0";
 
 /// Whether the black dots of a page are those of boxes that do not meet.
-fn is_boxes(page: &Bitmap, boxes: &[u32]) -> bool {
+pub fn is_boxes(page: &Bitmap, boxes: &[u32]) -> bool {
     let mut dots = 0u32;
     for corner in boxes.chunks(4) {
         let [x, y, width, height] = *corner else {

@@ -349,7 +349,7 @@ fn rows_close_the_page(rt: HostRuntime) -> Result<(), Fail> {
 }
 
 /// Of each delivered sheet, how many dots of front and back are black; -1 for no back.
-fn black_sides(rt: &HostRuntime, sheets: &ListSink) -> Result<Vec<i64>, Fail> {
+pub fn black_sides(rt: &HostRuntime, sheets: &ListSink) -> Result<Vec<i64>, Fail> {
     let mut black = Vec::new(rt.alloc());
     for delivery in sheets.deliveries() {
         black.push(i64::from(delivery.sheet.front.count_black()))?;
