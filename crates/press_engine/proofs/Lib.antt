@@ -6,3 +6,4 @@ pub mod Runs
 pub mod SendsLemmas
 pub mod TraceLaws
 pub mod WorkedStreams
+pub mod WorkedMacros

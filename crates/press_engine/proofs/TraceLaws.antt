@@ -121,7 +121,7 @@ tells-at (suc more) command machine =
 pub tells-all : (commands : List Token) (machine : Machine) → Tells (trace commands machine) machine (run_all commands machine)
 tells-all commands machine = tells-each run (trace_at levels) (tells-at levels) commands machine
 
-trace_each-append : (tracing : Token → Machine → List Run) (commands others : List Token) (machine : Machine) → trace_each tracing (commands ++ others) machine ≡ trace_each tracing commands machine ++ trace_each tracing others (last_machine machine (trace_each tracing commands machine))
+pub trace_each-append : (tracing : Token → Machine → List Run) (commands others : List Token) (machine : Machine) → trace_each tracing (commands ++ others) machine ≡ trace_each tracing commands machine ++ trace_each tracing others (last_machine machine (trace_each tracing commands machine))
 unfolding trace_each
 trace_each-append tracing [] others machine = refl
 trace_each-append tracing (command ∷ commands) others machine =

@@ -1,0 +1,415 @@
+-- Worked streams of macros and the overlay, computed on the definitions from power on. What is found under a macro ID does not
+-- compute: at each command that looks a macro up it is put in by what a map says of it.
+use Prim.Native.Char.{Char, code}
+use Prim.Native.String.{String}
+use Rattle.std.proofs.Common.{◌≡◌, ◌∙◌, ℕ, suc, false, true, List, [], ◌∷◌, ◌++◌, Some, None, option_map, map, refl, sym, ap}
+use Rattle.std.proofs.lemmas.Cmp.{nat_cmp_total}
+use Rattle.std.proofs.lemmas.List.{append-nil}
+use Rattle.std.specs.FinMap as maps
+use Rattle.std.specs.FinMap.{get-insert}
+use Rattle.std.specs.Prelude.{codes, if◌then◌else◌}
+use Rattle.press_bits.specs.DotRule.{both_transparent}
+use Rattle.press_bits.specs.Mark.{painted}
+use Rattle.press_bits.specs.Page.{Page, blank}
+use Rattle.press_cmd.specs.Token.{Token, Grouped, Control, Uel}
+use Rattle.press_fill.specs.Fill.{fill_mark}
+use Rattle.press_macros.specs.Macros.{Macro, Macros, abandoned, body_of}
+use Rattle.press_page.specs.declared.paper.Orientation.TheVariants.{Portrait}
+use Rattle.press_pattern.specs.Solid.{solid_black}
+use Rattle.press_sink.specs.Sending.{Output, Deliver}
+use Rattle.press_engine.specs.declared.effect.BodyEnd.TheVariants as ends
+use Rattle.press_engine.specs.declared.effect.Closer.{Closer}
+use Rattle.press_engine.specs.declared.effect.Closer.TheVariants as closers
+use Rattle.press_engine.specs.declared.effect.PageChange.TheVariants as page_changes
+use Rattle.press_engine.specs.declared.effect.Source.TheVariants as sources
+use Rattle.press_engine.specs.declared.machine.Machine.{Machine}
+use Rattle.press_engine.specs.declared.operation.Operation.TheVariants.{FormFeed, Reset}
+use Rattle.press_engine.specs.declared.state.State.{State}
+use Rattle.press_engine.specs.Calls.{kept_of, overlay_body}
+use Rattle.press_engine.specs.Macros.{start_body, record_command}
+use Rattle.press_engine.specs.Outcome.{Effect, Changes, Makes, Goes, Closes, Starts, is_marked, with_macros}
+use Rattle.press_engine.specs.Machine.{Run, quiet, with_state, taken, entered, left, power_on, source_at, run_all}
+use Rattle.press_engine.specs.Motion.{to_left_margin}
+use Rattle.press_engine.specs.Table.{effect_on, is_recorded, is_skipped, row, row_unless_skipped}
+use Rattle.press_engine.specs.Trace.{last_machine, joined, with_end, body_items, close_items_with, trace_settled, trace_carried, trace, trace_each, trace_at, trace_over}
+use Rattle.press_engine.proofs.TraceLaws.{tells-all, trace_each-append}
+
+-- ESC, a parameterized character, a group character, a field and a termination character
+abbrev sequence : Char → Char → String → Char → Token
+sequence character group field end = Grouped (code character) (code group) (codes field) (code end) []
+
+abbrev macro_id : String → Token
+macro_id id = sequence "&" "f" id "Y"
+
+abbrev macro_control : String → Token
+macro_control number = sequence "&" "f" number "X"
+
+abbrev call : Token
+call = macro_control "3"
+
+-- a rectangle of so many units in a line, painted black
+abbrev dots : String → List Token
+dots width = sequence "*" "c" width "A" ∷ sequence "*" "c" "1" "B" ∷ sequence "*" "c" "0" "P" ∷ []
+
+abbrev form_feed : Token
+form_feed = Control 12
+
+-- The macro that was defined is found under its ID.
+abbrev one_macro : (id : ℕ) → List Token → Macros
+one_macro id commands =
+    record { stored = maps.insert maps.empty id (record { commands = commands; permanent = false }); definition = None }
+
+macro_is_found : (commands : List Token) → body_of (one_macro 1 commands) 1 ≡ Some commands
+macro_is_found commands =
+    ap (option_map (λ (found : Macro). found.commands))
+    (get-insert nat_cmp_total maps.empty 1 (record { commands = commands; permanent = false }) 1)
+
+-- A call of a macro that is found gives the items of its body.
+abbrev call_end : (before : Machine) → Machine → Run
+call_end before after = quiet (left (ends.Call (kept_of before.state)) before.depth after)
+
+abbrev inside_call : Machine → Machine
+inside_call before = entered (ends.Call (kept_of before.state)) before.state (taken call before)
+
+abbrev call_effect : List Token → Machine → Effect
+call_effect commands before = Starts commands (ends.Call (kept_of before.state)) before.state
+
+call_items :
+    (levels : ℕ) (commands : List Token) (before : Machine)
+    → effect_on (source_at (suc levels)) call before.state ≡ call_effect commands before
+    → trace_at (suc levels) call before ≡ body_items (trace_at levels) (call_end before) commands (inside_call before)
+unfolding trace_at
+call_items levels commands before starts = ap (trace_carried (trace_at levels) (taken call before)) starts
+
+-- ESC*p0x0Y, ESC&f1y0X, ESC*c1a1b0P, ESC*p+2X, ESC&f3X, ESC&f1X, ESC&f3X: a macro that paints a dot, moves two units and
+-- calls itself, is called; a third one does not run
+abbrev dot_and_move : List Token
+dot_and_move = dots "1" ++ (sequence "*" "p" "+2" "X" ∷ [])
+
+abbrev body : List Token
+body = dot_and_move ++ (call ∷ [])
+
+abbrev definition : List Token
+definition =
+    (sequence "*" "p" "0" "X" ∷ sequence "*" "p" "0" "Y" ∷ macro_id "1" ∷ macro_control "0" ∷ body) ++ (macro_control "1" ∷ [])
+
+-- the machine before the call of the stream, before the call in the macro, and before that in the macro within
+abbrev first : Machine
+first = last_machine power_on (trace definition power_on)
+
+abbrev second : Machine
+second = last_machine (inside_call first) (trace_each (trace_at 1) dot_and_move (inside_call first))
+
+abbrev third : Machine
+third = last_machine (inside_call second) (trace_each (trace_at 0) dot_and_move (inside_call second))
+
+first_starts : effect_on (source_at 2) call first.state ≡ call_effect body first
+unfolding trace_each trace_at
+first_starts = ap (λ found. start_body found (ends.Call (kept_of first.state)) first.state) (macro_is_found body)
+
+second_starts : effect_on (source_at 1) call second.state ≡ call_effect body second
+unfolding trace_each trace_at
+second_starts = ap (λ found. start_body found (ends.Call (kept_of second.state)) second.state) (macro_is_found body)
+
+-- The third one would start too, but no body may.
+third_starts : effect_on (source_at 0) call third.state ≡ call_effect body third
+unfolding trace_each trace_at
+third_starts = ap (λ found. start_body found (ends.Call (kept_of third.state)) third.state) (macro_is_found body)
+
+third_item : trace_at 0 call third ≡ quiet (taken call third) ∷ []
+unfolding trace_at
+third_item = ap (trace_settled (taken call third)) third_starts
+
+-- The items of commands: those of the first, and then those of the others; and those of a body that ends in a call, by those of
+-- the call.
+trace_each-cons :
+    (tracing : Token → Machine → List Run) (command : Token) (commands : List Token) (machine : Machine)
+    → trace_each tracing (command ∷ commands) machine
+    ≡ tracing command machine ++ trace_each tracing commands (last_machine machine (tracing command machine))
+unfolding trace_each
+trace_each-cons tracing command commands machine = refl
+
+trace_each-one :
+    (tracing : Token → Machine → List Run) (command : Token) (machine : Machine)
+    → trace_each tracing (command ∷ []) machine ≡ tracing command machine
+unfolding trace_each
+trace_each-one tracing command machine = append-nil (tracing command machine)
+
+abbrev body_with : (levels : ℕ) → (front : List Token) → (before : Machine) → (inner : List Run) → List Run
+body_with levels front before inner =
+    with_end (call_end before) (quiet (inside_call before)) (trace_each (trace_at levels) front (inside_call before) ++ inner)
+
+abbrev after_front : (levels : ℕ) → (front : List Token) → (before : Machine) → Machine
+after_front levels front before = last_machine (inside_call before) (trace_each (trace_at levels) front (inside_call before))
+
+call_after :
+    (levels : ℕ) (front : List Token) (before : Machine) (inner : List Run)
+    → trace_at levels call (after_front levels front before) ≡ inner
+    → body_items (trace_at levels) (call_end before) (front ++ (call ∷ [])) (inside_call before) ≡ body_with levels front before inner
+call_after levels front before inner same =
+    ap (λ items. with_end (call_end before) (quiet (inside_call before)) items)
+    (trace_each-append (trace_at levels) front (call ∷ []) (inside_call before)
+    ∙ ap (λ more. trace_each (trace_at levels) front (inside_call before) ++ more)
+    (trace_each-one (trace_at levels) call (after_front levels front before) ∙ same))
+
+second_items : trace_at 1 call second ≡ body_with 0 dot_and_move second (quiet (taken call third) ∷ [])
+second_items =
+    call_items 0 body second second_starts
+    ∙ call_after 0 dot_and_move second (quiet (taken call third) ∷ []) third_item
+
+abbrev called : List Run
+called = body_with 1 dot_and_move first (body_with 0 dot_and_move second (quiet (taken call third) ∷ []))
+
+first_items : trace_at 2 call first ≡ called
+first_items =
+    call_items 1 body first first_starts
+    ∙ call_after 1 dot_and_move first (body_with 0 dot_and_move second (quiet (taken call third) ∷ [])) second_items
+
+-- The items of the definition, the call and what comes then.
+abbrev stream_with : (others : List Token) → (inner : List Run) → List Run
+stream_with others inner =
+    trace definition power_on ++ (inner ++ trace_each (trace_at 2) others (last_machine first inner))
+
+abbrev dot_twice : (others : List Token) → List Token
+dot_twice others = definition ++ (call ∷ others)
+
+items_of : (others : List Token) → trace (dot_twice others) power_on ≡ stream_with others called
+items_of others =
+    trace_each-append (trace_at 2) definition (call ∷ others) power_on
+    ∙ ap (λ items. trace definition power_on ++ items) (trace_each-cons (trace_at 2) call others first)
+    ∙ ap (stream_with others) first_items
+
+-- The trace with FF and the universal exit: ten steps of the stream, the call and four of the macro's, the call in it and four
+-- more, the call that has no effect and ends both, and two of the stream.
+abbrev depths_of : List Run → List ℕ
+depths_of items = map (λ (item : Run). item.machine.depth) items
+
+abbrev page_and_exit : List Token
+page_and_exit = form_feed ∷ Uel ∷ []
+
+computed_depths :
+    depths_of (stream_with page_and_exit called)
+    ≡ 0 ∷ 0 ∷ 0 ∷ 0 ∷ 0 ∷ 0 ∷ 0 ∷ 0 ∷ 0 ∷ 0 ∷ 1 ∷ 1 ∷ 1 ∷ 1 ∷ 1 ∷ 2 ∷ 2 ∷ 2 ∷ 2 ∷ 2 ∷ 0 ∷ 0 ∷ 0 ∷ []
+unfolding trace_each trace_at trace_over
+computed_depths = refl
+
+depths_of_the_items :
+    depths_of (trace (dot_twice page_and_exit) power_on)
+    ≡ 0 ∷ 0 ∷ 0 ∷ 0 ∷ 0 ∷ 0 ∷ 0 ∷ 0 ∷ 0 ∷ 0 ∷ 1 ∷ 1 ∷ 1 ∷ 1 ∷ 1 ∷ 2 ∷ 2 ∷ 2 ∷ 2 ∷ 2 ∷ 0 ∷ 0 ∷ 0 ∷ []
+depths_of_the_items = ap depths_of (items_of page_and_exit) ∙ computed_depths
+
+-- A stream leaves the machine of its last item, and its outputs are those of its items.
+machine_of_items :
+    (commands : List Token) (items : List Run) → trace commands power_on ≡ items
+    → (run_all commands power_on).machine ≡ last_machine power_on items
+machine_of_items commands items same =
+    sym ((tells-all commands power_on).machine) ∙ ap (λ all. last_machine power_on all) same
+
+outputs_of_items :
+    (commands : List Token) (items : List Run) → trace commands power_on ≡ items
+    → (run_all commands power_on).outputs ≡ joined items
+outputs_of_items commands items same = sym ((tells-all commands power_on).outputs) ∙ ap joined same
+
+computed_x : (last_machine power_on (stream_with [] called)).state.cursor.x ≡ 96
+unfolding trace_each trace_at
+computed_x = refl
+
+the_cursor_stays_where_the_calls_left_it : (run_all (dot_twice []) power_on).machine.state.cursor.x ≡ 96
+the_cursor_stays_where_the_calls_left_it =
+    ap (λ (at : Machine). at.state.cursor.x) (machine_of_items (dot_twice []) (stream_with [] called) (items_of [])) ∙ computed_x
+
+-- a page with so many black dots in a line from a dot on
+abbrev dotted : (x y width : ℕ) → Page → Page
+dotted x y width page =
+    painted page
+    (fill_mark Portrait page (record { x = x; y = y; width = width; height = 1 }) solid_black both_transparent)
+
+abbrev letter : Page
+letter = blank 2550 3300
+
+abbrev sheet_of : Page → Output
+sheet_of page = Deliver (record { front = page; back = None })
+
+computed_dots : joined (stream_with page_and_exit called) ≡ sheet_of (dotted 77 150 1 (dotted 75 150 1 letter)) ∷ []
+unfolding trace_each trace_at trace_over
+computed_dots = refl
+
+two_dots : (run_all (dot_twice page_and_exit) power_on).outputs ≡ sheet_of (dotted 77 150 1 (dotted 75 150 1 letter)) ∷ []
+two_dots = outputs_of_items (dot_twice page_and_exit) (stream_with page_and_exit called) (items_of page_and_exit) ∙ computed_dots
+
+-- A command of the stream that closes the page, where the overlay's macro is found, gives the items of the overlay's body.
+close_with_overlay :
+    (command : Token) (commands : List Token) (closer : Closer) (before : Machine) (state : State)
+    → effect_on (source_at 2) command before.state ≡ Closes closer state
+    → overlay_body state ≡ Some commands
+    → trace_at 2 command before ≡ close_items_with (Some commands) closer (with_state state (taken command before))
+unfolding trace_at
+close_with_overlay command commands closer before state closes found =
+    ap (trace_carried (trace_at 1) (taken command before)) closes
+    ∙ ap (λ body. close_items_with body closer (with_state state (taken command before))) found
+
+second_macro_is_found : (commands : List Token) → body_of (one_macro 2 commands) 2 ≡ Some commands
+second_macro_is_found commands =
+    ap (option_map (λ (found : Macro). found.commands))
+    (get-insert nat_cmp_total maps.empty 2 (record { commands = commands; permanent = false }) 2)
+
+-- ESC&f2y0X, ESC*c4a1b0P, FF, ESC&f1X, ESC&f4X: a macro with a form feed is laid under every page
+abbrev four_dots : List Token
+four_dots = dots "4" ++ (form_feed ∷ [])
+
+abbrev overlaid : List Token
+overlaid = (macro_id "2" ∷ macro_control "0" ∷ four_dots) ++ (macro_control "1" ∷ macro_control "4" ∷ [])
+
+abbrev with_overlay : Machine
+with_overlay = last_machine power_on (trace overlaid power_on)
+
+-- a form feed, with the overlay's items, and what it leaves
+abbrev fed_items : (before : Machine) → List Run
+fed_items before = close_items_with (Some four_dots) closers.Feed (with_state before.state (taken form_feed before))
+
+abbrev fed : Machine → Machine
+fed before = last_machine before (fed_items before)
+
+-- A form feed that is not recorded and not skipped closes the page; the cursor stays where line termination says nothing.
+feed_closes :
+    (state : State)
+    → is_recorded form_feed state ≡ false
+    → is_skipped sources.Stream FormFeed state ≡ false
+    → state.environment.settings.line_termination.return_before_feed ≡ false
+    → effect_on sources.Stream form_feed state ≡ Closes closers.Feed state
+feed_closes state carried_out has_effect stays =
+    ap (λ recorded. if recorded then Makes (record_command form_feed state) else row_unless_skipped sources.Stream FormFeed form_feed state)
+    carried_out
+    ∙ ap (λ skipped. if skipped then Changes state else row sources.Stream FormFeed form_feed state) has_effect
+    ∙ ap (λ returns. Closes closers.Feed (if returns then to_left_margin state else state)) stays
+
+first_feed_closes : effect_on (source_at 2) form_feed with_overlay.state ≡ Closes closers.Feed with_overlay.state
+unfolding trace_each trace_at
+first_feed_closes = refl
+
+first_overlay : overlay_body with_overlay.state ≡ Some four_dots
+unfolding trace_each trace_at
+first_overlay = second_macro_is_found four_dots
+
+first_feed : trace_at 2 form_feed with_overlay ≡ fed_items with_overlay
+first_feed = close_with_overlay form_feed four_dots closers.Feed with_overlay with_overlay.state first_feed_closes first_overlay
+
+abbrev second_page : Machine
+second_page = fed with_overlay
+
+second_is_carried_out : is_recorded form_feed second_page.state ≡ false
+unfolding trace_each trace_at trace_over
+second_is_carried_out = refl
+
+second_has_effect : is_skipped sources.Stream FormFeed second_page.state ≡ false
+unfolding trace_each trace_at trace_over
+second_has_effect = refl
+
+second_stays_in_place : second_page.state.environment.settings.line_termination.return_before_feed ≡ false
+unfolding trace_each trace_at trace_over
+second_stays_in_place = refl
+
+second_feed_closes : effect_on (source_at 2) form_feed second_page.state ≡ Closes closers.Feed second_page.state
+second_feed_closes = feed_closes second_page.state second_is_carried_out second_has_effect second_stays_in_place
+
+second_overlay : overlay_body second_page.state ≡ Some four_dots
+unfolding trace_each trace_at trace_over
+second_overlay = second_macro_is_found four_dots
+
+second_feed : trace_at 2 form_feed second_page ≡ fed_items second_page
+second_feed = close_with_overlay form_feed four_dots closers.Feed second_page second_page.state second_feed_closes second_overlay
+
+abbrev exit : List Token
+exit = Uel ∷ []
+
+abbrev two_pages : List Run
+two_pages = fed_items with_overlay ++ (fed_items second_page ++ trace_each (trace_at 2) exit (fed second_page))
+
+items_of_two_pages : trace (overlaid ++ (form_feed ∷ form_feed ∷ exit)) power_on ≡ trace overlaid power_on ++ two_pages
+items_of_two_pages =
+    trace_each-append (trace_at 2) overlaid (form_feed ∷ form_feed ∷ exit) power_on
+    ∙ ap (λ items. trace overlaid power_on ++ items)
+    (trace_each-cons (trace_at 2) form_feed (form_feed ∷ exit) with_overlay
+    ∙ ap (λ items. items ++ trace_each (trace_at 2) (form_feed ∷ exit) (last_machine with_overlay items)) first_feed
+    ∙ ap (λ items. fed_items with_overlay ++ items)
+    (trace_each-cons (trace_at 2) form_feed exit second_page
+    ∙ ap (λ items. items ++ trace_each (trace_at 2) exit (last_machine second_page items)) second_feed))
+
+computed_pages :
+    joined (trace overlaid power_on ++ two_pages) ≡ sheet_of (dotted 75 187 4 letter) ∷ sheet_of (dotted 75 187 4 letter) ∷ []
+unfolding trace_each trace_at trace_over
+computed_pages = refl
+
+every_page_has_the_overlay :
+    (run_all (overlaid ++ (form_feed ∷ form_feed ∷ exit)) power_on).outputs
+    ≡ sheet_of (dotted 75 187 4 letter) ∷ sheet_of (dotted 75 187 4 letter) ∷ []
+every_page_has_the_overlay =
+    outputs_of_items (overlaid ++ (form_feed ∷ form_feed ∷ exit)) (trace overlaid power_on ++ two_pages) items_of_two_pages
+    ∙ computed_pages
+
+-- ESC*c1a1b0P, ESC&f3y0X and the end of the stream: the exit drops the open definition before the overlay runs
+abbrev open_definition : List Token
+open_definition = overlaid ++ (dots "1" ++ (macro_id "3" ∷ macro_control "0" ∷ []))
+
+abbrev in_definition : Machine
+in_definition = last_machine power_on (trace open_definition power_on)
+
+abbrev dropped : State
+dropped = with_macros abandoned (record in_definition.state { hp_gl = false })
+
+abbrev exit_closes : Closer
+exit_closes = closers.Change page_changes.Reset
+
+-- An exit that is not recorded and not skipped, on a page with a mark, closes it.
+reset_closes :
+    (state : State)
+    → is_recorded Uel state ≡ false
+    → is_skipped sources.Stream Reset state ≡ false
+    → is_marked (with_macros abandoned (record state { hp_gl = false })) ≡ true
+    → effect_on sources.Stream Uel state ≡ Closes exit_closes (with_macros abandoned (record state { hp_gl = false }))
+reset_closes state carried_out has_effect marked =
+    let after = with_macros abandoned (record state { hp_gl = false }) in
+    ap (λ recorded. if recorded then Makes (record_command Uel state) else row_unless_skipped sources.Stream Reset Uel state)
+    carried_out
+    ∙ ap (λ skipped. if skipped then Changes state else row sources.Stream Reset Uel state) has_effect
+    ∙ ap (λ marked. if marked then Closes exit_closes after else Goes exit_closes after) marked
+
+exit_is_carried_out : is_recorded Uel in_definition.state ≡ false
+unfolding trace_each trace_at
+exit_is_carried_out = refl
+
+exit_has_effect : is_skipped sources.Stream Reset in_definition.state ≡ false
+unfolding trace_each trace_at
+exit_has_effect = refl
+
+page_is_marked : is_marked dropped ≡ true
+unfolding trace_each trace_at
+page_is_marked = refl
+
+overlay_under_the_exit : overlay_body dropped ≡ Some four_dots
+unfolding trace_each trace_at
+overlay_under_the_exit = second_macro_is_found four_dots
+
+abbrev exit_items : List Run
+exit_items = close_items_with (Some four_dots) exit_closes (with_state dropped (taken Uel in_definition))
+
+exit_gives : trace_at 2 Uel in_definition ≡ exit_items
+exit_gives =
+    close_with_overlay Uel four_dots exit_closes in_definition dropped
+    (reset_closes in_definition.state exit_is_carried_out exit_has_effect page_is_marked) overlay_under_the_exit
+
+items_with_the_exit : trace (open_definition ++ exit) power_on ≡ trace open_definition power_on ++ exit_items
+items_with_the_exit =
+    trace_each-append (trace_at 2) open_definition exit power_on
+    ∙ ap (λ items. trace open_definition power_on ++ items) (trace_each-one (trace_at 2) Uel in_definition ∙ exit_gives)
+
+computed_last_page :
+    joined (trace open_definition power_on ++ exit_items) ≡ sheet_of (dotted 75 187 4 (dotted 75 187 1 letter)) ∷ []
+unfolding trace_each trace_at trace_over
+computed_last_page = refl
+
+the_exit_drops_a_definition :
+    (run_all (open_definition ++ exit) power_on).outputs ≡ sheet_of (dotted 75 187 4 (dotted 75 187 1 letter)) ∷ []
+the_exit_drops_a_definition =
+    outputs_of_items (open_definition ++ exit) (trace open_definition power_on ++ exit_items) items_with_the_exit
+    ∙ computed_last_page
