@@ -44,6 +44,7 @@ class Engine:
         self.depth = 0
         self.level = 0
         self.in_overlay = False
+        self.command = None  # that the last step took
         self.kind = None
         self.last = None
         self.row_counts = {}  # how often each row was taken
@@ -63,6 +64,7 @@ class Engine:
     def run(self, command):
         """Takes one command and runs the bodies that it starts."""
         self.taken += 1
+        self.command = command
         self.kind = kind(command)
         self.last = self.kind
         if self.state.defining is not None and not ends_or_passes_definition(command):

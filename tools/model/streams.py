@@ -121,7 +121,8 @@ class Maker:
             makers += [(8, self.patterned)]
             makers += [(2, self.lasting_pattern)]
         if "macros" in self.groups:
-            makers += [(12, self.macro), (2, self.lasting_macro), (2, self.call_over_pages)]
+            makers += [(12, self.macro), (2, self.lasting_macro), (2, self.call_over_pages),
+                       (2, self.call_over_top_margins)]
         if "jobs" in self.groups:
             makers += [(8, self.exit_and_lines)]
         if self.in_body and not self.chance(0.02):
@@ -469,6 +470,15 @@ class Maker:
         change = self.random.choice([b"&l1A", b"&l2A", b"&l1O", b"&l0O", b"&l1o0O", b"&a5L", b"&l3E"])
         start = ESC + b"&a20L" + ESC + b"&f6y0X" + ESC + change + ESC + b"&f1X"
         return start + ESC + b"&f6y%dX" % self.random.choice([2, 3]) + b"\r" + self.shown_cursor()
+
+    def call_over_top_margins(self):
+        """A body that sets the top margin and goes to an end of the page, started under another one."""
+        tops = [b"", b"&l0E", b"&l1E", b"&l20E", b"&l60E", b"&l0L"]
+        place = self.random.choice([b"*p-9999Y", b"*p9999Y", b"&a-400R", b"*p-900Y", b"*p12000Y"])
+        parts = [self.random.choice(tops), b"&f7y0X", self.random.choice(tops), place,
+                 self.random.choice([b"", b"", b"", b"&l1O", b"&l3A"]), b"&f1X",
+                 b"&f7y%dX" % self.random.choice([2, 3, 3, 3])]
+        return b"".join(ESC + part for part in parts if part) + self.shown_cursor()
 
     def body_pieces(self, most):
         outside, self.in_body = self.in_body, True
