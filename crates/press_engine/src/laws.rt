@@ -5,17 +5,14 @@ ghost use Rattle.press_engine.specs.Laws.{TraceTellsTheRun, TraceGoesOn, AtMostF
 /// The last item of the trace has the machine that the commands leave, and the outputs of all items joined are theirs.
 pub fn trace_tells_the_run()
     ensures { TraceTellsTheRun }
-{
-}
+{}
 
 /// The trace of commands and then others is that of the first, and then that of the others.
 pub fn trace_goes_on()
     ensures { TraceGoesOn }
-{
-}
+{}
 
 /// No more than four bodies run at a time, and none after a whole command.
 pub fn at_most_four_bodies()
     ensures { AtMostFourBodies }
-{
-}
+{}

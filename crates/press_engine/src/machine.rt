@@ -152,12 +152,7 @@ impl Machine {
 
     /// Carries the commands of a body in an overlay out, where so many macros may start.
     #[cycle(overlay)]
-    fn run_each_over(
-        &mut self,
-        alloc: Global,
-        levels: u8,
-        mut body: Body,
-    ) -> Result<(), AllocError>
+    fn run_each_over(&mut self, alloc: Global, levels: u8, mut body: Body) -> Result<(), AllocError>
         ensures { IfOk result (λ _. self.new ≡ change_each (run_over levels) body self.old) }
     {
         while let Some(command) = body.next() {

@@ -65,6 +65,7 @@ const RUNS: &str = "\
 /// The black dots of the first sheet, as boxes that do not meet: left column, upper line, width and height of each.
 const MARKS: &str = "\
 ^*p0x0Y^&f1y0X^*c1a1b0P^*p+2X^&f3x1x3X~ 75 150 1 1 77 150 1 1
+^&f1y0X^&f8X^*c1a1b0P^&f1x2x2X~ 75 187 1 1
 ^&f2y0X^*c4a1b0P~^&f1x4X~~ 75 187 4 1
 ^&f2y0X^*c4a1b0P~^&f1x4X^*c1a1b0P^&f3y0X^%-12345X 75 187 4 1
 ^*p10X^&f0S^&f2y0X^&f1S^*c1a1b0P^&f1x4X^*p20X~ 85 187 1 1
@@ -131,7 +132,7 @@ fn macros_run(rt: HostRuntime) -> Result<(), Fail> {
 
 #[test]
 fn macros_make_marks(rt: HostRuntime) -> Result<(), Fail> {
-    assert_eq!(rt; MARKS.lines().count(), 11);
+    assert_eq!(rt; MARKS.lines().count(), 12);
     for line in MARKS.lines() {
         let (stream, wanted) = row_of(&rt, line)?;
         let mut boxes = Vec::new(rt.alloc());

@@ -1,7 +1,7 @@
 //! Streams that are printed whole, with the pages that they must give.
 use crate::listing::print_list;
-use crate::stream::print_stream;
 use crate::row_tests::row_of;
+use crate::stream::print_stream;
 use press_bits::{Bitmap, BlankError};
 use press_cmd::{Command, ControlByte};
 use press_engine::{Engine, EngineError, Last};

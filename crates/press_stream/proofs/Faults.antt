@@ -72,4 +72,3 @@ Feeds-drain old between new piece tag result before after pushes =
         ],
       )
       fed (Err error) drains = feeds_fault old new piece tag error before after (Faults-after old (pushed piece old) new piece [] tag error before before after goes_first drains)
-

@@ -61,4 +61,3 @@ RunsReader-unread old last new had now left bytes given tag error before after i
   read = record { lost = Consumes-kept had now left bytes lost kept; at_end = λ e. absurd (err_is_some error e) };
   through = subst (λ one. RunsThrough old bytes tag (Err one) new before after) (sym is) (failed, given, last, goes, hungry);
 }
-

@@ -44,8 +44,8 @@ pub run_body-loop-command-init : goal.run_body-loop-command-init
 run_body-loop-command-init g t c = record {
   can_count = c.requires;
   rest = λ result new after performs.
-    let P : Machine → Type 0 = λ machine. Performs (ended c.args.end c.args.self.now.depth (run_each (run_at c.args.levels) c.args.body machine)) c.args.tag result new (both (g.S.SheetSink.told c.args.sheets.now) (g.R.ReplySink.told c.args.replies.now)) after in
-    subst P c.enter.ensures performs;
+      let P : Machine → Type 0 = λ machine. Performs (ended c.args.end c.args.self.now.depth (run_each (run_at c.args.levels) c.args.body machine)) c.args.tag result new (both (g.S.SheetSink.told c.args.sheets.now) (g.R.ReplySink.told c.args.replies.now)) after in
+      subst P c.enter.ensures performs;
 }
 
 pub run_body-loop-command-preserved : goal.run_body-loop-command-preserved
@@ -58,8 +58,8 @@ run_body-loop-command-preserved g t c =
     record {
       can_count = can_count-then c.args.tag (one command c.loop-command.self).outputs _ _ performed.sends c.loop-command.invariant.can_count;
       rest = λ result new after performs.
-        let P : List Token → Type 0 = λ body. Performs (ended c.args.end depth (run_each one body c.run.new.self)) c.args.tag result new (both (g.S.SheetSink.told c.run.new.sheets) (g.R.ReplySink.told c.run.new.replies)) after in
-        c.loop-command.invariant.rest result new after (body-next one c.args.end depth command c.loop-command.self c.args.tag _ _ c.loop-command.body c.run.new.self result new after first performed.left performed.sends (subst P c.next.follows.holds-at-none performs));
+          let P : List Token → Type 0 = λ body. Performs (ended c.args.end depth (run_each one body c.run.new.self)) c.args.tag result new (both (g.S.SheetSink.told c.run.new.sheets) (g.R.ReplySink.told c.run.new.replies)) after in
+          c.loop-command.invariant.rest result new after (body-next one c.args.end depth command c.loop-command.self c.args.tag _ _ c.loop-command.body c.run.new.self result new after first performed.left performed.sends (subst P c.next.follows.holds-at-none performs));
     }
 
 pub run_body-returns-in_err-run : goal.run_body-returns-in_err-run
