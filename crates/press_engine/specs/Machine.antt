@@ -38,7 +38,8 @@ with_state state machine = record machine { state = state }
 
 -- what a step takes: a command that is recorded, or one that is carried out
 abbrev pub last_of : Token → State → Last
-last_of command state = if is_recorded command state then lasts.Recorded else lasts.Ran (kind_of command)
+last_of command state =
+    if is_recorded command state then lasts.Recorded (kind_of command) else lasts.Ran (kind_of command)
 
 -- A command is taken: that is one more step.
 abbrev pub taken : Token → Machine → Machine

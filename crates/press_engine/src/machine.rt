@@ -20,8 +20,8 @@ pub enum Last {
     Nothing,
     /// A command of this kind was carried out.
     Ran(Kind),
-    /// A command was recorded in the open macro definition.
-    Recorded,
+    /// A command of this kind was recorded in the open macro definition.
+    Recorded(Kind),
 }
 
 /// The state with the count of steps.
@@ -99,10 +99,11 @@ impl Machine {
         ensures memory { IsErr result
             → TakesMemory (effect_on source (token command.now) self.old.state) }
     {
+        let kind = kind(command);
         let last = if self.state.records(command) {
-            Last::Recorded
+            Last::Recorded(kind)
         } else {
-            Last::Ran(kind(command))
+            Last::Ran(kind)
         };
         let effect = self.state.row(alloc, source, command)?;
         self.step = self.step.saturating_add(1);

@@ -161,7 +161,7 @@ fn the_overlay_is_laid_under_pages(rt: HostRuntime) -> Result<(), Fail> {
 #[test]
 fn the_last_step_is_shown(rt: HostRuntime) -> Result<(), Fail> {
     let (engine, _sheets) = carried_out(&rt, b"\x1B&f0X\x0C")?;
-    assert_eq!(rt; engine.view().last, Last::Recorded);
+    assert_eq!(rt; engine.view().last, Last::Recorded(Kind::Control(0x0C)));
     let (engine, _sheets) = carried_out(&rt, b"\x1B&f0X\x0D\x1B&f1x2X")?;
     assert_eq!(rt; engine.view().last, Last::Ran(Kind::Control(b'\r')));
     Ok(())
