@@ -109,7 +109,7 @@ fn macros_are_defined(rt: HostRuntime) -> Result<(), Fail> {
             i64::from(view.macro_id),
             view.overlay.map_or(-1, |id: u16| -> i64 { i64::from(id) }),
             view.defining.map_or(-1, |id: u16| -> i64 { i64::from(id) }),
-            view.step as i64,
+            i64::try_from(view.step).ok().unwrap_or(-1),
         ];
         assert_eq!(rt; shown.as_slice(), wanted.as_slice(), "{line}");
     }
@@ -123,7 +123,8 @@ fn macros_run(rt: HostRuntime) -> Result<(), Fail> {
         let (stream, wanted) = row_of(&rt, line)?;
         let (engine, _sheets) = carried_out(&rt, &stream)?;
         let view = engine.view();
-        let shown = [view.step as i64, view.x.0, view.y.0];
+        let step = i64::try_from(view.step).ok().unwrap_or(-1);
+        let shown = [step, view.x.0, view.y.0];
         assert_eq!(rt; shown.as_slice(), wanted.as_slice(), "{line}");
         assert_eq!(rt; view.depth, 0, "{line}");
     }
