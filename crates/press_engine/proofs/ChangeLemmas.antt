@@ -4,13 +4,13 @@ use Rattle.std.proofs.lemmas.Bool.{true≢false}
 use Rattle.std.specs.Prelude.{option_map}
 use Rattle.press_page.specs.Environment.{changed_by, closes_page, with_page_size}
 use Rattle.press_page.specs.declared.environment.PageEnv.{PageEnv}
-use Rattle.press_page.specs.declared.paper.PageSize.{PageSize}
+use Rattle.press_page.specs.declared.media.PageSize.{PageSize}
 use Rattle.press_engine.specs.declared.effect.Closer.{Closer}
 use Rattle.press_engine.specs.declared.state.State.{State}
 use Rattle.press_engine.specs.Closing.{close_if_marked, close_if_asked}
 
 -- a size that a value asks for is that of the environment that it sets
-pub size_asked : (asked : Option PageSize) (env : PageEnv) → closes_page asked ≡ true → asked ≡ Some (changed_by asked with_page_size env).paper.size
+pub size_asked : (asked : Option PageSize) (env : PageEnv) → closes_page asked ≡ true → asked ≡ Some (changed_by asked with_page_size env).media.size
 size_asked (Some size) env closes = refl
 size_asked None env closes = absurd (true≢false (sym closes))
 

@@ -14,7 +14,7 @@ use Rattle.press_bits.specs.Page.{Page, blank}
 use Rattle.press_cmd.specs.Token.{Token, Grouped, Control, Uel}
 use Rattle.press_fill.specs.Fill.{fill_mark}
 use Rattle.press_macros.specs.Macros.{Macro, Macros, abandoned, body_of}
-use Rattle.press_page.specs.declared.paper.Orientation.TheVariants.{Portrait}
+use Rattle.press_page.specs.declared.media.Orientation.TheVariants.{Portrait}
 use Rattle.press_pattern.specs.Solid.{solid_black}
 use Rattle.press_sink.specs.Sending.{Output, Deliver}
 use Rattle.press_engine.specs.declared.effect.BodyEnd.TheVariants as ends

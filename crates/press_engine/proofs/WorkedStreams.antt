@@ -15,8 +15,8 @@ use Rattle.press_pattern.specs.Solid.{solid_black}
 use Rattle.press_pattern.specs.Store.{UserPatterns, permanent_only}
 use Rattle.press_sink.specs.Sending.{Output, Deliver}
 use Rattle.press_engine.specs.declared.machine.Last.TheVariants as lasts
-use Rattle.press_page.specs.declared.paper.Orientation.{Orientation}
-use Rattle.press_page.specs.declared.paper.Orientation.TheVariants.{Portrait, Landscape}
+use Rattle.press_page.specs.declared.media.Orientation.{Orientation}
+use Rattle.press_page.specs.declared.media.Orientation.TheVariants.{Portrait, Landscape}
 use Rattle.press_engine.specs.Outcome.{power_on_state}
 use Rattle.press_engine.specs.Machine.{Run, power_on, run_all, run_each, run_at}
 

@@ -6,11 +6,11 @@ use Rattle.press_macros.specs.Macros.{body_of}
 use Rattle.press_page.specs.Environment.{reset_environment, logical_page_of}
 use Rattle.press_page.specs.declared.environment.PageEnv.{PageEnv}
 use Rattle.press_page.specs.declared.margins.Margins.{Margins}
-use Rattle.press_page.specs.declared.paper.Paper.{Paper}
-use Rattle.press_page.specs.declared.paper.PageSize.{PageSize}
-use Rattle.press_page.specs.declared.paper.PageSize.TheVariants as sizes
-use Rattle.press_page.specs.declared.paper.Orientation.{Orientation}
-use Rattle.press_page.specs.declared.paper.Orientation.TheVariants as orientations
+use Rattle.press_page.specs.declared.media.Media.{Media}
+use Rattle.press_page.specs.declared.media.PageSize.{PageSize}
+use Rattle.press_page.specs.declared.media.PageSize.TheVariants as sizes
+use Rattle.press_page.specs.declared.media.Orientation.{Orientation}
+use Rattle.press_page.specs.declared.media.Orientation.TheVariants as orientations
 use Rattle.press_engine.specs.declared.calls.Kept.{Kept}
 use Rattle.press_engine.specs.declared.effect.BodyEnd.{BodyEnd}
 use Rattle.press_engine.specs.declared.effect.BodyEnd.TheVariants as ends
@@ -39,20 +39,20 @@ number_of_orientation orientations.Landscape = 1
 number_of_orientation orientations.ReversePortrait = 2
 number_of_orientation orientations.ReverseLandscape = 3
 
--- whether papers have the same size and orientation
-abbrev pub lies_as : Paper → Paper → Bool
-lies_as paper other =
-    number_of_size paper.size == number_of_size other.size
-    && number_of_orientation paper.orientation == number_of_orientation other.orientation
+-- whether media have the same size and orientation
+abbrev pub lies_as : Media → Media → Bool
+lies_as media other =
+    number_of_size media.size == number_of_size other.size
+    && number_of_orientation media.orientation == number_of_orientation other.orientation
 
 -- Margins and text length are restored where page size and orientation are those that were kept.
 abbrev pub restored_margins : (kept now : PageEnv) → Margins
-restored_margins kept now = if lies_as kept.paper now.paper then kept.margins else now.margins
+restored_margins kept now = if lies_as kept.media now.media then kept.margins else now.margins
 
--- The settings are restored; the paper stays.
+-- The settings are restored; the media stays.
 abbrev pub restored_environment : (kept now : PageEnv) → PageEnv
 restored_environment kept now =
-    record { settings = kept.settings; margins = restored_margins kept now; paper = now.paper }
+    record { settings = kept.settings; margins = restored_margins kept now; media = now.media }
 
 -- What was kept is restored; the cursor stays where it is, on the logical page, and raster graphics ends.
 abbrev pub restored : Kept → State → State
@@ -76,15 +76,15 @@ abbrev pub at_end : BodyEnd → State → State
 at_end ends.Execute state = state
 at_end (ends.Call kept) state = restored kept state
 
--- The page environment of an overlay: what a call restores is as after a reset, copies excepted; the paper stays.
+-- The page environment of an overlay: what a call restores is as after a reset, copies excepted; the media stays.
 abbrev pub overlay_environment : PageEnv → PageEnv
 overlay_environment environment =
     reset_environment (record {
       copies = environment.settings.copies;
-      size = environment.paper.size;
-      orientation = environment.paper.orientation;
-      duplex = environment.paper.duplex;
-      binding = environment.paper.binding;
+      size = environment.media.size;
+      orientation = environment.media.orientation;
+      duplex = environment.media.duplex;
+      binding = environment.media.binding;
       resolution = resolution;
     })
 

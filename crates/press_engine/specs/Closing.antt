@@ -21,7 +21,7 @@ use Rattle.press_engine.specs.Place.{blank_page}
 
 -- the page as it is: blank where no mark was made
 abbrev pub page_now : State → Page
-page_now state = unwrap_or state.page (blank_page state.environment.paper)
+page_now state = unwrap_or state.page (blank_page state.environment.media)
 
 -- A finished sheet goes out in the copies of now, and is counted in each.
 abbrev pub finish : sheets.Sides → State → Outcome
@@ -40,7 +40,7 @@ close_duplex (Some front) page state =
 abbrev pub close : State → Outcome
 close state =
     let next = record (ended_raster state) { page = None } in
-    if state.environment.paper.duplex then close_duplex state.pending (page_now state) next
+    if state.environment.media.duplex then close_duplex state.pending (page_now state) next
     else finish (record { front = page_now state; back = None }) next
 
 -- A front that waits for its back goes out alone.
@@ -62,8 +62,8 @@ selection_of = named ((0, NextSide) ∷ (1, Front) ∷ (2, Back) ∷ [])
 -- the front of the next sheet is blank, where one can wait and none does
 abbrev pub blank_front : State → State
 blank_front state =
-    if state.environment.paper.duplex && not (is_some state.pending)
-    then record state { pending = Some (blank_page state.environment.paper) } else state
+    if state.environment.media.duplex && not (is_some state.pending)
+    then record state { pending = Some (blank_page state.environment.media) } else state
 
 -- The side that is selected comes next: a front that waits goes out alone, or a blank front waits for the back.
 abbrev pub turn_to : Selection → State → Outcome

@@ -17,7 +17,7 @@ use Rattle.press_engine.specs.Rectangle.{dots_up}
 
 -- the dot of the frame on which the cursor lies
 abbrev pub corner : State → Dot
-corner state = cursor_dot state.environment.paper resolution state.environment.margins.top (position state.cursor)
+corner state = cursor_dot state.environment.media resolution state.environment.margins.top (position state.cursor)
 
 -- the rectangle at the cursor, in dots of the frame
 abbrev pub rect_now : State → Rect
@@ -29,7 +29,7 @@ rect_now state =
 abbrev pub fill_rectangle : Pattern → State → State
 fill_rectangle pattern state =
     record state {
-      page = Some (filled state.environment.paper.orientation (rect_now state)
+      page = Some (filled state.environment.media.orientation (rect_now state)
           (ink_of state.patterns pattern state.drawing.mode) (page_now state));
     }
 

@@ -9,7 +9,7 @@ use crate::effect::BodyEnd;
 use crate::state::State;
 use press_cursor::CursorPosition;
 use press_macros::Body;
-use press_page::{Defaults, PageEnv, Paper};
+use press_page::{Defaults, Media, PageEnv};
 use std::alloc::AllocError;
 
 /// What a macro call keeps at its start, and restores at its end.
@@ -21,19 +21,19 @@ pub struct Kept {
     pub macro_id: u16,
 }
 
-/// Whether papers have the same size and orientation.
-fn lies_as(paper: Paper, other: Paper) -> bool
-    ensures { result ≡ lies_as paper other }
+/// Whether media have the same size and orientation.
+fn lies_as(media: Media, other: Media) -> bool
+    ensures { result ≡ lies_as media other }
 {
-    paper.size == other.size && paper.orientation == other.orientation
+    media.size == other.size && media.orientation == other.orientation
 }
 
-/// The environment at the end of a call: the settings that were kept, the margins too where the paper lies as it did, and the
-/// paper of now.
+/// The environment at the end of a call: the settings that were kept, the margins too where the media lies as it did, and the
+/// media of now.
 fn restored_environment(kept: PageEnv, now: PageEnv) -> PageEnv
     ensures { result ≡ restored_environment kept now }
 {
-    let margins = if lies_as(kept.paper, now.paper) {
+    let margins = if lies_as(kept.media, now.media) {
         kept.margins
     } else {
         now.margins
@@ -41,21 +41,21 @@ fn restored_environment(kept: PageEnv, now: PageEnv) -> PageEnv
     PageEnv {
         settings: kept.settings,
         margins,
-        paper: now.paper,
+        media: now.media,
     }
 }
 
-/// The environment of an overlay: as after a reset, with the copies and the paper of now.
+/// The environment of an overlay: as after a reset, with the copies and the media of now.
 fn overlay_environment(environment: PageEnv) -> PageEnv
     ensures { result ≡ overlay_environment environment }
 {
-    let paper = environment.paper;
+    let media = environment.media;
     PageEnv::reset_from(&Defaults {
         copies: environment.settings.copies,
-        size: paper.size,
-        orientation: paper.orientation,
-        duplex: paper.duplex,
-        binding: paper.binding,
+        size: media.size,
+        orientation: media.orientation,
+        duplex: media.duplex,
+        binding: media.binding,
         resolution: RESOLUTION,
     })
 }

@@ -1,6 +1,6 @@
 use press_bits::{Bitmap, BlankError, Mode};
 use press_fill::{Rect, fill};
-use press_page::{PageEnv, Paper};
+use press_page::{Media, PageEnv};
 use press_pattern::{Ink, Pattern, Patterns};
 use press_raster::{Raster, RasterSettings, RowPlace};
 use press_units::Resolution;
@@ -33,12 +33,12 @@ impl Canvas {
     ghost use Rattle.press_pattern.specs.Ink.{ink_of};
     ghost use Rattle.press_engine.specs.Place.{blank_page};
 
-    /// The blank physical page of a paper.
-    #[tactic(auto, using(crate::proofs::PlaceLemmas::paper_fits))]
-    pub fn blank(alloc: Global, paper: Paper) -> Result<Self, AllocError>
-        ensures { IfOk result (λ page. page ≡ blank_page paper) }
+    /// The blank physical page of the media.
+    #[tactic(auto, using(crate::proofs::PlaceLemmas::media_fits))]
+    pub fn blank(alloc: Global, media: Media) -> Result<Self, AllocError>
+        ensures { IfOk result (λ page. page ≡ blank_page media) }
     {
-        let page = paper.physical_page(RESOLUTION);
+        let page = media.physical_page(RESOLUTION);
         match Bitmap::blank(alloc, page.width, page.height) {
             Ok(bitmap) => Ok(Canvas { bitmap }),
             Err(BlankError::NoMemory) => Err(AllocError),
@@ -64,7 +64,7 @@ impl Canvas {
         pattern: Pattern,
         mode: Mode,
     ) -> Result<(), AllocError>
-        ensures { IfOk result (λ _. self.new ≡ filled environment.now.paper.orientation rect
+        ensures { IfOk result (λ _. self.new ≡ filled environment.now.media.orientation rect
             (ink_of patterns.now pattern mode) self.old) }
     {
         fill(&mut self.bitmap, environment, patterns, rect, pattern, mode)

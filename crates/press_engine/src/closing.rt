@@ -34,7 +34,7 @@ impl State {
     {
         match self.page.take() {
             Some(page) => Ok(page),
-            None => Canvas::blank(alloc, self.environment.paper),
+            None => Canvas::blank(alloc, self.environment.media),
         }
     }
 
@@ -69,7 +69,7 @@ impl State {
     {
         let page = self.take_page(alloc)?;
         self.graphics.end();
-        if !self.environment.paper.duplex {
+        if !self.environment.media.duplex {
             return Ok(Some(self.finish(page, None)));
         }
         match self.pending.take() {
@@ -94,8 +94,8 @@ impl State {
         ensures front { IfOk result (λ _. self.new ≡ blank_front self.old) }
         ensures memory { IsErr result → (blank_front self.old).pending ≢ self.old.pending }
     {
-        if self.environment.paper.duplex && self.pending.is_none() {
-            self.pending = Some(Canvas::blank(alloc, self.environment.paper)?);
+        if self.environment.media.duplex && self.pending.is_none() {
+            self.pending = Some(Canvas::blank(alloc, self.environment.media)?);
         }
         Ok(())
     }
@@ -250,7 +250,7 @@ impl State {
         if !next.set_page_size(value) {
             return Effect::Changes;
         }
-        let size = PageChange::Size(next.paper.size);
+        let size = PageChange::Size(next.media.size);
         self.close_if_marked(Closer::Change(size))
     }
 
@@ -262,7 +262,7 @@ impl State {
         if !next.set_orientation(value) {
             return Effect::Changes;
         }
-        let orientation = PageChange::Orientation(next.paper.orientation);
+        let orientation = PageChange::Orientation(next.media.orientation);
         self.close_if_marked(Closer::Change(orientation))
     }
 
@@ -274,7 +274,7 @@ impl State {
         if !next.set_sides(value) {
             return Effect::Changes;
         }
-        let sides = PageChange::Sides(next.paper.printed_sides());
+        let sides = PageChange::Sides(next.media.printed_sides());
         self.close_if_marked(Closer::Change(sides))
     }
 

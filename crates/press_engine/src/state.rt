@@ -13,7 +13,7 @@ use std::alloc::{AllocError, Global};
 /// All that the command table reads and changes.
 #[derive(Drop)]
 pub struct State {
-    /// Settings, margins and paper.
+    /// Settings, margins and media.
     pub environment: PageEnv,
     /// How marks are made.
     pub drawing: Drawing,

@@ -22,7 +22,7 @@ pub struct View<'a> {
     pub stack: &'a [CursorPosition],
     /// How many sheets were handed out, each copy counted; the greatest number stays.
     pub sheets: u64,
-    /// Settings, margins and paper.
+    /// Settings, margins and media.
     pub environment: PageEnv,
     /// How marks are made.
     pub drawing: Drawing,

@@ -5,9 +5,9 @@ use Rattle.std.proofs.Math.Nat.{mod-mod, add-mul-mod_self_right}
 use Rattle.std.proofs.lemmas.Nat.{div-add-mod'}
 use Rattle.std.proofs.lemmas.List.FromFn.{map-range_with_len_more, length-map-range_with_len}
 use Rattle.press_bits.specs.Lines.{bytes_per_line}
-use Rattle.press_page.specs.Paper.{turned}
-use Rattle.press_page.specs.declared.paper.Orientation.{Orientation}
-use Rattle.press_page.specs.declared.paper.Orientation.TheVariants.{Portrait, Landscape, ReversePortrait, ReverseLandscape}
+use Rattle.press_page.specs.Media.{turned}
+use Rattle.press_page.specs.declared.media.Orientation.{Orientation}
+use Rattle.press_page.specs.declared.media.Orientation.TheVariants.{Portrait, Landscape, ReversePortrait, ReverseLandscape}
 use Rattle.press_page.specs.declared.place.Extent.{Extent}
 use Rattle.press_pattern.specs.Tiling.{Tiling, tile_dot, tiling_where, byte_where, dots_from}
 use Rattle.press_pattern.proofs.TileLemmas.{tile_dot-mod, tile_dot-tiling_where}

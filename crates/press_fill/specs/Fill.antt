@@ -4,7 +4,7 @@ use Rattle.press_bits.specs.Mark.{Mark, painted, box_source}
 use Rattle.press_bits.specs.Page.{Page}
 use Rattle.press_bits.specs.declared.mode.Mode.{Mode}
 use Rattle.press_page.specs.Place.{placed_dot}
-use Rattle.press_page.specs.declared.paper.Orientation.{Orientation}
+use Rattle.press_page.specs.declared.media.Orientation.{Orientation}
 use Rattle.press_pattern.specs.Tiling.{Tiling, tile_dot}
 use Rattle.press_pattern.specs.declared.ink.Ink.{Ink}
 use Rattle.press_fill.specs.declared.rect.Rect.{Rect}

@@ -73,7 +73,7 @@ pub fn fill(
     pattern: Pattern,
     mode: Mode,
 ) -> Result<(), AllocError>
-    ensures filled { OnOk result (page.new ≡ filled environment.now.paper.orientation area
+    ensures filled { OnOk result (page.new ≡ filled environment.now.media.orientation area
         (ink_of patterns.now pattern mode) page.old) }
     // a pattern that does not exist takes no memory
     ensures missing { ink_of patterns.now pattern mode ≡ None → IsOk result }
@@ -82,6 +82,6 @@ pub fn fill(
     let Some(ink) = patterns.ink(pattern, mode) else {
         return Ok(());
     };
-    let orientation = environment.paper.orientation;
+    let orientation = environment.media.orientation;
     fill_with(page, patterns.allocator(), orientation, area, &ink)
 }

@@ -1,6 +1,6 @@
 //! Tiles as they lie on the physical page.
 ghost use Rattle.std.specs.Prelude.{◌≡◌, ◌<◌, ◌^◌, ◌+◌, ◌-◌, ◌*◌, ◌/◌, ◌≤◌, IfOk};
-ghost use Rattle.press_page.specs.Paper.{turned};
+ghost use Rattle.press_page.specs.Media.{turned};
 ghost use Rattle.press_page.specs.Place.{placed_dot};
 ghost use Rattle.press_pattern.specs.Tiling.{byte_where, dots_from, tiling_where};
 ghost use Rattle.press_fill.specs.Area.{dot_below, IsPlaced};

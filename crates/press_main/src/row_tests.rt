@@ -319,8 +319,8 @@ fn copies_and_sides_change(rt: HostRuntime) -> Result<(), Fail> {
         let environment = engine.view().environment;
         let shown = [
             i64::from(environment.settings.copies),
-            i64::from(environment.paper.duplex),
-            i64::from(environment.paper.binding == Binding::LongEdge),
+            i64::from(environment.media.duplex),
+            i64::from(environment.media.binding == Binding::LongEdge),
         ];
         assert_eq!(rt; shown.as_slice(), wanted.as_slice(), "{line}");
     }

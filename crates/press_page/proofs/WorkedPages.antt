@@ -7,11 +7,11 @@ use Rattle.press_cursor.specs.CursorState.{CursorState}
 use Rattle.std.specs.Prelude.{codes}
 use Rattle.press_page.specs.Environment.{factory, reset_environment, logical_page_of, closes_page, asked_page_size, set_page_size, with_page_size, set_orientation, with_orientation, set_top_margin, set_right_margin, set_line_spacing, set_horizontal_motion, passes_text}
 use Rattle.press_page.specs.Margins.{default_text_length}
-use Rattle.press_page.specs.Paper.{physical_page, page_size_of}
+use Rattle.press_page.specs.Media.{physical_page, page_size_of}
 use Rattle.press_page.specs.Place.{to_physical, to_frame, cursor_dot}
 use Rattle.press_page.specs.declared.environment.PageEnv.{PageEnv}
-use Rattle.press_page.specs.declared.paper.Orientation.TheVariants.{Landscape}
-use Rattle.press_page.specs.declared.paper.PageSize.TheVariants.{A4, A3, Ledger}
+use Rattle.press_page.specs.declared.media.Orientation.TheVariants.{Landscape}
+use Rattle.press_page.specs.declared.media.PageSize.TheVariants.{A4, A3, Ledger}
 use Rattle.press_page.specs.declared.place.Dot.{Dot}
 
 -- after power on
@@ -27,7 +27,7 @@ abbrev dot : (column line : ℕ) → Dot
 dot column line = record { x = column; y = line }
 
 abbrev placed : PageEnv → Dot → Option Dot
-placed env place = to_physical env.paper.orientation (physical_page env.paper Dpi300) place
+placed env place = to_physical env.media.orientation (physical_page env.media Dpi300) place
 
 -- ESC&l1O ESC*p0x0Y: the cursor's dot of the frame
 abbrev at_origin : CursorState
@@ -35,7 +35,7 @@ at_origin =
     moved_y (pos 0) false (logical_page_of landscape)
     (moved_x (pos 0) false (logical_page_of landscape) (home 0 1200 (logical_page_of landscape)))
 
-frame_of_origin : cursor_dot landscape.paper Dpi300 landscape.margins.top (position at_origin) ≡ dot 60 150
+frame_of_origin : cursor_dot landscape.media Dpi300 landscape.margins.top (position at_origin) ≡ dot 60 150
 frame_of_origin = refl
 
 -- A rectangle of three columns and two lines there: dots x 150 and 151, y 3237 to 3239.
@@ -45,7 +45,7 @@ first_of_rectangle = refl
 last_of_rectangle : placed landscape (dot 62 151) ≡ Some (dot 151 3237)
 last_of_rectangle = refl
 
-back_to_frame : to_frame Landscape (physical_page landscape.paper Dpi300) (dot 151 3237) ≡ Some (dot 62 151)
+back_to_frame : to_frame Landscape (physical_page landscape.media Dpi300) (dot 151 3237) ≡ Some (dot 62 151)
 back_to_frame = refl
 
 below_the_frame : placed landscape (dot 60 2550) ≡ None

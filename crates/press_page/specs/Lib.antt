@@ -1,6 +1,6 @@
 pub mod Environment
 pub mod Margins
+pub mod Media
 pub mod Numbers
-pub mod Paper
 pub mod Place
 pub mod Settings

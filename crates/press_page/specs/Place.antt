@@ -4,10 +4,10 @@ use Rattle.std.specs.Prelude.{◌≡◌, ◌↔◌, ℕ, ◌+◌, ◌-◌, ◌/�
 use Rattle.press_units.specs.Position.{positions_per_dot}
 use Rattle.press_units.specs.declared.position.Resolution.{Resolution}
 use Rattle.press_cursor.specs.declared.stack.CursorPosition.{CursorPosition}
-use Rattle.press_page.specs.Paper.{turned, offset}
-use Rattle.press_page.specs.declared.paper.Orientation.{Orientation}
-use Rattle.press_page.specs.declared.paper.Orientation.TheVariants.{Portrait, Landscape, ReversePortrait, ReverseLandscape}
-use Rattle.press_page.specs.declared.paper.Paper.{Paper}
+use Rattle.press_page.specs.Media.{turned, offset}
+use Rattle.press_page.specs.declared.media.Orientation.{Orientation}
+use Rattle.press_page.specs.declared.media.Orientation.TheVariants.{Portrait, Landscape, ReversePortrait, ReverseLandscape}
+use Rattle.press_page.specs.declared.media.Media.{Media}
 use Rattle.press_page.specs.declared.place.Dot.{Dot}
 use Rattle.press_page.specs.declared.place.Extent.{Extent}
 
@@ -55,8 +55,8 @@ below_edge (pos n) = n
 below_edge (negsuc n) = 0
 
 -- The cursor's frame dot: the dot of the frame on which the cursor lies, under a top margin.
-abbrev pub cursor_dot : Paper → Resolution → (top_margin : ℕ) → CursorPosition → Dot
-cursor_dot paper resolution top_margin cursor = record {
-  x = offset paper resolution + cursor.x / positions_per_dot resolution;
+abbrev pub cursor_dot : Media → Resolution → (top_margin : ℕ) → CursorPosition → Dot
+cursor_dot media resolution top_margin cursor = record {
+  x = offset media resolution + cursor.x / positions_per_dot resolution;
   y = below_edge (cursor.y +ℤ pos top_margin) / positions_per_dot resolution;
 }

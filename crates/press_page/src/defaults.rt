@@ -1,4 +1,4 @@
-use crate::paper::{Binding, Orientation, PageSize};
+use crate::media::{Binding, Orientation, PageSize};
 use press_units::Resolution;
 
 /// The values of the job language's variables, to which a reset goes back.

@@ -5,7 +5,7 @@ use crate::margins::{
     DEFAULT_TOP, Margins, default_text_length, left_margin_of, right_margin_of, text_length_of,
     top_margin_of,
 };
-use crate::paper::{Orientation, PageSize, Paper, Sides};
+use crate::media::{Media, Orientation, PageSize, Sides};
 use crate::place::{Dot, below_edge};
 use crate::settings::{
     DEFAULT_HORIZONTAL_MOTION, DEFAULT_VERTICAL_MOTION, Settings, copies_of, horizontal_motion_of,
@@ -19,7 +19,7 @@ use press_units::{Resolution, Value};
 ///
 /// `set_page_size`, `set_orientation` and `set_sides` answer whether the page closes, if it has a mark: it does at each
 /// value that they know. At every other setter the page never closes; what some of them answer is whether they had
-/// effect. A page that closes does so on the paper that held until then: ask a copy of the environment first, and change
+/// effect. A page that closes does so on the media that held until then: ask a copy of the environment first, and change
 /// it after the close by `change_page_size`, `change_orientation` or `change_sides`.
 #[derive(Clone, Copy, Debug, PartialEq, Eq)]
 pub struct PageEnv {
@@ -28,7 +28,7 @@ pub struct PageEnv {
     /// What a macro call restores if size and orientation are as before.
     pub margins: Margins,
     /// What a macro call does not restore.
-    pub paper: Paper,
+    pub media: Media,
 }
 
 /// Whether a move down by a distance passes a limit.
@@ -48,7 +48,7 @@ impl PageEnv {
     pub fn reset_from(defaults: &Defaults) -> Self
         ensures { result ≡ reset_environment defaults.now }
     {
-        let paper = Paper {
+        let media = Media {
             size: defaults.size,
             orientation: defaults.orientation,
             duplex: defaults.duplex,
@@ -56,8 +56,8 @@ impl PageEnv {
         };
         PageEnv {
             settings: Settings::defaults(defaults.copies),
-            margins: Margins::defaults(paper, DEFAULT_VERTICAL_MOTION),
-            paper,
+            margins: Margins::defaults(media, DEFAULT_VERTICAL_MOTION),
+            media,
         }
     }
 
@@ -65,17 +65,17 @@ impl PageEnv {
     pub fn logical_page(&self) -> LogicalPage
         ensures { result ≡ logical_page_of self.now }
     {
-        self.paper.logical_page(self.margins.top)
+        self.media.logical_page(self.margins.top)
     }
 
     /// The dot of the frame on which the cursor lies.
     pub fn cursor_dot(&self, cursor: CursorPosition, resolution: Resolution) -> Dot
         requires { unsigned_abs cursor.y < 2 ^ 33 }
-        ensures { result ≡ cursor_dot self.now.paper resolution self.now.margins.top cursor }
+        ensures { result ≡ cursor_dot self.now.media resolution self.now.margins.top cursor }
     {
         let dot = u32::from(resolution.positions_per_dot());
         Dot {
-            x: self.paper.offset(resolution) + cursor.x / dot,
+            x: self.media.offset(resolution) + cursor.x / dot,
             y: (below_edge(cursor.y, self.margins.top) / u64::from(dot)) as u32,
         }
     }
@@ -129,7 +129,7 @@ impl PageEnv {
     fn set_top(&mut self, top: u32)
         ensures { self.new ≡ with_top top self.old }
     {
-        let length = self.paper.logical_length();
+        let length = self.media.logical_length();
         self.margins.top = top;
         self.margins.text_length = default_text_length(length, top, self.settings.vertical_motion);
     }
@@ -139,7 +139,7 @@ impl PageEnv {
         ensures set { self.new ≡ set_top_margin value.tenthousandths self.old }
         ensures effect { result ≡ is_some (asked_top value.tenthousandths self.old) }
     {
-        let length = self.paper.logical_length();
+        let length = self.media.logical_length();
         match top_margin_of(value, self.settings.vertical_motion, length) {
             Some(top) => {
                 self.set_top(top);
@@ -153,7 +153,7 @@ impl PageEnv {
     pub fn set_text_length(&mut self, value: Value)
         ensures { self.new ≡ set_text_length value.tenthousandths self.old }
     {
-        let length = self.paper.logical_length();
+        let length = self.media.logical_length();
         let line = self.settings.vertical_motion;
         if let Some(text_length) = text_length_of(value, line, self.margins.top, length) {
             self.margins.text_length = text_length;
@@ -196,7 +196,7 @@ impl PageEnv {
         ensures set { self.new ≡ set_right_margin value.tenthousandths self.old }
         ensures effect { result ≡ is_some (asked_right value.tenthousandths self.old) }
     {
-        let width = self.paper.logical_width();
+        let width = self.media.logical_width();
         let column = self.settings.horizontal_motion;
         match right_margin_of(value, column, self.margins.left, width) {
             Some(right) => {
@@ -212,21 +212,21 @@ impl PageEnv {
         ensures { self.new ≡ clear_margins self.old }
     {
         self.margins.left = 0;
-        self.margins.right = self.paper.logical_width();
+        self.margins.right = self.media.logical_width();
     }
 
     /// Sets margins and text length to their defaults.
     fn set_default_margins(&mut self)
         ensures { self.new ≡ with_default_margins self.old }
     {
-        self.margins = Margins::defaults(self.paper, self.settings.vertical_motion);
+        self.margins = Margins::defaults(self.media, self.settings.vertical_motion);
     }
 
     /// Another page size, with margins and text length by default.
     pub fn change_page_size(&mut self, size: PageSize)
         ensures { self.new ≡ with_page_size size self.old }
     {
-        self.paper.size = size;
+        self.media.size = size;
         self.set_default_margins();
     }
 
@@ -234,7 +234,7 @@ impl PageEnv {
     pub fn change_orientation(&mut self, orientation: Orientation)
         ensures { self.new ≡ with_orientation orientation self.old }
     {
-        self.paper.orientation = orientation;
+        self.media.orientation = orientation;
         self.settings.horizontal_motion = DEFAULT_HORIZONTAL_MOTION;
         self.settings.vertical_motion = DEFAULT_VERTICAL_MOTION;
         self.set_default_margins();
@@ -244,7 +244,7 @@ impl PageEnv {
     pub fn change_sides(&mut self, sides: Sides)
         ensures { self.new ≡ with_printed_sides sides self.old }
     {
-        self.paper = self.paper.with_sides(sides);
+        self.media = self.media.with_sides(sides);
     }
 
     /// `ESC & l # A`: the page size, with margins and text length by default; answers whether the page closes.
@@ -306,7 +306,7 @@ impl PageEnv {
         if self.settings.perforation_skip {
             i64::from(self.margins.text_length)
         } else {
-            i64::from(self.paper.logical_length()) - i64::from(self.margins.top)
+            i64::from(self.media.logical_length()) - i64::from(self.margins.top)
         }
     }
 

@@ -5,14 +5,14 @@
 mod defaults;
 mod environment;
 mod margins;
+mod media;
 mod numbers;
-mod paper;
 mod place;
 mod settings;
 
 pub use defaults::Defaults;
 pub use environment::PageEnv;
 pub use margins::Margins;
-pub use paper::{Binding, Orientation, PageSize, Paper, Sides};
+pub use media::{Binding, Media, Orientation, PageSize, Sides};
 pub use place::{Dot, Extent, placement_is_inverse};
 pub use settings::{LineTermination, Settings};

@@ -2,8 +2,8 @@ ghost use Rattle.std.specs.Prelude.{◌≡◌, ◌<◌, ◌≤◌, ◌^◌, unsi
 ghost use Rattle.press_units.specs.Value.{whole_part};
 ghost use Rattle.press_page.specs.Margins.{text_room, default_text_length, default_margins, top_margin_of, text_length_of, left_margin_of, right_margin_of};
 
+use crate::media::Media;
 use crate::numbers::{above, below, cut, within};
-use crate::paper::Paper;
 use press_units::{Unit, Value, position_of, to_pos};
 
 /// The top margin after a reset: half an inch.
@@ -114,14 +114,14 @@ pub(crate) fn right_margin_of(
 
 impl Margins {
     /// The margins after a reset.
-    pub(crate) fn defaults(paper: Paper, vertical_motion: u16) -> Self
-        ensures { result ≡ default_margins paper vertical_motion }
+    pub(crate) fn defaults(media: Media, vertical_motion: u16) -> Self
+        ensures { result ≡ default_margins media vertical_motion }
     {
         Margins {
             left: 0,
-            right: paper.logical_width(),
+            right: media.logical_width(),
             top: DEFAULT_TOP,
-            text_length: default_text_length(paper.logical_length(), DEFAULT_TOP, vertical_motion),
+            text_length: default_text_length(media.logical_length(), DEFAULT_TOP, vertical_motion),
         }
     }
 }

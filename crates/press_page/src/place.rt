@@ -1,7 +1,7 @@
 ghost use Rattle.std.specs.Prelude.{◌≡◌, ◌<◌, ◌^◌, ◌+ℤ◌, pos, unsigned_abs};
 ghost use Rattle.press_page.specs.Place.{lies_on, physical_dot, frame_dot, to_physical, to_frame, ArePlacementsInverse, below_edge};
 
-use crate::paper::{Orientation, turned};
+use crate::media::{Orientation, turned};
 
 /// The size of a page, in dots.
 #[derive(Clone, Copy, Debug, PartialEq, Eq)]

@@ -2,8 +2,8 @@
 use Rattle.std.proofs.Common.{◌≡◌, ℕ, List, [], ◌∷◌, ◌++◌, map, true, false, refl, codes}
 use Rattle.std.specs.Fmt.{digits}
 use Rattle.press_page.specs.Environment.{factory}
-use Rattle.press_page.specs.declared.paper.PageSize.TheVariants.{A4}
-use Rattle.press_page.specs.declared.paper.Orientation.TheVariants.{Landscape}
+use Rattle.press_page.specs.declared.media.PageSize.TheVariants.{A4}
+use Rattle.press_page.specs.declared.media.Orientation.TheVariants.{Landscape}
 use Rattle.press_pjl.specs.Variables.{entry_of, all_variables}
 use Rattle.press_pjl.specs.Replies.{page_reply}
 use Rattle.press_pjl.specs.Lines.{Done, effect, power_on, nothing, replies, sets_current, sets_default, switches, after_line}

@@ -3,12 +3,12 @@
 use Rattle.std.specs.Prelude.{ℕ, Bool, true, false, List, Option, codes, bytes_eq}
 use Rattle.std.specs.List.{find}
 use Rattle.press_cmd.specs.Language.{raised}
-use Rattle.press_page.specs.declared.paper.Binding.{Binding}
-use Rattle.press_page.specs.declared.paper.Binding.TheVariants as bindings
-use Rattle.press_page.specs.declared.paper.Orientation.{Orientation}
-use Rattle.press_page.specs.declared.paper.Orientation.TheVariants as orientations
-use Rattle.press_page.specs.declared.paper.PageSize.{PageSize}
-use Rattle.press_page.specs.declared.paper.PageSize.TheVariants as sizes
+use Rattle.press_page.specs.declared.media.Binding.{Binding}
+use Rattle.press_page.specs.declared.media.Binding.TheVariants as bindings
+use Rattle.press_page.specs.declared.media.Orientation.{Orientation}
+use Rattle.press_page.specs.declared.media.Orientation.TheVariants as orientations
+use Rattle.press_page.specs.declared.media.PageSize.{PageSize}
+use Rattle.press_page.specs.declared.media.PageSize.TheVariants as sizes
 use Rattle.press_units.specs.declared.position.Resolution.{Resolution}
 use Rattle.press_units.specs.declared.position.Resolution.TheVariants as resolutions
 

@@ -6,9 +6,9 @@ use Rattle.std.specs.List.{list_all}
 use Rattle.press_units.specs.Value.{number_of}
 use Rattle.press_units.specs.declared.position.Resolution.TheVariants.{Dpi300}
 use Rattle.press_page.specs.declared.defaults.Defaults.{Defaults}
-use Rattle.press_page.specs.declared.paper.Binding.TheVariants.{LongEdge, ShortEdge}
-use Rattle.press_page.specs.declared.paper.Orientation.TheVariants.{Portrait, Landscape}
-use Rattle.press_page.specs.declared.paper.PageSize.TheVariants.{Letter, Legal, A4, Executive, Ledger, A3}
+use Rattle.press_page.specs.declared.media.Binding.TheVariants.{LongEdge, ShortEdge}
+use Rattle.press_page.specs.declared.media.Orientation.TheVariants.{Portrait, Landscape}
+use Rattle.press_page.specs.declared.media.PageSize.TheVariants.{Letter, Legal, A4, Executive, Ledger, A3}
 use Rattle.press_pjl.specs.Names.{named, size_name, orientation_name, switch_name, binding_name, resolution_name}
 use Rattle.press_pjl.specs.declared.variable.Variable.{Variable}
 use Rattle.press_pjl.specs.declared.variable.Variable.TheVariants as variables

@@ -11,8 +11,8 @@ use Rattle.press_bits.specs.Mark.{Row, painted, effect_at, row_source, row_dot, 
 use Rattle.press_bits.specs.Page.{Page}
 use Rattle.press_bits.specs.declared.mode.Mode.{Mode}
 use Rattle.press_bits.proofs.MarkLemmas.{painted_same_effects}
-use Rattle.press_page.specs.declared.paper.Orientation.{Orientation}
-use Rattle.press_page.specs.declared.paper.Orientation.TheVariants.{ReversePortrait, ReverseLandscape}
+use Rattle.press_page.specs.declared.media.Orientation.{Orientation}
+use Rattle.press_page.specs.declared.media.Orientation.TheVariants.{ReversePortrait, ReverseLandscape}
 use Rattle.press_raster.specs.Along.{along_mark}
 
 -- a line that counts from the other end of the page

@@ -9,10 +9,10 @@ use Rattle.press_bits.specs.Mark.{Row, effect_at, painted, row_dot, repeated, ro
 use Rattle.press_bits.specs.Page.{Page, HasNoDotOutside}
 use Rattle.press_bits.specs.declared.mode.Mode.{Mode}
 use Rattle.press_bits.proofs.MarkLemmas.{painted_same_effects, painted_joined, unmarked, effect_where, effect_when, joined, in_box, row_lands, width-painted, height-painted}
-use Rattle.press_page.specs.Paper.{turned}
+use Rattle.press_page.specs.Media.{turned}
 use Rattle.press_page.specs.Place.{placed_dot}
-use Rattle.press_page.specs.declared.paper.Orientation.{Orientation}
-use Rattle.press_page.specs.declared.paper.Orientation.TheVariants.{Portrait, Landscape, ReversePortrait, ReverseLandscape}
+use Rattle.press_page.specs.declared.media.Orientation.{Orientation}
+use Rattle.press_page.specs.declared.media.Orientation.TheVariants.{Portrait, Landscape, ReversePortrait, ReverseLandscape}
 use Rattle.press_page.specs.declared.place.Dot.{Dot}
 use Rattle.press_page.specs.declared.place.Extent.{Extent}
 use Rattle.press_pattern.specs.Tiling.{Tiling, tile_dot}

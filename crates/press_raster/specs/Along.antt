@@ -4,8 +4,8 @@ use Rattle.std.specs.Prelude.{ℕ, ◌-◌, pos, Bool, true, false}
 use Rattle.press_bits.specs.Mark.{Mark, Row, row_dot, row_mark}
 use Rattle.press_bits.specs.declared.mode.Mode.{Mode}
 use Rattle.press_page.specs.Place.{placed_dot}
-use Rattle.press_page.specs.declared.paper.Orientation.{Orientation}
-use Rattle.press_page.specs.declared.paper.Orientation.TheVariants.{Portrait, Landscape, ReversePortrait, ReverseLandscape}
+use Rattle.press_page.specs.declared.media.Orientation.{Orientation}
+use Rattle.press_page.specs.declared.media.Orientation.TheVariants.{Portrait, Landscape, ReversePortrait, ReverseLandscape}
 
 -- whether the columns of the frame run to the left or up the page
 abbrev pub is_backward : Orientation → Bool

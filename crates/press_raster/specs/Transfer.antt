@@ -5,7 +5,7 @@ use Rattle.press_units.specs.Measure.{positions_per_inch}
 use Rattle.press_bits.specs.Lines.{bytes_per_line}
 use Rattle.press_bits.specs.Mark.{Mark, Row, painted}
 use Rattle.press_bits.specs.Page.{Page}
-use Rattle.press_page.specs.Paper.{logical_width}
+use Rattle.press_page.specs.Media.{logical_width}
 use Rattle.press_page.specs.Place.{cursor_dot}
 use Rattle.press_page.specs.declared.place.Dot.{Dot}
 use Rattle.press_pattern.specs.declared.ink.Ink.{Ink}
@@ -25,7 +25,7 @@ dots_of_row None resolution logical_width left =
 
 abbrev pub row_dots : RowPlace → RasterSettings → (left : ℕ) → ℕ
 row_dots place settings left =
-    dots_of_row settings.source_width settings.resolution (logical_width place.environment.paper) left
+    dots_of_row settings.source_width settings.resolution (logical_width place.environment.media) left
 
 -- The row that the data of a transfer stands for, after the seed row.
 abbrev pub row_of : RowPlace → RasterSettings → List ℕ → RasterGraphics → Row
@@ -36,13 +36,13 @@ row_of place settings «data» on =
 -- The row's upper left dot in the frame: the cursor's, were it where rows begin.
 abbrev pub corner : RowPlace → (left : ℕ) → Dot
 corner place left =
-    cursor_dot place.environment.paper place.resolution place.environment.margins.top
+    cursor_dot place.environment.media place.resolution place.environment.margins.top
     (record { x = left; y = place.y })
 
 -- The mark of the row.
 abbrev pub row_mark : RowPlace → RasterSettings → Ink → List ℕ → RasterGraphics → Page → Mark
 row_mark place settings ink «data» on page =
-    raster_mark place.environment.paper.orientation page (corner place on.left)
+    raster_mark place.environment.media.orientation page (corner place on.left)
     (dot_size settings.resolution place.resolution) (row_of place settings «data» on) ink
 
 -- The page after the transfer of a row: marked where the row has effect.

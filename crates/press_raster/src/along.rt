@@ -3,7 +3,7 @@
 ghost use Rattle.std.specs.Prelude.{◌≡◌, ◌≤◌, ◌-ℤ◌, pos};
 ghost use Rattle.press_bits.specs.Page.{HasNoDotOutside};
 ghost use Rattle.press_bits.specs.Mark.{painted, row, row_mark, column_mark};
-ghost use Rattle.press_page.specs.Paper.{turned};
+ghost use Rattle.press_page.specs.Media.{turned};
 ghost use Rattle.press_raster.specs.Along.{is_backward, along_mark};
 
 use press_bits::{Bitmap, DotRow, Mode};

@@ -9,7 +9,7 @@ use crate::settings::RasterSettings;
 use crate::strip::{bytes_for, paint_strip};
 use press_bits::{Bitmap, DotRow};
 use press_cursor::CursorPosition;
-use press_page::{Dot, PageEnv, Paper};
+use press_page::{Dot, Media, PageEnv};
 use press_pattern::Ink;
 use press_units::Resolution;
 use std::alloc::{AllocError, Global};
@@ -47,10 +47,10 @@ impl RowPlace {
         self.environment.cursor_dot(cursor, self.resolution)
     }
 
-    fn paper(&self) -> Paper
-        ensures { result ≡ self.now.environment.paper }
+    fn media(&self) -> Media
+        ensures { result ≡ self.now.environment.media }
     {
-        self.environment.paper
+        self.environment.media
     }
 }
 
@@ -201,11 +201,11 @@ impl Raster {
         let size = settings.resolution.dot_size(place.resolution);
         let corner = place.corner(position.left);
         let alloc = *self.seed.allocator();
-        let paper = place.paper();
-        let dots = settings.dots_of_row(paper.logical_width(), position.left);
+        let media = place.media();
+        let dots = settings.dots_of_row(media.logical_width(), position.left);
         let bits = decoded(alloc, settings.method, data, &self.seed, bytes_for(dots))?;
         let row = DotRow { bits: &bits, dots };
-        paint_strip(page, alloc, paper.orientation, corner, size, row, ink)?;
+        paint_strip(page, alloc, media.orientation, corner, size, row, ink)?;
         self.seed = bits;
         self.position = Some(RasterPosition {
             rows: position.rows.saturating_add(1).min(MOST_ROWS),

@@ -3,7 +3,7 @@
 ghost use Rattle.std.specs.Prelude.{◌≡◌, ℕ, ◌+◌, ◌-◌, ◌*◌, ◌/◌, ◌≤◌, ◌<◌, ◌^◌, length, min, true, false, IfOk, OnOk, OnErr};
 ghost use Rattle.press_bits.specs.Lines.{bytes_per_line};
 ghost use Rattle.press_bits.specs.Mark.{painted, row, row_dot};
-ghost use Rattle.press_page.specs.Paper.{turned};
+ghost use Rattle.press_page.specs.Media.{turned};
 ghost use Rattle.press_raster.specs.Reading.{backward_from, line_of, read_dot};
 ghost use Rattle.press_raster.specs.Along.{is_backward, dots_along};
 ghost use Rattle.press_raster.specs.Mark.{strip_mark, raster_mark};

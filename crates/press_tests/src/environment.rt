@@ -277,7 +277,7 @@ fn copies_of_a_sheet(rt: HostRuntime) {
 
 /// A command for size, orientation or sides by its letter, its field, and what the field names; where it names nothing, the
 /// page does not close and nothing changes.
-const PAPER: &str = "\
+const MEDIA: &str = "\
 A 0 -
 A 1 Executive
 A 2 Letter
@@ -312,9 +312,9 @@ S +1.9999 TwoSidedLongEdge";
 
 #[test]
 fn a_page_closes_at_each_paper_that_a_value_names(rt: HostRuntime) -> Result<(), Fail> {
-    assert_eq!(rt; PAPER.lines().count(), 31);
+    assert_eq!(rt; MEDIA.lines().count(), 31);
     let mut env = letter();
-    for line in PAPER.lines() {
+    for line in MEDIA.lines() {
         let (command, rest) = line.split_once(' ').ok_or("no command")?;
         let (field, wanted) = rest.split_once(' ').ok_or("no field")?;
         let asked = value(&rt, field.as_bytes());
@@ -325,9 +325,9 @@ fn a_page_closes_at_each_paper_that_a_value_names(rt: HostRuntime) -> Result<(),
             _ => env.set_sides(asked),
         };
         let named = match command {
-            "A" => format!(in rt.alloc(); "{:?}", env.paper.size)?,
-            "O" => format!(in rt.alloc(); "{:?}", env.paper.orientation)?,
-            _ => format!(in rt.alloc(); "{:?}", env.paper.printed_sides())?,
+            "A" => format!(in rt.alloc(); "{:?}", env.media.size)?,
+            "O" => format!(in rt.alloc(); "{:?}", env.media.orientation)?,
+            _ => format!(in rt.alloc(); "{:?}", env.media.printed_sides())?,
         };
         assert_eq!(rt; closes, wanted != "-", "{line}");
         if closes {
@@ -343,13 +343,13 @@ fn a_page_closes_at_each_paper_that_a_value_names(rt: HostRuntime) -> Result<(),
 fn simplex_keeps_the_binding(rt: HostRuntime) {
     let mut env = letter();
     assert!(rt; env.set_sides(value(&rt, b"2")));
-    assert!(rt; env.paper.duplex);
+    assert!(rt; env.media.duplex);
     assert!(rt; env.set_sides(value(&rt, b"0")));
-    assert!(rt; !env.paper.duplex);
-    assert_eq!(rt; env.paper.binding, Binding::ShortEdge);
+    assert!(rt; !env.media.duplex);
+    assert_eq!(rt; env.media.binding, Binding::ShortEdge);
     env.change_sides(Sides::TwoSidedLongEdge);
-    assert_eq!(rt; env.paper.binding, Binding::LongEdge);
-    let short = env.paper.with_sides(Sides::TwoSidedShortEdge);
+    assert_eq!(rt; env.media.binding, Binding::LongEdge);
+    let short = env.media.with_sides(Sides::TwoSidedShortEdge);
     assert_eq!(rt; (short.duplex, short.binding), (true, Binding::ShortEdge));
 }
 
@@ -446,9 +446,9 @@ fn a_frame_is_the_page_turned(rt: HostRuntime) {
     env.change_page_size(PageSize::Ledger);
     for (orientation, frame, logical) in orientations {
         env.change_orientation(orientation);
-        let page = env.paper.physical_page(Resolution::Dpi300);
+        let page = env.media.physical_page(Resolution::Dpi300);
         assert_eq!(rt; (page.width, page.height), (3300, 5100));
-        let turned = env.paper.frame(Resolution::Dpi300);
+        let turned = env.media.frame(Resolution::Dpi300);
         assert_eq!(rt; (turned.width, turned.height), frame);
         assert!(rt;
             turned.contains(Dot {
@@ -458,7 +458,7 @@ fn a_frame_is_the_page_turned(rt: HostRuntime) {
         );
         assert!(rt; !turned.contains(Dot { x: frame.0, y: 0 }));
         assert!(rt; !turned.contains(Dot { x: 0, y: frame.1 }));
-        let within = env.paper.logical_page(720);
+        let within = env.media.logical_page(720);
         assert_eq!(rt; (within.width, within.length), logical);
         assert_eq!(rt; within.top_margin, 720);
     }

@@ -1,5 +1,5 @@
 //! Where the corners of each page lie.
-use press_page::{Binding, Dot, Orientation, PageSize, Paper};
+use press_page::{Binding, Dot, Media, Orientation, PageSize};
 use press_units::Resolution;
 use std::process::Abort;
 
@@ -210,7 +210,7 @@ const PAGES: [Corners; 24] = [
 ];
 
 /// Looks at the dot of the frame in a column and a line.
-fn assert_place(rt: &impl Abort, paper: Paper, frame: (u32, u32), place: (u32, u32)) {
+fn assert_place(rt: &impl Abort, media: Media, frame: (u32, u32), place: (u32, u32)) {
     let dot = Dot {
         x: frame.0,
         y: frame.1,
@@ -219,34 +219,34 @@ fn assert_place(rt: &impl Abort, paper: Paper, frame: (u32, u32), place: (u32, u
         x: place.0,
         y: place.1,
     };
-    assert_eq!(rt; paper.to_physical(dot, Resolution::Dpi300), Some(physical));
-    assert_eq!(rt; paper.to_frame(physical, Resolution::Dpi300), Some(dot));
+    assert_eq!(rt; media.to_physical(dot, Resolution::Dpi300), Some(physical));
+    assert_eq!(rt; media.to_frame(physical, Resolution::Dpi300), Some(dot));
 }
 
 fn assert_corners(rt: &impl Abort, page: &Corners) {
-    let paper = Paper {
+    let media = Media {
         size: page.size,
         orientation: page.orientation,
         duplex: false,
         binding: Binding::LongEdge,
     };
-    assert_eq!(rt; paper.logical_width(), page.width);
-    assert_eq!(rt; paper.logical_length(), page.length);
-    let offset = paper.offset(Resolution::Dpi300);
+    assert_eq!(rt; media.logical_width(), page.width);
+    assert_eq!(rt; media.logical_length(), page.length);
+    let offset = media.offset(Resolution::Dpi300);
     let columns = [offset, offset + page.width / 24 - 1];
     let beside = [offset.saturating_sub(1), offset + page.width / 24];
     let lines = [0, (page.length / 24).saturating_sub(1)];
     for corner in 0..4 {
         let line = lines[corner / 2];
-        assert_place(rt, paper, (columns[corner % 2], line), page.inside[corner]);
-        assert_place(rt, paper, (beside[corner % 2], line), page.outside[corner]);
+        assert_place(rt, media, (columns[corner % 2], line), page.inside[corner]);
+        assert_place(rt, media, (beside[corner % 2], line), page.outside[corner]);
     }
     for x in columns {
         let below = Dot {
             x,
             y: page.length / 24,
         };
-        assert_eq!(rt; paper.to_physical(below, Resolution::Dpi300), None);
+        assert_eq!(rt; media.to_physical(below, Resolution::Dpi300), None);
     }
 }
 

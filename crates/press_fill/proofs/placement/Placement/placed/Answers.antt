@@ -1,5 +1,5 @@
 use Rattle.std.proofs.Common.{◌≤◌, length, ap, ◌∙◌, arith}
-use Rattle.press_page.specs.Paper.{turned}
+use Rattle.press_page.specs.Media.{turned}
 use Rattle.press_fill.specs.Area.{dot_below}
 use Rattle.press_fill.proofs.PlacedLemmas.{length-rows, tile_is, placed_is}
 use Rattle.press_fill.proofs.placement.Placement.placed.Goals as goal

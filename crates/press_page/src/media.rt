@@ -1,5 +1,5 @@
 ghost use Rattle.std.specs.Prelude.{◌≡◌, ◌≤◌, ◌<◌, ◌*◌};
-ghost use Rattle.press_page.specs.Paper.{page_size_of, orientation_of, sides_of, sized, dimensions_of, turned, offset_of, scale, physical_page, frame, offset, logical_width, logical_length, logical_page, with_sides, printed_sides};
+ghost use Rattle.press_page.specs.Media.{page_size_of, orientation_of, sides_of, sized, dimensions_of, turned, offset_of, scale, physical_page, frame, offset, logical_width, logical_length, logical_page, with_sides, printed_sides};
 
 use crate::place::{Dot, Extent, to_frame, to_physical};
 use press_cursor::LogicalPage;
@@ -40,9 +40,9 @@ pub enum Sides {
     TwoSidedShortEdge,
 }
 
-/// The paper: what a macro call does not restore.
+/// The media: what a macro call does not restore.
 #[derive(Clone, Copy, Debug, PartialEq, Eq)]
-pub struct Paper {
+pub struct Media {
     pub size: PageSize,
     pub orientation: Orientation,
     /// Whether both sides of a sheet are printed.
@@ -179,9 +179,9 @@ fn offset_of(orientation: Orientation, size: Dimensions) -> u32
     }
 }
 
-impl Paper {
+impl Media {
     ghost use Rattle.std.specs.Prelude.{◌≡◌, ◌<◌, ◌^◌};
-    ghost use Rattle.press_page.specs.Paper.{physical_page, frame, offset, logical_width, logical_length, logical_page, with_sides, printed_sides};
+    ghost use Rattle.press_page.specs.Media.{physical_page, frame, offset, logical_width, logical_length, logical_page, with_sides, printed_sides};
     ghost use Rattle.press_page.specs.Place.{to_physical, to_frame};
 
     /// The physical page, in dots of the engine.
@@ -254,21 +254,21 @@ impl Paper {
         to_frame(self.orientation, self.physical_page(resolution), dot)
     }
 
-    /// The paper after `ESC & l # S`: simplex leaves the binding.
-    pub fn with_sides(self, sides: Sides) -> Paper
+    /// The media after `ESC & l # S`: simplex leaves the binding.
+    pub fn with_sides(self, sides: Sides) -> Media
         ensures { result ≡ with_sides sides self }
     {
         match sides {
-            Sides::OneSided => Paper {
+            Sides::OneSided => Media {
                 duplex: false,
                 ..self
             },
-            Sides::TwoSidedLongEdge => Paper {
+            Sides::TwoSidedLongEdge => Media {
                 duplex: true,
                 binding: Binding::LongEdge,
                 ..self
             },
-            Sides::TwoSidedShortEdge => Paper {
+            Sides::TwoSidedShortEdge => Media {
                 duplex: true,
                 binding: Binding::ShortEdge,
                 ..self

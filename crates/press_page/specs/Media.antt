@@ -7,16 +7,16 @@ use Rattle.press_units.specs.declared.position.Resolution.{Resolution}
 use Rattle.press_units.specs.declared.position.Resolution.TheVariants.{Dpi300}
 use Rattle.press_cursor.specs.declared.logical_page.LogicalPage.{LogicalPage}
 use Rattle.press_page.specs.Numbers.{named}
-use Rattle.press_page.specs.declared.paper.Binding.{Binding}
-use Rattle.press_page.specs.declared.paper.Binding.TheVariants as bindings
-use Rattle.press_page.specs.declared.paper.Dimensions.{Dimensions}
-use Rattle.press_page.specs.declared.paper.Orientation.{Orientation}
-use Rattle.press_page.specs.declared.paper.Orientation.TheVariants.{Portrait, Landscape, ReversePortrait, ReverseLandscape}
-use Rattle.press_page.specs.declared.paper.PageSize.{PageSize}
-use Rattle.press_page.specs.declared.paper.PageSize.TheVariants.{Executive, Letter, Legal, Ledger, A4, A3}
-use Rattle.press_page.specs.declared.paper.Paper.{Paper}
-use Rattle.press_page.specs.declared.paper.Sides.{Sides}
-use Rattle.press_page.specs.declared.paper.Sides.TheVariants.{OneSided, TwoSidedLongEdge, TwoSidedShortEdge}
+use Rattle.press_page.specs.declared.media.Binding.{Binding}
+use Rattle.press_page.specs.declared.media.Binding.TheVariants as bindings
+use Rattle.press_page.specs.declared.media.Dimensions.{Dimensions}
+use Rattle.press_page.specs.declared.media.Orientation.{Orientation}
+use Rattle.press_page.specs.declared.media.Orientation.TheVariants.{Portrait, Landscape, ReversePortrait, ReverseLandscape}
+use Rattle.press_page.specs.declared.media.PageSize.{PageSize}
+use Rattle.press_page.specs.declared.media.PageSize.TheVariants.{Executive, Letter, Legal, Ledger, A4, A3}
+use Rattle.press_page.specs.declared.media.Media.{Media}
+use Rattle.press_page.specs.declared.media.Sides.{Sides}
+use Rattle.press_page.specs.declared.media.Sides.TheVariants.{OneSided, TwoSidedLongEdge, TwoSidedShortEdge}
 use Rattle.press_page.specs.declared.place.Extent.{Extent}
 
 -- ESC&l#A, the page size by its number
@@ -68,46 +68,46 @@ abbrev pub scale : Resolution → ℕ
 scale Dpi300 = 1
 
 -- the physical page, the frame, and the offset of the logical page, in dots of the engine
-abbrev pub physical_page : Paper → Resolution → Extent
-physical_page paper resolution = record {
-  width = (dimensions_of paper.size).width * scale resolution;
-  height = (dimensions_of paper.size).height * scale resolution;
+abbrev pub physical_page : Media → Resolution → Extent
+physical_page media resolution = record {
+  width = (dimensions_of media.size).width * scale resolution;
+  height = (dimensions_of media.size).height * scale resolution;
 }
 
-abbrev pub frame : Paper → Resolution → Extent
-frame paper resolution = turned paper.orientation (physical_page paper resolution)
+abbrev pub frame : Media → Resolution → Extent
+frame media resolution = turned media.orientation (physical_page media resolution)
 
-abbrev pub offset : Paper → Resolution → ℕ
-offset paper resolution = offset_of paper.orientation (dimensions_of paper.size) * scale resolution
+abbrev pub offset : Media → Resolution → ℕ
+offset media resolution = offset_of media.orientation (dimensions_of media.size) * scale resolution
 
 -- positions of a dot of the table
 abbrev pub table_dot : ℕ
 table_dot = positions_per_inch / 300
 
 -- width and length of the logical page, in positions: they are the same at each resolution
-abbrev pub logical_width : Paper → ℕ
-logical_width paper =
-    table_dot * ((frame paper Dpi300).width - 2 * offset paper Dpi300)
+abbrev pub logical_width : Media → ℕ
+logical_width media =
+    table_dot * ((frame media Dpi300).width - 2 * offset media Dpi300)
 
-abbrev pub logical_length : Paper → ℕ
-logical_length paper = table_dot * (frame paper Dpi300).height
+abbrev pub logical_length : Media → ℕ
+logical_length media = table_dot * (frame media Dpi300).height
 
 -- the logical page under a top margin
-abbrev pub logical_page : Paper → (top_margin : ℕ) → LogicalPage
-logical_page paper top_margin =
-    record { width = logical_width paper; length = logical_length paper; top_margin = top_margin }
+abbrev pub logical_page : Media → (top_margin : ℕ) → LogicalPage
+logical_page media top_margin =
+    record { width = logical_width media; length = logical_length media; top_margin = top_margin }
 
--- The paper after ESC&l#S: simplex leaves the binding.
-abbrev pub with_sides : Sides → Paper → Paper
-with_sides OneSided paper = record paper { duplex = false }
-with_sides TwoSidedLongEdge paper = record paper { duplex = true; binding = bindings.LongEdge }
-with_sides TwoSidedShortEdge paper = record paper { duplex = true; binding = bindings.ShortEdge }
+-- The media after ESC&l#S: simplex leaves the binding.
+abbrev pub with_sides : Sides → Media → Media
+with_sides OneSided media = record media { duplex = false }
+with_sides TwoSidedLongEdge media = record media { duplex = true; binding = bindings.LongEdge }
+with_sides TwoSidedShortEdge media = record media { duplex = true; binding = bindings.ShortEdge }
 
 -- both sides, bound along an edge
 abbrev pub two_sided : Binding → Sides
 two_sided bindings.LongEdge = TwoSidedLongEdge
 two_sided bindings.ShortEdge = TwoSidedShortEdge
 
--- The sides that are printed on a paper.
-abbrev pub printed_sides : Paper → Sides
-printed_sides paper = if paper.duplex then two_sided paper.binding else OneSided
+-- The sides that are printed on the media.
+abbrev pub printed_sides : Media → Sides
+printed_sides media = if media.duplex then two_sided media.binding else OneSided
