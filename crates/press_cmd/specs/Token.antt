@@ -75,6 +75,11 @@ end_of (Grouped character group field end payload) = end
 end_of (Ungrouped character field end payload) = end
 end_of _ = 0
 
+-- the bytes of a PJL line; none of other commands
+abbrev pub line_of : Token → List ℕ
+line_of (PjlLine line) = line
+line_of _ = []
+
 abbrev pub data_of : Token → List ℕ
 data_of (Grouped character group field end payload) = payload
 data_of (Ungrouped character field end payload) = payload

@@ -1,6 +1,6 @@
 ghost use Rattle.std.specs.Prelude.{◌≡◌, ◌++◌, length, take, OnOk, OnErr};
 ghost use Rattle.press_units.specs.Value.{tenthousandths_of, is_signed};
-ghost use Rattle.press_cmd.specs.Token.{bytes_of, field_of, data_of};
+ghost use Rattle.press_cmd.specs.Token.{bytes_of, field_of, data_of, line_of};
 ghost use Rattle.press_cmd.specs.Split.{IsReadBack};
 ghost use Rattle.press_cmd.specs.Kinds.{kind_of};
 ghost use Rattle.press_cmd.specs.View.{token, param_token, broken_token};
@@ -131,6 +131,16 @@ impl<'a> Command<'a> {
     {
         match self {
             Command::Param(param) => param.data(),
+            _ => &[],
+        }
+    }
+
+    /// The bytes of a PJL line; of any other command, nothing.
+    pub fn line(&self) -> &'a [u8]
+        ensures { result.now ≡ line_of (token self.now) }
+    {
+        match self {
+            Command::PjlLine(line) => line.bytes,
             _ => &[],
         }
     }

@@ -5,5 +5,6 @@ pub mod PlaceLemmas
 pub mod Runs
 pub mod SendsLemmas
 pub mod TraceLaws
+pub mod WorkedJobs
 pub mod WorkedStreams
 pub mod WorkedMacros

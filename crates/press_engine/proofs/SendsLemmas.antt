@@ -1,5 +1,5 @@
 -- How far outputs go out, put together.
-use Rattle.std.proofs.Common.{◌≡◌, ◌≢◌, ◌∙◌, ◌<◌, ◌+◌, ◌-◌, ◌≤◌, suc, arith, ℕ, List, [], ◌∷◌, ◌++◌, Result, Ok, Err, refl, sym, ap, subst}
+use Rattle.std.proofs.Common.{◌≡◌, ◌≢◌, ◌∙◌, ◌<◌, ◌+◌, ◌-◌, ◌≤◌, suc, arith, ℕ, List, [], ◌∷◌, ◌++◌, Option, Result, Ok, Err, refl, sym, ap, subst}
 use Rattle.std.proofs.KnownBytes.{Appends-nil}
 use Rattle.press_sink.specs.Sides.{Sides}
 use Rattle.press_sink.specs.declared.fault.SinkError.{SinkError}
@@ -12,7 +12,7 @@ use Rattle.press_sink.proofs.SendingLemmas.{told-nothing, TookAll-none, WentOut-
 use Rattle.press_engine.specs.declared.fault.EngineError.{EngineError}
 use Rattle.press_engine.specs.declared.fault.EngineError.TheVariants as engine_errors
 use Rattle.press_engine.specs.Engine.{Sends}
-use Rattle.press_engine.specs.Outputs.{copies_out}
+use Rattle.press_engine.specs.Outputs.{copy_out, next_count, copies_out}
 
 -- all of the outputs went out, and then others so far
 pub Sends-then : (tag : ℕ) (outputs others : List Output) (result : Result (Unit {0}) EngineError) (before between after : Told) → TookAll tag outputs before between → Sends tag others result between after → Sends tag (outputs ++ others) result before after
@@ -76,33 +76,43 @@ can_count-then tag outputs before after took can = record {
   replies = subst (λ (n : ℕ). n < most_faults) (sym took.reply_faults) can.replies;
 }
 
--- a copy went out, and then of the others so much
-pub Sends-copy : (sheet : Sides) (tag done copies : ℕ) (result : Result (Unit {0}) EngineError) (before between after : Told) → done < copies → TookAll tag (Deliver sheet ∷ []) before between → Sends tag (copies_out sheet (copies - (done + 1))) result between after → Sends tag (copies_out sheet (copies - done)) result before after
-Sends-copy sheet tag done copies result before between after below first then =
-    let e : copies - done ≡ suc (copies - (done + 1)) = omega arith in
-    let P : ℕ → Type 0 = λ n. Sends tag (copies_out sheet n) result before after in
-    subst P (sym e) (Sends-then tag (Deliver sheet ∷ []) (copies_out sheet (copies - (done + 1))) result before between after first then)
+-- the copies of a sheet, with the replies that follow each
+module _ (sheet : Sides) (tag done copies : ℕ) (count next : Option ℕ) (counts : next ≡ next_count count) where
+  one_more : done < copies → copies_out sheet (copies - done) count ≡ copy_out sheet next ++ copies_out sheet (copies - (done + 1)) next
+  one_more below =
+      let e : copies - done ≡ suc (copies - (done + 1)) = omega arith in
+      ap (λ (n : ℕ). copies_out sheet n count) e
+      ∙ ap (λ (number : Option ℕ). copy_out sheet number ++ copies_out sheet (copies - (done + 1)) number) (sym counts)
 
--- a copy that did not go out
-pub Sends-stopped_copy : (sheet : Sides) (tag done copies : ℕ) (first result : Result (Unit {0}) EngineError) (error : EngineError) (before after : Told) → done < copies → Sends tag (Deliver sheet ∷ []) first before after → first ≡ Err error → result ≡ Err error → Sends tag (copies_out sheet (copies - done)) result before after
-Sends-stopped_copy sheet tag done copies first result error before after below sends stops exits =
-    let e : copies - done ≡ suc (copies - (done + 1)) = omega arith in
-    let P : ℕ → Type 0 = λ n. Sends tag (copies_out sheet n) result before after in
-    subst P (sym e) (Sends-exit tag (Deliver sheet ∷ []) (copies_out sheet (copies - (done + 1))) first result error before after sends stops exits)
+  -- a copy went out, and then of the others so much
+  pub Sends-copy : (result : Result (Unit {0}) EngineError) (before between after : Told) → done < copies → TookAll tag (copy_out sheet next) before between → Sends tag (copies_out sheet (copies - (done + 1)) next) result between after → Sends tag (copies_out sheet (copies - done) count) result before after
+  Sends-copy result before between after below first then =
+      let P : List Output → Type 0 = λ outputs. Sends tag outputs result before after in
+      subst P (sym (one_more below)) (Sends-then tag (copy_out sheet next) (copies_out sheet (copies - (done + 1)) next) result before between after first then)
+
+  -- a copy that did not go out
+  pub Sends-stopped_copy : (first result : Result (Unit {0}) EngineError) (error : EngineError) (before after : Told) → done < copies → Sends tag (copy_out sheet next) first before after → first ≡ Err error → result ≡ Err error → Sends tag (copies_out sheet (copies - done) count) result before after
+  Sends-stopped_copy first result error before after below sends stops exits =
+      let P : List Output → Type 0 = λ outputs. Sends tag outputs result before after in
+      subst P (sym (one_more below)) (Sends-exit tag (copy_out sheet next) (copies_out sheet (copies - (done + 1)) next) first result error before after sends stops exits)
 
 -- no copy is left
-pub Sends-no_copy : (sheet : Sides) (tag done copies : ℕ) (told : Told) → copies ≤ done → Sends tag (copies_out sheet (copies - done)) (Ok tt) told told
-Sends-no_copy sheet tag done copies told past =
+pub Sends-no_copy : (sheet : Sides) (tag done copies : ℕ) (count : Option ℕ) (told : Told) → copies ≤ done → Sends tag (copies_out sheet (copies - done) count) (Ok tt) told told
+Sends-no_copy sheet tag done copies count told past =
     let e : copies - done ≡ 0 = omega arith in
-    let P : ℕ → Type 0 = λ n. Sends tag (copies_out sheet n) (Ok tt) told told in
+    let P : ℕ → Type 0 = λ n. Sends tag (copies_out sheet n count) (Ok tt) told told in
     subst P (sym e) (TookAll-none tag told)
 
 -- where there is a copy, something goes out
-pub copies_out-some : (sheet : Sides) (done copies : ℕ) → done < copies → copies_out sheet copies ≢ []
-copies_out-some sheet done copies below =
+pub copies_out-some : (sheet : Sides) (done copies : ℕ) (count : Option ℕ) → done < copies → copies_out sheet copies count ≢ []
+copies_out-some sheet done copies count below =
     let e : copies ≡ suc (copies - 1) = omega arith in
-    let P : ℕ → Type 0 = λ n. copies_out sheet n ≢ [] in
-    subst P (sym e) (λ (nothing : copies_out sheet (suc (copies - 1)) ≡ []). cc)
+    let P : ℕ → Type 0 = λ n. copies_out sheet n count ≢ [] in
+    subst P (sym e) (λ (nothing : copies_out sheet (suc (copies - 1)) count ≡ []). cc)
+
+-- memory ran out before anything went out
+pub Sends-nothing : (tag : ℕ) (outputs : List Output) (told : Told) → Sends tag outputs (Err engine_errors.NoMemory) told told
+Sends-nothing tag outputs told = record { taken = []; others = outputs; outputs_are = refl; took = TookAll-none tag told }
 
 -- where a part of the outputs is not empty, they are not
 pub some-before : (outputs others : List Output) → outputs ≢ [] → outputs ++ others ≢ []

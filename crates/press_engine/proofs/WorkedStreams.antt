@@ -65,7 +65,7 @@ no_macro_after (suc resets) = permanent_macros (abandoned (no_macro_after resets
 abbrev ends_after : (steps resets sheets : ℕ) → List Output → Run
 ends_after steps resets sheets outputs = record {
   machine = record {
-    state = record power_on_state { sheets = sheets; patterns = no_pattern_after resets; macros = no_macro_after resets };
+    state = record power_on_state { sheets = sheets; since_job = sheets; patterns = no_pattern_after resets; macros = no_macro_after resets };
     step = steps;
     depth = 0;
     last = lasts.Ran kinds.Uel;

@@ -1,10 +1,12 @@
 -- Rows that close the page (PCL 5 Printer Language Technical Reference Manual, Page Control Commands). A page that closes is
 -- a side of a sheet: in simplex a sheet without back; in duplex it waits for its back, or is the back of the front that
 -- waits. A finished sheet goes out in the copies of now.
-use Rattle.std.specs.Prelude.{ℤ, ◌&&◌, not, false, is_some, unwrap_or, if◌then◌else◌, [], ◌∷◌, Option, Some, None, option_map, Bool, true}
+use Rattle.std.specs.Prelude.{ℕ, ℤ, ◌&&◌, not, false, is_some, unwrap_or, if◌then◌else◌, [], ◌∷◌, Option, Some, None, option_map, Bool, true}
 use Rattle.press_bits.specs.Page.{Page}
 use Rattle.press_page.specs.Environment.{asked_page_size, with_page_size, asked_orientation, with_orientation, asked_sides, with_printed_sides}
 use Rattle.press_page.specs.Numbers.{named}
+use Rattle.press_pjl.specs.declared.environment.PjlEnv.{PjlEnv}
+use Rattle.press_sink.specs.Sending.{Reply}
 use Rattle.press_sink.specs.Sides as sheets
 use Rattle.press_engine.specs.declared.effect.Closer.{Closer}
 use Rattle.press_engine.specs.declared.effect.Closer.TheVariants as closers
@@ -15,7 +17,8 @@ use Rattle.press_engine.specs.declared.effect.Selection.TheVariants.{NextSide, F
 use Rattle.press_engine.specs.declared.state.State.{State}
 use Rattle.press_engine.specs.Motion.{to_first_line, to_home}
 use Rattle.press_macros.specs.Macros.{abandoned}
-use Rattle.press_engine.specs.Outcome.{Outcome, done, after_outputs, counted, Effect, Changes, Makes, Goes, Closes, Starts, reset_fields, ended_raster, is_marked, with_environment, with_macros}
+use Rattle.press_engine.specs.Counts.{counted}
+use Rattle.press_engine.specs.Outcome.{Outcome, done, after_outputs, Effect, Changes, Makes, Answers, Goes, Closes, Starts, reset_fields, ended_raster, is_marked, with_environment, with_macros}
 use Rattle.press_engine.specs.Outputs.{copies_out}
 use Rattle.press_engine.specs.Place.{blank_page}
 
@@ -23,12 +26,22 @@ use Rattle.press_engine.specs.Place.{blank_page}
 abbrev pub page_now : State → Page
 page_now state = unwrap_or state.page (blank_page state.environment.media)
 
--- A finished sheet goes out in the copies of now, and is counted in each.
-abbrev pub finish : sheets.Sides → State → Outcome
-finish sheet state = record {
-  state = record state { sheets = counted state.sheets state.environment.settings.copies };
-  outputs = copies_out sheet state.environment.settings.copies;
+-- the count from which the replies after sheets go on, while the status switch is on
+abbrev pub status_count : State → Option ℕ
+status_count state = if state.language.page_status then Some state.since_job else None
+
+-- the state after so many sheets more
+abbrev pub with_sheets : (copies : ℕ) → State → State
+with_sheets copies state = record state {
+  sheets = counted state.sheets copies;
+  since_job = counted state.since_job copies;
 }
+
+-- A finished sheet goes out in the copies of now, each followed by its reply, and is counted in each.
+abbrev pub finish : sheets.Sides → State → Outcome
+finish sheet state =
+    let copies = state.environment.settings.copies in
+    record { state = with_sheets copies state; outputs = copies_out sheet copies (status_count state) }
 
 -- A side of a sheet in duplex: the front of the next sheet, which waits, or the back of the front that waits.
 abbrev pub close_duplex : Option Page → Page → State → Outcome
@@ -75,9 +88,17 @@ turn_to Back state = done (blank_front state)
 abbrev pub overlay_off : State → State
 overlay_off state = record state { overlay = None }
 
+-- The job language's environment, and where a job begins, no sheet since then.
+abbrev pub with_language : PjlEnv → (begins_job : Bool) → State → State
+with_language language begins_job state =
+    record state { language = language; since_job = if begins_job then 0 else state.since_job }
+
 -- A change of the page: where another size or other sides come, and at a reset, a front that waits goes out alone before.
+-- Where the job language's current values change, a reset by the new values comes after that.
 abbrev pub change_page : PageChange → State → Outcome
 change_page page_changes.Reset state = then_change reset_fields (front_alone state)
+change_page (page_changes.Language language begins_job) state =
+    then_change (λ after. reset_fields (with_language language begins_job after)) (front_alone state)
 change_page (page_changes.Size size) state =
     then_change (λ after. to_home (overlay_off (with_environment (with_page_size size) after))) (front_alone state)
 change_page (page_changes.Orientation orientation) state =
@@ -99,6 +120,7 @@ ended closed (closers.Change change) state = change_page change state
 abbrev pub settle : Effect → Outcome
 settle (Changes state) = done state
 settle (Makes state) = done state
+settle (Answers reply state) = record { state = state; outputs = Reply reply ∷ [] }
 settle (Goes closer state) = ended false closer state
 settle (Closes closer state) = after_outputs (close state).outputs (ended true closer (close state).state)
 settle (Starts commands end state) = done state
@@ -107,10 +129,14 @@ settle (Starts commands end state) = done state
 abbrev pub close_if_marked : Closer → State → Effect
 close_if_marked closer state = if is_marked state then Closes closer state else Goes closer state
 
--- ESC E, printer reset, and the universal exit: HP-GL/2 is off first, and an open macro definition is dropped
+-- A reset, with what comes of it: HP-GL/2 is off first, and an open macro definition is dropped.
+abbrev pub reset_by : PageChange → State → Effect
+reset_by change state =
+    close_if_marked (closers.Change change) (with_macros abandoned (record state { hp_gl = false }))
+
+-- ESC E, printer reset, and the universal exit
 abbrev pub reset : State → Effect
-reset state =
-    close_if_marked (closers.Change page_changes.Reset) (with_macros abandoned (record state { hp_gl = false }))
+reset = reset_by page_changes.Reset
 
 -- where a command is asked for by its value, a page with a mark closes
 abbrev pub close_if_asked : Option Closer → State → Effect

@@ -13,7 +13,7 @@ use Rattle.press_engine.specs.declared.fault.EngineError.TheVariants as engine_e
 use Rattle.press_engine.specs.declared.machine.Machine.{Machine}
 use Rattle.press_engine.specs.declared.view.View.{View}
 use Rattle.press_engine.specs.declared.state.State.{State}
-use Rattle.press_engine.specs.Outcome.{Outcome, Effect, Changes, Makes, Goes, Closes, Starts, is_marked}
+use Rattle.press_engine.specs.Outcome.{Outcome, Effect, Changes, Makes, Answers, Goes, Closes, Starts, is_marked}
 use Rattle.press_engine.specs.Closing.{ended}
 use Rattle.press_engine.specs.Table.{effect_on}
 use Rattle.press_engine.specs.Machine.{Run, run}
@@ -52,11 +52,13 @@ Runs None command tag result new before after = (new ≡ None) × (after ≡ bef
 abbrev pub Shows : (before : State) → Outcome → Type 0
 Shows before outcome = (outcome.outputs ≢ []) ⊎ (outcome.state.pending ≢ before.pending)
 
--- Memory may be taken where a mark is made, a pattern defined or a macro recorded, where the page closes, where, in the place
--- of a close, something goes out or a front begins to wait, and where a body starts; and nowhere else.
+-- Memory may be taken where a mark is made, a pattern defined or a macro recorded, where a reply goes out, where the page
+-- closes, where, in the place of a close, something goes out or a front begins to wait, and where a body starts; and nowhere
+-- else.
 abbrev pub TakesMemory : Effect → Type 0
 TakesMemory (Changes state) = ⊥
 TakesMemory (Makes state) = Unit {0}
+TakesMemory (Answers reply state) = Unit {0}
 TakesMemory (Goes closer state) = Shows state (ended false closer state)
 TakesMemory (Closes closer state) = Unit {0}
 TakesMemory (Starts commands end state) = Unit {0}
@@ -76,6 +78,8 @@ view_of stack machine = record {
   y = record { 0 = machine.state.cursor.y };
   stack = stack;
   sheets = machine.state.sheets;
+  since_job = machine.state.since_job;
+  language = machine.state.language;
   environment = machine.state.environment;
   drawing = machine.state.drawing;
   macro_id = machine.state.macro_id;

@@ -1,9 +1,11 @@
 pub mod Calls
 pub mod Closing
+pub mod Counts
 pub mod Drawing
 pub mod Effects
 pub mod Engine
 pub mod Filling
+pub mod JobLanguage
 pub mod Laws
 pub mod Machine
 pub mod Macros
@@ -24,6 +26,8 @@ pub use Rattle.press_cmd.specs.Token
 pub use Rattle.press_cmd.specs.View
 pub use Rattle.press_cursor.specs.Cursor
 pub use Rattle.press_page.specs.Environment
+pub use Rattle.press_pjl.specs.Lines
+pub use Rattle.press_pjl.specs.Replies
 pub use Rattle.press_sink.specs.Sending
 pub use Rattle.press_sink.specs.Told
 pub use Rattle.press_units.specs.Measure

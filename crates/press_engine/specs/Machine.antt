@@ -13,7 +13,8 @@ use Rattle.press_engine.specs.declared.machine.Machine.{Machine}
 use Rattle.press_engine.specs.declared.state.State.{State}
 use Rattle.press_engine.specs.Calls as calls
 use Rattle.press_engine.specs.Closing.{settle}
-use Rattle.press_engine.specs.Outcome.{Effect, Changes, Makes, Goes, Closes, Starts, power_on_state, counted}
+use Rattle.press_engine.specs.Outcome.{Effect, Changes, Makes, Answers, Goes, Closes, Starts, power_on_state}
+use Rattle.press_engine.specs.Counts.{counted}
 use Rattle.press_engine.specs.Table.{effect_on, is_recorded}
 
 -- What commands leave, or a step of them: the machine, and the outputs in order.
@@ -66,6 +67,7 @@ change_each one (command ∷ commands) machine = change_each one commands (one c
 abbrev pub state_of : Effect → State
 state_of (Changes state) = state
 state_of (Makes state) = state
+state_of (Answers reply state) = state
 state_of (Goes closer state) = state
 state_of (Closes closer state) = state
 state_of (Starts commands end state) = state

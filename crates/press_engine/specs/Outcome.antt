@@ -1,15 +1,16 @@
 -- What rows of the command table give, and the state after power on.
-use Rattle.std.specs.Prelude.{ℕ, ◌+◌, Bool, false, min, is_some, if◌then◌else◌, List, [], ◌++◌, None}
+use Rattle.std.specs.Prelude.{ℕ, Bool, false, is_some, if◌then◌else◌, List, [], ◌++◌, None}
 use Rattle.std.specs.FinMap as maps
 use Rattle.press_cursor.specs.Cursor.{home}
 use Rattle.press_cursor.specs.CursorState.{CursorState}
 use Rattle.press_cursor.specs.declared.logical_page.LogicalPage.{LogicalPage}
 use Rattle.press_cmd.specs.Token.{Token}
 use Rattle.press_macros.specs.Macros.{Macros, no_macros, permanent_only as permanent_macros}
-use Rattle.press_page.specs.Environment.{factory, reset_environment, logical_page_of}
+use Rattle.press_page.specs.Environment.{reset_environment, logical_page_of}
 use Rattle.press_page.specs.declared.environment.PageEnv.{PageEnv}
 use Rattle.press_pattern.specs.Store.{permanent_only}
-use Rattle.press_units.specs.Limits.{greatest_of_64_bits}
+use Rattle.press_pjl.specs.Lines as lines
+use Rattle.press_pjl.specs.declared.environment.PjlEnv.{PjlEnv}
 use Rattle.press_sink.specs.Sending.{Output}
 use Rattle.press_engine.specs.declared.effect.BodyEnd.{BodyEnd}
 use Rattle.press_engine.specs.declared.effect.Closer.{Closer}
@@ -30,30 +31,32 @@ done state = record { state = state; outputs = [] }
 abbrev pub after_outputs : List Output → Outcome → Outcome
 after_outputs outputs outcome = record { state = outcome.state; outputs = outputs ++ outcome.outputs }
 
--- a count that stays at the greatest number of 64 bits once it is there
-abbrev pub counted : ℕ → ℕ → ℕ
-counted count more = min (count + more) greatest_of_64_bits
-
 -- What a row gives: a state, and nothing goes out; the same where a mark is made on the page, a pattern is defined or a macro is
--- recorded; that a page without a mark stays, and the command does at once what it does after a close; that the page
--- closes; or that the body of a macro starts, with what comes at its end.
+-- recorded; the same, and a reply goes out; that a page without a mark stays, and the command does at once what it does after a
+-- close; that the page closes; or that the body of a macro starts, with what comes at its end.
 pub data Effect : Type 0 where
   Changes : State → Effect
   Makes : State → Effect
+  Answers : (reply : List ℕ) → State → Effect
   Goes : Closer → State → Effect
   Closes : Closer → State → Effect
   Starts : List Token → BodyEnd → State → Effect
 
--- the page environment after a reset: by the factory values of the job language's variables
-abbrev pub default_environment : PageEnv
-default_environment = reset_environment factory
+-- the page environment after a reset: by the current values of the job language's variables
+abbrev pub default_environment : PjlEnv → PageEnv
+default_environment language = reset_environment language.current
+
+-- home on a page of this environment, with nothing pushed
+abbrev pub first_home : PageEnv → CursorState
+first_home environment =
+    home environment.margins.left environment.settings.vertical_motion (logical_page_of environment)
 
 -- What a reset sets: page environment, drawing and macro ID, overlay and HP-GL/2 off, no temporary pattern or macro, raster
 -- graphics off, and the cursor at home with nothing pushed.
 abbrev pub reset_fields : State → State
 reset_fields state =
     record state {
-      environment = default_environment;
+      environment = default_environment state.language;
       drawing = initial_drawing;
       macro_id = 0;
       overlay = None;
@@ -61,17 +64,20 @@ reset_fields state =
       patterns = permanent_only state.patterns;
       macros = permanent_macros state.macros;
       graphics = None;
-      cursor = home default_environment.margins.left default_environment.settings.vertical_motion (logical_page_of default_environment);
+      cursor = first_home (default_environment state.language);
     }
 
--- After power on: what a reset sets, no sheet, no user-defined pattern, no macro, and a blank page without a mark.
+-- After power on: the job language's factory values, what a reset sets by them, no sheet, no user-defined pattern, no macro,
+-- and a blank page without a mark.
 abbrev pub power_on_state : State
 power_on_state = record {
-  environment = default_environment;
+  language = lines.power_on;
+  since_job = 0;
+  environment = default_environment lines.power_on;
   drawing = initial_drawing;
   macro_id = 0;
   overlay = None;
-  cursor = home default_environment.margins.left default_environment.settings.vertical_motion (logical_page_of default_environment);
+  cursor = first_home (default_environment lines.power_on);
   hp_gl = false;
   sheets = 0;
   patterns = maps.empty;

@@ -3,7 +3,7 @@
 use Rattle.std.specs.Prelude.{ℤ, Bool, true, false, ◌&&◌, ◌||◌, not, if◌then◌else◌}
 use Rattle.press_units.specs.Measure.{decipoint}
 use Rattle.press_units.specs.Value.{tenthousandths_of, whole_part, is_signed}
-use Rattle.press_cmd.specs.Token.{Token, field_of, data_of}
+use Rattle.press_cmd.specs.Token.{Token, field_of, data_of, line_of}
 use Rattle.press_cmd.specs.Kinds.{kind_of}
 use Rattle.press_page.specs.Environment.{set_unit_of_measure, set_line_termination, set_horizontal_motion, set_vertical_motion, set_line_spacing, set_text_length, clear_margins, set_copies}
 use Rattle.press_raster.specs.Settings.{set_resolution, set_source_width, set_source_height, set_method}
@@ -14,6 +14,7 @@ use Rattle.press_engine.specs.declared.state.State.{State}
 use Rattle.press_engine.specs.Closing.{reset, select_page_size, select_orientation, select_sides, eject_page, select_side}
 use Rattle.press_engine.specs.Drawing.{set_rectangle_width, set_rectangle_height, set_pattern_id, set_source_transparency, set_pattern_transparency}
 use Rattle.press_engine.specs.Filling.{fill}
+use Rattle.press_engine.specs.JobLanguage.{job_language}
 use Rattle.press_engine.specs.Macros.{set_macro_id, control_macro, is_stop, recording, record_command}
 use Rattle.press_engine.specs.Motion.{in_overlay, move_along, move_down, move_rows, column, pcl_unit_of, line_feed, carriage_return, form_feed, half_line_feed, push_or_pop, change_top_margin, change_perforation_skip, change_left_margin, change_right_margin}
 use Rattle.press_engine.specs.Operation.{operation_of}
@@ -91,7 +92,7 @@ row source MoveX command = λ state. Changes (move_along (pcl_unit_of state) (va
 row source MoveY command = λ state. Changes (move_down (pcl_unit_of state) (value_of command) (is_relative command) state)
 row source MacroId command = λ state. Changes (set_macro_id (number_of command) state)
 row source ControlMacro command = control_macro source (number_of command)
-row source JobLanguage command = Changes
+row source JobLanguage command = job_language (line_of command)
 
 -- what has effect while HP-GL/2 is on
 abbrev pub works_in_hp_gl : Operation → Bool

@@ -4,6 +4,7 @@ use crate::canvas::Canvas;
 use crate::effect::{Closer, Effect, FinishedSheet, PageChange, Selection, Sent};
 use crate::state::State;
 use press_page::{Orientation, PageSize, Sides};
+use press_pjl::PjlEnv;
 use press_sink::Sheet;
 use press_units::Value;
 use std::alloc::{AllocError, Global};
@@ -15,9 +16,9 @@ impl State {
     ghost use Rattle.press_engine.specs.Effects.{effect_of};
     ghost use Rattle.press_engine.specs.Engine.{TakesMemory};
     ghost use Rattle.press_engine.specs.Motion.{to_home};
-    ghost use Rattle.press_engine.specs.Outcome.{after_outputs, counted, is_marked, with_environment};
+    ghost use Rattle.press_engine.specs.Outcome.{after_outputs, is_marked, with_environment};
     ghost use Rattle.press_engine.specs.Outputs.{outputs_of, finished_of};
-    ghost use Rattle.press_engine.specs.Closing.{page_now, close, front_alone, overlay_off, blank_front, turn_to, change_page, ended, settle, close_if_marked, reset, select_page_size, select_orientation, select_sides, eject_page, select_side};
+    ghost use Rattle.press_engine.specs.Closing.{page_now, status_count, with_sheets, with_language, reset_by, close, front_alone, overlay_off, blank_front, turn_to, change_page, ended, settle, close_if_marked, reset, select_page_size, select_orientation, select_sides, eject_page, select_side};
 
     /// Whether a mark was made on the page.
     pub fn is_marked(&self) -> bool
@@ -38,17 +39,29 @@ impl State {
         }
     }
 
+    /// The count from which the replies after sheets go on, while the status switch is on.
+    fn status_count(&self) -> Option<u64>
+        ensures { result ≡ status_count self.now }
+    {
+        if self.language.page_status {
+            Some(self.since_job)
+        } else {
+            None
+        }
+    }
+
     /// Finishes a sheet: it goes out in the copies of now, and is counted in each.
     fn finish(&mut self, front: Canvas, back: Option<Canvas>) -> FinishedSheet
-        ensures state { self.new ≡ record self.old {
-          sheets = counted self.old.sheets self.old.environment.settings.copies;
-        } }
+        ensures state { self.new ≡ with_sheets self.old.environment.settings.copies self.old }
         ensures front { result.sheet.front ≡ front }
         ensures back { result.sheet.back ≡ back }
         ensures copies { result.copies ≡ self.old.environment.settings.copies }
+        ensures count { result.since_job ≡ status_count self.old }
     {
         let copies = self.environment.settings.copies;
+        let since_job = self.status_count();
         self.sheets = self.sheets.saturating_add(u64::from(copies));
+        self.since_job = self.since_job.saturating_add(u64::from(copies));
         let back = match back {
             Some(back) => Some(back.bitmap),
             None => None,
@@ -59,6 +72,7 @@ impl State {
                 back,
             },
             copies,
+            since_job,
         }
     }
 
@@ -149,6 +163,16 @@ impl State {
         self.move_home();
     }
 
+    /// Another environment of the job language; where a job begins, no sheet went out since then.
+    fn set_language(&mut self, language: PjlEnv, begins_job: bool)
+        ensures { self.new ≡ with_language language begins_job self.old }
+    {
+        self.language = language;
+        if begins_job {
+            self.since_job = 0;
+        }
+    }
+
     /// Changes the page, which has no mark; answers a front that goes out alone.
     fn change_page(&mut self, change: PageChange) -> Option<FinishedSheet>
         ensures { record { state = self.new; outputs = finished_of result }
@@ -157,6 +181,15 @@ impl State {
         match change {
             PageChange::Reset => {
                 let alone = self.front_alone();
+                self.reset_fields();
+                alone
+            }
+            PageChange::Language {
+                language,
+                begins_job,
+            } => {
+                let alone = self.front_alone();
+                self.set_language(language, begins_job);
                 self.reset_fields();
                 alone
             }
@@ -207,6 +240,7 @@ impl State {
     {
         match effect {
             Effect::Changes | Effect::Makes | Effect::Starts(_, _) => Ok(Sent::Nothing),
+            Effect::Answers(reply) => Ok(Sent::Reply(reply)),
             Effect::Goes(closer) => {
                 let alone = self.end(alloc, closer, false)?;
                 Ok(Sent::Sheets {
@@ -233,13 +267,20 @@ impl State {
         }
     }
 
-    /// `ESC E` and the universal exit: an open macro definition is dropped, too.
-    pub fn reset(&mut self) -> Effect
-        ensures { effect_of self.new result ≡ reset self.old }
+    /// A reset, with what comes of it: HP-GL/2 is off first, and an open macro definition is dropped.
+    pub fn reset_by(&mut self, change: PageChange) -> Effect
+        ensures { effect_of self.new result ≡ reset_by change self.old }
     {
         self.hp_gl = false;
         self.macros.abandon();
-        self.close_if_marked(Closer::Change(PageChange::Reset))
+        self.close_if_marked(Closer::Change(change))
+    }
+
+    /// `ESC E` and the universal exit.
+    pub fn reset(&mut self) -> Effect
+        ensures { effect_of self.new result ≡ reset self.old }
+    {
+        self.reset_by(PageChange::Reset)
     }
 
     /// `&l#A`: the page size.

@@ -4,6 +4,7 @@ ghost use Rattle.press_engine.specs.Closing.{selection_of};
 use crate::calls::Kept;
 use press_macros::Body;
 use press_page::{Orientation, PageSize, Sides};
+use press_pjl::{PjlEnv, ReplyBytes};
 use press_sink::Sheet;
 
 /// A finished sheet, and how many times it goes out.
@@ -11,6 +12,8 @@ use press_sink::Sheet;
 pub struct FinishedSheet {
     pub sheet: Sheet,
     pub copies: u16,
+    /// The count of sheets since the job began, before the first copy, where a reply follows each.
+    pub since_job: Option<u64>,
 }
 
 /// What goes out when a command is carried out.
@@ -23,7 +26,7 @@ pub enum Sent {
         alone: Option<FinishedSheet>,
     },
     /// The bytes of a reply.
-    Reply(Vec<u8>),
+    Reply(ReplyBytes),
 }
 
 /// Which side of a sheet the next page is to be on.
@@ -38,6 +41,8 @@ pub enum Selection {
 #[derive(Clone, Copy, Debug, PartialEq, Eq)]
 pub enum PageChange {
     Reset,
+    /// A reset by other values of the job language, with which a job may begin.
+    Language { language: PjlEnv, begins_job: bool },
     Size(PageSize),
     Orientation(Orientation),
     Sides(Sides),
@@ -79,6 +84,8 @@ pub enum Effect {
     Changes,
     /// The same, and memory may have been taken: a mark was made on the page, a pattern defined, or a macro recorded.
     Makes,
+    /// The row is carried out, and a reply goes out.
+    Answers(ReplyBytes),
     /// A page without a mark stays, and the command does what it does after a close.
     Goes(Closer),
     /// The page closes.

@@ -104,6 +104,8 @@ impl Engine {
             y: Pos(state.cursor.y()),
             stack: state.cursor.stack(),
             sheets: state.sheets,
+            since_job: state.since_job,
+            language: state.language,
             environment: state.environment,
             drawing: state.drawing,
             macro_id: state.macro_id,

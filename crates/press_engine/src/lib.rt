@@ -9,6 +9,7 @@ mod effect;
 mod engine;
 mod fault;
 mod filling;
+mod job_language;
 pub mod laws;
 mod machine;
 mod macro_control;

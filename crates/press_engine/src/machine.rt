@@ -213,7 +213,7 @@ impl Machine {
         let Ok(sent) = self.settle(alloc, effect) else {
             return Err(EngineError::NoMemory);
         };
-        send(&sent, tag, sheets, replies)
+        send(&sent, alloc, tag, sheets, replies)
     }
 
     /// Carries one command out, with the bodies that it starts, where so many macros may start outside an overlay.

@@ -59,7 +59,7 @@ impl State {
     {
         let value = command.value();
         match operation {
-            Operation::Nothing | Operation::JobLanguage => {}
+            Operation::Nothing => {}
             Operation::CarriageReturn => return Ok(self.carriage_return(source)),
             Operation::LineFeed => return Ok(self.line_feed(source)),
             Operation::FormFeed => return Ok(self.form_feed()),
@@ -123,6 +123,7 @@ impl State {
             Operation::MoveY => self.move_down(self.pcl_unit(), value),
             Operation::MacroId => self.set_macro_id(value),
             Operation::ControlMacro => return self.control_macro(source, value),
+            Operation::JobLanguage => return self.job_language(alloc, command.line()),
         }
         Ok(Effect::Changes)
     }

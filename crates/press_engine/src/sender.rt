@@ -1,16 +1,20 @@
-ghost use Rattle.std.specs.Prelude.{◌≢◌, [], ◌∷◌, IsErrOf};
+ghost use Rattle.std.specs.Prelude.{◌≡◌, ◌≢◌, [], ◌∷◌, Some, IsErrOf};
+ghost use Rattle.press_pjl.specs.Replies.{page_reply};
 ghost use Rattle.press_sink.specs.Told.{both, CanCount};
 ghost use Rattle.press_sink.specs.Sending.{Deliver, Reply};
 ghost use Rattle.press_engine.specs.Engine.{Sends};
-ghost use Rattle.press_engine.specs.Outputs.{outputs_of, finished_of, copies_out};
+ghost use Rattle.press_engine.specs.Outputs.{outputs_of, finished_of, copy_out, next_count};
 
 use crate::effect::{FinishedSheet, Sent};
 use crate::fault::EngineError;
+use press_pjl::write_reply;
 use press_sink::{ReplyError, ReplySink, Sheet, SheetSink, SinkError};
+use std::alloc::Global;
 
 /// Hands what goes out to the sinks, in order. This is the one place that speaks to them.
 pub fn send<S: SheetSink, R: ReplySink>(
     sent: &Sent,
+    alloc: Global,
     tag: u64,
     sheets: &mut S,
     replies: &mut R,
@@ -23,16 +27,17 @@ pub fn send<S: SheetSink, R: ReplySink>(
     match sent {
         Sent::Nothing => Ok(()),
         Sent::Sheets { closed, alone } => {
-            send_finished(closed, tag, sheets, replies)?;
-            send_finished(alone, tag, sheets, replies)
+            send_finished(closed, alloc, tag, sheets, replies)?;
+            send_finished(alone, alloc, tag, sheets, replies)
         }
-        Sent::Reply(bytes) => reply(bytes, tag, sheets, replies),
+        Sent::Reply(bytes) => reply(bytes.as_slice(), tag, sheets, replies),
     }
 }
 
 /// Delivers the copies of a finished sheet, where there is one.
 fn send_finished<S: SheetSink, R: ReplySink>(
     finished: &Option<FinishedSheet>,
+    alloc: Global,
     tag: u64,
     sheets: &mut S,
     replies: &mut R,
@@ -44,27 +49,75 @@ fn send_finished<S: SheetSink, R: ReplySink>(
 {
     match finished {
         None => Ok(()),
-        Some(finished) => send_copies(&finished.sheet, finished.copies, tag, sheets, replies),
+        Some(finished) => send_copies(finished, alloc, tag, sheets, replies),
     }
 }
 
-/// Delivers so many copies of a sheet.
+/// The count of sheets since the job began, with one more.
+fn next_count(count: Option<u64>) -> Option<u64>
+    ensures { result ≡ next_count count }
+{
+    count.map(|since_job| since_job.saturating_add(1))
+}
+
+/// Delivers the copies of a finished sheet, each followed by its reply.
 fn send_copies<S: SheetSink, R: ReplySink>(
-    sheet: &Sheet,
-    copies: u16,
+    finished: &FinishedSheet,
+    alloc: Global,
     tag: u64,
     sheets: &mut S,
     replies: &mut R,
 ) -> Result<(), EngineError>
     requires { CanCount (both (S.told sheets.old) (R.told replies.old)) }
-    ensures sends { Sends tag (copies_out sheet.now copies) result
+    ensures sends { Sends tag (finished_of (Some finished.now)) result
         (both (S.told sheets.old) (R.told replies.old)) (both (S.told sheets.new) (R.told replies.new)) }
-    ensures memory { IsErrOf result EngineError.NoMemory → copies_out sheet.now copies ≢ [] }
+    ensures memory { IsErrOf result EngineError.NoMemory → finished_of (Some finished.now) ≢ [] }
 {
-    for _copy in 0..copies {
-        deliver(sheet, tag, sheets, replies)?;
+    let mut count = finished.since_job;
+    for _copy in 0..finished.copies {
+        count = next_count(count);
+        send_copy(&finished.sheet, count, alloc, tag, sheets, replies)?;
     }
     Ok(())
+}
+
+/// Delivers a sheet, and its reply where there is one.
+fn send_copy<S: SheetSink, R: ReplySink>(
+    sheet: &Sheet,
+    count: Option<u64>,
+    alloc: Global,
+    tag: u64,
+    sheets: &mut S,
+    replies: &mut R,
+) -> Result<(), EngineError>
+    requires { CanCount (both (S.told sheets.old) (R.told replies.old)) }
+    ensures { Sends tag (copy_out sheet.now count) result
+        (both (S.told sheets.old) (R.told replies.old)) (both (S.told sheets.new) (R.told replies.new)) }
+{
+    deliver(sheet, tag, sheets, replies)?;
+    match count {
+        None => Ok(()),
+        Some(since_job) => reply_status(since_job, alloc, tag, sheets, replies),
+    }
+}
+
+/// Writes the reply that follows a sheet.
+fn reply_status<S: SheetSink, R: ReplySink>(
+    since_job: u64,
+    alloc: Global,
+    tag: u64,
+    sheets: &mut S,
+    replies: &mut R,
+) -> Result<(), EngineError>
+    requires { CanCount (both (S.told sheets.old) (R.told replies.old)) }
+    ensures { Sends tag (Reply (page_reply since_job) ∷ []) result
+        (both (S.told sheets.old) (R.told replies.old)) (both (S.told sheets.new) (R.told replies.new)) }
+{
+    let mut bytes = Vec::new(alloc);
+    if write_reply(since_job, &mut bytes).is_err() {
+        return Err(EngineError::NoMemory);
+    }
+    reply(&bytes, tag, sheets, replies)
 }
 
 /// Delivers a sheet.

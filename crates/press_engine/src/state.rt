@@ -1,11 +1,13 @@
 ghost use Rattle.std.specs.Prelude.{◌≡◌, IfOk};
+ghost use Rattle.press_engine.specs.Outcome.{first_home};
 
 use crate::canvas::Canvas;
 use crate::drawing::Drawing;
 use press_cursor::{Cursor, LogicalPage};
 use press_macros::MacroStore;
-use press_page::{Defaults, PageEnv};
+use press_page::PageEnv;
 use press_pattern::Patterns;
+use press_pjl::{Facts, PjlEnv};
 use press_raster::Raster;
 use press_units::Unit;
 use std::alloc::{AllocError, Global};
@@ -13,6 +15,8 @@ use std::alloc::{AllocError, Global};
 /// All that the command table reads and changes.
 #[derive(Drop)]
 pub struct State {
+    /// The job language's environment.
+    pub language: PjlEnv,
     /// Settings, margins and media.
     pub environment: PageEnv,
     /// How marks are made.
@@ -26,6 +30,8 @@ pub struct State {
     pub hp_gl: bool,
     /// How many sheets went out, each copy counted; the greatest number stays.
     pub sheets: u64,
+    /// The same since the job began.
+    pub since_job: u64,
     pub patterns: Patterns,
     /// Macros, and the definition that is open.
     pub macros: MacroStore,
@@ -47,26 +53,39 @@ fn copy_page(page: &Option<Canvas>) -> Result<Option<Canvas>, AllocError>
     }
 }
 
+/// The cursor at home on a page of this environment, with nothing pushed.
+fn first_home(environment: &PageEnv) -> Cursor
+    ensures { result ≡ first_home environment.now }
+{
+    Cursor::at_home(
+        environment.margins.left,
+        environment.settings.vertical_motion,
+        environment.logical_page(),
+    )
+}
+
 impl State {
     ghost use Rattle.std.specs.Prelude.{◌≡◌, ℕ, pos, IfOk};
     ghost use Rattle.press_engine.specs.Motion.{column, pcl_unit_of};
+    ghost use Rattle.press_engine.specs.JobLanguage.{facts_of};
     ghost use Rattle.press_engine.specs.Outcome.{power_on_state, reset_fields, bounds};
 
     /// The state after power on.
     pub fn power_on(alloc: Global) -> Self
         ensures { result ≡ power_on_state }
     {
-        let environment = PageEnv::reset_from(&Defaults::factory());
-        let page = environment.logical_page();
-        let line = environment.settings.vertical_motion;
+        let language = PjlEnv::power_on();
+        let environment = PageEnv::reset_from(&language.current);
         State {
+            language,
             environment,
             drawing: Drawing::initial(),
             macro_id: 0,
             overlay: None,
-            cursor: Cursor::at_home(environment.margins.left, line, page),
+            cursor: first_home(&environment),
             hp_gl: false,
             sheets: 0,
+            since_job: 0,
             patterns: Patterns::new(alloc),
             macros: MacroStore::new(alloc),
             graphics: Raster::new(alloc),
@@ -80,6 +99,7 @@ impl State {
         ensures { IfOk result (λ state. state ≡ self.now) }
     {
         Ok(State {
+            language: self.language,
             environment: self.environment,
             drawing: self.drawing,
             macro_id: self.macro_id,
@@ -87,6 +107,7 @@ impl State {
             cursor: self.cursor.clone()?,
             hp_gl: self.hp_gl,
             sheets: self.sheets,
+            since_job: self.since_job,
             patterns: self.patterns.copy()?,
             macros: self.macros.copy()?,
             graphics: self.graphics.copy()?,
@@ -95,14 +116,12 @@ impl State {
         })
     }
 
-    /// Page environment, drawing, macro ID and cursor as after power on, overlay, HP-GL/2 and raster graphics off, and no
-    /// temporary pattern or macro.
+    /// Page environment by the job language's current values, drawing, macro ID and cursor as after power on, overlay, HP-GL/2
+    /// and raster graphics off, and no temporary pattern or macro.
     pub fn reset_fields(&mut self)
         ensures { self.new ≡ reset_fields self.old }
     {
-        let environment = PageEnv::reset_from(&Defaults::factory());
-        let page = environment.logical_page();
-        let line = environment.settings.vertical_motion;
+        let environment = PageEnv::reset_from(&self.language.current);
         self.environment = environment;
         self.drawing = Drawing::initial();
         self.macro_id = 0;
@@ -111,7 +130,17 @@ impl State {
         self.patterns.delete_temporary();
         self.macros.delete_temporary();
         self.graphics.end();
-        self.cursor = Cursor::at_home(environment.margins.left, line, page);
+        self.cursor = first_home(&environment);
+    }
+
+    /// What a line of the job language is told of the press.
+    pub fn facts(&self) -> Facts
+        ensures { result ≡ facts_of self.now }
+    {
+        Facts {
+            total: self.sheets,
+            since_job: self.since_job,
+        }
     }
 
     /// The logical page, which bounds the cursor.

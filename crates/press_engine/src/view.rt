@@ -2,6 +2,7 @@ use crate::drawing::Drawing;
 use crate::machine::Last;
 use press_cursor::CursorPosition;
 use press_page::PageEnv;
+use press_pjl::PjlEnv;
 use press_raster::RasterPosition;
 use press_units::Pos;
 
@@ -22,6 +23,10 @@ pub struct View<'a> {
     pub stack: &'a [CursorPosition],
     /// How many sheets were handed out, each copy counted; the greatest number stays.
     pub sheets: u64,
+    /// The same since the job began.
+    pub since_job: u64,
+    /// The job language's environment.
+    pub language: PjlEnv,
     /// Settings, margins and media.
     pub environment: PageEnv,
     /// How marks are made.

@@ -3,19 +3,19 @@ use Rattle.std.proofs.lemmas.Result.{err_from_is_err_and}
 use Rattle.press_engine.proofs.SendsLemmas.{Sends-copy, Sends-stopped_copy, Sends-no_copy, can_count-then, copies_out-some}
 use Rattle.press_engine.proofs.sender.send_copies.Goals as goal
 
-pub returns-in_err-deliver-clause-sends : goal.returns-in_err-deliver-clause-sends
-returns-in_err-deliver-clause-sends g c =
+pub returns-in_err-send_copy-clause-sends : goal.returns-in_err-send_copy-clause-sends
+returns-in_err-send_copy-clause-sends g c =
     let p = err_from_is_err_and c.from_residual.result c.from_residual.ensures.1 in
-    c.loop-copy.invariant.rest _ _ (Sends-stopped_copy c.args.sheet.now c.args.tag c.loop-copy._copy c.args.copies c.deliver.result _ p.0 _ _ c.loop-copy-test.true c.deliver.ensures (c.in_err-deliver.was ∙ ap Err (sym p.2)) p.1)
+    c.loop-copy.invariant.rest _ _ (Sends-stopped_copy c.args.finished.now.sheet c.args.tag c.loop-copy._copy c.args.finished.now.copies c.loop-copy.count c.next_count-count.result c.next_count-count.ensures c.send_copy.result _ p.0 _ _ c.loop-copy-test.true c.send_copy.ensures (c.in_err-send_copy.was ∙ ap Err (sym p.2)) p.1)
 
-pub returns-in_err-deliver-clause-memory : goal.returns-in_err-deliver-clause-memory
-returns-in_err-deliver-clause-memory g c stops = copies_out-some c.args.sheet.now c.loop-copy._copy c.args.copies c.loop-copy-test.true
+pub returns-in_err-send_copy-clause-memory : goal.returns-in_err-send_copy-clause-memory
+returns-in_err-send_copy-clause-memory g c stops = copies_out-some c.args.finished.now.sheet c.loop-copy._copy c.args.finished.now.copies c.args.finished.now.since_job c.loop-copy-test.true
 
 pub loop-copy-preserved : goal.loop-copy-preserved
 loop-copy-preserved g c = record {
-  can_count = can_count-then c.args.tag _ _ _ c.in_ok-deliver.ensures c.loop-copy.invariant.can_count;
-  rest = λ result after sends. c.loop-copy.invariant.rest result after (Sends-copy c.args.sheet.now c.args.tag c.loop-copy._copy c.args.copies result _ _ after c.loop-copy-test.true c.in_ok-deliver.ensures sends);
+  can_count = can_count-then c.args.tag _ _ _ c.in_ok-send_copy.ensures c.loop-copy.invariant.can_count;
+  rest = λ result after sends. c.loop-copy.invariant.rest result after (Sends-copy c.args.finished.now.sheet c.args.tag c.loop-copy._copy c.args.finished.now.copies c.loop-copy.count c.next_count-count.result c.next_count-count.ensures result _ _ after c.loop-copy-test.true c.in_ok-send_copy.ensures sends);
 }
 
 pub returns-clause-sends : goal.returns-clause-sends
-returns-clause-sends g c = c.loop-copy.invariant.rest (Ok tt) _ (Sends-no_copy c.args.sheet.now c.args.tag c.loop-copy._copy c.args.copies _ c.loop-copy-test.false)
+returns-clause-sends g c = c.loop-copy.invariant.rest (Ok tt) _ (Sends-no_copy c.args.finished.now.sheet c.args.tag c.loop-copy._copy c.args.finished.now.copies c.loop-copy.count _ c.loop-copy-test.false)

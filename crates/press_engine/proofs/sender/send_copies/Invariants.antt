@@ -10,5 +10,5 @@ abbrev pub invariant-loop-copy : goal.invariant-loop-copy
 invariant-loop-copy g l =
     record {
       can_count : CanCount (both (g.S.SheetSink.told l.sheets) (g.R.ReplySink.told l.replies));
-      rest : (result : Result (Unit {0}) EngineError) (after : Told) → Sends l.tag (copies_out l.sheet (l.copies - l._copy)) result (both (g.S.SheetSink.told l.sheets) (g.R.ReplySink.told l.replies)) after → Sends l.tag (copies_out l.sheet l.copies) result (both (g.S.SheetSink.told l.fn.sheets) (g.R.ReplySink.told l.fn.replies)) after;
+      rest : (result : Result (Unit {0}) EngineError) (after : Told) → Sends l.tag (copies_out l.finished.sheet (l.finished.copies - l._copy) l.count) result (both (g.S.SheetSink.told l.sheets) (g.R.ReplySink.told l.replies)) after → Sends l.tag (copies_out l.finished.sheet l.finished.copies l.finished.since_job) result (both (g.S.SheetSink.told l.fn.sheets) (g.R.ReplySink.told l.fn.replies)) after;
     }
