@@ -192,3 +192,10 @@ eight_of_pair bits first left right j small is_left is_right within =
       | inr high ↦
           pair_right left right (first % 8) j (omega arith) within high ∙ ap (λ b. byte_dot b (first % 8 + j - 8)) is_right ∙ sym (row_dot-right bits first j within high)
     ]
+
+pub eight_aligned : (bits : List ℕ) (first left j : ℕ) → first % 8 ≡ 0 → left ≡ get_or bits (first / 8) 0 → j < 8 → byte_dot left j ≡ row_dot bits (first + j)
+eight_aligned bits first left j aligned is_left within =
+    let place : j ≡ first % 8 + j = omega (arith, aligned) in
+    ap (λ b. byte_dot b j) is_left
+    ∙ ap (byte_dot (get_or bits (first / 8) 0)) place
+    ∙ sym (row_dot-left bits first j (omega (arith, aligned, within)))
