@@ -17,6 +17,8 @@ mod files;
 #[cfg(test)]
 mod fills;
 #[cfg(test)]
+mod jobs;
+#[cfg(test)]
 mod macros;
 #[cfg(test)]
 mod patterns;
@@ -38,8 +40,6 @@ mod rows;
 mod scanner;
 #[cfg(test)]
 mod sinks;
-#[cfg(test)]
-mod stream_tests;
 #[cfg(test)]
 mod tickets;
 #[cfg(test)]
