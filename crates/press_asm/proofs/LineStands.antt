@@ -17,7 +17,7 @@ use Rattle.press_units.specs.Value.{tenthousandths_of, whole_part}
 use Rattle.press_units.proofs.FieldTest.{IsField-from_test, test-byte}
 use Rattle.press_cmd.specs.Token.{Token, Escape, Ungrouped, Control, Text, Broken, Uel, PjlLine, ForeignByte, uel, pjl_mark, bytes_of, param_of, broken_of, data_of}
 use Rattle.press_cmd.specs.Carried.{data_count, count_of}
-use Rattle.press_cmd.specs.Grammar.{IsEscapeEnd, IsControl, IsText, IsCharacter, IsGroup, IsEnd, IsLine, IsBroken}
+use Rattle.press_cmd.specs.Grammar.{IsEscapeEnd, IsControl, IsText, IsCharacter, IsGroup, IsEnd, IsPjlLine, IsBroken}
 use Rattle.press_cmd.specs.View.{token, param_token, broken_token}
 use Rattle.press_cmd.specs.declared.command.Command.{Command}
 use Rattle.press_cmd.specs.declared.payload.Param.{Param}
@@ -173,7 +173,7 @@ no_line : (front : List ℕ) → front ++ (10 ∷ []) ≡ [] → ⊥
 no_line [] e = cc
 no_line (b ∷ front) e = cc
 
-pub line_written : (line : List ℕ) → IsLine line → IsBytes line → IsWritten (PjlLine line)
+pub line_written : (line : List ℕ) → IsPjlLine line → IsBytes line → IsWritten (PjlLine line)
 line_written line is fits = record {
   stands = (
     LineForm (encode_upper line),
