@@ -5,7 +5,7 @@ use Rattle.press_cmd.specs.Token.{Token, Uel}
 use Rattle.press_cmd.specs.Kinds.{kind_of}
 use Rattle.press_cmd.specs.declared.variant.Kind.{Kind}
 use Rattle.press_scan.specs.Gives.{Passes, IsDone}
-use Rattle.press_scan.specs.Held.{Held}
+use Rattle.press_scan.specs.ScannerState.{ScannerState}
 use Rattle.press_sink.specs.Told.{Told}
 use Rattle.press_sink.specs.Sending.{AtSheet, AtReply, ForMemory}
 use Rattle.press_engine.specs.declared.fault.EngineError.{EngineError}
@@ -46,7 +46,7 @@ CarriesOne-err command (Some machine) tag result error new before after is runs 
       by engine_errors.Failed ran = absurd ran.sends
 
 -- a command that was handed on stopped
-one_stops : (held next : Held) (command : Token) (old new : Option Machine) (tag : ℕ) (error : JobError) (before after : Told) → IsSome old → Passes held command next → CarriesOne command old tag (Err error) new before after → Faults (record { held = held; machine = old; exited = false }) [] tag error (record { held = next; machine = new; exited = false }) before after
+one_stops : (held next : ScannerState) (command : Token) (old new : Option Machine) (tag : ℕ) (error : JobError) (before after : Told) → IsSome old → Passes held command next → CarriesOne command old tag (Err error) new before after → Faults (record { held = held; machine = old; exited = false }) [] tag error (record { held = next; machine = new; exited = false }) before after
 one_stops held next command old new tag errors.SinkFault before after running passes one = (one.0, Stops-command held next old command tag AtSheet before after (λ e. cc) passes one.1)
 one_stops held next command old new tag errors.ReplyFault before after running passes one = (one.0, Stops-command held next old command tag AtReply before after (λ e. cc) passes one.1)
 one_stops held next command old new tag errors.NoMemory before after running passes one = (one.0, Stops-command held next old command tag ForMemory before after (λ e. cc) passes one.1)
@@ -56,7 +56,7 @@ one_stops held next command old new tag errors.ReadFault before after running pa
 one_stops held next command old new tag errors.AfterEnd before after running passes one = absurd one
 
 -- the exit that is added stopped
-exit_stops : (held : Held) (old new : Option Machine) (tag : ℕ) (error : JobError) (before after : Told) → IsSome old → held.ended ≡ true → IsDone held → CarriesOne Uel old tag (Err error) new before after → Faults (record { held = held; machine = old; exited = false }) [] tag error (record { held = held; machine = new; exited = false }) before after
+exit_stops : (held : ScannerState) (old new : Option Machine) (tag : ℕ) (error : JobError) (before after : Told) → IsSome old → held.ended ≡ true → IsDone held → CarriesOne Uel old tag (Err error) new before after → Faults (record { held = held; machine = old; exited = false }) [] tag error (record { held = held; machine = new; exited = false }) before after
 exit_stops held old new tag errors.SinkFault before after running ended done one = (one.0, Stops-exit held old tag AtSheet before after ended done one.1)
 exit_stops held old new tag errors.ReplyFault before after running ended done one = (one.0, Stops-exit held old tag AtReply before after ended done one.1)
 exit_stops held old new tag errors.NoMemory before after running ended done one = (one.0, Stops-exit held old tag ForMemory before after ended done one.1)
@@ -66,7 +66,7 @@ exit_stops held old new tag errors.ReadFault before after running ended done one
 exit_stops held old new tag errors.AfterEnd before after running ended done one = absurd one
 
 -- a step that took a command
-pub RanOne-next : (held next : Held) (old new : Option Machine) (tag : ℕ) (kind : Kind) (before after : Told) → CarriesNext held old tag (Ok (Some kind)) next new before after → RanOne (record { held = held; machine = old; exited = false }) tag kind (record { held = next; machine = new; exited = false }) before after
+pub RanOne-next : (held next : ScannerState) (old new : Option Machine) (tag : ℕ) (kind : Kind) (before after : Told) → CarriesNext held old tag (Ok (Some kind)) next new before after → RanOne (record { held = held; machine = old; exited = false }) tag kind (record { held = next; machine = new; exited = false }) before after
 RanOne-next held next old new tag kind before after carries = record {
   command = carries.0;
   is_kind = carries.2.0;
@@ -75,15 +75,15 @@ RanOne-next held next old new tag kind before after carries = record {
   still = carries.1.ended;
 }
 
-pub Faults-next : (held next : Held) (old new : Option Machine) (tag : ℕ) (error : JobError) (before after : Told) → IsSome old → CarriesNext held old tag (Err error) next new before after → Faults (record { held = held; machine = old; exited = false }) [] tag error (record { held = next; machine = new; exited = false }) before after
+pub Faults-next : (held next : ScannerState) (old new : Option Machine) (tag : ℕ) (error : JobError) (before after : Told) → IsSome old → CarriesNext held old tag (Err error) next new before after → Faults (record { held = held; machine = old; exited = false }) [] tag error (record { held = next; machine = new; exited = false }) before after
 Faults-next held next old new tag error before after running carries = one_stops held next carries.0 old new tag error before after running carries.1 carries.2
 
 -- a step that took the exit
-pub RanOne-exit : (held next : Held) (old between new : Option Machine) (tag : ℕ) (kind : Kind) (before middle after : Told) → next.ended ≡ true → CarriesNext held old tag (Ok None) next between before middle → CarriesOne Uel between tag (Ok kind) new middle after → RanOne (record { held = held; machine = old; exited = false }) tag kind (record { held = next; machine = new; exited = true }) before after
+pub RanOne-exit : (held next : ScannerState) (old between new : Option Machine) (tag : ℕ) (kind : Kind) (before middle after : Told) → next.ended ≡ true → CarriesNext held old tag (Ok None) next between before middle → CarriesOne Uel between tag (Ok kind) new middle after → RanOne (record { held = held; machine = old; exited = false }) tag kind (record { held = next; machine = new; exited = true }) before after
 RanOne-exit held next old between new tag kind before middle after ended nothing one =
     let first = rw (nothing.2, nothing.3) at one in
-    let over : held.ended ≡ true = ap (λ (now : Held). now.ended) (sym nothing.1) ∙ ended in
-    let P : Held → Type 0 = λ now. RanOne (record { held = held; machine = old; exited = false }) tag kind (record { held = now; machine = new; exited = true }) before after in
+    let over : held.ended ≡ true = ap (λ (now : ScannerState). now.ended) (sym nothing.1) ∙ ended in
+    let P : ScannerState → Type 0 = λ now. RanOne (record { held = held; machine = old; exited = false }) tag kind (record { held = now; machine = new; exited = true }) before after in
     subst P (sym nothing.1) (record {
       command = Uel;
       is_kind = first.0;
@@ -92,11 +92,11 @@ RanOne-exit held next old between new tag kind before middle after ended nothing
       still = refl;
     })
 
-pub Faults-exit : (held next : Held) (old between new : Option Machine) (tag : ℕ) (error : JobError) (before middle after : Told) → IsSome old → next.ended ≡ true → CarriesNext held old tag (Ok None) next between before middle → CarriesOne Uel between tag (Err error) new middle after → Faults (record { held = held; machine = old; exited = false }) [] tag error (record { held = next; machine = new; exited = false }) before after
+pub Faults-exit : (held next : ScannerState) (old between new : Option Machine) (tag : ℕ) (error : JobError) (before middle after : Told) → IsSome old → next.ended ≡ true → CarriesNext held old tag (Ok None) next between before middle → CarriesOne Uel between tag (Err error) new middle after → Faults (record { held = held; machine = old; exited = false }) [] tag error (record { held = next; machine = new; exited = false }) before after
 Faults-exit held next old between new tag error before middle after running ended nothing one =
     let Q : Option Machine → Type 0 = λ machine. CarriesOne Uel machine tag (Err error) new middle after in
     let R : Told → Type 0 = λ told. CarriesOne Uel old tag (Err error) new told after in
     let first = subst R nothing.3 (subst Q nothing.2 one) in
-    let over : held.ended ≡ true = ap (λ (now : Held). now.ended) (sym nothing.1) ∙ ended in
-    let P : Held → Type 0 = λ now. Faults (record { held = held; machine = old; exited = false }) [] tag error (record { held = now; machine = new; exited = false }) before after in
+    let over : held.ended ≡ true = ap (λ (now : ScannerState). now.ended) (sym nothing.1) ∙ ended in
+    let P : ScannerState → Type 0 = λ now. Faults (record { held = held; machine = old; exited = false }) [] tag error (record { held = now; machine = new; exited = false }) before after in
     subst P (sym nothing.1) (exit_stops held old new tag error before after running over nothing.0 first)

@@ -7,7 +7,7 @@ use Rattle.press_cmd.specs.Split.{Steps, ClosedFrom, closing}
 use Rattle.press_cmd.specs.Token.{Token, Uel}
 use Rattle.press_cmd.proofs.Splits.{some_split, steps-more, steps-then}
 use Rattle.press_scan.specs.Gives.{Passes, IsDone}
-use Rattle.press_scan.specs.Held.{Held}
+use Rattle.press_scan.specs.ScannerState.{ScannerState}
 use Rattle.press_sink.specs.Told.{Told, CanCount, most_faults}
 use Rattle.press_sink.specs.Sending.{Ending, Complete, ForMemory, WentOut}
 use Rattle.press_sink.proofs.SendingLemmas.{TookAll-none, WentOut-then, WentOut-stopped}
@@ -164,7 +164,7 @@ Goes-then old between new bytes more given others tag before middle after first 
 }
 
 -- the next command of what a scanner holds
-passes_owed : (held next : Held) (command : Token) (more : List ℕ) (closed : List Token) → Passes held command next → (next.ended ≡ true → more ≡ []) → ClosedFrom next.mode (next.bytes ++ more) closed → ClosedFrom held.mode (held.bytes ++ more) (command ∷ closed)
+passes_owed : (held next : ScannerState) (command : Token) (more : List ℕ) (closed : List Token) → Passes held command next → (next.ended ≡ true → more ≡ []) → ClosedFrom next.mode (next.bytes ++ more) closed → ClosedFrom held.mode (held.bytes ++ more) (command ∷ closed)
 passes_owed held next command more closed passes none_after ends = by held.ended refl where
   by : (ended : Bool) → held.ended ≡ ended → ClosedFrom held.mode (held.bytes ++ more) (command ∷ closed)
   by true e =
@@ -178,13 +178,13 @@ passes_owed held next command more closed passes none_after ends = by held.ended
       let steps = steps-more held.mode held.bytes more (command ∷ []) next.mode next.bytes (used, next.bytes, next.mode, bytes_are, head, (refl, refl)) in
       closed-then held.mode (held.bytes ++ more) (command ∷ []) closed next.mode (next.bytes ++ more) steps ends
 
-pub passes-to_end : (held next : Held) (old new : Option Machine) (command : Token) (more : List ℕ) (commands : List Token) → Passes held command next → Owes (record { held = next; machine = new; exited = false }) more commands → Owes (record { held = held; machine = old; exited = false }) more (command ∷ commands)
+pub passes-to_end : (held next : ScannerState) (old new : Option Machine) (command : Token) (more : List ℕ) (commands : List Token) → Passes held command next → Owes (record { held = next; machine = new; exited = false }) more commands → Owes (record { held = held; machine = old; exited = false }) more (command ∷ commands)
 passes-to_end held next old new command more commands passes owes = (
   λ ended. owes.0 (passes.ended ∙ ended),
   (command ∷ owes.1.0, passes_owed held next command more owes.1.0 passes owes.0 owes.1.1, ap (λ all. command ∷ all) owes.1.2),
 )
 
-pub Goes-command : (held next : Held) (old new : Option Machine) (command : Token) (tag : ℕ) (before after : Told) → Passes held command next → Carried (command ∷ []) old new tag before after → Goes (record { held = held; machine = old; exited = false }) [] (command ∷ []) tag (record { held = next; machine = new; exited = false }) before after
+pub Goes-command : (held next : ScannerState) (old new : Option Machine) (command : Token) (tag : ℕ) (before after : Told) → Passes held command next → Carried (command ∷ []) old new tag before after → Goes (record { held = held; machine = old; exited = false }) [] (command ∷ []) tag (record { held = next; machine = new; exited = false }) before after
 Goes-command held next old new command tag before after passes carried = record {
   so_far = λ going.
       let still : held.ended ≡ false = sym passes.ended ∙ going in
@@ -194,18 +194,18 @@ Goes-command held next old new command tag before after passes carried = record 
   carried = carried;
 }
 
-pub Stops-command : (held next : Held) (old : Option Machine) (command : Token) (tag : ℕ) (ending : Ending) (before after : Told) → (ending ≡ Complete → ⊥) → Passes held command next → Stopped (command ∷ []) old tag ending before after → Stops (record { held = held; machine = old; exited = false }) [] tag ending before after
+pub Stops-command : (held next : ScannerState) (old : Option Machine) (command : Token) (tag : ℕ) (ending : Ending) (before after : Told) → (ending ≡ Complete → ⊥) → Passes held command next → Stopped (command ∷ []) old tag ending before after → Stops (record { held = held; machine = old; exited = false }) [] tag ending before after
 Stops-command held next old command tag ending before after stops passes stopped =
     let others = Owes-some (record { held = next; machine = old; exited = false }) [] (λ _. refl) in
     (command ∷ others.0, passes-to_end held next old old command [] others.0 passes others.1, Stopped-more (command ∷ []) others.0 old tag ending before after stops stopped)
 
 -- the exit that is added
-exit_owed : (held : Held) (machine : Option Machine) → held.ended ≡ true → IsDone held → Owes (record { held = held; machine = machine; exited = false }) [] (Uel ∷ [])
+exit_owed : (held : ScannerState) (machine : Option Machine) → held.ended ≡ true → IsDone held → Owes (record { held = held; machine = machine; exited = false }) [] (Uel ∷ [])
 exit_owed held machine ended done =
     let P : List ℕ → Type 0 = λ all. ClosedFrom held.mode all [] in
     (λ _. refl, ([], subst P (sym (append-nil held.bytes)) (done.closed ended), refl))
 
-pub Goes-exit : (held : Held) (old new : Option Machine) (tag : ℕ) (before after : Told) → held.ended ≡ true → IsDone held → Carried (Uel ∷ []) old new tag before after → Goes (record { held = held; machine = old; exited = false }) [] (Uel ∷ []) tag (record { held = held; machine = new; exited = true }) before after
+pub Goes-exit : (held : ScannerState) (old new : Option Machine) (tag : ℕ) (before after : Told) → held.ended ≡ true → IsDone held → Carried (Uel ∷ []) old new tag before after → Goes (record { held = held; machine = old; exited = false }) [] (Uel ∷ []) tag (record { held = held; machine = new; exited = true }) before after
 Goes-exit held old new tag before after ended done carried = record {
   so_far = λ going. absurd (true≢false (sym ended ∙ going));
   to_end = λ more commands owes.
@@ -215,7 +215,7 @@ Goes-exit held old new tag before after ended done carried = record {
   carried = carried;
 }
 
-pub Stops-exit : (held : Held) (old : Option Machine) (tag : ℕ) (ending : Ending) (before after : Told) → held.ended ≡ true → IsDone held → Stopped (Uel ∷ []) old tag ending before after → Stops (record { held = held; machine = old; exited = false }) [] tag ending before after
+pub Stops-exit : (held : ScannerState) (old : Option Machine) (tag : ℕ) (ending : Ending) (before after : Told) → held.ended ≡ true → IsDone held → Stopped (Uel ∷ []) old tag ending before after → Stops (record { held = held; machine = old; exited = false }) [] tag ending before after
 Stops-exit held old tag ending before after ended done stopped = (Uel ∷ [], exit_owed held old ended done, stopped)
 
 -- a job that stopped after it had gone on

@@ -4,7 +4,7 @@ use Rattle.std.specs.Io.KnownBytes.{Consumes, IsAtEnd}
 use Rattle.press_cmd.specs.Token.{Token}
 use Rattle.press_cmd.specs.Kinds.{kind_of}
 use Rattle.press_cmd.specs.declared.variant.Kind.{Kind}
-use Rattle.press_scan.specs.Held.{Held}
+use Rattle.press_scan.specs.ScannerState.{ScannerState}
 use Rattle.press_scan.specs.Gives.{Passes, IsDone}
 use Rattle.press_sink.specs.Told.{Told}
 use Rattle.press_sink.specs.Sending.{AtSheet, AtReply, ForMemory}
@@ -36,7 +36,7 @@ CarriesOne command old tag (Err errors.ReadFault) new before after = ⊥
 CarriesOne command old tag (Err errors.AfterEnd) new before after = ⊥
 
 -- The next command that a scanner holds was handed to an engine; or it holds none, and nothing changed.
-abbrev pub CarriesNext : Held → Option Machine → ℕ → Result (Option Kind) JobError → Held → Option Machine → Told → Told → Type 0
+abbrev pub CarriesNext : ScannerState → Option Machine → ℕ → Result (Option Kind) JobError → ScannerState → Option Machine → Told → Told → Type 0
 CarriesNext held old tag (Ok (Some kind)) next new before after =
     (command : Token) × Passes held command next × CarriesOne command old tag (Ok kind) new before after
 CarriesNext held old tag (Ok None) next new before after = IsDone held × (next ≡ held) × (new ≡ old) × (after ≡ before)
