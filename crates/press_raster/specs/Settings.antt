@@ -13,19 +13,19 @@ use Rattle.press_raster.specs.declared.settings.RasterResolution.TheVariants.{Dp
 use Rattle.press_raster.specs.declared.settings.RasterSettings.{RasterSettings}
 
 -- dots of an inch
-abbrev pub dots_per_inch : RasterResolution → ℕ
-dots_per_inch Dpi75 = 75
-dots_per_inch Dpi100 = 100
-dots_per_inch Dpi150 = 150
-dots_per_inch Dpi300 = 300
+abbrev pub raster_dots_per_inch : RasterResolution → ℕ
+raster_dots_per_inch Dpi75 = 75
+raster_dots_per_inch Dpi100 = 100
+raster_dots_per_inch Dpi150 = 150
+raster_dots_per_inch Dpi300 = 300
 
 -- how many positions a row takes down the page
 abbrev pub row_height : RasterResolution → ℕ
-row_height resolution = positions_per_inch / dots_per_inch resolution
+row_height resolution = positions_per_inch / raster_dots_per_inch resolution
 
 -- how many dots of the engine a dot of a row is wide and high
 abbrev pub dot_size : RasterResolution → Resolution → ℕ
-dot_size resolution print = engine.dots_per_inch print / dots_per_inch resolution
+dot_size resolution print = engine.dots_per_inch print / raster_dots_per_inch resolution
 
 -- the settings after a reset
 abbrev pub initial : RasterSettings

@@ -14,8 +14,8 @@ use Rattle.press_sink.proofs.SendingLemmas.{TookAll-none, WentOut-then, WentOut-
 use Rattle.press_engine.specs.declared.machine.Machine.{Machine}
 use Rattle.press_engine.specs.Machine.{Run, run, run_all}
 use Rattle.press_engine.proofs.Runs.{run_all-none, run_all-one, run_all-append}
-use Rattle.press_stream.specs.State.{JobState, pushed, ended}
-use Rattle.press_stream.specs.Meaning.{at_end, Carried, Stopped, Owes, Goes, Stops}
+use Rattle.press_stream.specs.State.{JobState, with_piece, input_ended}
+use Rattle.press_stream.specs.Meaning.{with_exit, Carried, Stopped, Owes, Goes, Stops}
 
 -- the value of an option that has one
 pub some_of : {X : Type 0} (option : Option X) → IsSome option → (value : X) × (option ≡ Some value)
@@ -103,12 +103,12 @@ can_count-then commands old new tag before after carried can = record {
 -- a job owes something, whatever comes
 pub Owes-some : (job : JobState) (bytes : List ℕ) → (job.held.ended ≡ true → bytes ≡ []) → (commands : List Token) × Owes job bytes commands
 Owes-some job bytes none_after = owed job.exited where
-  owed : (exited : Bool) → (commands : List Token) × ((job.held.ended ≡ true → bytes ≡ []) × MatchBool exited (commands ≡ []) ((closed : List Token) × ClosedFrom job.held.mode (job.held.bytes ++ bytes) closed × (commands ≡ at_end closed)))
+  owed : (exited : Bool) → (commands : List Token) × ((job.held.ended ≡ true → bytes ≡ []) × MatchBool exited (commands ≡ []) ((closed : List Token) × ClosedFrom job.held.mode (job.held.bytes ++ bytes) closed × (commands ≡ with_exit closed)))
   owed true = ([], (none_after, refl))
   owed false =
       let found = some_split job.held.mode (job.held.bytes ++ bytes) in
       let closed = found.commands ++ closing found.mode found.rest in
-      (at_end closed, (none_after, (closed, (found.commands, found.mode, found.rest, found.split, refl), refl)))
+      (with_exit closed, (none_after, (closed, (found.commands, found.mode, found.rest, found.split, refl), refl)))
 
 -- steps, and then what closes what they leave
 pub closed-then : (from : Mode) (bytes : List ℕ) (commands closed : List Token) (mode : Mode) (rest : List ℕ) → Steps from bytes commands mode rest → ClosedFrom mode rest closed → ClosedFrom from bytes (commands ++ closed)
@@ -129,19 +129,19 @@ Goes-none job tag told running = record {
   carried = Carried-none job.machine tag told running;
 }
 
-pub Goes-push : (job : JobState) (piece : List ℕ) (tag : ℕ) (told : Told) → IsSome job.machine → job.held.ended ≡ false → Goes job piece [] tag (pushed piece job) told told
+pub Goes-push : (job : JobState) (piece : List ℕ) (tag : ℕ) (told : Told) → IsSome job.machine → job.held.ended ≡ false → Goes job piece [] tag (with_piece piece job) told told
 Goes-push job piece tag told running going = record {
   so_far = λ _. (going, (refl, refl));
   to_end = λ more commands owes. (λ ended. absurd (true≢false (sym ended ∙ going)), owed job.exited more commands owes.1);
   carried = Carried-none job.machine tag told running;
 } where
-  owed : (exited : Bool) (more : List ℕ) (commands : List Token) → MatchBool exited (commands ≡ []) ((closed : List Token) × ClosedFrom job.held.mode ((job.held.bytes ++ piece) ++ more) closed × (commands ≡ at_end closed)) → MatchBool exited (commands ≡ []) ((closed : List Token) × ClosedFrom job.held.mode (job.held.bytes ++ (piece ++ more)) closed × (commands ≡ at_end closed))
+  owed : (exited : Bool) (more : List ℕ) (commands : List Token) → MatchBool exited (commands ≡ []) ((closed : List Token) × ClosedFrom job.held.mode ((job.held.bytes ++ piece) ++ more) closed × (commands ≡ with_exit closed)) → MatchBool exited (commands ≡ []) ((closed : List Token) × ClosedFrom job.held.mode (job.held.bytes ++ (piece ++ more)) closed × (commands ≡ with_exit closed))
   owed true more commands none = none
   owed false more commands some =
       let P : List ℕ → Type 0 = λ all. ClosedFrom job.held.mode all some.0 in
       (some.0, subst P (append_assoc job.held.bytes piece more) some.1, some.2)
 
-pub Goes-ends : (job : JobState) (tag : ℕ) (told : Told) → IsSome job.machine → Goes job [] [] tag (ended job) told told
+pub Goes-ends : (job : JobState) (tag : ℕ) (told : Told) → IsSome job.machine → Goes job [] [] tag (input_ended job) told told
 Goes-ends job tag told running = record {
   so_far = λ going. absurd (true≢false going);
   to_end = λ more commands owes. (λ _. owes.0 refl, owes.1);

@@ -15,7 +15,7 @@ use Rattle.press_stream.specs.declared.fault.JobError.{JobError}
 use Rattle.press_stream.specs.declared.fault.JobError.TheVariants as errors
 use Rattle.press_stream.specs.declared.step.Step.{Step}
 use Rattle.press_stream.specs.declared.step.Step.TheVariants as answers
-use Rattle.press_stream.specs.State.{JobState, IsHungry, IsOver, IsAfterEnd, pushed, most_steps}
+use Rattle.press_stream.specs.State.{JobState, IsHungry, IsOver, IsAfterEnd, with_piece, most_steps}
 use Rattle.press_stream.specs.Meaning.{Carried, Stopped, Goes, Stops}
 
 -- an engine's error as a job's
@@ -56,7 +56,7 @@ Faults old bytes tag errors.AfterEnd new before after = ⊥
 -- A piece was pushed: it stands behind what was held; or memory ran out, and the job has failed for good; or it was refused,
 -- and nothing changed.
 abbrev pub Pushes : JobState → List ℕ → Result (Unit {0}) JobError → JobState → Type 0
-Pushes old piece (Ok _) new = IsSome old.machine × (old.held.ended ≡ false) × (new ≡ pushed piece old)
+Pushes old piece (Ok _) new = IsSome old.machine × (old.held.ended ≡ false) × (new ≡ with_piece piece old)
 Pushes old piece (Err errors.NoMemory) new = IsSome old.machine × (old.held.ended ≡ false) × (new.machine ≡ None)
 Pushes old piece (Err errors.Failed) new = (old.machine ≡ None) × (new ≡ old)
 Pushes old piece (Err errors.AfterEnd) new = IsAfterEnd old × (new ≡ old)

@@ -22,12 +22,12 @@ abbrev pub opened : JobState
 opened = record { held = record { mode = Exit; bytes = []; ended = false }; machine = Some power_on; exited = false }
 
 -- with a piece behind what it holds
-abbrev pub pushed : List ℕ → JobState → JobState
-pushed piece job = record job { held = record job.held { bytes = job.held.bytes ++ piece } }
+abbrev pub with_piece : List ℕ → JobState → JobState
+with_piece piece job = record job { held = record job.held { bytes = job.held.bytes ++ piece } }
 
 -- with the end of input given
-abbrev pub ended : JobState → JobState
-ended job = record job { held = record job.held { ended = true } }
+abbrev pub input_ended : JobState → JobState
+input_ended job = record job { held = record job.held { ended = true } }
 
 -- The commands of the bytes so far are carried out, and more bytes may come.
 pub record IsHungry (job : JobState) : Type 0 where
@@ -63,8 +63,8 @@ is_over phases.Running = false
 is_over phases.Failed = false
 
 -- what scanner, engine and phase stand for
-abbrev pub state_of : ScannerState → Engine → Phase → JobState
-state_of held engine phase = record { held = held; machine = machine_in phase engine; exited = is_over phase }
+abbrev pub job_state : ScannerState → Engine → Phase → JobState
+job_state held engine phase = record { held = held; machine = machine_in phase engine; exited = is_over phase }
 
 -- what is true of them
 abbrev pub Fits : ScannerState → Engine → Phase → Type 0

@@ -26,7 +26,7 @@ pub struct Job {
 }
 
 impl Model for Job {
-    ghost use Rattle.press_stream.specs.State.{JobState, state_of, Fits};
+    ghost use Rattle.press_stream.specs.State.{JobState, job_state, Fits};
     ghost use Rattle.std.specs.Coded.{codes};
     ghost use Rattle.press_engine.specs.contracts.machine.Machine as machine;
 
@@ -34,7 +34,7 @@ impl Model for Job {
 
     ghost coded = { Prim.hlevel (codes, machine.the_row.coded) };
 
-    ghost view = { λ job. state_of job.scanner job.engine job.phase };
+    ghost view = { λ job. job_state job.scanner job.engine job.phase };
 
     ghost invariant = { λ job. Fits job.scanner job.engine job.phase };
 }
@@ -43,7 +43,7 @@ impl Job {
     ghost use Rattle.std.specs.Prelude.{◌≡◌, ◌≤◌, ◌⊎◌, ◌↔◌, true, false, None, IfOk, IfSome, IsTrue, IsSome, IsErrOf};
     ghost use Rattle.press_sink.specs.Told.{both, CanCount};
     ghost use Rattle.press_engine.specs.Engine.{view_of};
-    ghost use Rattle.press_stream.specs.State.{opened, ended, IsOver};
+    ghost use Rattle.press_stream.specs.State.{opened, input_ended, IsOver};
     ghost use Rattle.press_stream.specs.Answers.{Pushes, IsGoing, IsEarly, Takes, Drains, Feeds, Finishes, RunsReader};
     ghost use Rattle.press_stream.specs.Pieces.{most_reads};
 
@@ -80,7 +80,7 @@ impl Job {
 
     /// Gives the end of input: what is held is closed, and one universal exit comes after it.
     pub fn end_input(&mut self)
-        ensures { self.new ≡ ended self.old }
+        ensures { self.new ≡ input_ended self.old }
     {
         self.scanner.end_input();
     }
