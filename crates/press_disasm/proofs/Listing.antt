@@ -7,6 +7,7 @@ use Rattle.std.specs.declared.alloc.AllocError.{AllocError}
 use Rattle.std.proofs.lemmas.Bool.{and_parts, ne_eqb}
 use Rattle.std.proofs.lemmas.Str.{IsAscii-append, IsUtf8-from_ascii}
 use Rattle.std.proofs.lemmas.Str.Ascii.{IsAscii-nil, IsAscii-cons}
+use Rattle.press_units.specs.Ascii.{is_printable}
 use Rattle.press_cmd.specs.Token.{Token}
 use Rattle.press_cmd.specs.Mode.{Exit}
 use Rattle.press_cmd.specs.Split.{Closed}
@@ -18,7 +19,7 @@ use Rattle.press_scan.specs.Gives.{Passes, IsDone, Leaves}
 use Rattle.press_scan.specs.Reached.{Reached, Remains}
 use Rattle.press_scan.proofs.ReachedLaws.{feeds_reach, end_reaches}
 use Rattle.press_asm.specs.Text.{is_feed, in_front, lines_of, all_bytes, LinesStand}
-use Rattle.press_asm.specs.Written.{line_of, text_of, is_printable, IsWritten, AreWritten}
+use Rattle.press_asm.specs.Written.{line_of, text_of, IsWritten, AreWritten}
 use Rattle.press_disasm.specs.Disassembly.{IsDisassembly, IsListed}
 use Rattle.press_disasm.proofs.ReadAgain.{read_again}
 use Rattle.press_disasm.proofs.Standing.{stand_give, one_give}

@@ -5,6 +5,7 @@ use Rattle.press_units.specs.Measure.{positions_per_inch}
 use Rattle.press_units.specs.Position as engine
 use Rattle.press_units.specs.Value.{whole_part}
 use Rattle.press_units.specs.declared.position.Resolution.{Resolution}
+use Rattle.press_page.specs.Environment.{changed_by}
 use Rattle.press_page.specs.Numbers.{named}
 use Rattle.press_rows.specs.Methods.{method_of}
 use Rattle.press_rows.specs.declared.compression.Method.TheVariants.{Unencoded}
@@ -30,12 +31,6 @@ dot_size resolution print = engine.dots_per_inch print / raster_dots_per_inch re
 -- the settings after a reset
 abbrev pub initial : RasterSettings
 initial = record { resolution = Dpi75; method = Unencoded; source_width = None; source_height = None }
-
--- a change by what a command asks for, if it asks for something
-abbrev pub changed_by :
-    {Asked : Type 0} → Option Asked → (Asked → RasterSettings → RasterSettings) → RasterSettings → RasterSettings
-changed_by None change settings = settings
-changed_by (Some asked) change settings = change asked settings
 
 -- ESC*t#R, Raster Graphics Resolution
 abbrev pub resolution_of : ℤ → Option RasterResolution
