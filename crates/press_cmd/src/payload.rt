@@ -35,8 +35,8 @@ pub struct TextByte {
 pub struct Param<'a> {
     pub(crate) character: u8,
     pub(crate) group: Option<u8>,
-    pub(crate) field: &'a [u8],
     pub(crate) end: u8,
+    pub(crate) field: &'a [u8],
     pub(crate) payload: &'a [u8],
     ghost character_class: { IsCharacter character },
     ghost group_class: { ForSome group IsGroup },
@@ -117,8 +117,8 @@ impl<'a> Param<'a> {
         Param {
             character,
             group,
-            field,
             end,
+            field,
             payload,
         }
     }
