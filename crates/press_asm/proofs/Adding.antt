@@ -4,7 +4,7 @@ use Rattle.std.specs.Prelude.{Option, Some, Ok}
 use Rattle.hex.specs.Hex.{decode_of}
 use Rattle.press_cmd.specs.Token.{Token, Broken, PjlLine, param_of, bytes_of}
 use Rattle.press_cmd.specs.Carried.{data_count}
-use Rattle.press_cmd.specs.Grammar.{IsLine}
+use Rattle.press_cmd.specs.Grammar.{IsPjlLine}
 use Rattle.press_units.specs.Field.{IsField}
 use Rattle.press_asm.specs.Form.{Form, ParamForm, BrokenForm, LineForm, Gives}
 use Rattle.press_asm.specs.Reading.{form_of}
@@ -32,9 +32,9 @@ param_added c g f e d payload old new x t field bytes count is same added =
 pub broken_added : (d bytes old new : List ℕ) → decode_of d ≡ Ok bytes → new ≡ old ++ bytes → FormAdds (BrokenForm d) old new
 broken_added d bytes old new is same = one_added (BrokenForm d) (Broken bytes) old new (Broken bytes, refl, (bytes, is, refl)) same
 
-pub line_added : (d bytes old new x y : List ℕ) → decode_of d ≡ Ok bytes → IsLine x → x ≡ bytes → y ≡ bytes → new ≡ old ++ y → FormAdds (LineForm d) old new
+pub line_added : (d bytes old new x y : List ℕ) → decode_of d ≡ Ok bytes → IsPjlLine x → x ≡ bytes → y ≡ bytes → new ≡ old ++ y → FormAdds (LineForm d) old new
 line_added d bytes old new x y is line first second same =
-    one_added (LineForm d) (PjlLine bytes) old new (PjlLine bytes, refl, (bytes, is, subst IsLine first line, refl)) (same ∙ ap (λ z. old ++ z) second)
+    one_added (LineForm d) (PjlLine bytes) old new (PjlLine bytes, refl, (bytes, is, subst IsPjlLine first line, refl)) (same ∙ ap (λ z. old ++ z) second)
 
 -- the fault of a form of the code
 pub seen_fault : (f : ReadForm) (form : Form) (fault : LineFault) → form_seen f ≡ form → HasFormFault form fault → HasFormFault (form_seen f) fault

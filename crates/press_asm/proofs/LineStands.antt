@@ -15,16 +15,17 @@ use Rattle.hex.proofs.HexLemmas.{decode_of-ok, decode_of-encode_upper}
 use Rattle.press_units.specs.Field.{is_field_byte, is_value_field}
 use Rattle.press_units.specs.Value.{tenthousandths_of, whole_part}
 use Rattle.press_units.proofs.FieldTest.{IsField-from_test, test-byte}
+use Rattle.press_units.specs.Ascii.{is_printable}
 use Rattle.press_cmd.specs.Token.{Token, Escape, Ungrouped, Control, Text, Broken, Uel, PjlLine, ForeignByte, uel, pjl_mark, bytes_of, param_of, broken_of, data_of}
 use Rattle.press_cmd.specs.Carried.{data_count, count_of}
-use Rattle.press_cmd.specs.Grammar.{IsEscapeEnd, IsControl, IsText, IsCharacter, IsGroup, IsEnd, IsLine, IsBroken}
+use Rattle.press_cmd.specs.Grammar.{IsEscapeEnd, IsControl, IsText, IsCharacter, IsGroup, IsEnd, IsPjlLine, IsBroken}
 use Rattle.press_cmd.specs.View.{token, param_token, broken_token}
 use Rattle.press_cmd.specs.declared.command.Command.{Command}
 use Rattle.press_cmd.specs.declared.payload.Param.{Param}
 use Rattle.press_cmd.specs.declared.payload.Broken.{Broken as BrokenBytes}
 use Rattle.press_cmd.proofs.ByteTests.{range-from}
 use Rattle.press_asm.specs.Form.{ExitForm, EscapeForm, ParamForm, ControlForm, TextForm, ForeignForm, BrokenForm, LineForm, is_no_space, word, spaced, IsWord}
-use Rattle.press_asm.specs.Written.{line_of, is_printable, IsWritten, beginning}
+use Rattle.press_asm.specs.Written.{line_of, IsWritten, beginning}
 use Rattle.press_asm.proofs.Digits.{digits_first}
 
 -- ---- bytes of a field, and digits
@@ -173,7 +174,7 @@ no_line : (front : List ℕ) → front ++ (10 ∷ []) ≡ [] → ⊥
 no_line [] e = cc
 no_line (b ∷ front) e = cc
 
-pub line_written : (line : List ℕ) → IsLine line → IsBytes line → IsWritten (PjlLine line)
+pub line_written : (line : List ℕ) → IsPjlLine line → IsBytes line → IsWritten (PjlLine line)
 line_written line is fits = record {
   stands = (
     LineForm (encode_upper line),

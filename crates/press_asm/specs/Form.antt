@@ -6,7 +6,7 @@ use Rattle.hex.specs.Hex.{decode_of, is_hex_digit}
 use Rattle.press_units.specs.Field.{IsField}
 use Rattle.press_cmd.specs.Token.{Token, Escape, Control, Text, Broken, Uel, PjlLine, ForeignByte, param_of}
 use Rattle.press_cmd.specs.Carried.{data_count}
-use Rattle.press_cmd.specs.Grammar.{IsEscapeEnd, IsControl, IsText, IsCharacter, IsGroup, IsEnd, IsLine}
+use Rattle.press_cmd.specs.Grammar.{IsEscapeEnd, IsControl, IsText, IsCharacter, IsGroup, IsEnd, IsPjlLine}
 
 -- The forms of a line: one that stands for nothing; a universal exit; a two-character escape sequence; a parameter,
 -- with its character, group, field, end, and the digits of its data; a control byte, a text byte, a byte of another
@@ -81,7 +81,7 @@ Means (ControlForm byte) command = command ≡ Control byte
 Means (TextForm byte) command = command ≡ Text byte
 Means (ForeignForm byte) command = command ≡ ForeignByte byte
 Means (BrokenForm digits) command = (bytes : List ℕ) × (decode_of digits ≡ Ok bytes) × (command ≡ Broken bytes)
-Means (LineForm digits) command = (bytes : List ℕ) × (decode_of digits ≡ Ok bytes) × IsLine bytes × (command ≡ PjlLine bytes)
+Means (LineForm digits) command = (bytes : List ℕ) × (decode_of digits ≡ Ok bytes) × IsPjlLine bytes × (command ≡ PjlLine bytes)
 Means Blank command = ⊥
 
 -- The line stands for the command.

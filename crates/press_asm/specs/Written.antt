@@ -1,8 +1,8 @@
 -- The lines that a disassembler writes.
-use Rattle.std.specs.Prelude.{ℕ, List, [], ◌∷◌, ◌++◌, codes, Option, Some, None, option_to_list, Bool, IsTrue}
+use Rattle.std.specs.Prelude.{ℕ, List, [], ◌∷◌, ◌++◌, codes, Option, Some, None, option_to_list, IsTrue}
 use Rattle.std.specs.List.{list_all}
-use Rattle.std.specs.Int.{is_in_range}
 use Rattle.hex.specs.Hex.{encode_upper}
+use Rattle.press_units.specs.Ascii.{is_printable}
 use Rattle.press_cmd.specs.Token.{Token, Escape, Grouped, Ungrouped, Control, Text, Broken, Uel, PjlLine, ForeignByte, character_of, group_of, escape_byte}
 use Rattle.press_asm.specs.Form.{word, spaced, StandsFor}
 
@@ -31,10 +31,6 @@ front_of command = codes "par " ++ (character_of command ∷ option_to_list (gro
 abbrev pub beginning : Option (ℕ × ℕ) → List ℕ
 beginning None = []
 beginning (Some sequence) = escape_byte ∷ sequence.0 ∷ sequence.1 ∷ []
-
--- the printable characters of ASCII
-abbrev pub is_printable : ℕ → Bool
-is_printable byte = is_in_range 32 126 byte
 
 -- The command's line stands for it, and is printable.
 pub record IsWritten (command : Token) : Type 0 where

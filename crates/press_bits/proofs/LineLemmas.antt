@@ -9,7 +9,7 @@ use Rattle.std.proofs.lemmas.List.{get_or-take, get_or-drop, get_or_past, length
 use Rattle.std.proofs.lemmas.Nat.Bits.{bit_at-zero}
 use Rattle.press_bits.specs.Mark.{row_dot, byte_dot}
 use Rattle.press_bits.specs.DotRows.{page_of_rows, HasRows, mixed_dot}
-use Rattle.press_bits.specs.Lines.{bytes_per_line, IsLine}
+use Rattle.press_bits.specs.Lines.{bytes_per_line, IsPageLine}
 use Rattle.press_bits.specs.declared.mode.Mode.{Mode}
 use Rattle.press_bits.proofs.MixLemmas.{not_mixed}
 use Rattle.press_bits.proofs.DotRowsLemmas.{row_dot-replicate_zero, width-page_of_rows, black_at-page_of_rows}
@@ -33,7 +33,7 @@ row_dot-past bytes x past =
 
 -- the bytes of a line
 pub line_of_rows : (w h y : ℕ) (rows bytes : List ℕ) → HasRows w h rows → y < h → length bytes ≡ bytes_per_line w
-    → bytes ≡ take (bytes_per_line w) (drop (y * bytes_per_line w) rows) → IsLine (page_of_rows w h rows) y bytes
+    → bytes ≡ take (bytes_per_line w) (drop (y * bytes_per_line w) rows) → IsPageLine (page_of_rows w h rows) y bytes
 line_of_rows w h y rows bytes has inside long is =
     let b = bytes_per_line w in
     let wide : w ≤ 8 * b = omega arith in
@@ -60,7 +60,7 @@ line_within w h y b rows all inside bytes has is =
     omega (arith, mul-le-mul_right b next)
 
 -- the line that a slice of the rows is
-pub line_of_self : (w h y b : ℕ) (rows all : List ℕ) → y < h → b ≡ bytes_per_line w → HasRows w h rows → all ≡ rows → IsLine (page_of_rows w h rows) y (take (y * b + b - y * b) (drop (y * b) all))
+pub line_of_self : (w h y b : ℕ) (rows all : List ℕ) → y < h → b ≡ bytes_per_line w → HasRows w h rows → all ≡ rows → IsPageLine (page_of_rows w h rows) y (take (y * b + b - y * b) (drop (y * b) all))
 line_of_self w h y b rows all inside bytes has is =
     let count : y * b + b - y * b ≡ b = omega arith in
     let within = line_within w h y b rows all inside bytes has is in

@@ -12,7 +12,7 @@ use Rattle.press_bits.specs.Page.{Page, black_at, page_where, HasNoDotOutside}
 use Rattle.press_bits.specs.DotRule.{DotEffect, dot_rule, dot_after, both_transparent}
 use Rattle.press_bits.specs.DotRule.DotEffect.{MadeBlack, MadeWhite, Unchanged}
 use Rattle.press_bits.specs.DotRows.{mixed_dot}
-use Rattle.press_bits.specs.Mark.{Mark, Row, effect_at, marked_dot, painted, row_dot, byte_dot, repeated, row_source, box_source, solid_black, row_mark, column_mark, box_mark}
+use Rattle.press_bits.specs.Mark.{Mark, Row, effect_at, marked_dot, painted, row_dot, byte_dot, repeated, row_source, box_source, eight_black, row_mark, column_mark, box_mark}
 use Rattle.press_bits.specs.declared.mode.Mode.{Mode}
 use Rattle.press_bits.proofs.ByteLemmas.{byte_dot-ones}
 use Rattle.press_bits.proofs.PageLemmas.{width-page_where, height-page_where, page_where-HasNoDotOutside, black_at-page_where, page_where_alike, page_where_itself, false_unless}
@@ -201,9 +201,9 @@ row_off_columns x y source pattern mode left skip count line w column n place fi
 -- ---- solid black
 
 -- each dot of the pattern of solid black
-pub repeated-solid_black : (i : ℕ) → repeated solid_black i ≡ true
+pub repeated-eight_black : (i : ℕ) → repeated eight_black i ≡ true
 unfolding repeated row_dot
-repeated-solid_black i =
+repeated-eight_black i =
     let first : i % 8 / 8 ≡ 0 = omega arith in
     ap (λ k. byte_dot (get_or (255 ∷ []) k 0) (i % 8 % 8)) first ∙ byte_dot-ones (i % 8 % 8)
 

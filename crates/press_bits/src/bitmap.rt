@@ -4,7 +4,7 @@
 ghost use Rattle.std.specs.Prelude.{◌≡◌, ℕ, ◌*◌, ◌<◌, ◌≤◌, ◌≢◌, ◌↔◌, MatchOption, pos, false, replicate, IfOk, IsOk, IsErrOf, OnOk, OnErr};
 ghost use Rattle.press_bits.specs.Page.{HasNoDotOutside, black_at, blank, is_page_size, count_black};
 ghost use Rattle.press_bits.specs.Mark.{painted, row, row_mark, column_mark};
-ghost use Rattle.press_bits.specs.Lines.{bytes_per_line, IsLine};
+ghost use Rattle.press_bits.specs.Lines.{bytes_per_line, IsPageLine};
 
 use crate::dot_bytes;
 use crate::dot_row::DotRow;
@@ -158,7 +158,7 @@ impl Bitmap {
     /// Source: PCL 5 Printer Language Technical Reference Manual, Raster Graphics, the bits of a raster row.
     pub fn line(&self, y: u32) -> &[u8]
         requires { y < self.now.height }
-        ensures { IsLine self.now y result.now }
+        ensures { IsPageLine self.now y result.now }
     {
         let bytes = line_bytes(self.width);
         let start = y as usize * bytes;

@@ -6,7 +6,7 @@ use Rattle.std.proofs.lemmas.Bool.{and_parts, and_from, eqb-true, leb-true, le-l
 use Rattle.std.proofs.Math.Bool.{Bool-set}
 use mathlib.Core.Logic.{∥∥₁_elim}
 use Rattle.press_cmd.specs.Token.{pjl_mark}
-use Rattle.press_cmd.specs.Grammar.{longest_line, is_line_byte, differs, BeginsLine, IsLine}
+use Rattle.press_cmd.specs.Grammar.{longest_line, is_line_byte, differs, BeginsLine, IsPjlLine}
 use Rattle.press_cmd.proofs.Reading.{stripped}
 use Rattle.press_cmd.proofs.ReadHead.{stripped-true}
 
@@ -43,7 +43,7 @@ ends_plain-true (b ∷ c ∷ x) h =
     let r = ends_plain-true (c ∷ x) p.1 in
     record { text = b ∷ r.text; spelled = ap (λ y. b ∷ y) r.spelled; plain = and_from (is_line_byte b) _ p.0 r.plain }
 
-is_line-from : (u : List ℕ) → IsLine u → is_line u ≡ true
+is_line-from : (u : List ℕ) → IsPjlLine u → is_line u ≡ true
 unfolding is_line ends_after_mark
 is_line-from u is =
     let text = is.begins.text in
@@ -51,7 +51,7 @@ is_line-from u is =
     let stripped_to : stripped pjl_mark u ≡ Some (text ++ (10 ∷ [])) = ap (stripped pjl_mark) spelled in
     and_from (ends_after_mark (stripped pjl_mark u)) _ (ap ends_after_mark stripped_to ∙ ends_plain-from text is.begins.plain) (le-leb (length u) longest_line is.fits)
 
-line-at : (u : List ℕ) (o : Option (List ℕ)) → stripped pjl_mark u ≡ o → ends_after_mark o ≡ true → length u ≤ longest_line → IsLine u
+line-at : (u : List ℕ) (o : Option (List ℕ)) → stripped pjl_mark u ≡ o → ends_after_mark o ≡ true → length u ≤ longest_line → IsPjlLine u
 unfolding ends_after_mark
 line-at u None e h fits = cc
 line-at u (Some x) e h fits =
@@ -63,13 +63,13 @@ line-at u (Some x) e h fits =
       fits = fits;
     }
 
-is_line-true : (u : List ℕ) → is_line u ≡ true → IsLine u
+is_line-true : (u : List ℕ) → is_line u ≡ true → IsPjlLine u
 unfolding is_line
 is_line-true u h = let p = and_parts (ends_after_mark (stripped pjl_mark u)) _ h in line-at u (stripped pjl_mark u) refl p.0 (leb-true (length u) longest_line p.1)
 
 -- what is known to be a line is one
-pub IsLine-known : (u : List ℕ) → ∥ IsLine u ∥₁ → IsLine u
-IsLine-known u h = is_line-true u (∥∥₁_elim h (Bool-set (is_line u) true) (is_line-from u))
+pub IsPjlLine-known : (u : List ℕ) → ∥ IsPjlLine u ∥₁ → IsPjlLine u
+IsPjlLine-known u h = is_line-true u (∥∥₁_elim h (Bool-set (is_line u) true) (is_line-from u))
 
 -- ---- what the code tests
 

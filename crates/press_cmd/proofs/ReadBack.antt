@@ -2,7 +2,7 @@
 use Rattle.std.proofs.Common.{◌≡◌, ◌∙◌, ℕ, List, [], ◌∷◌, ◌++◌, length, false, cond, Option, Some, None, refl, sym, ap, subst, inl, IsTrue}
 use Rattle.press_cmd.specs.Token.{Token, Escape, Grouped, Ungrouped, Control, Text, Uel, PjlLine, bytes_of, param_of, broken_of, uel, pjl_mark}
 use Rattle.press_cmd.specs.Mode.{Mode, Exit, Pcl}
-use Rattle.press_cmd.specs.Grammar.{Whole, Head, Stands, IsCharacter, IsGroup, IsEnd, IsLine, differs}
+use Rattle.press_cmd.specs.Grammar.{Whole, Head, Stands, IsCharacter, IsGroup, IsEnd, IsPjlLine, differs}
 use Rattle.std.specs.Option.{ForSome}
 use Rattle.press_cmd.specs.Carried.{data_count}
 use Rattle.press_units.specs.Field.{is_value_field}
@@ -13,7 +13,7 @@ use Rattle.press_cmd.specs.declared.command.Command.{Command}
 use Rattle.press_cmd.specs.declared.command.Command.TheVariants as commands
 use Rattle.press_units.proofs.FieldTest.{IsField-from_test}
 use Rattle.press_cmd.proofs.Heads.{one_head}
-use Rattle.press_cmd.proofs.LineTest.{IsLine-known}
+use Rattle.press_cmd.proofs.LineTest.{IsPjlLine-known}
 
 -- where a command is a Head whatever follows, the split begins with it
 begins_split : (from : Mode) (t : Token) (n : Mode) → ((v : List ℕ) → Head from (bytes_of t) v t n) → BeginsSplit from t
@@ -49,14 +49,14 @@ broken-read_back : (sequence : Option (ℕ × ℕ)) (bytes : List ℕ) → IsRea
 broken-read_back None bytes = tt
 broken-read_back (Some sequence) bytes = tt
 
-at_mark : (u v : List ℕ) → IsLine u → differs pjl_mark (u ++ v) ≡ false
+at_mark : (u v : List ℕ) → IsPjlLine u → differs pjl_mark (u ++ v) ≡ false
 at_mark u v is = ap (λ w. differs pjl_mark (w ++ v)) (is.spelled ∙ ap (λ w. w ++ (10 ∷ [])) is.begins.mark)
 
 -- a PJL line is a Head in mode Exit
-pub line-Head : (u : List ℕ) → IsLine u → (v : List ℕ) → Head Exit u v (PjlLine u) (mode_after u)
+pub line-Head : (u : List ℕ) → IsPjlLine u → (v : List ℕ) → Head Exit u v (PjlLine u) (mode_after u)
 line-Head u is v = subst (λ (k : Mode). Stands k u v (PjlLine u) (mode_after u)) (ap (λ d. cond d Pcl Exit) (sym (at_mark u v is))) (refl, is, refl)
 
-line-read_back : (u : List ℕ) → IsLine u → ReadsBack Exit (PjlLine u) (mode_after u)
+line-read_back : (u : List ℕ) → IsPjlLine u → ReadsBack Exit (PjlLine u) (mode_after u)
 line-read_back u is = reads_back Exit (PjlLine u) (mode_after u) (line-Head u is)
 
 pub read_back : (command : Command) → IsReadBack (token command)
@@ -68,5 +68,5 @@ read_back (commands.Control b) = reads_back Pcl (Control b.byte) Pcl (λ v. (b.c
 read_back (commands.Text b) = reads_back Pcl (Text b.byte) Pcl (λ v. (b.class, refl, refl))
 read_back (commands.Broken broken) = broken-read_back broken.sequence broken.bytes.now
 read_back commands.Uel = reads_back Pcl Uel Exit (λ v. (refl, refl))
-read_back (commands.PjlLine line) = line-read_back line.bytes.now (IsLine-known line.bytes.now line.line)
+read_back (commands.PjlLine line) = line-read_back line.bytes.now (IsPjlLine-known line.bytes.now line.line)
 read_back (commands.Foreign byte) = tt

@@ -3,7 +3,7 @@ use Rattle.std.proofs.Common.{◌≡◌, ◌∙◌, ◌==◌, ℕ, List, [], ◌
 use Rattle.std.proofs.lemmas.Bool.{eqb-true, true≢false}
 use Rattle.press_cmd.specs.Token.{Token, Escape, Grouped, Ungrouped, Control, Text, Broken, Uel, PjlLine, ForeignByte, uel, escape_byte, pjl_mark}
 use Rattle.press_cmd.specs.Mode.{Mode, Exit, Tail, Foreign, Pcl, Open}
-use Rattle.press_cmd.specs.Grammar.{Whole, Breaks, BeginsLine, IsLine, differs, begins_pair, scanned_in, Stands, Head}
+use Rattle.press_cmd.specs.Grammar.{Whole, Breaks, BeginsLine, IsPjlLine, differs, begins_pair, scanned_in, Stands, Head}
 use Rattle.press_cmd.proofs.Reading.{Short, Found, stripped, read_line, read_after_mark, read_foreign, read_on, reading_in, reading}
 use Rattle.press_cmd.proofs.ReadWhole.{start, whole_reads}
 use Rattle.press_cmd.proofs.ReadStep.{broken_in, EndsOpen}
@@ -47,7 +47,7 @@ differs-more (b ∷ text) (o ∷ bytes) more h = differs_more-at text bytes more
 begins-stripped : (u v : List ℕ) (is : BeginsLine u) → stripped pjl_mark (u ++ v) ≡ Some (is.text ++ v)
 begins-stripped u v is = ap (λ w. stripped pjl_mark (w ++ v)) is.mark
 
-line-stripped : (u v : List ℕ) (is : IsLine u) → stripped pjl_mark (u ++ v) ≡ Some (is.begins.text ++ (10 ∷ v))
+line-stripped : (u v : List ℕ) (is : IsPjlLine u) → stripped pjl_mark (u ++ v) ≡ Some (is.begins.text ++ (10 ∷ v))
 line-stripped u v is =
     ap (λ w. stripped pjl_mark (w ++ v)) is.spelled ∙ ap (stripped pjl_mark) (append_assoc is.front (10 ∷ []) v) ∙ begins-stripped is.front (10 ∷ v) is.begins
 

@@ -6,7 +6,7 @@ use Rattle.std.proofs.lemmas.Bool.{and_parts, and_from, not-true, not_from_false
 use Rattle.press_cmd.specs.Token.{Token, Broken, PjlLine, escape_byte, pjl_mark}
 use Rattle.press_cmd.specs.Mode.{Mode, Exit, Tail}
 use Rattle.press_cmd.specs.Language.{mode_after}
-use Rattle.press_cmd.specs.Grammar.{longest_line, is_line_byte, BeginsLine, IsLine, Stands}
+use Rattle.press_cmd.specs.Grammar.{longest_line, is_line_byte, BeginsLine, IsPjlLine, Stands}
 use Rattle.press_cmd.proofs.Reading.{Found, is_feed, is_escape, is_full, read_line, stripped}
 use Rattle.press_cmd.proofs.ByteTests.{is_feed-true, is_escape-true, is_escape-from}
 
@@ -69,7 +69,7 @@ unfolding is_feed
 feed_true = refl
 
 -- a whole line is read, and one that breaks
-pub line_reads : (u v : List ℕ) → IsLine u → (rest : List ℕ) → stripped pjl_mark (u ++ v) ≡ Some rest → read_line pjl_mark rest ≡ Found (PjlLine u) (mode_after u) v
+pub line_reads : (u v : List ℕ) → IsPjlLine u → (rest : List ℕ) → stripped pjl_mark (u ++ v) ≡ Some rest → read_line pjl_mark rest ≡ Found (PjlLine u) (mode_after u) v
 line_reads u v is rest e =
     let front = is.front in
     let text = is.begins.text in
@@ -161,7 +161,7 @@ feed-line-at front b x t n left true is short feed h ih =
     let command : PjlLine (front ++ (b ∷ [])) ≡ t = cc in
     let mode : mode_after (front ++ (b ∷ [])) ≡ n = cc in
     let rest : x ≡ left = cc in
-    let whole : IsLine (front ++ (b ∷ [])) =
+    let whole : IsPjlLine (front ++ (b ∷ [])) =
     record { front = front; spelled = ap (λ y. front ++ (y ∷ [])) (is_feed-true b feed); begins = is; fits = omega (arith, length-append front (b ∷ [])) } in
     record {
       used = b ∷ [];

@@ -7,7 +7,7 @@ use Rattle.std.proofs.lemmas.Bool.{ne_eqb, le-ltb, cases_eq, cases_lt}
 use mathlib.Core.Logic.{∥∥₁_map}
 use Rattle.press_cmd.specs.Token.{Token, Escape, Grouped, Ungrouped, Control, Text, Broken, Uel, PjlLine, ForeignByte, bytes_of, param_of, broken_of, uel, escape_byte, pjl_mark}
 use Rattle.press_cmd.specs.Mode.{Mode, Exit, Tail, Foreign, Pcl, Open}
-use Rattle.press_cmd.specs.Grammar.{Whole, Head, Stands, GoesOn, IsLine, BeginsLine, IsBroken, is_line_byte, differs, longest_line, scanned_in}
+use Rattle.press_cmd.specs.Grammar.{Whole, Head, Stands, GoesOn, IsPjlLine, BeginsLine, IsBroken, is_line_byte, differs, longest_line, scanned_in}
 use Rattle.press_cmd.specs.Language.{mode_after}
 use Rattle.press_cmd.specs.Split.{NoHead, closing}
 use Rattle.press_cmd.proofs.Reading.{Reading, Short, Found, reading, read_on, read_line, Start, is_escape}
@@ -18,7 +18,7 @@ use Rattle.press_cmd.specs.declared.command.Command.TheVariants as commands
 use Rattle.press_cmd.proofs.ReadWhole.{whole_reads, stable}
 use Rattle.press_cmd.proofs.ReadLine.{line_front}
 use Rattle.press_cmd.proofs.Heads.{head-some, short-NoHead}
-use Rattle.press_cmd.proofs.LineTest.{IsLine-known}
+use Rattle.press_cmd.proofs.LineTest.{IsPjlLine-known}
 use Rattle.press_cmd.proofs.ReadBack.{param-Whole, line-Head}
 
 closing-nil : (m : Mode) → closing m [] ≡ []
@@ -79,9 +79,9 @@ param-IsCommand c (Some g) f e d w = one_command (bytes_of (Grouped c g f e d)) 
 foreign_line : List ℕ
 foreign_line = codes "@PJL ENTER LANGUAGE=X\n"
 
-foreign_line-IsLine : IsLine foreign_line
+foreign_line-IsPjlLine : IsPjlLine foreign_line
 unfolding foreign_line
-foreign_line-IsLine =
+foreign_line-IsPjlLine =
     record { front = codes "@PJL ENTER LANGUAGE=X"; spelled = refl; begins = record { text = codes " ENTER LANGUAGE=X"; mark = refl; plain = refl }; fits = lit≤ tt }
 
 foreign_line-mode : mode_after foreign_line ≡ Foreign
@@ -89,7 +89,7 @@ unfolding foreign_line
 foreign_line-mode = refl
 
 foreign_line-Head : (v : List ℕ) → Head Exit foreign_line v (PjlLine foreign_line) Foreign
-foreign_line-Head v = subst (λ (k : Mode). Head Exit foreign_line v (PjlLine foreign_line) k) foreign_line-mode (line-Head foreign_line foreign_line-IsLine v)
+foreign_line-Head v = subst (λ (k : Mode). Head Exit foreign_line v (PjlLine foreign_line) k) foreign_line-mode (line-Head foreign_line foreign_line-IsPjlLine v)
 
 foreign-IsCommand : (b : ℕ) → IsCommand (ForeignByte b)
 foreign-IsCommand b =
@@ -233,6 +233,6 @@ of_some_stream (commands.Text b) = ∣ text-IsCommand b.byte b.class ∣₁
 of_some_stream (commands.Broken broken) = broken-command broken.sequence broken.bytes.now broken.broken
 of_some_stream commands.Uel = ∣ one_command uel Uel Exit (refl, refl) ∣₁
 of_some_stream (commands.PjlLine line) =
-    let is = IsLine-known line.bytes.now line.line in
+    let is = IsPjlLine-known line.bytes.now line.line in
     ∣ one_command line.bytes.now (PjlLine line.bytes.now) (mode_after line.bytes.now) (line-Head line.bytes.now is []) ∣₁
 of_some_stream (commands.Foreign b) = ∣ foreign-IsCommand b ∣₁

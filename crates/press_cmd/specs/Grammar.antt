@@ -104,7 +104,7 @@ pub record BeginsLine (bytes : List ℕ) : Type 0 where
   pub plain : IsTrue (list_all is_line_byte text)
 
 -- These bytes are a PJL line: up to and with its line feed, in at most 4,096 bytes.
-pub record IsLine (bytes : List ℕ) : Type 0 where
+pub record IsPjlLine (bytes : List ℕ) : Type 0 where
   pub front : List ℕ
   pub spelled : bytes ≡ front ++ (10 ∷ [])
   pub begins : BeginsLine front
@@ -148,7 +148,7 @@ scanned_in mode ahead = mode
 -- A byte of a foreign language is one as soon as it begins no universal exit. A broken sequence that had given a
 -- command begins with its escape character, character and group again.
 abbrev pub Stands : Mode → List ℕ → List ℕ → Token → Mode → Type 0
-Stands Exit bytes following (PjlLine line) next = (line ≡ bytes) × IsLine bytes × (next ≡ mode_after bytes)
+Stands Exit bytes following (PjlLine line) next = (line ≡ bytes) × IsPjlLine bytes × (next ≡ mode_after bytes)
 Stands Exit bytes following (Broken broken) next = (broken ≡ bytes) × BreaksLine bytes following next
 Stands Tail bytes following (Broken broken) next = (broken ≡ bytes) × IsTailByte bytes next
 Stands Foreign bytes following Uel next = (bytes ≡ uel) × (next ≡ Exit)

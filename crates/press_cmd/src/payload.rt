@@ -4,7 +4,7 @@ ghost use Rattle.press_units.specs.Value.{tenthousandths_of, is_signed};
 ghost use Rattle.press_cmd.specs.Token.{uel, bytes_of, param_of, broken_of};
 ghost use Rattle.press_cmd.specs.Carried.{data_count};
 ghost use Rattle.press_units.specs.Field.{is_value_field};
-ghost use Rattle.press_cmd.specs.Grammar.{IsEscapeEnd, IsControl, IsText, IsCharacter, IsGroup, IsEnd, IsLine, IsBroken};
+ghost use Rattle.press_cmd.specs.Grammar.{IsEscapeEnd, IsControl, IsText, IsCharacter, IsGroup, IsEnd, IsPjlLine, IsBroken};
 
 use press_units::{Value, read_value};
 
@@ -35,8 +35,8 @@ pub struct TextByte {
 pub struct Param<'a> {
     pub(crate) character: u8,
     pub(crate) group: Option<u8>,
-    pub(crate) field: &'a [u8],
     pub(crate) end: u8,
+    pub(crate) field: &'a [u8],
     pub(crate) payload: &'a [u8],
     ghost character_class: { IsCharacter character },
     ghost group_class: { ForSome group IsGroup },
@@ -60,7 +60,7 @@ pub struct Broken<'a> {
 #[derive(Clone, Copy, Debug)]
 pub struct PjlLine<'a> {
     pub bytes: &'a [u8],
-    ghost line: { ∥ IsLine bytes.now ∥₁ },
+    ghost line: { ∥ IsPjlLine bytes.now ∥₁ },
 }
 
 impl EscapeByte {
@@ -117,8 +117,8 @@ impl<'a> Param<'a> {
         Param {
             character,
             group,
-            field,
             end,
+            field,
             payload,
         }
     }
@@ -192,7 +192,7 @@ impl<'a> Broken<'a> {
 impl<'a> PjlLine<'a> {
     /// A PJL line with its line feed. `is_line` is the test.
     pub fn new(bytes: &'a [u8]) -> Self
-        requires { IsLine bytes.now }
+        requires { IsPjlLine bytes.now }
         ensures { result.bytes.now ≡ bytes.now }
     {
         PjlLine { bytes }

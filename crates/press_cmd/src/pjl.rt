@@ -4,7 +4,7 @@
 ghost use Rattle.std.specs.Prelude.{◌≡◌, ◌↔◌, true, false, IsTrue, MatchOption, position, bytes_eq};
 ghost use Rattle.std.specs.List.{before_first, after_first, list_all};
 ghost use Rattle.press_cmd.specs.Language.{is_white, is_equals, begins_white, trimmed_front, trimmed_end, trimmed, without_end, line_text, command_word, command_rest, name_of, assigned_value, raised, enters_language};
-ghost use Rattle.press_cmd.specs.Grammar.{BeginsLine, IsLine, is_line_byte};
+ghost use Rattle.press_cmd.specs.Grammar.{BeginsLine, IsPjlLine, is_line_byte};
 
 use crate::marks::{ESCAPE, LINE_FEED, LONGEST_LINE, PJL_MARK, differs};
 
@@ -178,7 +178,7 @@ fn are_line_bytes(bytes: &[u8]) -> bool
 
 /// Whether the bytes are a PJL line: up to and with its line feed, in at most 4,096 bytes.
 pub fn is_line(bytes: &[u8]) -> bool
-    ensures { IsTrue result ↔ IsLine bytes.now }
+    ensures { IsTrue result ↔ IsPjlLine bytes.now }
 {
     match bytes.split_last() {
         Some((&LINE_FEED, front)) if bytes.len() <= LONGEST_LINE => begins_line(front),

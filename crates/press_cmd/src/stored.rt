@@ -3,7 +3,7 @@ ghost use Rattle.std.specs.Option.{ForSome};
 ghost use Rattle.press_cmd.specs.Token.{uel, bytes_of, param_of};
 ghost use Rattle.press_cmd.specs.Carried.{data_count};
 ghost use Rattle.press_units.specs.Field.{is_value_field};
-ghost use Rattle.press_cmd.specs.Grammar.{IsCharacter, IsGroup, IsEnd, IsLine, IsBroken};
+ghost use Rattle.press_cmd.specs.Grammar.{IsCharacter, IsGroup, IsEnd, IsPjlLine, IsBroken};
 
 use crate::command::append_broken;
 use crate::payload::{Broken, Param, PjlLine};
@@ -36,7 +36,7 @@ pub struct OwnedBroken {
 #[derive(Debug, Drop)]
 pub struct OwnedLine {
     bytes: Vec<u8>,
-    ghost line: { ∥ IsLine bytes.items ∥₁ },
+    ghost line: { ∥ IsPjlLine bytes.items ∥₁ },
 }
 
 impl OwnedParam {

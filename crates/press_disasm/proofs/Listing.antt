@@ -7,25 +7,26 @@ use Rattle.std.specs.declared.alloc.AllocError.{AllocError}
 use Rattle.std.proofs.lemmas.Bool.{and_parts, ne_eqb}
 use Rattle.std.proofs.lemmas.Str.{IsAscii-append, IsUtf8-from_ascii}
 use Rattle.std.proofs.lemmas.Str.Ascii.{IsAscii-nil, IsAscii-cons}
+use Rattle.press_units.specs.Ascii.{is_printable}
 use Rattle.press_cmd.specs.Token.{Token}
 use Rattle.press_cmd.specs.Mode.{Exit}
 use Rattle.press_cmd.specs.Split.{Closed}
 use Rattle.press_cmd.specs.View.{token}
 use Rattle.press_cmd.specs.declared.command.Command.{Command}
 use Rattle.press_cmd.proofs.ByteTests.{range-true}
-use Rattle.press_scan.specs.Held.{Held}
+use Rattle.press_scan.specs.ScannerState.{ScannerState}
 use Rattle.press_scan.specs.Gives.{Passes, IsDone, Leaves}
 use Rattle.press_scan.specs.Reached.{Reached, Remains}
 use Rattle.press_scan.proofs.ReachedLaws.{feeds_reach, end_reaches}
 use Rattle.press_asm.specs.Text.{is_feed, in_front, lines_of, all_bytes, LinesStand}
-use Rattle.press_asm.specs.Written.{line_of, text_of, is_printable, IsWritten, AreWritten}
+use Rattle.press_asm.specs.Written.{line_of, text_of, IsWritten, AreWritten}
 use Rattle.press_disasm.specs.Disassembly.{IsDisassembly, IsListed}
 use Rattle.press_disasm.proofs.ReadAgain.{read_again}
 use Rattle.press_disasm.proofs.Standing.{stand_give, one_give}
 
 -- ---- the scanner's answers
 
-pub leaves_some : (old new : Held) (result : Result (Option Command) AllocError) (answer : Option Command) (command : Command) → Leaves old result new → result ≡ Ok answer
+pub leaves_some : (old new : ScannerState) (result : Result (Option Command) AllocError) (answer : Option Command) (command : Command) → Leaves old result new → result ≡ Ok answer
     → answer ≡ Some command → Passes old (token command) new
 leaves_some old new result answer command leaves p q =
     let P : Result (Option Command) AllocError → Type 0 = λ one. Leaves old one new in
@@ -39,19 +40,19 @@ at_none {X} {E} P result answer h p q =
 -- ---- commands listed so far
 
 -- these commands were given, what is held remains, and the text lists them
-pub record IsListedSoFar (bytes : List ℕ) (held : Held) (text : List ℕ) : Type 0 where
+pub record IsListedSoFar (bytes : List ℕ) (held : ScannerState) (text : List ℕ) : Type 0 where
   pub given : List Token
   pub remains : Remains bytes given held
   pub ended : held.ended ≡ true
   pub written : AreWritten given
   pub listed : text ≡ text_of given
 
-pub begun : (bytes text : List ℕ) (new fed ended : Held) → new.mode ≡ Exit → new.bytes ≡ [] → fed.mode ≡ new.mode → fed.bytes ≡ new.bytes ++ bytes
+pub begun : (bytes text : List ℕ) (new fed ended : ScannerState) → new.mode ≡ Exit → new.bytes ≡ [] → fed.mode ≡ new.mode → fed.bytes ≡ new.bytes ++ bytes
     → ended ≡ record fed { ended = true } → text ≡ [] → IsListedSoFar bytes ended text
 begun bytes text new fed ended mode none same more is empty =
     let reached : Reached ([] ++ bytes) [] fed = feeds_reach.feeds [] bytes [] new fed (feeds_reach.begins new mode none) same more in
-    let along : Reached bytes [] ended = subst (λ (h : Held). Reached bytes [] h) (sym is) reached in
-    record { given = []; remains = end_reaches.ends bytes [] ended along; ended = ap (λ (h : Held). h.ended) is; written = tt; listed = empty }
+    let along : Reached bytes [] ended = subst (λ (h : ScannerState). Reached bytes [] h) (sym is) reached in
+    record { given = []; remains = end_reaches.ends bytes [] ended along; ended = ap (λ (h : ScannerState). h.ended) is; written = tt; listed = empty }
 
 written-append : (cs : List Token) (c : Token) → AreWritten cs → IsWritten c → AreWritten (cs ++ (c ∷ []))
 written-append [] c h one = (one, tt)
@@ -62,7 +63,7 @@ text-append [] c = refl
 text-append (d ∷ cs) c =
     ap (λ x. line_of d ++ (10 ∷ x)) (text-append cs c) ∙ sym (append_assoc (line_of d) (10 ∷ text_of cs) (line_of c ++ (10 ∷ [])))
 
-pub one_more : (bytes text more : List ℕ) (old new : Held) (command : Token) → IsListedSoFar bytes old text → Passes old command new → IsWritten command
+pub one_more : (bytes text more : List ℕ) (old new : ScannerState) (command : Token) → IsListedSoFar bytes old text → Passes old command new → IsWritten command
     → more ≡ text ++ (line_of command ++ (10 ∷ [])) → IsListedSoFar bytes new more
 one_more bytes text more old new command s passes written listed = record {
   given = s.given ++ (command ∷ []);
@@ -72,7 +73,7 @@ one_more bytes text more old new command s passes written listed = record {
   listed = listed ∙ ap (λ x. x ++ (line_of command ++ (10 ∷ []))) s.listed ∙ sym (text-append s.given command);
 }
 
-pub all_listed : (bytes text : List ℕ) (held : Held) → IsListedSoFar bytes held text → IsDone held → IsListed bytes text
+pub all_listed : (bytes text : List ℕ) (held : ScannerState) → IsListedSoFar bytes held text → IsDone held → IsListed bytes text
 all_listed bytes text held s is_done = record { commands = s.given; closed = end_reaches.done bytes s.given held s.remains s.ended is_done; written = s.written; listed = s.listed }
 
 -- ---- the lines of the list

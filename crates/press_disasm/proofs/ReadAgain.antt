@@ -9,7 +9,7 @@ use Rattle.std.proofs.lemmas.Bool.{eqb-true, ne_eqb}
 use Rattle.std.proofs.lemmas.List.{append_cancel_right}
 use Rattle.press_cmd.specs.Token.{Token, Escape, Grouped, Ungrouped, Control, Text, Broken, Uel, PjlLine, ForeignByte, pjl_mark, escape_byte, bytes_of}
 use Rattle.press_cmd.specs.Mode.{Mode, Exit, Tail, Foreign, Pcl, Open}
-use Rattle.press_cmd.specs.Grammar.{IsGrouped, IsUngrouped, IsLine, longest_line, Ends, IsEnd, IsCharacter, IsGroup, Breaks, BeginsLine, differs, begins_pair, scanned_in, scanned_after_exit, Stands, Head}
+use Rattle.press_cmd.specs.Grammar.{IsGrouped, IsUngrouped, IsPjlLine, longest_line, Ends, IsEnd, IsCharacter, IsGroup, Breaks, BeginsLine, differs, begins_pair, scanned_in, scanned_after_exit, Stands, Head}
 use Rattle.press_cmd.specs.Language.{mode_after, enters_language}
 use Rattle.press_cmd.specs.Split.{Steps, NoHead, closing_in, closing, ClosedFrom, Closed}
 use Rattle.press_cmd.proofs.Reading.{Reading, Short, Found, reading, reading_in, read_on, Start, Pair}
@@ -385,7 +385,7 @@ pcl_next n v w next b later is e = next.first b later (subst (λ (k : Mode). Not
 -- a command in the mode in which it is scanned, written out in that mode
 stands_again : (k : Mode) (u v w : List ℕ) (t : Token) (n : Mode) → NotOpen k → Follows n v w → Stands k u v t n → Stands k (bytes_of t) w t (shut n)
 stands_again Exit u v w (PjlLine line) n is next h =
-    (refl, subst IsLine (sym h.0) h.1, ap shut h.2 ∙ shut-mode_after u ∙ ap mode_after (sym h.0))
+    (refl, subst IsPjlLine (sym h.0) h.1, ap shut h.2 ∙ shut-mode_after u ∙ ap mode_after (sym h.0))
 stands_again Exit u v w (Broken bytes) n is next h = (
   refl,
   (

@@ -10,7 +10,7 @@ use Rattle.press_bits.specs.Mark.{painted}
 use Rattle.press_cmd.specs.Token.{Token, Escape, Grouped, Control, Broken, Uel}
 use Rattle.press_cmd.specs.declared.variant.Kind.TheVariants as kinds
 use Rattle.press_fill.specs.Fill.{fill_mark}
-use Rattle.press_macros.specs.Macros.{Macros, no_macros, abandoned, permanent_only as permanent_macros}
+use Rattle.press_macros.specs.Macros.{Macros, no_macros, abandoned, permanent_macros}
 use Rattle.press_pattern.specs.Solid.{solid_black}
 use Rattle.press_pattern.specs.Store.{UserPatterns, permanent_only}
 use Rattle.press_sink.specs.Sending.{Output, Deliver}

@@ -4,7 +4,7 @@ use Rattle.std.specs.Borrow.{Bor}
 use Rattle.press_cmd.specs.Token.{Token}
 use Rattle.press_cursor.specs.declared.stack.CursorPosition.{CursorPosition}
 use Rattle.press_macros.specs.Macros.{defining}
-use Rattle.press_raster.specs.Graphics.{position_of}
+use Rattle.press_raster.specs.Graphics.{raster_position}
 use Rattle.press_sink.specs.Told.{Told}
 use Rattle.press_sink.specs.Sending.{Output, Complete, AtSheet, AtReply, ForMemory, WentOut}
 use Rattle.press_engine.specs.declared.engine.Engine.{Engine}
@@ -85,7 +85,7 @@ view_of stack machine = record {
   macro_id = machine.state.macro_id;
   overlay = machine.state.overlay;
   defining = defining machine.state.macros;
-  raster = position_of machine.state.graphics;
+  raster = raster_position machine.state.graphics;
   hp_gl = machine.state.hp_gl;
   marked = is_marked machine.state;
 }

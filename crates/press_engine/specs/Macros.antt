@@ -1,7 +1,7 @@
 -- Rows of macros (PCL 5 Printer Language Technical Reference Manual, "Macros": Macro ID and Macro Control commands).
 use Rattle.std.specs.Prelude.{ℕ, ℤ, Bool, true, false, is_some, if◌then◌else◌, List, [], ◌∷◌, Option, Some, None}
 use Rattle.press_cmd.specs.Token.{Token}
-use Rattle.press_macros.specs.Macros.{begun, recorded, ended, body_of, all_deleted, permanent_only, without, made}
+use Rattle.press_macros.specs.Macros.{begun, recorded, definition_ended, body_of, all_deleted, permanent_macros, without, macro_made}
 use Rattle.press_page.specs.Numbers.{named, within}
 use Rattle.press_engine.specs.declared.effect.BodyEnd.{BodyEnd}
 use Rattle.press_engine.specs.declared.effect.BodyEnd.TheVariants as ends
@@ -55,7 +55,7 @@ start_from other state = state
 
 -- It ends: the macro replaces an older one.
 abbrev pub stop : State → Effect
-stop state = if recording state then Makes (with_macros ended state) else Changes state
+stop state = if recording state then Makes (with_macros definition_ended state) else Changes state
 
 -- The body of the macro with the macro ID starts, if there is such a macro.
 abbrev pub start_body : Option (List Token) → BodyEnd → State → Effect
@@ -74,10 +74,10 @@ controlled controls.Call source state = run_macro (ends.Call (kept_of state)) st
 controlled controls.EnableOverlay source state = Changes (record state { overlay = Some state.macro_id })
 controlled controls.DisableOverlay source state = Changes (record state { overlay = None })
 controlled controls.DeleteAll source state = Changes (with_macros all_deleted state)
-controlled controls.DeleteTemporary source state = Changes (with_macros permanent_only state)
+controlled controls.DeleteTemporary source state = Changes (with_macros permanent_macros state)
 controlled controls.Delete source state = Changes (with_macros (λ macros. without macros state.macro_id) state)
-controlled controls.MakeTemporary source state = Changes (with_macros (λ macros. made macros state.macro_id false) state)
-controlled controls.MakePermanent source state = Changes (with_macros (λ macros. made macros state.macro_id true) state)
+controlled controls.MakeTemporary source state = Changes (with_macros (λ macros. macro_made macros state.macro_id false) state)
+controlled controls.MakePermanent source state = Changes (with_macros (λ macros. macro_made macros state.macro_id true) state)
 
 abbrev pub control_with : Option MacroControl → Source → State → Effect
 control_with None source state = Changes state

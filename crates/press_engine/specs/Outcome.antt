@@ -5,7 +5,7 @@ use Rattle.press_cursor.specs.Cursor.{home}
 use Rattle.press_cursor.specs.CursorState.{CursorState}
 use Rattle.press_cursor.specs.declared.logical_page.LogicalPage.{LogicalPage}
 use Rattle.press_cmd.specs.Token.{Token}
-use Rattle.press_macros.specs.Macros.{Macros, no_macros, permanent_only as permanent_macros}
+use Rattle.press_macros.specs.Macros.{Macros, no_macros, permanent_macros}
 use Rattle.press_page.specs.Environment.{reset_environment, logical_page_of}
 use Rattle.press_page.specs.declared.environment.PageEnv.{PageEnv}
 use Rattle.press_pattern.specs.Store.{permanent_only}

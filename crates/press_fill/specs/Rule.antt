@@ -6,10 +6,10 @@ use Rattle.press_fill.specs.declared.rule.DotEffect.{DotEffect}
 use Rattle.press_fill.specs.declared.rule.DotEffect.TheVariants as effects
 
 -- what becomes of a dot, by its name
-abbrev pub effect_of : DotEffect → rule.DotEffect
-effect_of effects.MadeBlack = rule.DotEffect.MadeBlack
-effect_of effects.MadeWhite = rule.DotEffect.MadeWhite
-effect_of effects.Unchanged = rule.DotEffect.Unchanged
+abbrev pub dot_effect : DotEffect → rule.DotEffect
+dot_effect effects.MadeBlack = rule.DotEffect.MadeBlack
+dot_effect effects.MadeWhite = rule.DotEffect.MadeWhite
+dot_effect effects.Unchanged = rule.DotEffect.Unchanged
 
 abbrev pub mode : (source_opaque pattern_opaque : Bool) → Mode
 mode source_opaque pattern_opaque = record { source_opaque = source_opaque; pattern_opaque = pattern_opaque }

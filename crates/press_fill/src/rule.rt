@@ -1,6 +1,6 @@
 ghost use Rattle.std.specs.Prelude.{◌≡◌};
 ghost use Rattle.press_bits.specs.DotRule as rule;
-ghost use Rattle.press_fill.specs.Rule.{effect_of, mode};
+ghost use Rattle.press_fill.specs.Rule.{dot_effect, mode};
 
 /// What becomes of a dot of the page.
 #[derive(Clone, Copy, Debug, PartialEq, Eq)]
@@ -15,7 +15,7 @@ pub enum DotEffect {
 ///
 /// Source: PCL 5 Printer Language Technical Reference Manual, The PCL Print Model.
 pub fn dot_rule(source: bool, pattern: bool, source_opaque: bool, pattern_opaque: bool) -> DotEffect
-    ensures { effect_of result ≡ rule.dot_rule (mode source_opaque pattern_opaque) source pattern }
+    ensures { dot_effect result ≡ rule.dot_rule (mode source_opaque pattern_opaque) source pattern }
 {
     match (source, pattern) {
         (true, true) => DotEffect::MadeBlack,

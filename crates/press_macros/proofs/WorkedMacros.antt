@@ -3,19 +3,19 @@ use Rattle.std.proofs.Common.{◌≡◌, ℕ, [], ◌∷◌, Some, None, true, f
 use Rattle.std.specs.FinMap as maps
 use Rattle.std.specs.FinMap.{gets}
 use Rattle.press_cmd.specs.Token.{Control, Text}
-use Rattle.press_macros.specs.Macros.{Macros, no_macros, defining, begun, recorded, ended, abandoned, body_of, made, without, permanent_only, is_permanent}
+use Rattle.press_macros.specs.Macros.{Macros, no_macros, defining, begun, recorded, definition_ended, abandoned, body_of, macro_made, without, permanent_macros, is_permanent_macro}
 use Rattle.press_macros.proofs.StoreLemmas.{get-permanent_stored}
 
 -- a macro that was defined under an ID, with one control byte
 abbrev defined : Macros → ℕ → ℕ → Macros
-defined macros id byte = ended (recorded (begun macros id) (Control byte))
+defined macros id byte = definition_ended (recorded (begun macros id) (Control byte))
 
 -- macro 1 is permanent, macro 2 temporary
 abbrev two : Macros
-two = made (defined (defined no_macros 1 10) 2 13) 1 true
+two = macro_made (defined (defined no_macros 1 10) 2 13) 1 true
 
 pub commands_stay_in_order :
-    body_of (ended (recorded (recorded (begun no_macros 7) (Text 65)) (Control 12))) 7 ≡ Some (Text 65 ∷ Control 12 ∷ [])
+    body_of (definition_ended (recorded (recorded (begun no_macros 7) (Text 65)) (Control 12))) 7 ≡ Some (Text 65 ∷ Control 12 ∷ [])
 commands_stay_in_order = grind (gets, rules)
 
 -- the older macro is there until the definition ends
@@ -28,17 +28,17 @@ a_dropped_definition = grind (gets, rules)
 pub the_open_definition : defining (recorded (begun two 1) (Control 12)) ≡ Some 1
 the_open_definition = refl
 
-pub permanent_one : is_permanent (maps.get two.stored 1) ≡ true
+pub permanent_one : is_permanent_macro (maps.get two.stored 1) ≡ true
 permanent_one = grind (gets, rules)
 
 -- a permanent macro that is defined again is temporary
 pub redefined : maps.get (defined two 1 12).stored 1 ≡ Some (record { commands = Control 12 ∷ []; permanent = false })
 redefined = grind (gets, rules)
 
-pub permanent_stays : body_of (permanent_only two) 1 ≡ Some (Control 10 ∷ [])
+pub permanent_stays : body_of (permanent_macros two) 1 ≡ Some (Control 10 ∷ [])
 permanent_stays = ap (option_map (λ m. m.commands)) (get-permanent_stored two.stored 1) ∙ grind (gets, rules)
 
-pub temporary_goes : body_of (permanent_only two) 2 ≡ None
+pub temporary_goes : body_of (permanent_macros two) 2 ≡ None
 temporary_goes = ap (option_map (λ m. m.commands)) (get-permanent_stored two.stored 2) ∙ grind (gets, rules)
 
 pub one_deleted : body_of (without two 1) 1 ≡ None
@@ -47,5 +47,5 @@ one_deleted = grind (gets, rules)
 pub the_other_stays : body_of (without two 1) 2 ≡ Some (Control 13 ∷ [])
 the_other_stays = grind (gets, rules)
 
-pub unknown_one : made two 3 true ≡ two
+pub unknown_one : macro_made two 3 true ≡ two
 unknown_one = grind (gets, rules)

@@ -7,19 +7,19 @@ use Rattle.press_cmd.specs.Token.{Token, Escape, Grouped, Ungrouped, Control, Te
 use Rattle.press_macros.specs.Macros.{Macro, Definition, Macros}
 
 -- A command as its number among the nine, three numbers, and two lists.
-abbrev Parts : Type 0
-Parts = ℕ × (ℕ × (ℕ × (ℕ × (List ℕ × List ℕ))))
+abbrev CommandParts : Type 0
+CommandParts = ℕ × (ℕ × (ℕ × (ℕ × (List ℕ × List ℕ))))
 
-abbrev parts_of : Token → Parts
-parts_of (Escape byte) = (0, (byte, (0, (0, ([], [])))))
-parts_of (Grouped character group field end payload) = (1, (character, (group, (end, (field, payload)))))
-parts_of (Ungrouped character field end payload) = (2, (character, (0, (end, (field, payload)))))
-parts_of (Control byte) = (3, (byte, (0, (0, ([], [])))))
-parts_of (Text byte) = (4, (byte, (0, (0, ([], [])))))
-parts_of (Broken bytes) = (5, (0, (0, (0, (bytes, [])))))
-parts_of Uel = (6, (0, (0, (0, ([], [])))))
-parts_of (PjlLine line) = (7, (0, (0, (0, (line, [])))))
-parts_of (ForeignByte byte) = (8, (byte, (0, (0, ([], [])))))
+abbrev command_parts : Token → CommandParts
+command_parts (Escape byte) = (0, (byte, (0, (0, ([], [])))))
+command_parts (Grouped character group field end payload) = (1, (character, (group, (end, (field, payload)))))
+command_parts (Ungrouped character field end payload) = (2, (character, (0, (end, (field, payload)))))
+command_parts (Control byte) = (3, (byte, (0, (0, ([], [])))))
+command_parts (Text byte) = (4, (byte, (0, (0, ([], [])))))
+command_parts (Broken bytes) = (5, (0, (0, (0, (bytes, [])))))
+command_parts Uel = (6, (0, (0, (0, ([], [])))))
+command_parts (PjlLine line) = (7, (0, (0, (0, (line, [])))))
+command_parts (ForeignByte byte) = (8, (byte, (0, (0, ([], [])))))
 
 abbrev command_from : ℕ → ℕ → ℕ → ℕ → List ℕ → List ℕ → Token
 command_from n a b c bytes more =
@@ -27,24 +27,24 @@ command_from n a b c bytes more =
     (cond (n == 3) (Control a) (cond (n == 4) (Text a) (cond (n == 5) (Broken bytes)
     (cond (n == 6) Uel (cond (n == 7) (PjlLine bytes) (ForeignByte a))))))))
 
-abbrev from_parts : Parts → Token
+abbrev from_parts : CommandParts → Token
 from_parts p = command_from p.0 p.1.0 p.1.1.0 p.1.1.1.0 p.1.1.1.1.0 p.1.1.1.1.1
 
-pub from_parts-parts_of : (command : Token) → from_parts (parts_of command) ≡ command
-from_parts-parts_of (Escape byte) = refl
-from_parts-parts_of (Grouped character group field end payload) = refl
-from_parts-parts_of (Ungrouped character field end payload) = refl
-from_parts-parts_of (Control byte) = refl
-from_parts-parts_of (Text byte) = refl
-from_parts-parts_of (Broken bytes) = refl
-from_parts-parts_of Uel = refl
-from_parts-parts_of (PjlLine line) = refl
-from_parts-parts_of (ForeignByte byte) = refl
+pub from_parts-command_parts : (command : Token) → from_parts (command_parts command) ≡ command
+from_parts-command_parts (Escape byte) = refl
+from_parts-command_parts (Grouped character group field end payload) = refl
+from_parts-command_parts (Ungrouped character field end payload) = refl
+from_parts-command_parts (Control byte) = refl
+from_parts-command_parts (Text byte) = refl
+from_parts-command_parts (Broken bytes) = refl
+from_parts-command_parts Uel = refl
+from_parts-command_parts (PjlLine line) = refl
+from_parts-command_parts (ForeignByte byte) = refl
 
 abbrev pub command_code : Coded Token
 command_code =
-    code_by Parts (coded× coded_ℕ (coded× coded_ℕ (coded× coded_ℕ (coded× coded_ℕ (coded× (coded_list coded_ℕ) (coded_list coded_ℕ))))))
-    parts_of from_parts from_parts-parts_of
+    code_by CommandParts (coded× coded_ℕ (coded× coded_ℕ (coded× coded_ℕ (coded× coded_ℕ (coded× (coded_list coded_ℕ) (coded_list coded_ℕ))))))
+    command_parts from_parts from_parts-command_parts
 
 abbrev pub macro_code : Coded Macro
 macro_code =

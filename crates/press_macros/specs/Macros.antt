@@ -50,8 +50,8 @@ with_macro_of None stored = stored
 with_macro_of (Some d) stored = maps.insert stored d.id (macro_of d)
 
 -- Value 1 ends the definition.
-abbrev pub ended : Macros → Macros
-ended macros = record { stored = with_macro_of macros.definition macros.stored; definition = None }
+abbrev pub definition_ended : Macros → Macros
+definition_ended macros = record { stored = with_macro_of macros.definition macros.stored; definition = None }
 
 -- A printer reset or a universal exit drops an open definition. The older macro stays.
 abbrev pub abandoned : Macros → Macros
@@ -66,28 +66,28 @@ abbrev pub all_deleted : Macros → Macros
 all_deleted macros = record { stored = maps.empty; definition = macros.definition }
 
 -- Whether what was found is permanent.
-abbrev pub is_permanent : Option Macro → Bool
-is_permanent None = false
-is_permanent (Some m) = m.permanent
+abbrev pub is_permanent_macro : Option Macro → Bool
+is_permanent_macro None = false
+is_permanent_macro (Some m) = m.permanent
 
 -- The permanent macros alone.
 abbrev pub permanent_stored : maps.FinMap nat_cmp Macro → maps.FinMap nat_cmp Macro
-permanent_stored stored = maps.retain_keys stored (λ id. is_permanent (maps.get stored id))
+permanent_stored stored = maps.retain_keys stored (λ id. is_permanent_macro (maps.get stored id))
 
 -- Value 7 deletes the temporary macros.
-abbrev pub permanent_only : Macros → Macros
-permanent_only macros = record { stored = permanent_stored macros.stored; definition = macros.definition }
+abbrev pub permanent_macros : Macros → Macros
+permanent_macros macros = record { stored = permanent_stored macros.stored; definition = macros.definition }
 
 -- Value 8 deletes the macro under this ID.
 abbrev pub without : Macros → (id : ℕ) → Macros
 without macros id = record { stored = maps.remove macros.stored id; definition = macros.definition }
 
 -- With a macro that was found under this ID made permanent or temporary.
-abbrev pub found_made : maps.FinMap nat_cmp Macro → (id : ℕ) → Bool → Option Macro → maps.FinMap nat_cmp Macro
-found_made stored id permanent None = stored
-found_made stored id permanent (Some m) = maps.insert stored id (record { commands = m.commands; permanent = permanent })
+abbrev pub found_macro_made : maps.FinMap nat_cmp Macro → (id : ℕ) → Bool → Option Macro → maps.FinMap nat_cmp Macro
+found_macro_made stored id permanent None = stored
+found_macro_made stored id permanent (Some m) = maps.insert stored id (record { commands = m.commands; permanent = permanent })
 
 -- Values 9 and 10 make the macro under this ID, if there is one, temporary and permanent.
-abbrev pub made : Macros → (id : ℕ) → (permanent : Bool) → Macros
-made macros id permanent =
-    record { stored = found_made macros.stored id permanent (maps.get macros.stored id); definition = macros.definition }
+abbrev pub macro_made : Macros → (id : ℕ) → (permanent : Bool) → Macros
+macro_made macros id permanent =
+    record { stored = found_macro_made macros.stored id permanent (maps.get macros.stored id); definition = macros.definition }

@@ -1,6 +1,6 @@
 ghost use Rattle.std.specs.Prelude.{◌≡◌, IfOk, IsErr, OnOk, OnErr, IsSome, IsNone};
 ghost use Rattle.press_cmd.specs.View.{token};
-ghost use Rattle.press_macros.specs.Macros.{no_macros, defining, begun, recorded, ended, abandoned, body_of, without, all_deleted, permanent_only, made};
+ghost use Rattle.press_macros.specs.Macros.{no_macros, defining, begun, recorded, definition_ended, abandoned, body_of, without, all_deleted, permanent_macros, macro_made};
 
 use crate::body::Body;
 use crate::open_definition::OpenDefinition;
@@ -111,7 +111,7 @@ impl MacroStore {
     /// Where memory ran out. Then nothing changed: the definition is still open.
     pub fn stop(&mut self) -> Result<(), AllocError>
         requires { IsSome (defining self.old) }
-        ensures ended { OnOk result (self.new ≡ ended self.old) }
+        ensures ended { OnOk result (self.new ≡ definition_ended self.old) }
         ensures unchanged { OnErr result (self.new ≡ self.old) }
     {
         self.stored.reserve(1)?;
@@ -176,7 +176,7 @@ impl MacroStore {
     ///
     /// Source: PCL 5 Printer Language Technical Reference Manual, Macros, Macro Control command, value 7.
     pub fn delete_temporary(&mut self)
-        ensures { self.new ≡ permanent_only self.old }
+        ensures { self.new ≡ permanent_macros self.old }
     {
         let _count = self.stored.len();
         self.stored.retain(
@@ -190,7 +190,7 @@ impl MacroStore {
     ///
     /// Source: PCL 5 Printer Language Technical Reference Manual, Macros, Macro Control command, values 9 and 10.
     pub fn set_permanent(&mut self, id: u16, permanent: bool)
-        ensures { self.new ≡ made self.old id permanent }
+        ensures { self.new ≡ macro_made self.old id permanent }
     {
         if let Some(stored) = self.stored.get_mut(&id) {
             stored.set_permanent(permanent);

@@ -10,7 +10,7 @@ use Rattle.press_sink.specs.Told.{Told}
 use Rattle.press_sink.specs.Sending.{sheets_of, sheets_in, under_tag, reply_bytes_of}
 use Rattle.press_stream.specs.declared.fault.JobError.{JobError}
 use Rattle.press_stream.specs.State.{JobState}
-use Rattle.press_stream.specs.Meaning.{meaning_of, at_end}
+use Rattle.press_stream.specs.Meaning.{meaning_of, with_exit}
 use Rattle.press_stream.specs.Answers.{Reads, fault_of}
 use Rattle.press_stream.specs.Printed.{Printed}
 use Rattle.press_main.specs.Listing.{sheet_lines, lines_from, Lists}
@@ -65,7 +65,7 @@ lists-printed (Ok job) None left old new tag before after deliveries replies p q
 lists-printed (Ok job) (Some bytes) left old new tag before after deliveries replies p q r s prints no_fault appends =
     let commands = prints.printed.commands in
     let went = prints.printed.went in
-    let outputs = (meaning_of (at_end commands)).outputs in
+    let outputs = (meaning_of (with_exit commands)).outputs in
     let sheets = sheets_of outputs in
     let told : deliveries ≡ under_tag tag sheets = same_list deliveries (under_tag tag sheets) (sym r ∙ went.delivered ∙ ap (λ one. option_map (λ all. all ++ under_tag tag sheets) one) p) in
     let all_sheets : sheets_in deliveries ≡ sheets = ap sheets_in told ∙ sheets_in-tagged tag sheets in

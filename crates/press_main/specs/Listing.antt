@@ -7,7 +7,7 @@ use Rattle.press_cmd.specs.Token.{Token}
 use Rattle.press_cmd.specs.Split.{Closed}
 use Rattle.press_sink.specs.Sides.{Sides}
 use Rattle.press_sink.specs.Sending.{Output, sheets_of, reply_bytes_of}
-use Rattle.press_stream.specs.Meaning.{meaning_of, at_end}
+use Rattle.press_stream.specs.Meaning.{meaning_of, with_exit}
 
 -- The line of a side: the number of its sheet, which side it is, width and height in dots, and how many dots are black.
 unfoldable pub side_line : ℕ → List ℕ → Page → List ℕ
@@ -35,4 +35,4 @@ listing_of outputs = lines_from 1 (sheets_of outputs) ++ reply_bytes_of outputs
 
 -- Where a writer's bytes are known: it wrote the listing of the meaning of a stream of these bytes, and nothing else.
 abbrev pub Lists : List ℕ → Option (List ℕ) → Option (List ℕ) → Type 0
-Lists bytes old new = (commands : List Token) × Closed bytes commands × Appends old new (listing_of (meaning_of (at_end commands)).outputs)
+Lists bytes old new = (commands : List Token) × Closed bytes commands × Appends old new (listing_of (meaning_of (with_exit commands)).outputs)

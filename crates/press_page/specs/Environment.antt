@@ -50,11 +50,10 @@ reset_environment defaults = record {
 abbrev pub logical_page_of : PageEnv → LogicalPage
 logical_page_of env = logical_page env.media env.margins.top
 
--- a change by what a command asks for, if it asks for something
-abbrev pub changed_by :
-    {Asked : Type 0} → Option Asked → (Asked → PageEnv → PageEnv) → PageEnv → PageEnv
-changed_by None change env = env
-changed_by (Some asked) change env = change asked env
+-- A change by what a command asks for, if it asks for something: of the environment, or of whatever else commands set.
+abbrev pub changed_by : {Asked Changed : Type 0} → Option Asked → (Asked → Changed → Changed) → Changed → Changed
+changed_by None change changed = changed
+changed_by (Some asked) change changed = change asked changed
 
 -- ESC&u#D, Unit of Measure
 abbrev pub set_unit_of_measure : ℤ → PageEnv → PageEnv

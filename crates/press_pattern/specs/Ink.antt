@@ -10,17 +10,17 @@ use Rattle.press_pattern.specs.declared.pattern.Kind.TheVariants as kinds
 use Rattle.press_pattern.specs.declared.pattern.Pattern.{Pattern}
 
 -- The mode in which a pattern of a kind meets the page: solid white always whitens, so its white dots are opaque.
-abbrev pub mode_of : Kind → Mode → Mode
-mode_of kinds.Black mode = mode
-mode_of kinds.White mode = solid_white_mode mode
-mode_of kinds.Shading mode = mode
-mode_of kinds.CrossHatch mode = mode
-mode_of kinds.User mode = mode
+abbrev pub ink_mode : Kind → Mode → Mode
+ink_mode kinds.Black mode = mode
+ink_mode kinds.White mode = solid_white_mode mode
+ink_mode kinds.Shading mode = mode
+ink_mode kinds.CrossHatch mode = mode
+ink_mode kinds.User mode = mode
 
 -- What a pattern is painted with, where it exists.
 abbrev pub ink_of : UserPatterns → Pattern → Mode → Option Ink
 ink_of patterns pattern mode =
-    option_map (λ tile. record { tile = tile; mode = mode_of pattern.kind mode })
+    option_map (λ tile. record { tile = tile; mode = ink_mode pattern.kind mode })
     (tile_of patterns pattern.kind pattern.id)
 
 -- Solid black in a mode.

@@ -1,6 +1,6 @@
 ghost use Rattle.std.specs.Prelude.{◌≡◌};
 ghost use Rattle.press_bits.specs.DotRule.{solid_white_mode};
-ghost use Rattle.press_pattern.specs.Ink.{mode_of, black_ink};
+ghost use Rattle.press_pattern.specs.Ink.{ink_mode, black_ink};
 
 use crate::fixed;
 use crate::pattern::Kind;
@@ -18,7 +18,7 @@ pub struct Ink<'a> {
 
 /// The mode in which a pattern of a kind meets the page: the white dots of solid white are opaque.
 pub(crate) fn mode_of(kind: Kind, mode: Mode) -> Mode
-    ensures { result ≡ mode_of kind mode }
+    ensures { result ≡ ink_mode kind mode }
 {
     match kind {
         Kind::White => Mode {

@@ -4,7 +4,7 @@ use Rattle.std.specs.Prelude.{option_and_then}
 use Rattle.press_bits.specs.Page.{Page, is_page_size}
 use Rattle.press_bits.specs.Lines.{bytes_per_line}
 use Rattle.press_bits.specs.DotRows.{page_of_rows}
-use Rattle.press_pbm.specs.Header.{Parts, AreParts, spelling, width_of, height_of, IsHeader, IsHeaderFront}
+use Rattle.press_pbm.specs.Header.{HeaderParts, AreHeaderParts, header_spelling, width_of, height_of, IsHeader, IsHeaderFront}
 use Rattle.press_pbm.specs.File.{IsFile, IsBadHeader, IsNoHeader, IsFileFront}
 use Rattle.press_pbm.specs.Answer.{PageOf, NoHeader, BadHeader, CutShort, HasOneAnswer}
 use Rattle.press_pbm.specs.declared.place.Place.TheVariants as at
@@ -27,7 +27,7 @@ compare (h ∷ a) (k ∷ b) x y same =
       | inr (c, longer, rest) ↦ inr (c, (λ i. sym head i ∷ longer i), rest)
     ]
 
-runs : (bytes : List ℕ) (parts : Parts) → AreParts parts → bytes ≡ spelling parts → run at.Start bytes ≡ Some (at.End (min (width_of parts) 16385) (min (height_of parts) 16385))
+runs : (bytes : List ℕ) (parts : HeaderParts) → AreHeaderParts parts → bytes ≡ header_spelling parts → run at.Start bytes ≡ Some (at.End (min (width_of parts) 16385) (min (height_of parts) 16385))
 runs bytes parts are is = ap (run at.Start) is ∙ run-spelling parts are
 
 nothing_behind : (width height : ℕ) (more : List ℕ) (w h : ℕ) → run (at.End width height) more ≡ Some (at.End w h) → more ≡ []
@@ -49,14 +49,14 @@ same_header a b x y is_a is_b same =
     ]
 
 -- the parts of one header have one size, as far as it is a page's
-same_size : (parts others : Parts) → AreParts parts → AreParts others → spelling parts ≡ spelling others → is_page_size (width_of parts) (height_of parts) ≡ is_page_size (width_of others) (height_of others)
+same_size : (parts others : HeaderParts) → AreHeaderParts parts → AreHeaderParts others → header_spelling parts ≡ header_spelling others → is_page_size (width_of parts) (height_of parts) ≡ is_page_size (width_of others) (height_of others)
 same_size parts others are others_are same =
-    let ends = end_sizes (min (width_of parts) 16385) (min (height_of parts) 16385) (min (width_of others) 16385) (min (height_of others) 16385) (sym (run-spelling parts are) ∙ runs (spelling parts) others others_are same) in
+    let ends = end_sizes (min (width_of parts) 16385) (min (height_of parts) 16385) (min (width_of others) 16385) (min (height_of others) 16385) (sym (run-spelling parts are) ∙ runs (header_spelling parts) others others_are same) in
     sym (cut_size (width_of parts) (height_of parts)) ∙ (λ i. is_page_size (ends.0 i) (ends.1 i)) ∙ cut_size (width_of others) (height_of others)
 
-same_sides : (parts others : Parts) → AreParts parts → AreParts others → spelling parts ≡ spelling others → is_page_size (width_of parts) (height_of parts) ≡ true → (width_of parts ≡ width_of others) × (height_of parts ≡ height_of others)
+same_sides : (parts others : HeaderParts) → AreHeaderParts parts → AreHeaderParts others → header_spelling parts ≡ header_spelling others → is_page_size (width_of parts) (height_of parts) ≡ true → (width_of parts ≡ width_of others) × (height_of parts ≡ height_of others)
 same_sides parts others are others_are same size =
-    let ends = end_sizes (min (width_of parts) 16385) (min (height_of parts) 16385) (min (width_of others) 16385) (min (height_of others) 16385) (sym (run-spelling parts are) ∙ runs (spelling parts) others others_are same) in
+    let ends = end_sizes (min (width_of parts) 16385) (min (height_of parts) 16385) (min (width_of others) 16385) (min (height_of others) 16385) (sym (run-spelling parts are) ∙ runs (header_spelling parts) others others_are same) in
     let one = not_cut (width_of parts) (height_of parts) size in
     let other = not_cut (width_of others) (height_of others) (sym (same_size parts others are others_are same) ∙ size) in
     (sym one.0 ∙ ends.0 ∙ other.0, sym one.1 ∙ ends.1 ∙ other.1)
@@ -102,17 +102,17 @@ differ same = cc
 -- a header of a bad size begins no file
 bad_or_file : (bad : List ℕ) (x : List ℕ) (page : Page) (file y : List ℕ) → IsBadHeader bad → IsFile page file → bad ++ x ≡ file ++ y → ⊥
 bad_or_file bad x page file y is whole same =
-    let begins : bad ++ x ≡ spelling whole.parts ++ (whole.rows ++ y) = same ∙ ap (λ l. l ++ y) whole.spelled ∙ append_assoc (spelling whole.parts) whole.rows y in
-    let one = same_header bad (spelling whole.parts) x (whole.rows ++ y) (is.parts, is.header, is.spelled) (whole.parts, whole.header, refl) begins in
+    let begins : bad ++ x ≡ header_spelling whole.parts ++ (whole.rows ++ y) = same ∙ ap (λ l. l ++ y) whole.spelled ∙ append_assoc (header_spelling whole.parts) whole.rows y in
+    let one = same_header bad (header_spelling whole.parts) x (whole.rows ++ y) (is.parts, is.header, is.spelled) (whole.parts, whole.header, refl) begins in
     differ (sym whole.size ∙ sym (same_size is.parts whole.parts is.header whole.header (sym is.spelled ∙ one.0)) ∙ is.size)
 
 -- two files at the front of an input have one header, and rows of one length
 same_rows : (page other : Page) (file more x y : List ℕ) (one : IsFile page file) (two : IsFile other more) → file ++ x ≡ more ++ y →
-    (width_of one.parts ≡ width_of two.parts) × (height_of one.parts ≡ height_of two.parts) × (spelling one.parts ≡ spelling two.parts) × (one.rows ++ x ≡ two.rows ++ y) × (length one.rows ≡ length two.rows)
+    (width_of one.parts ≡ width_of two.parts) × (height_of one.parts ≡ height_of two.parts) × (header_spelling one.parts ≡ header_spelling two.parts) × (one.rows ++ x ≡ two.rows ++ y) × (length one.rows ≡ length two.rows)
 same_rows page other file more x y one two same =
-    let begins : spelling one.parts ++ (one.rows ++ x) ≡ spelling two.parts ++ (two.rows ++ y) =
-    sym (append_assoc (spelling one.parts) one.rows x) ∙ ap (λ l. l ++ x) (sym one.spelled) ∙ same ∙ ap (λ l. l ++ y) two.spelled ∙ append_assoc (spelling two.parts) two.rows y in
-    let joined = same_header (spelling one.parts) (spelling two.parts) (one.rows ++ x) (two.rows ++ y) (one.parts, one.header, refl) (two.parts, two.header, refl) begins in
+    let begins : header_spelling one.parts ++ (one.rows ++ x) ≡ header_spelling two.parts ++ (two.rows ++ y) =
+    sym (append_assoc (header_spelling one.parts) one.rows x) ∙ ap (λ l. l ++ x) (sym one.spelled) ∙ same ∙ ap (λ l. l ++ y) two.spelled ∙ append_assoc (header_spelling two.parts) two.rows y in
+    let joined = same_header (header_spelling one.parts) (header_spelling two.parts) (one.rows ++ x) (two.rows ++ y) (one.parts, one.header, refl) (two.parts, two.header, refl) begins in
     let sides = same_sides one.parts two.parts one.header two.header joined.0 one.size in
     (sides.0, sides.1, joined.0, joined.1, one.long ∙ (λ i. sides.1 i * bytes_per_line (sides.0 i)) ∙ sym two.long)
 
@@ -142,7 +142,7 @@ file_ends page other file x input more one begins some two =
 
 file_no_header : (page : Page) (file x read y : List ℕ) → IsFile page file → IsNoHeader read → file ++ x ≡ read ++ y → ⊥
 file_no_header page file x read y whole none same =
-    header_goes_on (spelling whole.parts) (whole.rows ++ x) read y (whole.parts, whole.header, refl) none (sym (append_assoc (spelling whole.parts) whole.rows x) ∙ ap (λ l. l ++ x) (sym whole.spelled) ∙ same)
+    header_goes_on (header_spelling whole.parts) (whole.rows ++ x) read y (whole.parts, whole.header, refl) none (sym (append_assoc (header_spelling whole.parts) whole.rows x) ∙ ap (λ l. l ++ x) (sym whole.spelled) ∙ same)
 
 no_header_cut : (input read y : List ℕ) → IsNoHeader read → input ≡ read ++ y → IsHeaderFront input ⊎ IsFileFront input → ⊥
 no_header_cut input read y none begins (inl (more, some, header)) = none.none (y ++ more, subst IsHeader (ap (λ l. l ++ more) begins ∙ append_assoc read y more) header)
@@ -156,7 +156,7 @@ bad_cut input bad x is begins (inr (more, some, page, file)) =
 
 file_cut : (page : Page) (input file x : List ℕ) → IsFile page file → input ≡ file ++ x → IsHeaderFront input ⊎ IsFileFront input → ⊥
 file_cut page input file x is begins (inl front) =
-    front_ends (spelling is.parts) (is.rows ++ x) input (is.parts, is.header, refl) (begins ∙ ap (λ l. l ++ x) is.spelled ∙ append_assoc (spelling is.parts) is.rows x) front
+    front_ends (header_spelling is.parts) (is.rows ++ x) input (is.parts, is.header, refl) (begins ∙ ap (λ l. l ++ x) is.spelled ∙ append_assoc (header_spelling is.parts) is.rows x) front
 file_cut page input file x is begins (inr (more, some, other, longer)) = file_ends page other file x input more is begins some longer
 
 bad_no_header : (bad x read y : List ℕ) → IsBadHeader bad → IsNoHeader read → bad ++ x ≡ read ++ y → ⊥

@@ -10,9 +10,9 @@ use Rattle.press_bits.specs.DotRows.{page_of_rows}
 use Rattle.press_bits.proofs.PageLemmas.{width-blank, height-blank}
 use Rattle.press_bits.specs.declared.bitmap.BlankError.{BlankError}
 use Rattle.press_bits.specs.declared.bitmap.BlankError.TheVariants as blanks
-use Rattle.press_pbm.specs.Header.{spelling, width_of, height_of}
+use Rattle.press_pbm.specs.Header.{header_spelling, width_of, height_of}
 use Rattle.press_pbm.specs.File.{IsFile, Refused}
-use Rattle.press_pbm.specs.Reading.{ReadHeader, Stopped}
+use Rattle.press_pbm.specs.Reading.{ReadHeader, StopsShort}
 use Rattle.press_pbm.specs.declared.fault.ReadPbmError.{ReadPbmError}
 use Rattle.press_pbm.specs.declared.fault.ReadPbmError.TheVariants.{NotPbm, BadSize, Truncated, ReadFault, NoMemory}
 
@@ -58,7 +58,7 @@ file_read width height had middle left old page rows header is white long reads 
     let (size, wide, high) = sizes width height had middle header is in
     let old_wide : old.width ≡ width_of header.parts = ap (λ (p : Page). p.width) white ∙ width-blank width height ∙ wide in
     let old_high : old.height ≡ height_of header.parts = ap (λ (p : Page). p.height) white ∙ height-blank width height ∙ high in (
-      spelling header.parts ++ rows,
+      header_spelling header.parts ++ rows,
       record {
         parts = header.parts;
         header = header.header;
@@ -68,12 +68,12 @@ file_read width height had middle left old page rows header is white long reads 
         long = long ∙ (λ i. old_high i * bytes_per_line (old_wide i));
         shows = shown ∙ (λ i. page_of_rows (old_wide i) (old_high i) rows);
       },
-      Consumes-trans had middle left (spelling header.parts) rows header.read reads,
+      Consumes-trans had middle left (header_spelling header.parts) rows header.read reads,
     )
 
 -- the input ended within the rows
 pub rows_stopped : (error : ReadPbmError) (width height : ℕ) (had middle left : Option (List ℕ)) (old : Page) → ReadHeader (width, height) had middle → is_page_size width height ≡ true → old ≡ blank width height →
-    Stopped error (old.height * bytes_per_line old.width) middle left → Refused error had left
+    StopsShort error (old.height * bytes_per_line old.width) middle left → Refused error had left
 rows_stopped Truncated width height had middle left old header is white (rows, few, reads, ends) =
     let (size, wide, high) = sizes width height had middle header is in
     let old_wide : old.width ≡ width_of header.parts = ap (λ (p : Page). p.width) white ∙ width-blank width height ∙ wide in
@@ -83,8 +83,8 @@ rows_stopped Truncated width height had middle left old header is white (rows, f
     let more : List ℕ = replicate (count - length rows) 0 in
     let long : length more ≡ count - length rows = length-replicate (count - length rows) 0 in
     let page : Page = page_of_rows (width_of header.parts) (height_of header.parts) (rows ++ more) in (
-      spelling header.parts ++ rows,
-      Consumes-trans had middle left (spelling header.parts) rows header.read reads,
+      header_spelling header.parts ++ rows,
+      Consumes-trans had middle left (header_spelling header.parts) rows header.read reads,
       ends,
       inr (
         more,
@@ -94,7 +94,7 @@ rows_stopped Truncated width height had middle left old header is white (rows, f
           parts = header.parts;
           header = header.header;
           rows = rows ++ more;
-          spelled = append_assoc (spelling header.parts) rows more;
+          spelled = append_assoc (header_spelling header.parts) rows more;
           size = size;
           long = length-append rows more ∙ omega arith;
           shows = refl;

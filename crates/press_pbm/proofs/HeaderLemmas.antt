@@ -5,7 +5,7 @@ use Rattle.std.specs.List.{AllByRecursion, fold}
 use Rattle.std.specs.Char.{is_ascii_digit}
 use Rattle.std.proofs.lemmas.Bool.Decides.{nat_tests}
 use Rattle.press_units.specs.Value.{number_of}
-use Rattle.press_pbm.specs.Header.{is_white, is_line_end, Piece, White, Comment, IsPiece, piece_bytes, gap_bytes, IsGap, IsNumber, Parts, spelling, AreParts, width_of, height_of, IsHeader, BeginsHeader, IsHeaderFront}
+use Rattle.press_pbm.specs.Header.{is_white_space, is_line_end, Piece, White, Comment, IsPiece, piece_bytes, gap_bytes, IsGap, IsNumber, HeaderParts, header_spelling, AreHeaderParts, width_of, height_of, IsHeader, BeginsHeader, IsHeaderFront}
 use Rattle.press_pbm.specs.Reading.{with_digit, place_in_gap, place_after, least_behind_gap, least_behind}
 use Rattle.press_pbm.specs.declared.place.Side.{Side}
 use Rattle.press_pbm.specs.declared.place.Side.TheVariants.{Width, Height}
@@ -33,7 +33,7 @@ run-byte place next after byte bytes first others_run = ap (option_and_then (λ 
 
 -- ---- the parts of a header are read
 
-white_no_digit : (byte : ℕ) → is_white byte ≡ true → is_ascii_digit byte ≡ false
+white_no_digit : (byte : ℕ) → is_white_space byte ≡ true → is_ascii_digit byte ≡ false
 white_no_digit byte is = grind (arith, nat_tests)
 
 -- a gap before this side may begin at the place
@@ -49,7 +49,7 @@ opens-gap side byte not_digit = ap (λ t. if t then Some (at.Number side (with_d
 opens-width : (number : ℕ) → OpensGap (at.Number Width number) (Height number)
 opens-width number byte not_digit = ap (λ t. if t then Some (at.Number Width (with_digit number byte)) else place_in_gap (Height number) byte) not_digit
 
-in_gap-white : (side : Side) (byte : ℕ) → is_white byte ≡ true → place_in_gap side byte ≡ Some (at.Gap side)
+in_gap-white : (side : Side) (byte : ℕ) → is_white_space byte ≡ true → place_in_gap side byte ≡ Some (at.Gap side)
 in_gap-white side byte is = ap (λ t. if t then Some (at.Gap side) else (if nat_eq byte 35 then Some (at.Comment side) else None)) is
 
 comment_text : (side : Side) (text : List ℕ) → AllByRecursion (λ byte. is_line_end byte ≡ false) text → run (at.Comment side) text ≡ Some (at.Comment side)
@@ -81,7 +81,7 @@ run-gap place side (piece ∷ pieces) opens (some, (is, are)) =
 one_more_digit : (side : Side) (number byte : ℕ) → is_ascii_digit byte ≡ true → place_after (at.Number side number) byte ≡ Some (at.Number side (with_digit number byte))
 one_more_digit Width number byte is = ap (λ t. if t then Some (at.Number Width (with_digit number byte)) else place_in_gap (Height number) byte) is
 one_more_digit (Height width) number byte is =
-    ap (λ t. if t then Some (at.Number (Height width) (with_digit number byte)) else (if is_white byte then Some (at.End width number) else None)) is
+    ap (λ t. if t then Some (at.Number (Height width) (with_digit number byte)) else (if is_white_space byte then Some (at.End width number) else None)) is
 
 cut_digit : (number digit : ℕ) → with_digit (min number 16385) digit ≡ min (10 * number + (digit - 48)) 16385
 cut_digit number digit = omega arith
@@ -102,15 +102,15 @@ run-number side (digit ∷ digits) (some, (is, are)) =
     (ap (λ t. if t then Some (at.Number side (with_digit 0 digit)) else place_in_gap side digit) is)
     (run-digits side (10 * 0 + (digit - 48)) digits are)
 
-run-last : (width height byte : ℕ) → is_white byte ≡ true → run (at.Number (Height width) height) (byte ∷ []) ≡ Some (at.End width height)
+run-last : (width height byte : ℕ) → is_white_space byte ≡ true → run (at.Number (Height width) height) (byte ∷ []) ≡ Some (at.End width height)
 run-last width height byte is =
     run-byte (at.Number (Height width) height) (at.End width height) (Some (at.End width height)) byte []
-    (ap (λ t. if t then Some (at.Number (Height width) (with_digit height byte)) else (if is_white byte then Some (at.End width height) else None)) (white_no_digit byte is)
+    (ap (λ t. if t then Some (at.Number (Height width) (with_digit height byte)) else (if is_white_space byte then Some (at.End width height) else None)) (white_no_digit byte is)
     ∙ ap (λ t. if t then Some (at.End width height) else None) is)
     refl
 
 -- a header is read to its end, with its sizes cut
-pub run-spelling : (parts : Parts) → AreParts parts → run at.Start (spelling parts) ≡ Some (at.End (min (width_of parts) 16385) (min (height_of parts) 16385))
+pub run-spelling : (parts : HeaderParts) → AreHeaderParts parts → run at.Start (header_spelling parts) ≡ Some (at.End (min (width_of parts) 16385) (min (height_of parts) 16385))
 run-spelling parts are =
     run-then at.Magic (at.Gap Width) _ (gap_bytes parts.before_width) _ (run-gap at.Magic Width parts.before_width opens-magic are.before_width)
     (run-then (at.Gap Width) (at.Number Width w) _ parts.width _ (run-number Width parts.width are.width)
@@ -166,7 +166,7 @@ record InComment (Rest : List ℕ → Type 0) (bytes : List ℕ) : Type 0 where
 
 record Last (bytes : List ℕ) : Type 0 where
   last : ℕ
-  white : is_white last ≡ true
+  white : is_white_space last ≡ true
   is : bytes ≡ last ∷ []
 
 abbrev BehindNumber : Side → List ℕ → Type 0
@@ -197,7 +197,7 @@ is_byte : (byte n : ℕ) → nat_eq byte n ≡ true → byte ≡ n
 is_byte byte n is = grind (arith, nat_tests)
 
 -- a byte of white space before pieces, and a comment before pieces
-white_before : (Rest : List ℕ → Type 0) (byte : ℕ) (bytes : List ℕ) → is_white byte ≡ true → Pieces Rest bytes → GapOf Rest (byte ∷ bytes)
+white_before : (Rest : List ℕ → Type 0) (byte : ℕ) (bytes : List ℕ) → is_white_space byte ≡ true → Pieces Rest bytes → GapOf Rest (byte ∷ bytes)
 white_before Rest byte bytes white pieces = record {
   pieces = White byte ∷ pieces.pieces;
   are = (omega arith, (white, pieces.are));
@@ -225,7 +225,7 @@ pieces_of Rest bytes gap = record { pieces = gap.pieces; are = gap.are.1; rest =
 
 gap_before : (side : Side) (next : Place) (byte : ℕ) (bytes : List ℕ) → place_in_gap side byte ≡ Some next → Behind next bytes → GapOf (Num (BehindNumber side)) (byte ∷ bytes)
 gap_before side next byte bytes is behind =
-    elim (chosen (is_white byte) (at.Gap side) next (if nat_eq byte 35 then Some (at.Comment side) else None) is) [
+    elim (chosen (is_white_space byte) (at.Gap side) next (if nat_eq byte 35 then Some (at.Comment side) else None) is) [
       | inl (white, same) ↦ white_before (Num (BehindNumber side)) byte bytes white (subst (λ p. Behind p bytes) (sym same) behind)
       | inr (_, other) ↦
           elim (chosen (nat_eq byte 35) (at.Comment side) next None other) [
@@ -306,10 +306,10 @@ step (at.Number Width number) next byte bytes is behind =
       | inr (_, other) ↦ no_digit (BehindNumber Width) (byte ∷ bytes) (gap_before (Height number) next byte bytes other behind)
     ]
 step (at.Number (Height width) number) next byte bytes is behind =
-    elim (chosen (is_ascii_digit byte) (at.Number (Height width) (with_digit number byte)) next (if is_white byte then Some (at.End width number) else None) is) [
+    elim (chosen (is_ascii_digit byte) (at.Number (Height width) (with_digit number byte)) next (if is_white_space byte then Some (at.End width number) else None) is) [
       | inl (digit, same) ↦ digit_before Last byte bytes digit (subst (λ p. Behind p bytes) (sym same) behind)
       | inr (_, other) ↦
-          elim (chosen (is_white byte) (at.End width number) next None other) [
+          elim (chosen (is_white_space byte) (at.End width number) next None other) [
             | inl (white, same) ↦ no_digit Last (byte ∷ bytes) (record { last = byte; white = white; is = ap (λ l. byte ∷ l) (subst (λ p. Behind p bytes) (sym same) behind) })
             | inr (_, none) ↦ never next (Digits Last (byte ∷ bytes)) none
           ]
@@ -328,9 +328,9 @@ run-Behind place (byte ∷ bytes) width height is =
 
 -- the parts of a header that was read to its end
 pub record Found (bytes : List ℕ) (width height : ℕ) : Type 0 where
-  pub parts : Parts
-  pub are : AreParts parts
-  pub is : bytes ≡ spelling parts
+  pub parts : HeaderParts
+  pub are : AreHeaderParts parts
+  pub is : bytes ≡ header_spelling parts
   pub width_is : width ≡ min (width_of parts) 16385
   pub height_is : height ≡ min (height_of parts) 16385
 
@@ -342,14 +342,14 @@ found bytes width height is short =
     let (rest, letter, behind) = run-Behind at.Start bytes width height is in
     let (others, digit, gap) = behind in
     let second : GapOf (Num Last) gap.follows.rest = gap.follows.follows in
-    let parts : Parts = record { before_width = gap.pieces; width = gap.follows.digits; before_height = second.pieces; height = second.follows.digits; last = second.follows.follows.last } in
-    let whole : bytes ≡ spelling parts =
+    let parts : HeaderParts = record { before_width = gap.pieces; width = gap.follows.digits; before_height = second.pieces; height = second.follows.digits; last = second.follows.follows.last } in
+    let whole : bytes ≡ header_spelling parts =
     letter ∙ ap (λ l. 80 ∷ l) digit ∙ ap (λ l. 80 ∷ 52 ∷ l) (gap.is
     ∙ ap (λ l. gap_bytes gap.pieces ++ l) (gap.follows.is
     ∙ ap (λ l. gap.follows.digits ++ l) (second.is
     ∙ ap (λ l. gap_bytes second.pieces ++ l) (second.follows.is
     ∙ ap (λ l. second.follows.digits ++ l) second.follows.follows.is)))) in
-    let are : AreParts parts = record {
+    let are : AreHeaderParts parts = record {
       before_width = gap.are;
       width = gap.follows.are;
       before_height = second.are;
@@ -388,7 +388,7 @@ chosen_least false place next other n is one others = others is
 
 gap_least : (side : Side) (next : Place) (byte n : ℕ) → place_in_gap side byte ≡ Some next → n ≤ least_behind_gap side + 1 → n ≤ least_behind next + 1
 gap_least side next byte n is few =
-    chosen_least (is_white byte) (at.Gap side) next (if nat_eq byte 35 then Some (at.Comment side) else None) n is few
+    chosen_least (is_white_space byte) (at.Gap side) next (if nat_eq byte 35 then Some (at.Comment side) else None) n is few
     (λ other. chosen_least (nat_eq byte 35) (at.Comment side) next None n other (omega arith) (λ none. never next (n ≤ least_behind next + 1) none))
 
 step_least : (place next : Place) (byte : ℕ) → place_after place byte ≡ Some next → least_behind place ≤ least_behind next + 1
@@ -403,8 +403,8 @@ step_least (at.Comment side) next byte is =
 step_least (at.Number Width number) next byte is =
     chosen_least (is_ascii_digit byte) (at.Number Width (with_digit number byte)) next (place_in_gap (Height number) byte) 3 is (omega arith) (λ other. gap_least (Height number) next byte 3 other (omega arith))
 step_least (at.Number (Height width) number) next byte is =
-    chosen_least (is_ascii_digit byte) (at.Number (Height width) (with_digit number byte)) next (if is_white byte then Some (at.End width number) else None) 1 is (omega arith)
-    (λ other. chosen_least (is_white byte) (at.End width number) next None 1 other (omega arith) (λ none. never next (1 ≤ least_behind next + 1) none))
+    chosen_least (is_ascii_digit byte) (at.Number (Height width) (with_digit number byte)) next (if is_white_space byte then Some (at.End width number) else None) 1 is (omega arith)
+    (λ other. chosen_least (is_white_space byte) (at.End width number) next None 1 other (omega arith) (λ none. never next (1 ≤ least_behind next + 1) none))
 step_least (at.End width height) next byte is = never next (0 ≤ least_behind next + 1) is
 
 -- no fewer bytes complete a header

@@ -9,7 +9,7 @@ use Rattle.std.proofs.lemmas.Bool.{cases_lt}
 use Rattle.std.proofs.lemmas.Nat.Bits.{bit_at-suc, bit_at_lowest, bit_at-lt, same_from_bits_below}
 use Rattle.press_bits.specs.Page.{Page, black_at, HasNoDotOutside}
 use Rattle.press_bits.specs.Mark.{row_dot, byte_dot}
-use Rattle.press_bits.specs.Lines.{bytes_per_line, IsLine}
+use Rattle.press_bits.specs.Lines.{bytes_per_line, IsPageLine}
 use Rattle.press_pbm.specs.Spelling.{byte_of_dots, line_bytes}
 
 -- a dot as a binary digit
@@ -101,9 +101,9 @@ white_right page x y none right = white (black_at page x y) (none.inside x y) wh
   white false inside = refl
 
 -- a line of bytes is what the page's dots make
-pub IsLine-line_bytes : (page : Page) (y : ℕ) (bytes : List ℕ) → HasNoDotOutside page → ((i : ℕ) → get_or bytes i 0 < 256) → IsLine page y bytes → bytes ≡ line_bytes page y
+pub IsPageLine-line_bytes : (page : Page) (y : ℕ) (bytes : List ℕ) → HasNoDotOutside page → ((i : ℕ) → get_or bytes i 0 < 256) → IsPageLine page y bytes → bytes ≡ line_bytes page y
 unfolding line_bytes
-IsLine-line_bytes page y bytes none small is =
+IsPageLine-line_bytes page y bytes none small is =
     same_lists bytes (map byte (range_with_len 0 n)) (is.long ∙ sym (length-map-range_with_len byte 0 n))
     (λ i d within. get_or_default bytes i d 0 within ∙ byte_of_dots-byte_dot (get_or bytes i 0) (λ j. black_at page (8 * i + j) y) (small i) (λ j inside. row_dot-byte bytes i j inside ∙ dot (8 * i + j)) ∙ sym (get_or-map-range_with_len byte 0 n i i d (subst (λ l. i < l) is.long within) (omega arith)))
   where

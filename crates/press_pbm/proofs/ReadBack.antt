@@ -12,9 +12,9 @@ use Rattle.press_bits.specs.Mark.{row_dot, byte_dot}
 use Rattle.press_bits.specs.Lines.{bytes_per_line}
 use Rattle.press_bits.specs.DotRows.{page_of_rows}
 use Rattle.press_bits.proofs.PageLemmas.{page_where_itself, page_where_alike}
-use Rattle.press_pbm.specs.Header.{White, IsNumber, Parts, spelling}
+use Rattle.press_pbm.specs.Header.{White, IsNumber, HeaderParts, header_spelling}
 use Rattle.press_pbm.specs.Spelling.{byte_of_dots, line_bytes}
-use Rattle.press_pbm.specs.Answer.{IsReadBack}
+use Rattle.press_pbm.specs.Answer.{WrittenIsFile}
 use Rattle.press_pbm.proofs.LineLemmas.{byte_dot-byte_of_dots}
 use Rattle.press_pbm.proofs.RowsLemmas.{row_dot-front, row_dot-behind}
 
@@ -98,14 +98,14 @@ page_of_lines page none =
 sides : (width height : ℕ) → is_page_size width height ≡ true → (width < 100000) × (height < 100000)
 sides width height is = (grind (arith, nat_tests), grind (arith, nat_tests))
 
-pub read_back : IsReadBack
+pub read_back : WrittenIsFile
 read_back page size none =
     let (wide, high) = sides page.width page.height size in
     let rows : List ℕ = flat_map (line_bytes page) (range_with_len 0 page.height) in
-    let parts : Parts = record { before_width = White 10 ∷ []; width = decimal page.width; before_height = White 32 ∷ []; height = decimal page.height; last = 10 } in
+    let parts : HeaderParts = record { before_width = White 10 ∷ []; width = decimal page.width; before_height = White 32 ∷ []; height = decimal page.height; last = 10 } in
     let width_is = (decimal_is page.width (omega arith)).1 in
     let height_is = (decimal_is page.height (omega arith)).1 in
-    let short : length (spelling parts) ≤ 65536 =
+    let short : length (header_spelling parts) ≤ 65536 =
     header_short (decimal page.width) (decimal page.height) (length-decimal-le 5 page.width (omega arith) (omega arith) (omega arith)) (length-decimal-le 5 page.height (omega arith) (omega arith) (omega arith)) in
     record {
       parts = parts;

@@ -5,7 +5,7 @@ use Rattle.std.specs.Io.KnownBytes.{Consumes}
 use Rattle.std.proofs.KnownBytes.{Consumes-trans}
 use Rattle.press_pbm.specs.Header.{BeginsHeader}
 use Rattle.press_pbm.specs.File.{Refused, IsNoHeader}
-use Rattle.press_pbm.specs.Reading.{Stopped, ReadHeader, place_after, least_behind}
+use Rattle.press_pbm.specs.Reading.{StopsShort, ReadHeader, place_after, least_behind}
 use Rattle.press_pbm.specs.declared.fault.ReadPbmError.{ReadPbmError}
 use Rattle.press_pbm.specs.declared.fault.ReadPbmError.TheVariants.{NotPbm, BadSize, Truncated, ReadFault, NoMemory}
 use Rattle.press_pbm.specs.declared.place.Place.{Place}
@@ -31,7 +31,7 @@ one_more had middle left read buffer first one more = subst (λ l. Consumes had 
 
 -- the next byte was not read
 pub stopped_in_header : (error : ReadPbmError) (had middle left : Option (List ℕ)) (read : List ℕ) (place : Place) (wanted : ℕ) → Consumes had middle read → run at.Start read ≡ Some place →
-    length read + least_behind place ≤ 65536 → 0 < least_behind place → wanted ≡ 1 → Stopped error wanted middle left → Refused error had left
+    length read + least_behind place ≤ 65536 → 0 < least_behind place → wanted ≡ 1 → StopsShort error wanted middle left → Refused error had left
 stopped_in_header Truncated had middle left read place wanted first is short some one (none, few, more, ends) =
     let nothing : read ++ none ≡ read = ap (λ l. read ++ l) (no_byte none (omega arith)) ∙ append-nil read in
     (read, subst (Consumes had left) nothing (Consumes-trans had middle left read none first more), ends, inl (cut_header read place is short some))

@@ -11,12 +11,12 @@ use Rattle.std.proofs.lemmas.List.{get_or_append_left, get_or-append-add, get_or
 use Rattle.std.proofs.lemmas.Bool.Decides.{nat_tests}
 use Rattle.press_bits.specs.DotRule.{dot_after, both_transparent}
 use Rattle.press_bits.specs.Page.{Page, black_at, blank}
-use Rattle.press_bits.specs.Mark.{Row, painted, row_dot, byte_dot, Mark, solid_black, row_mark, effect_at}
+use Rattle.press_bits.specs.Mark.{Row, painted, row_dot, byte_dot, Mark, eight_black, row_mark, effect_at}
 use Rattle.press_bits.specs.DotRows.{page_of_rows}
 use Rattle.press_bits.specs.Lines.{bytes_per_line}
 use Rattle.press_bits.proofs.DotRowsLemmas.{width-page_of_rows, height-page_of_rows, page_of_rows-HasNoDotOutside, black_at-page_of_rows, white_page_of_rows}
-use Rattle.press_bits.proofs.MarkLemmas.{painted_by_effects, row_lands, repeated-solid_black, blackens, effect_where}
-use Rattle.press_pbm.specs.Reading.{Stopped}
+use Rattle.press_bits.proofs.MarkLemmas.{painted_by_effects, row_lands, repeated-eight_black, blackens, effect_where}
+use Rattle.press_pbm.specs.Reading.{StopsShort}
 use Rattle.press_pbm.specs.declared.fault.ReadPbmError.{ReadPbmError}
 use Rattle.press_pbm.specs.declared.fault.ReadPbmError.TheVariants.{NotPbm, BadSize, Truncated, ReadFault, NoMemory}
 
@@ -79,7 +79,7 @@ row_more w n y v x rows row wide long one within =
 
 -- the mark of a row of a file
 abbrev file_row : (line : ℤ) → List ℕ → (dots : ℕ) → Mark
-file_row line row dots = row_mark (pos 0) line (record { bits = row; dots = dots }) solid_black both_transparent
+file_row line row dots = row_mark (pos 0) line (record { bits = row; dots = dots }) eight_black both_transparent
 
 -- a row is painted below the rows above it
 painted-page_of_rows : (w h y : ℕ) (rows row : List ℕ) → length rows ≡ y * bytes_per_line w → length row ≡ bytes_per_line w →
@@ -107,13 +107,13 @@ painted-page_of_rows w h y rows row long one =
         ∙ row_more w (bytes_per_line w) y v x rows row full long one wide
         ∙ ap (λ b. b || (test && row_dot row (0 + (x - 0)))) (sym (black_at-page_of_rows w h rows x v wide high))
         ∙ sym (blackens test (row_dot row (0 + (x - 0))) (black_at (page_of_rows w h rows) x v))
-        ∙ ap (λ t. dot_after (effect_where test both_transparent (row_dot row (0 + (x - 0))) t) (black_at (page_of_rows w h rows) x v)) (sym (repeated-solid_black x))
+        ∙ ap (λ t. dot_after (effect_where test both_transparent (row_dot row (0 + (x - 0))) t) (black_at (page_of_rows w h rows) x v)) (sym (repeated-eight_black x))
         ∙ ap (λ e. dot_after e (black_at (page_of_rows w h rows) x v))
-        (sym (row_lands (pos 0) (pos y) (record { bits = row; dots = w }) solid_black both_transparent 0 0 w y w x v refl (inl refl) refl count wide))
+        (sym (row_lands (pos 0) (pos y) (record { bits = row; dots = w }) eight_black both_transparent 0 0 w y w x v refl (inl refl) refl count wide))
 
 -- the page after a row was painted
 pub row_painted : (w h y dots : ℕ) (line : ℤ) (pattern : Row) (rows row : List ℕ) (old new : Page) →
-    new ≡ painted old (row_mark (pos 0) line (record { bits = row; dots = dots }) pattern both_transparent) → pattern ≡ solid_black → old ≡ page_of_rows w h rows → line ≡ pos y → dots ≡ w →
+    new ≡ painted old (row_mark (pos 0) line (record { bits = row; dots = dots }) pattern both_transparent) → pattern ≡ eight_black → old ≡ page_of_rows w h rows → line ≡ pos y → dots ≡ w →
     length rows ≡ y * bytes_per_line w → length row ≡ bytes_per_line w → new ≡ page_of_rows w h (rows ++ row)
 row_painted w h y dots line pattern rows row old new is solid shown at_line wide long one =
     is
@@ -122,7 +122,7 @@ row_painted w h y dots line pattern rows row old new is solid shown at_line wide
 
 -- the rest of the rows was not read
 pub stopped_in_rows : (error : ReadPbmError) (had middle left : Option (List ℕ)) (rows : List ℕ) (n y height wanted : ℕ) → Consumes had middle rows → length rows ≡ y * n → y < height → wanted ≡ n →
-    Stopped error wanted middle left → Stopped error (height * n) had left
+    StopsShort error wanted middle left → StopsShort error (height * n) had left
 stopped_in_rows Truncated had middle left rows n y height wanted first long below_end one (read, few, more, ends) =
     let next : y + 1 ≤ height = omega arith in
     (rows ++ read, omega (arith, mul-le-mul_right n next, length-append rows read), Consumes-trans had middle left rows read first more, ends)

@@ -24,5 +24,5 @@ abbrev pub HasOneAnswer : Type 0
 HasOneAnswer = (input : List ℕ) (answer other : Answer) → Answers input answer → Answers input other → answer ≡ other
 
 -- What a page of a bitmap's size is written as is a file of that page.
-abbrev pub IsReadBack : Type 0
-IsReadBack = (page : Page) → is_page_size page.width page.height ≡ true → HasNoDotOutside page → IsFile page (file_of page)
+abbrev pub WrittenIsFile : Type 0
+WrittenIsFile = (page : Page) → is_page_size page.width page.height ≡ true → HasNoDotOutside page → IsFile page (file_of page)

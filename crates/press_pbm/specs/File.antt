@@ -4,26 +4,26 @@ use Rattle.std.specs.Io.KnownBytes.{Consumes, IsAtEnd}
 use Rattle.press_bits.specs.Page.{Page, is_page_size}
 use Rattle.press_bits.specs.Lines.{bytes_per_line}
 use Rattle.press_bits.specs.DotRows.{page_of_rows}
-use Rattle.press_pbm.specs.Header.{Parts, AreParts, spelling, width_of, height_of, BeginsHeader, IsHeaderFront}
+use Rattle.press_pbm.specs.Header.{HeaderParts, AreHeaderParts, header_spelling, width_of, height_of, BeginsHeader, IsHeaderFront}
 use Rattle.press_pbm.specs.declared.fault.ReadPbmError.{ReadPbmError}
 use Rattle.press_pbm.specs.declared.fault.ReadPbmError.TheVariants.{NotPbm, BadSize, Truncated, ReadFault, NoMemory}
 
 -- The bytes are a P4 file of the page: a header with the page's size, and the rows of its dots, each from a new byte on. The
 -- bits behind the last dot of a row may be any.
 pub record IsFile (page : Page) (bytes : List ℕ) : Type 0 where
-  pub parts : Parts
-  pub header : AreParts parts
+  pub parts : HeaderParts
+  pub header : AreHeaderParts parts
   pub rows : List ℕ
-  pub spelled : bytes ≡ spelling parts ++ rows
+  pub spelled : bytes ≡ header_spelling parts ++ rows
   pub size : is_page_size (width_of parts) (height_of parts) ≡ true
   pub long : length rows ≡ height_of parts * bytes_per_line (width_of parts)
   pub shows : page ≡ page_of_rows (width_of parts) (height_of parts) rows
 
 -- The bytes are a header whose size no page has.
 pub record IsBadHeader (bytes : List ℕ) : Type 0 where
-  pub parts : Parts
-  pub header : AreParts parts
-  pub spelled : bytes ≡ spelling parts
+  pub parts : HeaderParts
+  pub header : AreHeaderParts parts
+  pub spelled : bytes ≡ header_spelling parts
   pub size : is_page_size (width_of parts) (height_of parts) ≡ false
 
 -- The bytes are a front of a P4 file, and not all of it.

@@ -2,7 +2,7 @@
 use Rattle.std.specs.Prelude.{◌≡◌, ℕ, ◌+◌, ◌-◌, ◌*◌, ◌<◌, ◌==◌, min, if◌then◌else◌, List, length, Option, Some, None, ⊤}
 use Rattle.std.specs.Char.{is_ascii_digit}
 use Rattle.std.specs.Io.KnownBytes.{Consumes, IsAtEnd}
-use Rattle.press_pbm.specs.Header.{is_white, is_line_end, Parts, AreParts, spelling, width_of, height_of}
+use Rattle.press_pbm.specs.Header.{is_white_space, is_line_end, HeaderParts, AreHeaderParts, header_spelling, width_of, height_of}
 use Rattle.press_pbm.specs.declared.fault.ReadPbmError.{ReadPbmError}
 use Rattle.press_pbm.specs.declared.fault.ReadPbmError.TheVariants.{NotPbm, BadSize, Truncated, ReadFault, NoMemory}
 use Rattle.press_pbm.specs.declared.place.Side.{Side}
@@ -16,7 +16,7 @@ with_digit number digit = min (10 * number + (digit - 48)) 16385
 
 -- the place behind a byte that begins a piece of a gap
 abbrev pub place_in_gap : Side → ℕ → Option Place
-place_in_gap side byte = if is_white byte then Some (Gap side) else (if byte == 35 then Some (Comment side) else None)
+place_in_gap side byte = if is_white_space byte then Some (Gap side) else (if byte == 35 then Some (Comment side) else None)
 
 -- the place behind one more byte, if a header may have it there
 abbrev pub place_after : Place → ℕ → Option Place
@@ -29,7 +29,7 @@ place_after (Number Width number) byte =
     if is_ascii_digit byte then Some (Number Width (with_digit number byte)) else place_in_gap (Height number) byte
 place_after (Number (Height width) number) byte =
     if is_ascii_digit byte then Some (Number (Height width) (with_digit number byte))
-    else (if is_white byte then Some (End width number) else None)
+    else (if is_white_space byte then Some (End width number) else None)
 place_after (End width height) byte = None
 
 -- how many bytes a header has at least behind a gap before this side, and behind its number
@@ -49,16 +49,16 @@ least_behind (End width height) = 0
 
 -- A header was read, and its size, cut to one above the greatest.
 pub record ReadHeader (size : ℕ × ℕ) (had left : Option (List ℕ)) : Type 0 where
-  pub parts : Parts
-  pub header : AreParts parts
-  pub read : Consumes had left (spelling parts)
+  pub parts : HeaderParts
+  pub header : AreHeaderParts parts
+  pub read : Consumes had left (header_spelling parts)
   pub width : size.0 ≡ min (width_of parts) 16385
   pub height : size.1 ≡ min (height_of parts) 16385
 
 -- Fewer bytes than were wanted were read: the input ended behind them, or a read failed.
-abbrev pub Stopped : ReadPbmError → (wanted : ℕ) → Option (List ℕ) → Option (List ℕ) → Type 0
-Stopped Truncated wanted had left = (read : List ℕ) × (length read < wanted) × Consumes had left read × IsAtEnd left
-Stopped ReadFault wanted had left = ⊤
-Stopped NotPbm wanted had left = ⊥
-Stopped BadSize wanted had left = ⊥
-Stopped NoMemory wanted had left = ⊥
+abbrev pub StopsShort : ReadPbmError → (wanted : ℕ) → Option (List ℕ) → Option (List ℕ) → Type 0
+StopsShort Truncated wanted had left = (read : List ℕ) × (length read < wanted) × Consumes had left read × IsAtEnd left
+StopsShort ReadFault wanted had left = ⊤
+StopsShort NotPbm wanted had left = ⊥
+StopsShort BadSize wanted had left = ⊥
+StopsShort NoMemory wanted had left = ⊥

@@ -1,5 +1,5 @@
 //! The laws of P4 files, each the contract of a function that does nothing.
-ghost use Rattle.press_pbm.specs.Answer.{HasOneAnswer, IsReadBack};
+ghost use Rattle.press_pbm.specs.Answer.{HasOneAnswer, WrittenIsFile};
 
 /// An input begins with at most one file, which is of one page; and where it does, no refusal of its text fits it. At most one
 /// refusal fits an input that begins with no file.
@@ -9,5 +9,5 @@ pub fn one_answer()
 
 /// What is written of a page is a file of that page. So it is read back, whatever follows it.
 pub fn read_back()
-    ensures { IsReadBack }
+    ensures { WrittenIsFile }
 {}

@@ -1,6 +1,6 @@
 //! Places in the header of a P4 file.
 ghost use Rattle.std.specs.Prelude.{◌≡◌};
-ghost use Rattle.press_pbm.specs.Header.{is_white, is_line_end};
+ghost use Rattle.press_pbm.specs.Header.{is_white_space, is_line_end};
 ghost use Rattle.press_pbm.specs.Reading.{with_digit, place_in_gap, place_after, least_behind_gap, least_behind};
 
 use press_bits::MAX_SIDE;
@@ -30,8 +30,8 @@ pub enum Place {
     End(u32, u32),
 }
 
-fn is_white(byte: u8) -> bool
-    ensures { result ≡ is_white byte }
+fn is_white_space(byte: u8) -> bool
+    ensures { result ≡ is_white_space byte }
 {
     matches!(byte, 9..=13 | b' ')
 }
@@ -57,7 +57,7 @@ impl Side {
     fn in_gap(self, byte: u8) -> Option<Place>
         ensures { result ≡ place_in_gap self byte }
     {
-        if is_white(byte) {
+        if is_white_space(byte) {
             Some(Place::Gap(self))
         } else if byte == b'#' {
             Some(Place::Comment(self))
@@ -96,7 +96,7 @@ impl Place {
                 Some(Place::Number(side, with_digit(number, byte)))
             }
             Place::Number(Side::Width, width) => Side::Height(width).in_gap(byte),
-            Place::Number(Side::Height(width), height) if is_white(byte) => {
+            Place::Number(Side::Height(width), height) if is_white_space(byte) => {
                 Some(Place::End(width, height))
             }
             _ => None,

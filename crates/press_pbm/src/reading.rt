@@ -4,7 +4,7 @@ ghost use Rattle.press_bits.specs.Page.{blank};
 ghost use Rattle.press_bits.specs.DotRows.{page_of_rows};
 ghost use Rattle.press_bits.specs.Lines.{bytes_per_line};
 ghost use Rattle.press_pbm.specs.File.{IsFile, Refused};
-ghost use Rattle.press_pbm.specs.Reading.{ReadHeader, Stopped};
+ghost use Rattle.press_pbm.specs.Reading.{ReadHeader, StopsShort};
 
 use crate::fault::ReadPbmError;
 use crate::place::Place;
@@ -31,7 +31,7 @@ const MOST_READS: u32 = u32::MAX;
 fn fill<R: Read>(input: &mut R, buffer: &mut [u8]) -> Result<(), ReadPbmError>
     ensures ok { OnOk result (Consumes (R.remaining input.old) (R.remaining input.new) buffer.new) }
     ensures err { IfErr result (λ error.
-        Stopped error (length buffer.new) (R.remaining input.old) (R.remaining input.new)) }
+        StopsShort error (length buffer.new) (R.remaining input.old) (R.remaining input.new)) }
 {
     let mut filled = 0;
     for _ in 0..MOST_READS {
@@ -84,7 +84,7 @@ fn read_rows<R: Read>(input: &mut R, page: &mut Bitmap) -> Result<(), ReadPbmErr
         × Consumes (R.remaining input.old) (R.remaining input.new) rows
         × (page.new ≡ page_of_rows page.old.width page.old.height rows)) }
     ensures err { IfErr result (λ error.
-        Stopped error (page.old.height * bytes_per_line page.old.width)
+        StopsShort error (page.old.height * bytes_per_line page.old.width)
         (R.remaining input.old) (R.remaining input.new)) }
 {
     let width = page.width() as usize;

@@ -7,7 +7,7 @@ use Rattle.std.proofs.lemmas.Option.{same_Some}
 use Rattle.indexmap.specs.IndexMap.{move_index}
 use Rattle.indexmap.proofs.MapLemmas.{Found-position, remove_entry-first}
 use Rattle.press_queue.specs.declared.entry.Entry.{Entry}
-use Rattle.press_queue.specs.Entries.{with_entry, without, moved_to}
+use Rattle.press_queue.specs.Entries.{with_entry, without_entry, moved_to}
 
 -- what stands at an index, from the key and the value there
 pair_at : (es : List (ℕ × Entry)) (i number : ℕ) (entry : Entry) → slice_get (keys_of es) i ≡ Some number
@@ -29,7 +29,7 @@ entry_at_index es i number entry index there =
     pair_at es i number entry (sym found.key ∙ some_key es number entry there) (sym found.value ∙ there)
 
 -- what stands at the index taken out, and what has the number taken out
-pub remove-without : (es : List (ℕ × Entry)) (i number : ℕ) → position (nat_eq number) (keys_of es) ≡ Some i → remove es i ≡ without number es
+pub remove-without : (es : List (ℕ × Entry)) (i number : ℕ) → position (nat_eq number) (keys_of es) ≡ Some i → remove es i ≡ without_entry number es
 remove-without es i number index = sym (remove_entry-first (nat_eq number) es i (Found-position (nat_eq number) es i index).first)
 
 -- an entry moved from the index of its number

@@ -4,7 +4,7 @@ use Rattle.std.specs.Map.{lookup}
 use Rattle.press_queue.specs.declared.command.EntryCommand.{EntryCommand}
 use Rattle.press_queue.specs.declared.entry.Entry.{Entry}
 use Rattle.press_queue.specs.declared.refusal.Refusal.TheVariants as refusals
-use Rattle.press_queue.specs.Entries.{are_up_to, with_entry, without, put, put_again, moved_to, place_of}
+use Rattle.press_queue.specs.Entries.{are_up_to, with_entry, without_entry, put, put_again, moved_to, place_of}
 use Rattle.press_queue.specs.Legal.{is_legal}
 use Rattle.press_queue.specs.Rows.{legal_at, legal_entry}
 
@@ -12,7 +12,7 @@ pub up_to_with_entry : (last number : ℕ) (entry : Entry) (es : List (ℕ × En
 up_to_with_entry last number entry [] h = refl
 up_to_with_entry last number entry (e ∷ es) h = grind (arith, rules, h, up_to_with_entry last number entry es)
 
-pub up_to_without : (last number : ℕ) (es : List (ℕ × Entry)) → are_up_to last es ≡ true → are_up_to last (without number es) ≡ true
+pub up_to_without : (last number : ℕ) (es : List (ℕ × Entry)) → are_up_to last es ≡ true → are_up_to last (without_entry number es) ≡ true
 up_to_without last number [] h = refl
 up_to_without last number (e ∷ es) h = grind (arith, rules, h, up_to_without last number es)
 
@@ -51,13 +51,13 @@ legal_there command (Some e) entry h = legal_is (is_legal command e.status) e en
 pub up_to_put_again : (last number : ℕ) (command : EntryCommand) (old new : Entry) (es : List (ℕ × Entry)) → are_up_to last es ≡ true
     → Ok old ≡ legal_entry command number es → are_up_to last (put_again number new es) ≡ true
 up_to_put_again last number command old new es h legal =
-    up_to_insert last number (place_of new.priority (without number es)) new (without number es)
+    up_to_insert last number (place_of new.priority (without_entry number es)) new (without_entry number es)
     (number_up_to last number old es h (legal_there command (lookup (nat_eq number) es) old legal)) (up_to_without last number es h)
 
 pub up_to_moved_to : (last index number : ℕ) (command : EntryCommand) (entry : Entry) (es : List (ℕ × Entry)) → are_up_to last es ≡ true
     → Ok entry ≡ legal_entry command number es → are_up_to last (moved_to index number entry es) ≡ true
 up_to_moved_to last index number command entry es h legal =
-    up_to_insert last number index entry (without number es)
+    up_to_insert last number index entry (without_entry number es)
     (number_up_to last number entry es h (legal_there command (lookup (nat_eq number) es) entry legal)) (up_to_without last number es h)
 
 pub up_to_put_next : (last : ℕ) (entry : Entry) (es : List (ℕ × Entry)) → are_up_to last es ≡ true → are_up_to (last + 1) (put (last + 1) entry es) ≡ true

@@ -6,16 +6,16 @@ use Rattle.press_queue.specs.declared.entry.Entry.{Entry}
 use Rattle.press_queue.specs.Status.{is_waiting, is_running, is_in_flight}
 
 -- the entry that has this number, if one has
-abbrev pub entry_of : ℕ → List (ℕ × Entry) → Option Entry
-entry_of number entries = lookup (nat_eq number) entries
+abbrev pub entry_numbered : ℕ → List (ℕ × Entry) → Option Entry
+entry_numbered number entries = lookup (nat_eq number) entries
 
 -- the entries, with another one under this number, at its place
 abbrev pub with_entry : ℕ → Entry → List (ℕ × Entry) → List (ℕ × Entry)
 with_entry number entry entries = set_value (nat_eq number) entries entry
 
 -- the entries without this one; the others keep their order
-abbrev pub without : ℕ → List (ℕ × Entry) → List (ℕ × Entry)
-without number entries = remove_entry (nat_eq number) entries
+abbrev pub without_entry : ℕ → List (ℕ × Entry) → List (ℕ × Entry)
+without_entry number entries = remove_entry (nat_eq number) entries
 
 -- the index of the first entry of lower priority, or the length
 abbrev pub place_of : ℕ → List (ℕ × Entry) → ℕ
@@ -27,11 +27,11 @@ put number entry entries = insert entries (place_of entry.priority entries) (num
 
 -- the entries, with this one taken out and put as a new one is
 abbrev pub put_again : ℕ → Entry → List (ℕ × Entry) → List (ℕ × Entry)
-put_again number entry entries = put number entry (without number entries)
+put_again number entry entries = put number entry (without_entry number entries)
 
 -- the entries, with this one at the index
 abbrev pub moved_to : ℕ → ℕ → Entry → List (ℕ × Entry) → List (ℕ × Entry)
-moved_to index number entry entries = insert (without number entries) index (number, entry)
+moved_to index number entry entries = insert (without_entry number entries) index (number, entry)
 
 -- the first entry that waits
 abbrev pub first_waiting : List (ℕ × Entry) → Option (ℕ × Entry)

@@ -12,7 +12,7 @@ use Rattle.press_queue.specs.declared.status.Status.TheVariants as statuses
 use Rattle.press_queue.specs.declared.status.End.{End}
 use Rattle.press_queue.specs.declared.status.QueueStatus.{QueueStatus}
 use Rattle.press_queue.specs.declared.status.QueueStatus.TheVariants as standings
-use Rattle.press_queue.specs.Entries.{entry_of, with_entry, without, put, put_again, moved_to, first_waiting, first_running, running_ones, count_in_flight}
+use Rattle.press_queue.specs.Entries.{entry_numbered, with_entry, without_entry, put, put_again, moved_to, first_waiting, first_running, running_ones, count_in_flight}
 use Rattle.press_queue.specs.Legal.{is_legal}
 use Rattle.press_queue.specs.Priority.{priority_of, position_within}
 use Rattle.press_queue.specs.State.{QueueState}
@@ -31,14 +31,14 @@ abbrev pub last_number : ℕ
 last_number = greatest_of_64_bits
 
 -- What a command answers: the queue after it, and a value or why it was refused.
-abbrev pub Answer : Type 0 → Type 0
-Answer A = QueueState × Result A Refusal
+abbrev pub QueueAnswer : Type 0 → Type 0
+QueueAnswer A = QueueState × Result A Refusal
 
 -- nothing changes
-abbrev pub refused : {A : Type 0} → QueueState → Refusal → Answer A
+abbrev pub refused : {A : Type 0} → QueueState → Refusal → QueueAnswer A
 refused queue refusal = (queue, Err refusal)
 
-abbrev pub accepted : QueueState → Answer (Unit {0})
+abbrev pub accepted : QueueState → QueueAnswer (Unit {0})
 accepted queue = (queue, Ok tt)
 
 -- the queue, with these entries
@@ -50,7 +50,7 @@ abbrev pub is_full : QueueState → Bool
 is_full queue = nat_le most_entries (length queue.entries) || nat_eq queue.last last_number
 
 -- The queue with a new entry under the next number, which is answered.
-abbrev pub submitted : ℕ → QueueState → Answer ℕ
+abbrev pub submitted : ℕ → QueueState → QueueAnswer ℕ
 submitted priority queue = (
   record queue {
     entries = put (queue.last + 1) (new_entry priority) queue.entries;
@@ -59,12 +59,12 @@ submitted priority queue = (
   Ok (queue.last + 1),
 )
 
-abbrev pub submitted_at : Option ℕ → QueueState → Answer ℕ
+abbrev pub submitted_at : Option ℕ → QueueState → QueueAnswer ℕ
 submitted_at None queue = refused queue BadPriority
 submitted_at (Some priority) queue = submitted priority queue
 
 -- SubmitQueueEntry: 23 closed, 24 full, 25 a bad priority; else a new entry that waits, before the first of lower priority.
-abbrev pub submit : ℤ → QueueState → Answer ℕ
+abbrev pub submit : ℤ → QueueState → QueueAnswer ℕ
 submit priority queue =
     if queue.closed then refused queue Closed
     else (if is_full queue then refused queue Full else submitted_at (priority_of priority) queue)
@@ -75,11 +75,11 @@ legal_at command None = Err Unknown
 legal_at command (Some entry) = if is_legal command entry.status then Ok entry else Err WrongStatus
 
 abbrev pub legal_entry : EntryCommand → ℕ → List (ℕ × Entry) → Result Entry Refusal
-legal_entry command number entries = legal_at command (entry_of number entries)
+legal_entry command number entries = legal_at command (entry_numbered number entries)
 
 -- what follows for that entry
 abbrev pub at_entry :
-    Result Entry Refusal → QueueState → (Entry → Answer (Unit {0})) → Answer (Unit {0})
+    Result Entry Refusal → QueueState → (Entry → QueueAnswer (Unit {0})) → QueueAnswer (Unit {0})
 at_entry (Err refusal) queue row = refused queue refusal
 at_entry (Ok entry) queue row = row entry
 
@@ -89,54 +89,54 @@ set_status number status entry queue =
     with_entries (with_entry number (record entry { status = status }) queue.entries) queue
 
 -- HoldQueueEntry: of a waiting entry; it is held.
-abbrev pub hold : ℕ → QueueState → Answer (Unit {0})
+abbrev pub hold : ℕ → QueueState → QueueAnswer (Unit {0})
 hold number queue =
     at_entry (legal_entry commands.Hold number queue.entries) queue
     (λ entry. accepted (set_status number statuses.Held entry queue))
 
 -- ResumeQueueEntry: of a held or suspended entry; it waits.
-abbrev pub resume : ℕ → QueueState → Answer (Unit {0})
+abbrev pub resume : ℕ → QueueState → QueueAnswer (Unit {0})
 resume number queue =
     at_entry (legal_entry commands.Resume number queue.entries) queue
     (λ entry. accepted (set_status number statuses.Waiting entry queue))
 
 -- SuspendQueueEntry: of a running entry; 27 where the most entries are in flight; it is suspended.
-abbrev pub suspend : ℕ → QueueState → Answer (Unit {0})
+abbrev pub suspend : ℕ → QueueState → QueueAnswer (Unit {0})
 suspend number queue =
     at_entry (legal_entry commands.Suspend number queue.entries) queue
     (λ entry. if nat_le most_in_flight (count_in_flight queue.entries) then refused queue InFlightFull
     else accepted (set_status number statuses.Suspended entry queue))
 
 -- AbortQueueEntry: of an entry that did not end; it is aborted.
-abbrev pub abort : ℕ → QueueState → Answer (Unit {0})
+abbrev pub abort : ℕ → QueueState → QueueAnswer (Unit {0})
 abort number queue =
     at_entry (legal_entry commands.Abort number queue.entries) queue
     (λ entry. accepted (set_status number statuses.Aborted entry queue))
 
 -- RemoveQueueEntry: of an entry that waits, is held or ended; it leaves the list.
-abbrev pub remove : ℕ → QueueState → Answer (Unit {0})
+abbrev pub remove : ℕ → QueueState → QueueAnswer (Unit {0})
 remove number queue =
     at_entry (legal_entry commands.Remove number queue.entries) queue
-    (λ entry. accepted (with_entries (without number queue.entries) queue))
+    (λ entry. accepted (with_entries (without_entry number queue.entries) queue))
 
-abbrev pub reprioritized : ℕ → Option ℕ → Entry → QueueState → Answer (Unit {0})
+abbrev pub reprioritized : ℕ → Option ℕ → Entry → QueueState → QueueAnswer (Unit {0})
 reprioritized number None entry queue = refused queue BadPriority
 reprioritized number (Some priority) entry queue =
     accepted (with_entries (put_again number (record entry { priority = priority }) queue.entries) queue)
 
 -- SetQueueEntryPriority: of an entry that waits or is held; 25 a bad priority; it gets the priority, and is put as a new one.
-abbrev pub set_priority : ℕ → ℤ → QueueState → Answer (Unit {0})
+abbrev pub set_priority : ℕ → ℤ → QueueState → QueueAnswer (Unit {0})
 set_priority number priority queue =
     at_entry (legal_entry commands.SetPriority number queue.entries) queue
     (λ entry. reprioritized number (priority_of priority) entry queue)
 
-abbrev pub repositioned : ℕ → Option ℕ → Entry → QueueState → Answer (Unit {0})
+abbrev pub repositioned : ℕ → Option ℕ → Entry → QueueState → QueueAnswer (Unit {0})
 repositioned number None entry queue = refused queue BadPosition
 repositioned number (Some index) entry queue =
     accepted (with_entries (moved_to index number entry queue.entries) queue)
 
 -- SetQueueEntryPosition: of an entry that waits or is held; 26 a bad position; it moves to that index, and keeps its priority.
-abbrev pub set_position : ℕ → ℤ → QueueState → Answer (Unit {0})
+abbrev pub set_position : ℕ → ℤ → QueueState → QueueAnswer (Unit {0})
 set_position number position queue =
     at_entry (legal_entry commands.SetPosition number queue.entries) queue
     (λ entry. repositioned number (position_within (length queue.entries) position) entry queue)
@@ -177,11 +177,11 @@ finish_at None number end queue = queue
 finish_at (Some entry) number end queue = set_status number (status_at_end end) entry queue
 
 abbrev pub finish : ℕ → End → QueueState → QueueState
-finish number end queue = finish_at (entry_of number queue.entries) number end queue
+finish number end queue = finish_at (entry_numbered number queue.entries) number end queue
 
 -- whether the entry of this number runs
 abbrev pub runs : ℕ → QueueState → Bool
-runs number queue = option_map_or (λ entry. is_running entry.status) (entry_of number queue.entries) false
+runs number queue = option_map_or (λ entry. is_running entry.status) (entry_numbered number queue.entries) false
 
 -- the number of the first entry that runs
 abbrev pub running : QueueState → Option ℕ

@@ -3,7 +3,7 @@
 ghost use Rattle.std.specs.Prelude.{◌≡◌, ◌<◌, IsSome, None, OnOk, OnErr, Some, option_map};
 ghost use Rattle.std.specs.Map.Iter.{deref_pair};
 ghost use Rattle.indexmap.specs.IndexMap.{index_map_len};
-ghost use Rattle.press_queue.specs.Entries.{entry_of, with_entry, place_of, put, put_again, moved_to, first_waiting, first_running, running_ones, count_in_flight};
+ghost use Rattle.press_queue.specs.Entries.{entry_numbered, with_entry, place_of, put, put_again, moved_to, first_waiting, first_running, running_ones, count_in_flight};
 
 use crate::entry::Entry;
 use indexmap::IndexMap;
@@ -12,8 +12,8 @@ use std::alloc::AllocError;
 pub type Entries = IndexMap<u64, Entry>;
 
 /// The entry that has this number.
-pub fn entry_of(entries: &Entries, number: u64) -> Option<Entry>
-    ensures { result ≡ entry_of number entries.now.entries }
+pub fn entry_numbered(entries: &Entries, number: u64) -> Option<Entry>
+    ensures { result ≡ entry_numbered number entries.now.entries }
 {
     entries.get(&number).copied()
 }
@@ -44,7 +44,7 @@ fn place_of(entries: &Entries, priority: u8) -> usize
 /// Puts a new entry before the first of lower priority. An `Err` changes nothing.
 #[tactic(auto, using(crate::proofs::PutLemmas::placed, crate::proofs::PutLemmas::place_within))]
 pub fn put(entries: &mut Entries, number: u64, entry: Entry) -> Result<(), AllocError>
-    requires { entry_of number entries.old.entries ≡ None }
+    requires { entry_numbered number entries.old.entries ≡ None }
     ensures ok { OnOk result (entries.new.entries ≡ put number entry entries.old.entries) }
     ensures err { OnErr result (entries.new.entries ≡ entries.old.entries) }
 {
@@ -55,7 +55,7 @@ pub fn put(entries: &mut Entries, number: u64, entry: Entry) -> Result<(), Alloc
 
 /// Takes an entry out, and puts it as a new one is, without asking for memory.
 pub fn put_again(entries: &mut Entries, number: u64, entry: Entry)
-    requires { IsSome (entry_of number entries.old.entries) }
+    requires { IsSome (entry_numbered number entries.old.entries) }
     ensures { entries.new.entries ≡ put_again number entry entries.old.entries }
 {
     if let Some(place) = entries.get_index_of(&number) {
@@ -70,7 +70,7 @@ pub fn put_again(entries: &mut Entries, number: u64, entry: Entry)
 
 /// Moves an entry to an index.
 pub fn move_to(entries: &mut Entries, index: usize, number: u64, entry: Entry)
-    requires there { entry_of number entries.old.entries ≡ Some entry }
+    requires there { entry_numbered number entries.old.entries ≡ Some entry }
     requires within { index < index_map_len entries.old }
     ensures { entries.new.entries ≡ moved_to index number entry entries.old.entries }
 {

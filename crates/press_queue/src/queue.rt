@@ -48,7 +48,7 @@ impl Model for Queue {
 impl Queue {
     ghost use Rattle.std.specs.Prelude.{◌≡◌, None, IfOk, IsTrue};
     ghost use Rattle.press_queue.specs.Answers.{Submits};
-    ghost use Rattle.press_queue.specs.Entries.{entry_of};
+    ghost use Rattle.press_queue.specs.Entries.{entry_numbered};
     ghost use Rattle.press_queue.specs.State.{empty_queue};
     ghost use Rattle.press_queue.specs.View.{shown};
     ghost use Rattle.press_queue.specs.Rows as rows;
@@ -74,7 +74,7 @@ impl Queue {
     /// ran out. Each changes nothing.
     pub fn submit(&mut self, priority: i128) -> Result<u64, SubmitError>
         ensures row { Submits (rows.submit priority self.old) self.old result self.new }
-        ensures fresh { IfOk result (λ number. entry_of number self.old.entries ≡ None) }
+        ensures fresh { IfOk result (λ number. entry_numbered number self.old.entries ≡ None) }
     {
         if self.closed {
             return Err(SubmitError::Refused(Refusal::Closed));
@@ -95,7 +95,7 @@ impl Queue {
     fn legal_entry(&self, command: EntryCommand, number: u64) -> Result<Entry, Refusal>
         ensures { result ≡ rows.legal_entry command number self.now.entries }
     {
-        match entries::entry_of(&self.entries, number) {
+        match entries::entry_numbered(&self.entries, number) {
             None => Err(Refusal::Unknown),
             Some(entry) if command.is_legal(entry.status) => Ok(entry),
             Some(_) => Err(Refusal::WrongStatus),
@@ -268,7 +268,7 @@ impl Queue {
         requires { IsTrue (rows.runs number self.old) }
         ensures { self.new ≡ rows.finish number end self.old }
     {
-        if let Some(entry) = entries::entry_of(&self.entries, number) {
+        if let Some(entry) = entries::entry_numbered(&self.entries, number) {
             self.set_status(number, entry, end.status());
         }
     }
@@ -306,16 +306,16 @@ impl Queue {
 
     /// The entry that has this number.
     pub fn entry(&self, number: u64) -> Option<Entry>
-        ensures { result ≡ entry_of number self.now.entries }
+        ensures { result ≡ entry_numbered number self.now.entries }
     {
-        entries::entry_of(&self.entries, number)
+        entries::entry_numbered(&self.entries, number)
     }
 
     /// Whether the entry of this number runs.
     pub fn is_running(&self, number: u64) -> bool
         ensures { result ≡ rows.runs number self.now }
     {
-        match entries::entry_of(&self.entries, number) {
+        match entries::entry_numbered(&self.entries, number) {
             Some(entry) => entry.status.is_running(),
             None => false,
         }

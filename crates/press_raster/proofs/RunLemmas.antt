@@ -10,7 +10,7 @@ use Rattle.press_page.specs.declared.media.Orientation.{Orientation}
 use Rattle.press_page.specs.declared.media.Orientation.TheVariants.{Portrait, Landscape, ReversePortrait, ReverseLandscape}
 use Rattle.press_pattern.specs.Tiling.{Tiling, tile_dot, tile_row}
 use Rattle.press_raster.specs.Along.{is_backward, along, dots_along}
-use Rattle.press_raster.specs.Reading.{read_dot, backward_from, line_of}
+use Rattle.press_raster.specs.Reading.{read_dot, backward_from, tile_line}
 use Rattle.press_raster.proofs.StripLemmas.{RunsAlong, frame_of}
 
 -- the column of the frame that lies so far along the page
@@ -32,18 +32,18 @@ along_within Landscape w h x y wide high = high
 along_within ReversePortrait w h x y wide high = wide
 along_within ReverseLandscape w h x y wide high = high
 
-repeated-line_of : (tile : Tiling) (column line : ℕ) → repeated (line_of tile line) column ≡ tile_dot tile column line
+repeated-tile_line : (tile : Tiling) (column line : ℕ) → repeated (tile_line tile line) column ≡ tile_dot tile column line
 unfolding repeated tile_dot
-repeated-line_of tile column line = refl
+repeated-tile_line tile column line = refl
 
 pub runs_forward : (o : Orientation) (w h left line : ℕ) (source : Row) (tile : Tiling) → is_backward o ≡ false →
-    RunsAlong o w h left source.dots line (dots_along (is_backward o) source) tile left source (line_of tile line)
+    RunsAlong o w h left source.dots line (dots_along (is_backward o) source) tile left source (tile_line tile line)
 runs_forward o w h left line source tile is = record {
   inside = λ x y _ _. λ i. nat_le left (column_forward o w h x y is i) && nat_lt (column_forward o w h x y is i) (left + source.dots);
   source_dots = λ x y _ _ _ _.
       ap (λ n. row_dot source.bits (n - left)) (column_forward o w h x y is)
       ∙ ap (λ b. dots_along b source ((placed_dot o w h x y).0 - left)) (sym is);
-  pattern_dots = λ x y _ _. repeated-line_of tile (along o x y) line ∙ ap (λ n. tile_dot tile n line) (column_forward o w h x y is);
+  pattern_dots = λ x y _ _. repeated-tile_line tile (along o x y) line ∙ ap (λ n. tile_dot tile n line) (column_forward o w h x y is);
 }
 
 -- a place in the tile, counted from the other end of a side
@@ -57,7 +57,7 @@ mirrored m side c some within =
 
 -- a row of a tile that was read backwards from the end of a side
 repeated-mirrored : (tile : Tiling) (line side c count : ℕ) (bits : List ℕ) → 1 ≤ tile.width → tile.width ≤ 8 * count → c < side →
-    ((i : ℕ) → i < 8 * count → row_dot bits i ≡ read_dot (backward_from (side - 1)) (line_of tile line) i) →
+    ((i : ℕ) → i < 8 * count → row_dot bits i ≡ read_dot (backward_from (side - 1)) (tile_line tile line) i) →
     repeated (record { bits = bits; dots = tile.width }) c ≡ tile_dot tile (side - 1 - c) line
 unfolding repeated tile_dot
 repeated-mirrored tile line side c count bits some room within is =
@@ -71,7 +71,7 @@ inside_backward left n side c a fits within at = grind (arith, nat_tests)
 
 pub runs_backward : (o : Orientation) (w h left line count : ℕ) (source : Row) (tile : Tiling) (bits : List ℕ) → is_backward o ≡ true →
     left + source.dots ≤ (frame_of o w h).width → 1 ≤ tile.width → tile.width ≤ 8 * count →
-    ((i : ℕ) → i < 8 * count → row_dot bits i ≡ read_dot (backward_from ((frame_of o w h).width - 1)) (line_of tile line) i) →
+    ((i : ℕ) → i < 8 * count → row_dot bits i ≡ read_dot (backward_from ((frame_of o w h).width - 1)) (tile_line tile line) i) →
     RunsAlong o w h left source.dots line (dots_along (is_backward o) source) tile ((frame_of o w h).width - left - source.dots) source (record { bits = bits; dots = tile.width })
 runs_backward o w h left line count source tile bits is fits some room read = record {
   inside = λ x y wide high.

@@ -10,7 +10,7 @@ use Rattle.press_rows.specs.Row.{raster_row}
 use Rattle.press_raster.specs.Graphics.{RasterGraphics, started, moved_down}
 use Rattle.press_raster.specs.Mark.{strip_source}
 use Rattle.press_raster.specs.Settings.{initial, set_resolution, set_source_width, set_source_height, set_method, dot_size}
-use Rattle.press_raster.specs.Transfer.{corner, row_of, row_dots, transferred}
+use Rattle.press_raster.specs.Transfer.{row_corner, row_of_data, row_dots, transferred}
 use Rattle.press_raster.specs.declared.raster.RowPlace.{RowPlace}
 use Rattle.press_raster.specs.declared.settings.RasterSettings.{RasterSettings}
 
@@ -27,11 +27,11 @@ abbrev on : RasterGraphics
 on = record { left = 0; rows = 0; seed = [] }
 
 -- a row of eight dots, of which the first is black
-row_of_80 : row_of home eight_wide (0x80 ∷ []) on ≡ record { bits = 0x80 ∷ []; dots = 8 }
+row_of_data_80 : row_of_data home eight_wide (0x80 ∷ []) on ≡ record { bits = 0x80 ∷ []; dots = 8 }
 unfolding raster_row
-row_of_80 = refl
+row_of_data_80 = refl
 
-home_corner : corner home 0 ≡ record { x = 75; y = 187 }
+home_corner : row_corner home 0 ≡ record { x = 75; y = 187 }
 home_corner = refl
 
 four_dots : dot_size eight_wide.resolution Dpi300 ≡ 4

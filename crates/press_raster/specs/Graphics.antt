@@ -30,8 +30,8 @@ graphics position seed =
     option_map (λ place. record { left = place.left; rows = place.rows; seed = seed }) position
 
 -- where its rows begin, and how many there were, if it is on
-abbrev pub position_of : Option RasterGraphics → Option RasterPosition
-position_of = option_map (λ on. record { left = on.left; rows = on.rows })
+abbrev pub raster_position : Option RasterGraphics → Option RasterPosition
+raster_position = option_map (λ on. record { left = on.left; rows = on.rows })
 
 -- ESC*r#A, Start Raster Graphics: where it is off it begins with a white seed row, and where it is on it goes on.
 abbrev pub started : (left : ℕ) → Option RasterGraphics → Option RasterGraphics
@@ -44,12 +44,12 @@ moved_down rows None = None
 moved_down rows (Some on) = Some (record on { rows = min most_rows (on.rows + rows); seed = [] })
 
 -- Whether so many rows are fewer than the height of the source; no number is where it is unset.
-abbrev pub is_within : Option ℕ → (rows : ℕ) → Bool
-is_within None rows = true
-is_within (Some height) rows = nat_lt rows height
+abbrev pub is_below_height : Option ℕ → (rows : ℕ) → Bool
+is_below_height None rows = true
+is_below_height (Some height) rows = nat_lt rows height
 
 -- Whether the next row has effect: it has none where raster graphics is off, and where the rows have reached the height of the
 -- source.
 abbrev pub takes_row : RasterSettings → Option RasterGraphics → Bool
 takes_row settings None = false
-takes_row settings (Some on) = is_within settings.source_height on.rows
+takes_row settings (Some on) = is_below_height settings.source_height on.rows

@@ -19,5 +19,5 @@ abbrev pub backward_from : ℕ → Reading
 backward_from last = record { size = 1; last = Some last }
 
 -- the row of a tile for a line of the frame
-abbrev pub line_of : Tiling → (line : ℕ) → Row
-line_of tile line = record { bits = tile_row tile line; dots = tile.width }
+abbrev pub tile_line : Tiling → (line : ℕ) → Row
+tile_line tile line = record { bits = tile_row tile line; dots = tile.width }

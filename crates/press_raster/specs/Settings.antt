@@ -5,6 +5,7 @@ use Rattle.press_units.specs.Measure.{positions_per_inch}
 use Rattle.press_units.specs.Position as engine
 use Rattle.press_units.specs.Value.{whole_part}
 use Rattle.press_units.specs.declared.position.Resolution.{Resolution}
+use Rattle.press_page.specs.Environment.{changed_by}
 use Rattle.press_page.specs.Numbers.{named}
 use Rattle.press_rows.specs.Methods.{method_of}
 use Rattle.press_rows.specs.declared.compression.Method.TheVariants.{Unencoded}
@@ -13,29 +14,23 @@ use Rattle.press_raster.specs.declared.settings.RasterResolution.TheVariants.{Dp
 use Rattle.press_raster.specs.declared.settings.RasterSettings.{RasterSettings}
 
 -- dots of an inch
-abbrev pub dots_per_inch : RasterResolution → ℕ
-dots_per_inch Dpi75 = 75
-dots_per_inch Dpi100 = 100
-dots_per_inch Dpi150 = 150
-dots_per_inch Dpi300 = 300
+abbrev pub raster_dots_per_inch : RasterResolution → ℕ
+raster_dots_per_inch Dpi75 = 75
+raster_dots_per_inch Dpi100 = 100
+raster_dots_per_inch Dpi150 = 150
+raster_dots_per_inch Dpi300 = 300
 
 -- how many positions a row takes down the page
 abbrev pub row_height : RasterResolution → ℕ
-row_height resolution = positions_per_inch / dots_per_inch resolution
+row_height resolution = positions_per_inch / raster_dots_per_inch resolution
 
 -- how many dots of the engine a dot of a row is wide and high
 abbrev pub dot_size : RasterResolution → Resolution → ℕ
-dot_size resolution print = engine.dots_per_inch print / dots_per_inch resolution
+dot_size resolution print = engine.dots_per_inch print / raster_dots_per_inch resolution
 
 -- the settings after a reset
 abbrev pub initial : RasterSettings
 initial = record { resolution = Dpi75; method = Unencoded; source_width = None; source_height = None }
-
--- a change by what a command asks for, if it asks for something
-abbrev pub changed_by :
-    {Asked : Type 0} → Option Asked → (Asked → RasterSettings → RasterSettings) → RasterSettings → RasterSettings
-changed_by None change settings = settings
-changed_by (Some asked) change settings = change asked settings
 
 -- ESC*t#R, Raster Graphics Resolution
 abbrev pub resolution_of : ℤ → Option RasterResolution

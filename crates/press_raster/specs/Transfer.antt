@@ -10,9 +10,9 @@ use Rattle.press_page.specs.Place.{cursor_dot}
 use Rattle.press_page.specs.declared.place.Dot.{Dot}
 use Rattle.press_pattern.specs.declared.ink.Ink.{Ink}
 use Rattle.press_rows.specs.Row.{raster_row}
-use Rattle.press_raster.specs.Graphics.{RasterGraphics, most_rows, is_within}
+use Rattle.press_raster.specs.Graphics.{RasterGraphics, most_rows, is_below_height}
 use Rattle.press_raster.specs.Mark.{raster_mark}
-use Rattle.press_raster.specs.Settings.{dots_per_inch, dot_size}
+use Rattle.press_raster.specs.Settings.{raster_dots_per_inch, dot_size}
 use Rattle.press_raster.specs.declared.raster.RowPlace.{RowPlace}
 use Rattle.press_raster.specs.declared.settings.RasterResolution.{RasterResolution}
 use Rattle.press_raster.specs.declared.settings.RasterSettings.{RasterSettings}
@@ -21,43 +21,43 @@ use Rattle.press_raster.specs.declared.settings.RasterSettings.{RasterSettings}
 abbrev pub dots_of_row : Option ℕ → RasterResolution → (logical_width left : ℕ) → ℕ
 dots_of_row (Some width) resolution logical_width left = width
 dots_of_row None resolution logical_width left =
-    (logical_width - left) * dots_per_inch resolution / positions_per_inch
+    (logical_width - left) * raster_dots_per_inch resolution / positions_per_inch
 
 abbrev pub row_dots : RowPlace → RasterSettings → (left : ℕ) → ℕ
 row_dots place settings left =
     dots_of_row settings.source_width settings.resolution (logical_width place.environment.media) left
 
 -- The row that the data of a transfer stands for, after the seed row.
-abbrev pub row_of : RowPlace → RasterSettings → List ℕ → RasterGraphics → Row
-row_of place settings «data» on =
+abbrev pub row_of_data : RowPlace → RasterSettings → List ℕ → RasterGraphics → Row
+row_of_data place settings «data» on =
     let dots = row_dots place settings on.left in
     record { bits = raster_row settings.method «data» on.seed (bytes_per_line dots); dots = dots }
 
 -- The row's upper left dot in the frame: the cursor's, were it where rows begin.
-abbrev pub corner : RowPlace → (left : ℕ) → Dot
-corner place left =
+abbrev pub row_corner : RowPlace → (left : ℕ) → Dot
+row_corner place left =
     cursor_dot place.environment.media place.resolution place.environment.margins.top
     (record { x = left; y = place.y })
 
 -- The mark of the row.
-abbrev pub row_mark : RowPlace → RasterSettings → Ink → List ℕ → RasterGraphics → Page → Mark
-row_mark place settings ink «data» on page =
-    raster_mark place.environment.media.orientation page (corner place on.left)
-    (dot_size settings.resolution place.resolution) (row_of place settings «data» on) ink
+abbrev pub transfer_mark : RowPlace → RasterSettings → Ink → List ℕ → RasterGraphics → Page → Mark
+transfer_mark place settings ink «data» on page =
+    raster_mark place.environment.media.orientation page (row_corner place on.left)
+    (dot_size settings.resolution place.resolution) (row_of_data place settings «data» on) ink
 
 -- The page after the transfer of a row: marked where the row has effect.
 abbrev pub page_with_row : RowPlace → RasterSettings → Ink → List ℕ → Option RasterGraphics → Page → Page
 page_with_row place settings ink «data» None page = page
 page_with_row place settings ink «data» (Some on) page =
-    if is_within settings.source_height on.rows
-    then painted page (row_mark place settings ink «data» on page) else page
+    if is_below_height settings.source_height on.rows
+    then painted page (transfer_mark place settings ink «data» on page) else page
 
 -- Raster graphics after a row that has effect: the row is the seed, and there is one more.
-abbrev pub with_row : Row → RasterGraphics → RasterGraphics
-with_row row on = record on { rows = min most_rows (on.rows + 1); seed = row.bits }
+abbrev pub after_row : Row → RasterGraphics → RasterGraphics
+after_row row on = record on { rows = min most_rows (on.rows + 1); seed = row.bits }
 
 -- Raster graphics after the transfer of a row.
 abbrev pub transferred : RowPlace → RasterSettings → List ℕ → Option RasterGraphics → Option RasterGraphics
 transferred place settings «data» =
     option_map
-    (λ on. if is_within settings.source_height on.rows then with_row (row_of place settings «data» on) on else on)
+    (λ on. if is_below_height settings.source_height on.rows then after_row (row_of_data place settings «data» on) on else on)

@@ -1,8 +1,8 @@
 //! Raster graphics, and the transfer of its rows.
 
 ghost use Rattle.std.specs.Prelude.{◌≡◌, ◌<◌, ◌^◌, false, None, IfOk, IsOk, OnOk, OnErr, is_some, unsigned_abs};
-ghost use Rattle.press_raster.specs.Graphics.{position_of, started, moved_down, is_within, takes_row};
-ghost use Rattle.press_raster.specs.Transfer.{corner, page_with_row, transferred};
+ghost use Rattle.press_raster.specs.Graphics.{raster_position, started, moved_down, is_below_height, takes_row};
+ghost use Rattle.press_raster.specs.Transfer.{row_corner, page_with_row, transferred};
 
 use crate::decoding::decoded;
 use crate::settings::RasterSettings;
@@ -41,7 +41,7 @@ impl RowPlace {
     /// The row's upper left dot in the frame, where rows begin at a distance from the left edge of the logical page.
     fn corner(&self, left: u32) -> Dot
         requires { unsigned_abs self.now.y < 2 ^ 33 }
-        ensures { result ≡ corner self.now left }
+        ensures { result ≡ row_corner self.now left }
     {
         let cursor = CursorPosition { x: left, y: self.y };
         self.environment.cursor_dot(cursor, self.resolution)
@@ -56,7 +56,7 @@ impl RowPlace {
 
 /// Whether so many rows are fewer than the height of the source; no number is where it is unset.
 fn is_within(height: Option<u16>, rows: u32) -> bool
-    ensures { result ≡ is_within height rows }
+    ensures { result ≡ is_below_height height rows }
 {
     match height {
         None => true,
@@ -115,7 +115,7 @@ impl Raster {
 
     /// Where it stands, if it is on.
     pub fn position(&self) -> Option<RasterPosition>
-        ensures { result ≡ position_of self.now }
+        ensures { result ≡ raster_position self.now }
     {
         self.position
     }

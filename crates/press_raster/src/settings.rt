@@ -1,5 +1,5 @@
 ghost use Rattle.std.specs.Prelude.{◌≡◌, ◌<◌, ◌≤◌, ◌^◌};
-ghost use Rattle.press_raster.specs.Settings.{dots_per_inch, row_height, dot_size, resolution_of, side_of, initial, set_resolution, set_source_width, set_source_height, set_method};
+ghost use Rattle.press_raster.specs.Settings.{raster_dots_per_inch, row_height, dot_size, resolution_of, side_of, initial, set_resolution, set_source_width, set_source_height, set_method};
 ghost use Rattle.press_raster.specs.Transfer.{dots_of_row};
 ghost use Rattle.press_units.specs.Value.{whole_part};
 
@@ -36,7 +36,7 @@ impl RasterResolution {
 
     /// Dots of a row per inch.
     pub fn dots_per_inch(self) -> u16
-        ensures dots { result ≡ dots_per_inch self }
+        ensures dots { result ≡ raster_dots_per_inch self }
         ensures some { 1 ≤ result }
         ensures most { result ≤ 300 }
     {

@@ -4,7 +4,7 @@ ghost use Rattle.std.specs.Prelude.{◌≡◌, ℕ, ◌+◌, ◌-◌, ◌*◌, �
 ghost use Rattle.press_bits.specs.Lines.{bytes_per_line};
 ghost use Rattle.press_bits.specs.Mark.{painted, row, row_dot};
 ghost use Rattle.press_page.specs.Media.{turned};
-ghost use Rattle.press_raster.specs.Reading.{backward_from, line_of, read_dot};
+ghost use Rattle.press_raster.specs.Reading.{backward_from, tile_line, read_dot};
 ghost use Rattle.press_raster.specs.Along.{is_backward, dots_along};
 ghost use Rattle.press_raster.specs.Mark.{strip_mark, raster_mark};
 
@@ -37,7 +37,7 @@ pub(crate) fn bytes_for(dots: usize) -> usize
 
 /// A line of a tile.
 fn tile_line<'a>(tile: &Tile<'a>, line: u32) -> DotRow<'a>
-    ensures row { row result ≡ line_of tile.now line }
+    ensures row { row result ≡ tile_line tile.now line }
     ensures some { 1 ≤ result.dots }
 {
     DotRow {
@@ -64,7 +64,7 @@ fn paint_mirrored(
     requires mirrored { (i : ℕ) → i < 8 * length mirrored.now → row_dot mirrored.now i
         ≡ read_dot (backward_from ((turned orientation
         (record { width = page.old.width; height = page.old.height })).width - 1))
-        (line_of ink.now.tile line) i }
+        (tile_line ink.now.tile line) i }
     ensures { page.new ≡ painted page.old (strip_mark orientation page.old.width page.old.height
         left line (row source.entry).dots 1 (dots_along (is_backward orientation) (row source.entry))
         ink.now.tile ink.now.mode) }
@@ -82,7 +82,7 @@ fn paint_mirrored(
 fn mirror_line(tile: &Tile<'_>, line: u32, last: u32, room: &mut [u8])
     requires { length room.old < 2 ^ 32 }
     ensures { (i : ℕ) → i < 8 * length room.old
-        → row_dot room.new i ≡ read_dot (backward_from last) (line_of tile.now line) i }
+        → row_dot room.new i ≡ read_dot (backward_from last) (tile_line tile.now line) i }
 {
     let reading = Reading {
         size: 1,

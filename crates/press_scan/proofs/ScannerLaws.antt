@@ -17,7 +17,7 @@ use Rattle.press_scan.specs.Modes.{mode_of}
 use Rattle.press_scan.specs.Stands.{IsFound, IsShort, IsRest}
 use Rattle.press_scan.specs.Closings.{IsClosing}
 use Rattle.press_scan.specs.Gives.{ClosesAs, IsDone}
-use Rattle.press_scan.specs.Peeks.{held, IsNextFound, Peeks}
+use Rattle.press_scan.specs.Peeks.{scanner_state, IsNextFound, Peeks}
 use Rattle.press_cmd.proofs.LineTest.{equal_and}
 
 -- a command in front of what closes the rest
@@ -46,7 +46,7 @@ pub none_at : (mode scanned : Mode) (bytes : List ℕ) → scanned_in mode bytes
 none_at mode scanned bytes lands short used left command next e head =
     short.none used left command next e (rw (sym e, lands) at head)
 
-nothing_done : (mode : Mode) (bytes : List ℕ) → bytes ≡ [] → IsDone (held mode bytes true)
+nothing_done : (mode : Mode) (bytes : List ℕ) → bytes ≡ [] → IsDone (scanner_state mode bytes true)
 nothing_done mode bytes e = record {
   short = λ never. absurd (cc);
   nothing = λ _. e;

@@ -7,7 +7,7 @@ use Rattle.press_cmd.specs.Grammar.{Head, scanned_in}
 use Rattle.press_cmd.specs.Split.{NoHead, ClosedFrom}
 use Rattle.press_cmd.specs.View.{token}
 use Rattle.press_cmd.specs.declared.command.Command.{Command}
-use Rattle.press_scan.specs.Held.{Held}
+use Rattle.press_scan.specs.ScannerState.{ScannerState}
 use Rattle.press_scan.specs.Sequences.{longest_rest}
 
 -- Where the input ends and no command stands at the front of a rest, these bytes at its front are closed as the command,
@@ -25,7 +25,7 @@ ClosesAs _ _ _ _ _ = ⊥
 -- A command was given. Before the end of input, what was held is the command's bytes and what is held now. After it
 -- too where a command stands at the front, and else the command is by name what closes the front; and the command and
 -- then those of what is held now close what was held.
-pub record Passes (old : Held) (command : Token) (new : Held) : Type 0 where
+pub record Passes (old : ScannerState) (command : Token) (new : ScannerState) : Type 0 where
   pub ended : new.ended ≡ old.ended
   pub used : length new.bytes < length old.bytes
   pub head : old.ended ≡ false → (used : List ℕ) × (old.bytes ≡ used ++ new.bytes) × Head old.mode used new.bytes command new.mode
@@ -36,18 +36,18 @@ pub record Passes (old : Held) (command : Token) (new : Held) : Type 0 where
 
 -- Nothing is left to give: before the end of input no command stands at the front, and after it nothing is held, and
 -- no command closes it.
-pub record IsDone (held : Held) : Type 0 where
+pub record IsDone (held : ScannerState) : Type 0 where
   pub short : held.ended ≡ false → NoHead held.mode held.bytes
   pub nothing : held.ended ≡ true → held.bytes ≡ []
   pub closed : held.ended ≡ true → ClosedFrom held.mode held.bytes []
   pub few : length held.bytes ≤ longest_rest
 
 -- The command is the first of what is held.
-abbrev pub IsNext : Held → Token → Type 0
-IsNext held command = (new : Held) × Passes held command new
+abbrev pub IsNext : ScannerState → Token → Type 0
+IsNext held command = (new : ScannerState) × Passes held command new
 
 -- What is held once the command that was lent is let go.
-abbrev pub Leaves : Held → Result (Option Command) AllocError → Held → Type 0
+abbrev pub Leaves : ScannerState → Result (Option Command) AllocError → ScannerState → Type 0
 Leaves old (Ok (Some command)) new = Passes old (token command) new
 Leaves old (Ok None) new = new ≡ old
 Leaves old (Err _) new = new ≡ old

@@ -3,7 +3,7 @@ pub mod Modes
 pub mod Sequences
 pub mod Stands
 pub mod Lines
-pub mod Held
+pub mod ScannerState
 pub mod Gives
 pub mod Rest
 pub mod Reached

@@ -2,7 +2,7 @@ ghost use Rattle.std.specs.Prelude.{◌≡◌, ◌<◌, ◌∷◌, ◌++◌, ℕ
 ghost use Rattle.press_cmd.specs.Token.{escape_byte, uel};
 ghost use Rattle.press_cmd.specs.Mode.{Pcl};
 ghost use Rattle.press_cmd.specs.Grammar.{IsCharacter};
-ghost use Rattle.press_scan.specs.Sequences.{Reads, BeginsNoGroup, IsPlainCommand};
+ghost use Rattle.press_scan.specs.Sequences.{ReadsSequence, BeginsNoGroup, IsPlainCommand};
 ghost use Rattle.press_cmd.specs.View.{token};
 
 use crate::field::field_length;
@@ -15,7 +15,7 @@ use press_cmd::{
 
 /// Reads a sequence with a group, from the byte after the group on; its length counts from the escape character.
 fn grouped<'a>(sequence: Sequence, bytes: &'a [u8]) -> Reading<'a>
-    ensures { Reads Pcl (escape_byte ∷ sequence.character ∷ sequence.group ∷ bytes.now) result }
+    ensures { ReadsSequence Pcl (escape_byte ∷ sequence.character ∷ sequence.group ∷ bytes.now) result }
 {
     match read_pair(sequence, bytes) {
         Reading::Whole(found) => Reading::Whole(Found {
@@ -34,7 +34,7 @@ fn ungrouped<'a>(character: u8, bytes: &'a [u8]) -> Reading<'a>
     requires character_class { IsCharacter character }
     requires no_group { BeginsNoGroup bytes.now }
     requires no_exit { (more : List ℕ) → escape_byte ∷ character ∷ bytes.now ≡ uel ++ more → ⊥ }
-    ensures { Reads Pcl (escape_byte ∷ character ∷ bytes.now) result }
+    ensures { ReadsSequence Pcl (escape_byte ∷ character ∷ bytes.now) result }
 {
     let length = field_length(bytes);
     let (field, ahead) = bytes.split_at(length);
@@ -60,7 +60,7 @@ fn ungrouped<'a>(character: u8, bytes: &'a [u8]) -> Reading<'a>
 fn sequence<'a>(character: u8, bytes: &'a [u8]) -> Reading<'a>
     requires character_class { IsCharacter character }
     requires no_exit { (more : List ℕ) → escape_byte ∷ character ∷ bytes.now ≡ uel ++ more → ⊥ }
-    ensures { Reads Pcl (escape_byte ∷ character ∷ bytes.now) result }
+    ensures { ReadsSequence Pcl (escape_byte ∷ character ∷ bytes.now) result }
 {
     match bytes.split_first() {
         Some((group @ 96..=126, pairs)) => grouped(
@@ -77,7 +77,7 @@ fn sequence<'a>(character: u8, bytes: &'a [u8]) -> Reading<'a>
 /// Reads what begins with an escape character, from the byte after it on; its length counts from the escape character.
 fn escaped<'a>(bytes: &'a [u8]) -> Reading<'a>
     requires no_exit { (more : List ℕ) → escape_byte ∷ bytes.now ≡ uel ++ more → ⊥ }
-    ensures { Reads Pcl (escape_byte ∷ bytes.now) result }
+    ensures { ReadsSequence Pcl (escape_byte ∷ bytes.now) result }
 {
     let Some((second, ahead)) = bytes.split_first() else {
         return Reading::GoesOn;
@@ -107,7 +107,7 @@ fn plain(byte: u8) -> Command<'static>
 
 /// Reads PCL.
 pub fn read_pcl<'a>(bytes: &'a [u8]) -> Reading<'a>
-    ensures { Reads Pcl bytes.now result }
+    ensures { ReadsSequence Pcl bytes.now result }
 {
     let Some((first, ahead)) = bytes.split_first() else {
         return Reading::GoesOn;

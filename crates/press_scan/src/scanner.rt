@@ -39,9 +39,9 @@ pub struct Scanner {
 
 impl Model for Scanner {
     ghost use Rattle.std.specs.Prelude.{◌≤◌, vec_len, drop};
-    ghost use Rattle.press_scan.specs.Held.{Held};
+    ghost use Rattle.press_scan.specs.ScannerState.{ScannerState};
 
-    ghost Value = { Held };
+    ghost Value = { ScannerState };
 
     ghost use Rattle.press_scan.specs.Modes.{mode_of};
     ghost use Rattle.press_scan.specs.Lines.{IsKnownPlain};

@@ -46,8 +46,8 @@ abbrev pub replies_left : {S : Type 0} → FuseReplies S → Option ℕ
 replies_left fuse = fuse.left
 
 -- how many bytes of that reply it passes on
-abbrev pub front_of : {S : Type 0} → FuseReplies S → ℕ
-front_of fuse = fuse.front
+abbrev pub passed_front : {S : Type 0} → FuseReplies S → ℕ
+passed_front fuse = fuse.front
 
 -- how many faults it had that were its own
 abbrev pub own_reply_faults : {S : Type 0} → FuseReplies S → ℕ
@@ -62,12 +62,12 @@ abbrev pub write_faults : {W : Type 0} → WriteReplies W → ℕ
 write_faults sink = sink.faults
 
 -- what stands before and behind the place of the number in a template
-abbrev pub parts_of : Template → NameParts
-parts_of template = record { front = string_bytes template.front; back = string_bytes template.back }
+abbrev pub template_parts : Template → NameParts
+template_parts template = record { front = string_bytes template.front; back = string_bytes template.back }
 
 -- the same in the template of a folder sink
 abbrev pub name_parts : {F : Type 0} → FolderSink F → NameParts
-name_parts sink = parts_of sink.template
+name_parts sink = template_parts sink.template
 
 -- the number of the next side that a folder sink writes
 abbrev pub next_number : {F : Type 0} → FolderSink F → ℕ

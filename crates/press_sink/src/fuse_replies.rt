@@ -1,6 +1,6 @@
 ghost use Rattle.std.specs.Prelude.{◌≡◌, ◌≢◌, ◌<◌, Some, IsErrOf, take};
 ghost use Rattle.press_sink.specs.Told.{Replies, HandsOn, most_faults, replies_with_own_faults};
-ghost use Rattle.press_sink.specs.Kept.{inner_replies, replies_left, front_of, left_after, own_reply_faults};
+ghost use Rattle.press_sink.specs.Kept.{inner_replies, replies_left, passed_front, left_after, own_reply_faults};
 
 use crate::fault::ReplyError;
 use crate::sink::ReplySink;
@@ -22,7 +22,7 @@ impl<S: ReplySink + Drop> FuseReplies<S> {
     pub fn new(sink: S, replies: u64, bytes: usize) -> Self
         ensures sink { inner_replies result ≡ sink }
         ensures left { replies_left result ≡ Some replies }
-        ensures front { front_of result ≡ bytes }
+        ensures front { passed_front result ≡ bytes }
         ensures faults { own_reply_faults result ≡ 0 }
     {
         FuseReplies {
@@ -58,11 +58,11 @@ impl<S: ReplySink + Drop> ReplySink for FuseReplies<S> {
             (replies_with_own_faults (S.told (inner_replies self.new)) (own_reply_faults self.new)) }
         ensures blows { replies_left self.old ≡ Some 0 → IsErrOf result ReplyError.ReplyFault }
         ensures front { replies_left self.old ≡ Some 0 → HandsOn (S.told (inner_replies self.old))
-            (take (front_of self.old) bytes.now) (S.told (inner_replies self.new)) }
+            (take (passed_front self.old) bytes.now) (S.told (inner_replies self.new)) }
         ensures passes { replies_left self.old ≢ Some 0 → Replies (S.told (inner_replies self.old))
             bytes.now result (S.told (inner_replies self.new)) }
         ensures counts { replies_left self.new ≡ left_after (replies_left self.old) }
-        ensures keeps { front_of self.new ≡ front_of self.old }
+        ensures keeps { passed_front self.new ≡ passed_front self.old }
     {
         match self.left {
             Some(0) => {

@@ -1,6 +1,6 @@
 ghost use Rattle.std.specs.Prelude.{◌≡◌, IfOk, IfErr, IsErrOf, MatchOption};
 ghost use Rattle.press_sink.specs.Template.{IsTemplate, IsNoTemplate, side_name};
-ghost use Rattle.press_sink.specs.Kept.{parts_of};
+ghost use Rattle.press_sink.specs.Kept.{template_parts};
 ghost use Rattle.std.specs.String.{string_bytes};
 
 use crate::fault::TemplateError;
@@ -17,7 +17,7 @@ impl Template {
     /// The template of what stands before and behind the place of the number.
     fn of_parts(alloc: Global, front: &str, back: &str) -> Result<Template, TemplateError>
         ensures ok { IfOk result (λ template.
-            parts_of template ≡ record { front = front.now; back = back.now }) }
+            template_parts template ≡ record { front = front.now; back = back.now }) }
         ensures memory { IfErr result (λ error. error ≡ TemplateError.NoMemory) }
     {
         Ok(Template {
@@ -28,7 +28,7 @@ impl Template {
 
     /// The template that a text is.
     pub(crate) fn of(alloc: Global, text: &str) -> Result<Template, TemplateError>
-        ensures ok { IfOk result (λ template. IsTemplate text.now (parts_of template)) }
+        ensures ok { IfOk result (λ template. IsTemplate text.now (template_parts template)) }
         ensures bad { IfErr result (λ error. error ≡ TemplateError.BadTemplate → IsNoTemplate text.now) }
         ensures exact { IsNoTemplate text.now → IsErrOf result TemplateError.BadTemplate }
     {
@@ -40,7 +40,7 @@ impl Template {
 
     /// The name of the side with this number.
     pub(crate) fn name(&self, alloc: Global, number: u64) -> Result<String, AllocError>
-        ensures { IfOk result (λ name. string_bytes name ≡ side_name (parts_of self.now) number) }
+        ensures { IfOk result (λ name. string_bytes name ≡ side_name (template_parts self.now) number) }
     {
         let front = self.front.as_str();
         let back = self.back.as_str();

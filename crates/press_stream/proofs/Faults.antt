@@ -7,7 +7,7 @@ use Rattle.press_sink.specs.Told.{Told}
 use Rattle.press_sink.specs.Sending.{AtSheet, AtReply, ForMemory}
 use Rattle.press_stream.specs.declared.fault.JobError.{JobError}
 use Rattle.press_stream.specs.declared.fault.JobError.TheVariants as errors
-use Rattle.press_stream.specs.State.{JobState, pushed}
+use Rattle.press_stream.specs.State.{JobState, with_piece}
 use Rattle.press_stream.specs.Meaning.{Goes}
 use Rattle.press_stream.specs.Answers.{Pushes, Drains, Feeds, Faults}
 use Rattle.press_stream.proofs.Going.{Goes-then, Goes-push, Stops-then, Stops-memory}
@@ -59,16 +59,16 @@ pub Feeds-drain : (old between new : JobState) (piece : List ℕ) (tag : ℕ) (r
 Feeds-drain old between new piece tag result before after pushes =
     let P : JobState → Type 0 = λ job. Drains job tag result new before after → Feeds old piece tag result new before after in
     subst P (sym pushes.2) (fed result) where
-      goes_first : Goes old piece [] tag (pushed piece old) before before
+      goes_first : Goes old piece [] tag (with_piece piece old) before before
       goes_first = Goes-push old piece tag before pushes.0 pushes.1
 
-      fed : (result : Result (Unit {0}) JobError) → Drains (pushed piece old) tag result new before after → Feeds old piece tag result new before after
+      fed : (result : Result (Unit {0}) JobError) → Drains (with_piece piece old) tag result new before after → Feeds old piece tag result new before after
       fed (Ok done) drains = (
         drains.0,
-        Goes-after old (pushed piece old) new piece [] drains.0 tag before before after goes_first drains.1,
+        Goes-after old (with_piece piece old) new piece [] drains.0 tag before before after goes_first drains.1,
         elim drains.2 [
           | inl hungry ↦ hungry
           | inr over ↦ absurd (true≢false (sym over.ended ∙ drains.3 ∙ pushes.1))
         ],
       )
-      fed (Err error) drains = feeds_fault old new piece tag error before after (Faults-after old (pushed piece old) new piece [] tag error before before after goes_first drains)
+      fed (Err error) drains = feeds_fault old new piece tag error before after (Faults-after old (with_piece piece old) new piece [] tag error before before after goes_first drains)

@@ -7,15 +7,15 @@ use Rattle.press_cmd.specs.Split.{Steps, ClosedFrom, closing}
 use Rattle.press_cmd.specs.Token.{Token, Uel}
 use Rattle.press_cmd.proofs.Splits.{some_split, steps-more, steps-then}
 use Rattle.press_scan.specs.Gives.{Passes, IsDone}
-use Rattle.press_scan.specs.Held.{Held}
+use Rattle.press_scan.specs.ScannerState.{ScannerState}
 use Rattle.press_sink.specs.Told.{Told, CanCount, most_faults}
 use Rattle.press_sink.specs.Sending.{Ending, Complete, ForMemory, WentOut}
 use Rattle.press_sink.proofs.SendingLemmas.{TookAll-none, WentOut-then, WentOut-stopped}
 use Rattle.press_engine.specs.declared.machine.Machine.{Machine}
 use Rattle.press_engine.specs.Machine.{Run, run, run_all}
 use Rattle.press_engine.proofs.Runs.{run_all-none, run_all-one, run_all-append}
-use Rattle.press_stream.specs.State.{JobState, pushed, ended}
-use Rattle.press_stream.specs.Meaning.{at_end, Carried, Stopped, Owes, Goes, Stops}
+use Rattle.press_stream.specs.State.{JobState, with_piece, input_ended}
+use Rattle.press_stream.specs.Meaning.{with_exit, Carried, Stopped, Owes, Goes, Stops}
 
 -- the value of an option that has one
 pub some_of : {X : Type 0} (option : Option X) → IsSome option → (value : X) × (option ≡ Some value)
@@ -103,12 +103,12 @@ can_count-then commands old new tag before after carried can = record {
 -- a job owes something, whatever comes
 pub Owes-some : (job : JobState) (bytes : List ℕ) → (job.held.ended ≡ true → bytes ≡ []) → (commands : List Token) × Owes job bytes commands
 Owes-some job bytes none_after = owed job.exited where
-  owed : (exited : Bool) → (commands : List Token) × ((job.held.ended ≡ true → bytes ≡ []) × MatchBool exited (commands ≡ []) ((closed : List Token) × ClosedFrom job.held.mode (job.held.bytes ++ bytes) closed × (commands ≡ at_end closed)))
+  owed : (exited : Bool) → (commands : List Token) × ((job.held.ended ≡ true → bytes ≡ []) × MatchBool exited (commands ≡ []) ((closed : List Token) × ClosedFrom job.held.mode (job.held.bytes ++ bytes) closed × (commands ≡ with_exit closed)))
   owed true = ([], (none_after, refl))
   owed false =
       let found = some_split job.held.mode (job.held.bytes ++ bytes) in
       let closed = found.commands ++ closing found.mode found.rest in
-      (at_end closed, (none_after, (closed, (found.commands, found.mode, found.rest, found.split, refl), refl)))
+      (with_exit closed, (none_after, (closed, (found.commands, found.mode, found.rest, found.split, refl), refl)))
 
 -- steps, and then what closes what they leave
 pub closed-then : (from : Mode) (bytes : List ℕ) (commands closed : List Token) (mode : Mode) (rest : List ℕ) → Steps from bytes commands mode rest → ClosedFrom mode rest closed → ClosedFrom from bytes (commands ++ closed)
@@ -129,19 +129,19 @@ Goes-none job tag told running = record {
   carried = Carried-none job.machine tag told running;
 }
 
-pub Goes-push : (job : JobState) (piece : List ℕ) (tag : ℕ) (told : Told) → IsSome job.machine → job.held.ended ≡ false → Goes job piece [] tag (pushed piece job) told told
+pub Goes-push : (job : JobState) (piece : List ℕ) (tag : ℕ) (told : Told) → IsSome job.machine → job.held.ended ≡ false → Goes job piece [] tag (with_piece piece job) told told
 Goes-push job piece tag told running going = record {
   so_far = λ _. (going, (refl, refl));
   to_end = λ more commands owes. (λ ended. absurd (true≢false (sym ended ∙ going)), owed job.exited more commands owes.1);
   carried = Carried-none job.machine tag told running;
 } where
-  owed : (exited : Bool) (more : List ℕ) (commands : List Token) → MatchBool exited (commands ≡ []) ((closed : List Token) × ClosedFrom job.held.mode ((job.held.bytes ++ piece) ++ more) closed × (commands ≡ at_end closed)) → MatchBool exited (commands ≡ []) ((closed : List Token) × ClosedFrom job.held.mode (job.held.bytes ++ (piece ++ more)) closed × (commands ≡ at_end closed))
+  owed : (exited : Bool) (more : List ℕ) (commands : List Token) → MatchBool exited (commands ≡ []) ((closed : List Token) × ClosedFrom job.held.mode ((job.held.bytes ++ piece) ++ more) closed × (commands ≡ with_exit closed)) → MatchBool exited (commands ≡ []) ((closed : List Token) × ClosedFrom job.held.mode (job.held.bytes ++ (piece ++ more)) closed × (commands ≡ with_exit closed))
   owed true more commands none = none
   owed false more commands some =
       let P : List ℕ → Type 0 = λ all. ClosedFrom job.held.mode all some.0 in
       (some.0, subst P (append_assoc job.held.bytes piece more) some.1, some.2)
 
-pub Goes-ends : (job : JobState) (tag : ℕ) (told : Told) → IsSome job.machine → Goes job [] [] tag (ended job) told told
+pub Goes-ends : (job : JobState) (tag : ℕ) (told : Told) → IsSome job.machine → Goes job [] [] tag (input_ended job) told told
 Goes-ends job tag told running = record {
   so_far = λ going. absurd (true≢false going);
   to_end = λ more commands owes. (λ _. owes.0 refl, owes.1);
@@ -164,7 +164,7 @@ Goes-then old between new bytes more given others tag before middle after first 
 }
 
 -- the next command of what a scanner holds
-passes_owed : (held next : Held) (command : Token) (more : List ℕ) (closed : List Token) → Passes held command next → (next.ended ≡ true → more ≡ []) → ClosedFrom next.mode (next.bytes ++ more) closed → ClosedFrom held.mode (held.bytes ++ more) (command ∷ closed)
+passes_owed : (held next : ScannerState) (command : Token) (more : List ℕ) (closed : List Token) → Passes held command next → (next.ended ≡ true → more ≡ []) → ClosedFrom next.mode (next.bytes ++ more) closed → ClosedFrom held.mode (held.bytes ++ more) (command ∷ closed)
 passes_owed held next command more closed passes none_after ends = by held.ended refl where
   by : (ended : Bool) → held.ended ≡ ended → ClosedFrom held.mode (held.bytes ++ more) (command ∷ closed)
   by true e =
@@ -178,13 +178,13 @@ passes_owed held next command more closed passes none_after ends = by held.ended
       let steps = steps-more held.mode held.bytes more (command ∷ []) next.mode next.bytes (used, next.bytes, next.mode, bytes_are, head, (refl, refl)) in
       closed-then held.mode (held.bytes ++ more) (command ∷ []) closed next.mode (next.bytes ++ more) steps ends
 
-pub passes-to_end : (held next : Held) (old new : Option Machine) (command : Token) (more : List ℕ) (commands : List Token) → Passes held command next → Owes (record { held = next; machine = new; exited = false }) more commands → Owes (record { held = held; machine = old; exited = false }) more (command ∷ commands)
+pub passes-to_end : (held next : ScannerState) (old new : Option Machine) (command : Token) (more : List ℕ) (commands : List Token) → Passes held command next → Owes (record { held = next; machine = new; exited = false }) more commands → Owes (record { held = held; machine = old; exited = false }) more (command ∷ commands)
 passes-to_end held next old new command more commands passes owes = (
   λ ended. owes.0 (passes.ended ∙ ended),
   (command ∷ owes.1.0, passes_owed held next command more owes.1.0 passes owes.0 owes.1.1, ap (λ all. command ∷ all) owes.1.2),
 )
 
-pub Goes-command : (held next : Held) (old new : Option Machine) (command : Token) (tag : ℕ) (before after : Told) → Passes held command next → Carried (command ∷ []) old new tag before after → Goes (record { held = held; machine = old; exited = false }) [] (command ∷ []) tag (record { held = next; machine = new; exited = false }) before after
+pub Goes-command : (held next : ScannerState) (old new : Option Machine) (command : Token) (tag : ℕ) (before after : Told) → Passes held command next → Carried (command ∷ []) old new tag before after → Goes (record { held = held; machine = old; exited = false }) [] (command ∷ []) tag (record { held = next; machine = new; exited = false }) before after
 Goes-command held next old new command tag before after passes carried = record {
   so_far = λ going.
       let still : held.ended ≡ false = sym passes.ended ∙ going in
@@ -194,18 +194,18 @@ Goes-command held next old new command tag before after passes carried = record 
   carried = carried;
 }
 
-pub Stops-command : (held next : Held) (old : Option Machine) (command : Token) (tag : ℕ) (ending : Ending) (before after : Told) → (ending ≡ Complete → ⊥) → Passes held command next → Stopped (command ∷ []) old tag ending before after → Stops (record { held = held; machine = old; exited = false }) [] tag ending before after
+pub Stops-command : (held next : ScannerState) (old : Option Machine) (command : Token) (tag : ℕ) (ending : Ending) (before after : Told) → (ending ≡ Complete → ⊥) → Passes held command next → Stopped (command ∷ []) old tag ending before after → Stops (record { held = held; machine = old; exited = false }) [] tag ending before after
 Stops-command held next old command tag ending before after stops passes stopped =
     let others = Owes-some (record { held = next; machine = old; exited = false }) [] (λ _. refl) in
     (command ∷ others.0, passes-to_end held next old old command [] others.0 passes others.1, Stopped-more (command ∷ []) others.0 old tag ending before after stops stopped)
 
 -- the exit that is added
-exit_owed : (held : Held) (machine : Option Machine) → held.ended ≡ true → IsDone held → Owes (record { held = held; machine = machine; exited = false }) [] (Uel ∷ [])
+exit_owed : (held : ScannerState) (machine : Option Machine) → held.ended ≡ true → IsDone held → Owes (record { held = held; machine = machine; exited = false }) [] (Uel ∷ [])
 exit_owed held machine ended done =
     let P : List ℕ → Type 0 = λ all. ClosedFrom held.mode all [] in
     (λ _. refl, ([], subst P (sym (append-nil held.bytes)) (done.closed ended), refl))
 
-pub Goes-exit : (held : Held) (old new : Option Machine) (tag : ℕ) (before after : Told) → held.ended ≡ true → IsDone held → Carried (Uel ∷ []) old new tag before after → Goes (record { held = held; machine = old; exited = false }) [] (Uel ∷ []) tag (record { held = held; machine = new; exited = true }) before after
+pub Goes-exit : (held : ScannerState) (old new : Option Machine) (tag : ℕ) (before after : Told) → held.ended ≡ true → IsDone held → Carried (Uel ∷ []) old new tag before after → Goes (record { held = held; machine = old; exited = false }) [] (Uel ∷ []) tag (record { held = held; machine = new; exited = true }) before after
 Goes-exit held old new tag before after ended done carried = record {
   so_far = λ going. absurd (true≢false (sym ended ∙ going));
   to_end = λ more commands owes.
@@ -215,7 +215,7 @@ Goes-exit held old new tag before after ended done carried = record {
   carried = carried;
 }
 
-pub Stops-exit : (held : Held) (old : Option Machine) (tag : ℕ) (ending : Ending) (before after : Told) → held.ended ≡ true → IsDone held → Stopped (Uel ∷ []) old tag ending before after → Stops (record { held = held; machine = old; exited = false }) [] tag ending before after
+pub Stops-exit : (held : ScannerState) (old : Option Machine) (tag : ℕ) (ending : Ending) (before after : Told) → held.ended ≡ true → IsDone held → Stopped (Uel ∷ []) old tag ending before after → Stops (record { held = held; machine = old; exited = false }) [] tag ending before after
 Stops-exit held old tag ending before after ended done stopped = (Uel ∷ [], exit_owed held old ended done, stopped)
 
 -- a job that stopped after it had gone on

@@ -1,13 +1,14 @@
 -- What a job answers.
-use Rattle.std.specs.Prelude.{◌≡◌, ◌<◌, ℕ, List, [], ◌∷◌, Option, Some, None, IsSome, Result, Ok, Err, false, ◌⊎◌, ⊤}
+use Rattle.std.specs.Prelude.{◌≡◌, ◌<◌, ℕ, List, [], ◌∷◌, Option, Some, None, IsSome, Result, Ok, Err, true, false, ◌⊎◌, ⊤}
 use Rattle.std.specs.Io.KnownBytes.{Consumes, IsAtEnd}
-use Rattle.press_cmd.specs.Token.{Token}
+use Rattle.press_cmd.specs.Token.{Token, Uel}
 use Rattle.press_cmd.specs.Kinds.{kind_of}
 use Rattle.press_cmd.specs.declared.variant.Kind.{Kind}
-use Rattle.press_scan.specs.Held.{Held}
-use Rattle.press_scan.specs.Gives.{Passes, IsDone}
+use Rattle.press_scan.specs.ScannerState.{ScannerState}
+use Rattle.press_scan.specs.Gives.{Passes, IsDone, IsNext}
 use Rattle.press_sink.specs.Told.{Told}
 use Rattle.press_sink.specs.Sending.{AtSheet, AtReply, ForMemory}
+use Rattle.press_engine.specs.Engine.{NeedsMemory}
 use Rattle.press_engine.specs.declared.machine.Machine.{Machine}
 use Rattle.press_engine.specs.declared.fault.EngineError.{EngineError}
 use Rattle.press_engine.specs.declared.fault.EngineError.TheVariants as engine_errors
@@ -15,7 +16,7 @@ use Rattle.press_stream.specs.declared.fault.JobError.{JobError}
 use Rattle.press_stream.specs.declared.fault.JobError.TheVariants as errors
 use Rattle.press_stream.specs.declared.step.Step.{Step}
 use Rattle.press_stream.specs.declared.step.Step.TheVariants as answers
-use Rattle.press_stream.specs.State.{JobState, IsHungry, IsOver, IsAfterEnd, pushed, most_steps}
+use Rattle.press_stream.specs.State.{JobState, IsHungry, IsOver, IsAfterEnd, with_piece, most_steps}
 use Rattle.press_stream.specs.Meaning.{Carried, Stopped, Goes, Stops}
 
 -- an engine's error as a job's
@@ -25,18 +26,19 @@ job_error engine_errors.ReplyFault = errors.ReplyFault
 job_error engine_errors.Failed = errors.Failed
 job_error engine_errors.NoMemory = errors.NoMemory
 
--- One command was handed to an engine.
+-- One command was handed to an engine. Memory ran out only where the command may take some.
 abbrev pub CarriesOne : Token → Option Machine → ℕ → Result Kind JobError → Option Machine → Told → Told → Type 0
 CarriesOne command old tag (Ok kind) new before after = (kind ≡ kind_of command) × Carried (command ∷ []) old new tag before after
 CarriesOne command old tag (Err errors.SinkFault) new before after = (new ≡ None) × Stopped (command ∷ []) old tag AtSheet before after
 CarriesOne command old tag (Err errors.ReplyFault) new before after = (new ≡ None) × Stopped (command ∷ []) old tag AtReply before after
-CarriesOne command old tag (Err errors.NoMemory) new before after = (new ≡ None) × Stopped (command ∷ []) old tag ForMemory before after
+CarriesOne command old tag (Err errors.NoMemory) new before after =
+    (new ≡ None) × Stopped (command ∷ []) old tag ForMemory before after × NeedsMemory old command
 CarriesOne command old tag (Err errors.Failed) new before after = (old ≡ None) × (new ≡ None) × (after ≡ before)
 CarriesOne command old tag (Err errors.ReadFault) new before after = ⊥
 CarriesOne command old tag (Err errors.AfterEnd) new before after = ⊥
 
 -- The next command that a scanner holds was handed to an engine; or it holds none, and nothing changed.
-abbrev pub CarriesNext : Held → Option Machine → ℕ → Result (Option Kind) JobError → Held → Option Machine → Told → Told → Type 0
+abbrev pub CarriesNext : ScannerState → Option Machine → ℕ → Result (Option Kind) JobError → ScannerState → Option Machine → Told → Told → Type 0
 CarriesNext held old tag (Ok (Some kind)) next new before after =
     (command : Token) × Passes held command next × CarriesOne command old tag (Ok kind) new before after
 CarriesNext held old tag (Ok None) next new before after = IsDone held × (next ≡ held) × (new ≡ old) × (after ≡ before)
@@ -56,7 +58,7 @@ Faults old bytes tag errors.AfterEnd new before after = ⊥
 -- A piece was pushed: it stands behind what was held; or memory ran out, and the job has failed for good; or it was refused,
 -- and nothing changed.
 abbrev pub Pushes : JobState → List ℕ → Result (Unit {0}) JobError → JobState → Type 0
-Pushes old piece (Ok _) new = IsSome old.machine × (old.held.ended ≡ false) × (new ≡ pushed piece old)
+Pushes old piece (Ok _) new = IsSome old.machine × (old.held.ended ≡ false) × (new ≡ with_piece piece old)
 Pushes old piece (Err errors.NoMemory) new = IsSome old.machine × (old.held.ended ≡ false) × (new.machine ≡ None)
 Pushes old piece (Err errors.Failed) new = (old.machine ≡ None) × (new ≡ old)
 Pushes old piece (Err errors.AfterEnd) new = IsAfterEnd old × (new ≡ old)
@@ -98,6 +100,20 @@ Takes old tag (Err error) new before after = Faults old [] tag error new before 
 -- the job is hungry, or no step is left
 abbrev pub IsIdle : JobState → Type 0
 IsIdle job = IsHungry job ⊎ IsOver job
+
+-- The command that comes next: the first of what the scanner holds, or the universal exit that is added where nothing is left.
+abbrev pub IsDue : JobState → Token → Type 0
+IsDue job command =
+    (job.exited ≡ false) × (IsNext job.held command ⊎ ((job.held.ended ≡ true) × IsDone job.held × (command ≡ Uel)))
+
+-- the command that comes next may take memory
+abbrev pub WantsMemory : JobState → Type 0
+WantsMemory job = (command : Token) × IsDue job command × NeedsMemory job.machine command
+
+-- The job goes on, by commands that it carries out, to where the one that comes next may take memory.
+abbrev pub ComesToWant : JobState → ℕ → Told → Type 0
+ComesToWant job tag told =
+    (given : List Token) × (last : JobState) × (between : Told) × Goes job [] given tag last told between × WantsMemory last
 
 -- A job carried out what it holds, until it is hungry or no step is left.
 abbrev pub Drains : JobState → ℕ → Result (Unit {0}) JobError → JobState → Told → Told → Type 0

@@ -2,7 +2,7 @@
 use Rattle.std.specs.Prelude.{◌≡◌, ◌+◌, ℕ, List, [], ◌++◌, Bool, true, false, Option, Some, None, IsSome, length, if◌then◌else◌}
 use Rattle.press_cmd.specs.Mode.{Exit}
 use Rattle.press_cmd.specs.Split.{NoHead}
-use Rattle.press_scan.specs.Held.{Held}
+use Rattle.press_scan.specs.ScannerState.{ScannerState}
 use Rattle.press_engine.specs.declared.engine.Engine.{Engine}
 use Rattle.press_engine.specs.declared.machine.Machine.{Machine}
 use Rattle.press_engine.specs.Engine.{live}
@@ -13,7 +13,7 @@ use Rattle.press_stream.specs.declared.phase.Phase.TheVariants as phases
 -- What its scanner holds; its machine, and none once the job has failed; and whether the universal exit that is added at the
 -- end of the stream was carried out.
 pub record JobState : Type 0 where
-  pub held : Held
+  pub held : ScannerState
   pub machine : Option Machine
   pub exited : Bool
 
@@ -22,12 +22,12 @@ abbrev pub opened : JobState
 opened = record { held = record { mode = Exit; bytes = []; ended = false }; machine = Some power_on; exited = false }
 
 -- with a piece behind what it holds
-abbrev pub pushed : List ℕ → JobState → JobState
-pushed piece job = record job { held = record job.held { bytes = job.held.bytes ++ piece } }
+abbrev pub with_piece : List ℕ → JobState → JobState
+with_piece piece job = record job { held = record job.held { bytes = job.held.bytes ++ piece } }
 
 -- with the end of input given
-abbrev pub ended : JobState → JobState
-ended job = record job { held = record job.held { ended = true } }
+abbrev pub input_ended : JobState → JobState
+input_ended job = record job { held = record job.held { ended = true } }
 
 -- The commands of the bytes so far are carried out, and more bytes may come.
 pub record IsHungry (job : JobState) : Type 0 where
@@ -63,11 +63,11 @@ is_over phases.Running = false
 is_over phases.Failed = false
 
 -- what scanner, engine and phase stand for
-abbrev pub state_of : Held → Engine → Phase → JobState
-state_of held engine phase = record { held = held; machine = machine_in phase engine; exited = is_over phase }
+abbrev pub job_state : ScannerState → Engine → Phase → JobState
+job_state held engine phase = record { held = held; machine = machine_in phase engine; exited = is_over phase }
 
 -- what is true of them
-abbrev pub Fits : Held → Engine → Phase → Type 0
+abbrev pub Fits : ScannerState → Engine → Phase → Type 0
 Fits held engine phases.Failed = Unit {0}
 Fits held engine phases.Running = IsSome (live engine)
 Fits held engine phases.Over = IsSome (live engine) × (held.ended ≡ true) × (held.bytes ≡ [])

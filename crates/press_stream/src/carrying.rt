@@ -1,9 +1,9 @@
-ghost use Rattle.std.specs.Prelude.{◌≡◌, IsSome, IsOk};
+ghost use Rattle.std.specs.Prelude.{◌≡◌, IsSome, IsOk, IsErrOf};
 ghost use Rattle.press_cmd.specs.View.{token};
 ghost use Rattle.press_sink.specs.Told.{both, CanCount};
 ghost use Rattle.press_engine.specs.Engine.{live};
-ghost use Rattle.press_stream.specs.Answers.{CarriesOne, CarriesNext, Takes};
-ghost use Rattle.press_stream.specs.State.{state_of, Fits};
+ghost use Rattle.press_stream.specs.Answers.{CarriesOne, CarriesNext, Takes, WantsMemory};
+ghost use Rattle.press_stream.specs.State.{job_state, Fits};
 ghost use Rattle.press_stream.specs.declared.phase.Phase.TheVariants.{Running};
 
 use crate::fault::JobError;
@@ -62,10 +62,12 @@ pub fn take<S: SheetSink, P: ReplySink>(
     requires running { IsSome (live engine.old) }
     requires phase { phase.old ≡ Running }
     requires can_count { CanCount (both (S.told sheets.old) (P.told replies.old)) }
-    ensures takes { Takes (state_of scanner.old engine.old Running) tag result
-        (state_of scanner.new engine.new phase.new)
+    ensures takes { Takes (job_state scanner.old engine.old Running) tag result
+        (job_state scanner.new engine.new phase.new)
         (both (S.told sheets.old) (P.told replies.old)) (both (S.told sheets.new) (P.told replies.new)) }
     ensures fits { IsOk result → Fits scanner.new engine.new phase.new }
+    ensures memory { IsErrOf result JobError.NoMemory
+        → WantsMemory (job_state scanner.old engine.old Running) }
 {
     if let Some(kind) = carry_next(scanner, engine, tag, sheets, replies)? {
         return Ok(Step::Ran(kind));

@@ -26,7 +26,7 @@ pub struct Job {
 }
 
 impl Model for Job {
-    ghost use Rattle.press_stream.specs.State.{JobState, state_of, Fits};
+    ghost use Rattle.press_stream.specs.State.{JobState, job_state, Fits};
     ghost use Rattle.std.specs.Coded.{codes};
     ghost use Rattle.press_engine.specs.contracts.machine.Machine as machine;
 
@@ -34,7 +34,7 @@ impl Model for Job {
 
     ghost coded = { Prim.hlevel (codes, machine.the_row.coded) };
 
-    ghost view = { λ job. state_of job.scanner job.engine job.phase };
+    ghost view = { λ job. job_state job.scanner job.engine job.phase };
 
     ghost invariant = { λ job. Fits job.scanner job.engine job.phase };
 }
@@ -43,8 +43,8 @@ impl Job {
     ghost use Rattle.std.specs.Prelude.{◌≡◌, ◌≤◌, ◌⊎◌, ◌↔◌, true, false, None, IfOk, IfSome, IsTrue, IsSome, IsErrOf};
     ghost use Rattle.press_sink.specs.Told.{both, CanCount};
     ghost use Rattle.press_engine.specs.Engine.{view_of};
-    ghost use Rattle.press_stream.specs.State.{opened, ended, IsOver};
-    ghost use Rattle.press_stream.specs.Answers.{Pushes, IsGoing, IsEarly, Takes, Drains, Feeds, Finishes, RunsReader};
+    ghost use Rattle.press_stream.specs.State.{opened, input_ended, IsOver};
+    ghost use Rattle.press_stream.specs.Answers.{Pushes, IsGoing, IsEarly, Takes, WantsMemory, Drains, ComesToWant, Feeds, Finishes, RunsReader};
     ghost use Rattle.press_stream.specs.Pieces.{most_reads};
 
     /// A job at the beginning of a stream, with an engine after power on.
@@ -80,7 +80,7 @@ impl Job {
 
     /// Gives the end of input: what is held is closed, and one universal exit comes after it.
     pub fn end_input(&mut self)
-        ensures { self.new ≡ ended self.old }
+        ensures { self.new ≡ input_ended self.old }
     {
         self.scanner.end_input();
     }
@@ -99,8 +99,9 @@ impl Job {
         replies: &mut P,
     ) -> Result<Step, JobError>
         requires { CanCount (both (S.told sheets.old) (P.told replies.old)) }
-        ensures { Takes self.old tag result self.new
+        ensures takes { Takes self.old tag result self.new
             (both (S.told sheets.old) (P.told replies.old)) (both (S.told sheets.new) (P.told replies.new)) }
+        ensures memory { IsErrOf result JobError.NoMemory → WantsMemory self.old }
     {
         match self.phase {
             Phase::Failed => Err(JobError::Failed),
@@ -171,8 +172,10 @@ impl Job {
         replies: &mut P,
     ) -> Result<(), JobError>
         requires { CanCount (both (S.told sheets.old) (P.told replies.old)) }
-        ensures { Finishes self.old tag result self.new
+        ensures finishes { Finishes self.old tag result self.new
             (both (S.told sheets.old) (P.told replies.old)) (both (S.told sheets.new) (P.told replies.new)) }
+        ensures memory { IsErrOf result JobError.NoMemory
+            → ComesToWant (input_ended self.old) tag (both (S.told sheets.old) (P.told replies.old)) }
     {
         if matches!(self.phase, Phase::Failed) {
             return Err(JobError::Failed);
@@ -230,8 +233,10 @@ impl Job {
     ) -> Result<(), JobError>
         requires running { IsSome self.old.machine }
         requires can_count { CanCount (both (S.told sheets.old) (P.told replies.old)) }
-        ensures { Drains self.old tag result self.new
+        ensures drains { Drains self.old tag result self.new
             (both (S.told sheets.old) (P.told replies.old)) (both (S.told sheets.new) (P.told replies.new)) }
+        ensures memory { IsErrOf result JobError.NoMemory
+            → ComesToWant self.old tag (both (S.told sheets.old) (P.told replies.old)) }
     {
         while let Step::Ran(_) = self.step(tag, sheets, replies)? {}
         Ok(())

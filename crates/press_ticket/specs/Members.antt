@@ -3,6 +3,7 @@ use Rattle.std.specs.Prelude.{ℕ, ◌&&◌, ℤ, List, [], ◌∷◌, length, B
 use Rattle.std.specs.List.{list_all, list_any}
 use Rattle.std.specs.Ordering.{nat_cmp, match_ordering}
 use Rattle.std.specs.Cmp.Lexicographic.{slice_cmp}
+use Rattle.press_units.specs.Ascii.{is_printable}
 use Rattle.serde_json.specs.Data.{Data, Items, no_items, item, Members, no_members, member}
 use Rattle.serde_json.specs.Find.{as_integer, as_number, as_array, as_str}
 use Rattle.press_ticket.specs.declared.media.Media.{Media}
@@ -36,9 +37,6 @@ as_whole value = option_and_then as_integer (as_number value)
 -- the version that this profile takes
 abbrev pub as_version : Data → Option (List ℕ)
 as_version value = option_and_then (λ text. if bytes_eq text (codes "1.5") then Some text else None) (as_str value)
-
-abbrev pub is_printable : ℕ → Bool
-is_printable byte = nat_le 32 byte && nat_le byte 126
 
 -- 1 to 63 printable bytes
 abbrev pub is_job_id : List ℕ → Bool

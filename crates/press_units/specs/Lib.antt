@@ -1,3 +1,4 @@
+pub mod Ascii
 pub mod Field
 pub mod Limits
 pub mod Measure

@@ -1,4 +1,4 @@
-use Rattle.press_cmd.proofs.LineTest.{IsLine-known}
+use Rattle.press_cmd.proofs.LineTest.{IsPjlLine-known}
 use Rattle.press_asm.proofs.LineStands.{written_along, escape_written, control_written, text_written, uel_written, foreign_written, line_written, param_is_written}
 use Rattle.press_asm.proofs.written.is_written.Goals as goal
 
@@ -20,7 +20,7 @@ returns-in-Param c = written_along c.args.command.now _ c.in-Param.is (param_is_
 pub returns-in-PjlLine : goal.returns-in-PjlLine
 returns-in-PjlLine c =
     written_along c.args.command.now _ c.in-PjlLine.is
-    (line_written c.in-PjlLine.line.bytes.now (IsLine-known c.in-PjlLine.line.bytes.now c.in-PjlLine.line.line) c.are_bytes-in-PjlLine.ensures)
+    (line_written c.in-PjlLine.line.bytes.now (IsPjlLine-known c.in-PjlLine.line.bytes.now c.in-PjlLine.line.line) c.are_bytes-in-PjlLine.ensures)
 
 pub returns-in-Foreign : goal.returns-in-Foreign
 returns-in-Foreign c = written_along c.args.command.now _ c.in-Foreign.is (foreign_written c.in-Foreign.byte (c.are_bytes-in-Foreign.ensures 0))

@@ -2,7 +2,7 @@ use Rattle.std.proofs.Common.{◌≡◌, ◌∙◌, sym, false}
 use Rattle.press_bits.specs.Mark.{painted, row}
 use Rattle.press_pattern.specs.Tiling.{Tiling}
 use Rattle.press_raster.specs.Along.{is_backward, along_mark, dots_along}
-use Rattle.press_raster.specs.Reading.{line_of}
+use Rattle.press_raster.specs.Reading.{tile_line}
 use Rattle.press_raster.proofs.RunLemmas.{runs_forward}
 use Rattle.press_raster.proofs.StripLemmas.{painted_along}
 use Rattle.press_raster.proofs.strip.paint_line.Goals as goal
@@ -17,5 +17,5 @@ returns-else-is_backward c =
     let forward : is_backward o ≡ false = sym c.is_backward.ensures ∙ c.if-is_backward.false in
     c.paint_along.ensures
     ∙ (λ i. painted page (along_mark o page.width page.height c.args.left c.args.line source (c.tile_line-pattern.ensures.row i) mode))
-    ∙ painted_along o page c.args.left source.dots c.args.line (dots_along (is_backward o) source) tile mode c.args.left source (line_of tile c.args.line)
+    ∙ painted_along o page c.args.left source.dots c.args.line (dots_along (is_backward o) source) tile mode c.args.left source (tile_line tile c.args.line)
     (runs_forward o page.width page.height c.args.left c.args.line source tile forward)

@@ -8,4 +8,4 @@ returns-in_err-push g c =
     rw (p.1, p.2) (Feeds-push c.args.self.now c.push.new.self c.args.piece.now c.args.tag _ _ (rw c.in_err-push.was at c.push.ensures))
 
 pub returns : goal.returns
-returns g c = Feeds-drain c.args.self.now c.push.new.self c.drain.new.self c.args.piece.now c.args.tag c.drain.result _ _ (rw c.in_ok-push.was at c.push.ensures) c.drain.ensures
+returns g c = Feeds-drain c.args.self.now c.push.new.self c.drain.new.self c.args.piece.now c.args.tag c.drain.result _ _ (rw c.in_ok-push.was at c.push.ensures) c.drain.ensures.drains

@@ -3,8 +3,13 @@ use Rattle.std.proofs.lemmas.Result.{err_from_is_err_and}
 use Rattle.std.specs.Io.KnownBytes.{Consumes}
 use Rattle.std.proofs.KnownBytes.{Consumes-trans, Keeps-refl}
 use Rattle.press_stream.proofs.Going.{Goes-then, can_count-then}
-use Rattle.press_stream.proofs.RunLemmas.{RunsReader-finish, RunsReader-feed, RunsReader-unread}
+use Rattle.press_stream.proofs.RunLemmas.{RunsReader-drain, RunsReader-finish, RunsReader-feed, RunsReader-unread}
 use Rattle.press_stream.proofs.job.Job.run_counted.Goals as goal
+
+pub returns-in_err-drain-clause-runs : goal.returns-in_err-drain-clause-runs
+returns-in_err-drain-clause-runs g c =
+    let p = err_from_is_err_and c.from_residual.result c.from_residual.ensures.1 in
+    rw (p.1, p.2) (RunsReader-drain c.args.self.now c.drain.new.self (g.R.Read.remaining c.args.reader.now) c.args.tag _ _ _ (rw c.in_err-drain.was at c.drain.ensures.drains))
 
 pub returns-in-Bytes-eq0-clause-runs : goal.returns-in-Bytes-eq0-clause-runs
 returns-in-Bytes-eq0-clause-runs g c =
@@ -13,7 +18,7 @@ returns-in-Bytes-eq0-clause-runs g c =
     let left = g.R.Read.remaining c.read_piece.new.reader in
     let gives = rw c.in-Bytes-eq0.is at c.read_piece.ensures.gives in
     let P : ℕ → Type 0 = λ count. Consumes now left (take count c.read_piece.new.piece) in
-    RunsReader-finish c.args.self.now c.loop-count.self c.finish.new.self (g.R.Read.remaining c.args.reader.now) (g.R.Read.remaining c.loop-count.reader) (g.R.Read.remaining c.read_piece.new.reader) so_far.bytes so_far.given c.args.tag c.finish.result _ _ _ so_far.lost so_far.goes (subst P c.in-Bytes-eq0.field-0-test gives.1) (gives.2 c.in-Bytes-eq0.field-0-test) c.finish.ensures
+    RunsReader-finish c.args.self.now c.loop-count.self c.finish.new.self (g.R.Read.remaining c.args.reader.now) (g.R.Read.remaining c.loop-count.reader) (g.R.Read.remaining c.read_piece.new.reader) so_far.bytes so_far.given c.args.tag c.finish.result _ _ _ so_far.lost so_far.goes (subst P c.in-Bytes-eq0.field-0-test gives.1) (gives.2 c.in-Bytes-eq0.field-0-test) c.finish.ensures.finishes
 
 pub loop-count-preserved-in-Continue-branch-2 : goal.loop-count-preserved-in-Continue-branch-2
 loop-count-preserved-in-Continue-branch-2 g c =
