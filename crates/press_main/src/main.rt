@@ -42,9 +42,9 @@ fn main(rt: HostRuntime) -> ExitCode {
         }
     };
     let mut input = rt.stdin();
-    let mut out = io::writer(&rt);
+    let out = io::writer(&rt);
     let mut err = rt.stderr();
-    ExitCode::from(run_words(rt.alloc(), &rt, &words, &mut input, &mut out, &mut err))
+    ExitCode::from(run_words(rt.alloc(), &rt, &words, &mut input, out, &mut err))
 }
 
 /// The words of the command line, the program's name among them.
