@@ -9,10 +9,12 @@ mod assembly_tests;
 mod file_tests;
 mod files;
 mod listing;
+mod listing_sink;
 #[cfg(test)]
 mod macro_tests;
 #[cfg(test)]
 mod mark_tests;
+mod measures;
 mod program;
 #[cfg(test)]
 mod row_tests;
