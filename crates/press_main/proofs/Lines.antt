@@ -1,7 +1,7 @@
 -- Lines of sheets, one sheet after another.
 use Rattle.std.proofs.Common.{◌≡◌, ◌∙◌, ◌<◌, ℕ, ◌+◌, List, [], ◌∷◌, ◌++◌, length, take, get_or, Option, Some, None, option_map, Result, Ok, Err, is_err, IfSome, OnOk, false, refl, sym, ap, subst, arith, suc}
 use Rattle.std.specs.Io.KnownBytes.{Appends}
-use Rattle.std.proofs.lemmas.List.{append_assoc, append-nil, take_more, length-take, map-append}
+use Rattle.std.proofs.lemmas.List.{append_assoc, append-nil, take_more, length-take}
 use Rattle.std.proofs.lemmas.Bool.{true≢false}
 use Rattle.press_cmd.specs.Split.{Closed}
 use Rattle.press_sink.specs.Sides.{Sides}
@@ -13,8 +13,10 @@ use Rattle.press_stream.specs.State.{JobState}
 use Rattle.press_stream.specs.Meaning.{meaning_of, with_exit}
 use Rattle.press_stream.specs.Answers.{Reads, fault_of}
 use Rattle.press_stream.specs.Printed.{Printed}
+use Rattle.press_main.specs.declared.listing_sink.ListedSheet.{ListedSheet}
+use Rattle.press_main.specs.Listed.{deliveries_of}
 use Rattle.press_main.specs.Listing.{sheet_lines, lines_from, Lists}
-use Rattle.press_main.specs.Printing.{machine_of}
+use Rattle.press_main.specs.Printing.{machine_of, status_of_fault}
 
 -- the fact of an answer that had no error
 pub at_ok : {X E : Type 0} (P : Type 0) (result : Result X E) (value : X) → OnOk result P → result ≡ Ok value → P
@@ -32,19 +34,25 @@ lines_from-push number (first ∷ sheets) sheet =
     ap (λ rest. sheet_lines number first ++ rest) (lines_from-push (number + 1) sheets sheet ∙ ap (λ (n : ℕ). lines_from (number + 1) sheets ++ sheet_lines n sheet) same)
     ∙ sym (append_assoc (sheet_lines number first) (lines_from (number + 1) sheets) (sheet_lines (number + suc (length sheets)) sheet))
 
-length-sheets_in : (deliveries : List Delivery) → length (sheets_in deliveries) ≡ length deliveries
-length-sheets_in [] = refl
-length-sheets_in (delivery ∷ deliveries) = ap suc (length-sheets_in deliveries)
+-- the sheets of which the listing keeps what it tells, one more
+sheets_in-listed-push : (listed : List ListedSheet) (one : ListedSheet) → sheets_in (deliveries_of (listed ++ one ∷ [])) ≡ sheets_in (deliveries_of listed) ++ one.sheet.value ∷ []
+sheets_in-listed-push [] one = refl
+sheets_in-listed-push (first ∷ listed) one = ap (λ (all : List Sides). first.sheet.value ∷ all) (sheets_in-listed-push listed one)
 
--- the front of a list of deliveries, one longer
-pub lines_from-more : (deliveries : List Delivery) (i : ℕ) (delivery : Delivery) → i < length deliveries → delivery ≡ get_or deliveries i delivery → lines_from 1 (sheets_in (take (i + 1) deliveries)) ≡ lines_from 1 (sheets_in (take i deliveries)) ++ sheet_lines (i + 1) delivery.sheet
-lines_from-more deliveries i delivery inside is =
-    let front = take i deliveries in
-    let place : 1 + length (sheets_in front) ≡ i + 1 = rw (length-sheets_in front) (simp length-take (omega arith)) in
-    ap (λ (all : List Delivery). lines_from 1 (sheets_in all)) (take_more deliveries i delivery inside ∙ ap (λ (one : Delivery). front ++ one ∷ []) (sym is))
-    ∙ ap (lines_from 1) (map-append (λ (one : Delivery). one.sheet) front (delivery ∷ []))
-    ∙ lines_from-push 1 (sheets_in front) delivery.sheet
-    ∙ ap (λ (n : ℕ). lines_from 1 (sheets_in front) ++ sheet_lines n delivery.sheet) place
+length-sheets_in : (listed : List ListedSheet) → length (sheets_in (deliveries_of listed)) ≡ length listed
+length-sheets_in [] = refl
+length-sheets_in (one ∷ listed) = ap suc (length-sheets_in listed)
+
+-- the front of a list of them, one longer
+pub lines_from-more : (listed : List ListedSheet) (i : ℕ) (one : ListedSheet) → i < length listed → one ≡ get_or listed i one → lines_from 1 (sheets_in (deliveries_of (take (i + 1) listed))) ≡ lines_from 1 (sheets_in (deliveries_of (take i listed))) ++ sheet_lines (i + 1) one.sheet.value
+lines_from-more listed i one inside is =
+    let front = take i listed in
+    let before = sheets_in (deliveries_of front) in
+    let place : 1 + length before ≡ i + 1 = rw (length-sheets_in front) (simp length-take (omega arith)) in
+    ap (λ (all : List ListedSheet). lines_from 1 (sheets_in (deliveries_of all))) (take_more listed i one inside ∙ ap (λ (other : ListedSheet). front ++ other ∷ []) (sym is))
+    ∙ ap (lines_from 1) (sheets_in-listed-push front one)
+    ∙ lines_from-push 1 before one.sheet.value
+    ∙ ap (λ (n : ℕ). lines_from 1 before ++ sheet_lines n one.sheet.value) place
 
 sheets_in-tagged : (tag : ℕ) (sheets : List Sides) → sheets_in (under_tag tag sheets) ≡ sheets
 sheets_in-tagged tag [] = refl
@@ -59,7 +67,7 @@ read_all : (bytes : List ℕ) (left : Option (List ℕ)) (read : List ℕ) → R
 read_all bytes None read reads = absurd reads.lost
 read_all bytes (Some rest) read reads = sym (reads.lost ∙ ap (λ last. read ++ last) (reads.at_end refl) ∙ append-nil read)
 
--- what list sinks took of a stream that was printed is listed
+-- what the sinks took of a stream that was printed is listed
 pub lists-printed : (printed : Result JobState JobError) (known left old new : Option (List ℕ)) (tag : ℕ) (before after : Told) (deliveries : List Delivery) (replies : List ℕ) → before.sheets.delivered ≡ Some [] → before.replies.replied ≡ Some [] → after.sheets.delivered ≡ Some deliveries → after.replies.replied ≡ Some replies → Printed known left tag (fault_of printed) (machine_of printed) before after → is_err printed ≡ false → Appends old new (lines_from 1 (sheets_in deliveries) ++ replies) → IfSome known (λ bytes. Lists bytes old new)
 lists-printed (Ok job) None left old new tag before after deliveries replies p q r s prints no_fault appends = tt
 lists-printed (Ok job) (Some bytes) left old new tag before after deliveries replies p q r s prints no_fault appends =
@@ -81,3 +89,8 @@ lists-printed (Err error) known left old new tag before after deliveries replies
 pub at_no_fault : {X E : Type 0} (P : Type 0) (result : Result X E) → OnOk result P → is_err result ≡ false → P
 at_no_fault P (Ok value) h no_fault = h
 at_no_fault P (Err error) h no_fault = absurd (true≢false no_fault)
+
+-- where the status is 0, printing had no fault
+pub no_fault-status : (printed : Result JobState JobError) → status_of_fault (fault_of printed) ≡ 0 → is_err printed ≡ false
+no_fault-status (Ok job) zero = refl
+no_fault-status (Err error) zero = absurd cc

@@ -2,18 +2,23 @@
 use Rattle.std.specs.Prelude.{ℕ, ◌+◌, List, [], ◌∷◌, ◌++◌, Option, Some, None, codes}
 use Rattle.std.specs.Fmt.{decimal}
 use Rattle.std.specs.Io.KnownBytes.{Appends}
-use Rattle.press_bits.specs.Page.{Page, count_black}
+use Rattle.press_bits.specs.Page.{Page}
 use Rattle.press_cmd.specs.Token.{Token}
 use Rattle.press_cmd.specs.Split.{Closed}
 use Rattle.press_sink.specs.Sides.{Sides}
 use Rattle.press_sink.specs.Sending.{Output, sheets_of, reply_bytes_of}
 use Rattle.press_stream.specs.Meaning.{meaning_of, with_exit}
+use Rattle.press_main.specs.declared.measures.Measures.{Measures}
+use Rattle.press_main.specs.Measured.{measures_of}
 
 -- The line of a side: the number of its sheet, which side it is, width and height in dots, and how many dots are black.
-unfoldable pub side_line : ℕ → List ℕ → Page → List ℕ
-side_line number side page =
-    codes "sheet " ++ (decimal number ++ (codes " " ++ (side ++ (codes " " ++ (decimal page.width ++ (codes "x" ++ (decimal page.height
-    ++ (codes " black " ++ (decimal (count_black page) ++ 10 ∷ [])))))))))
+unfoldable pub measured_line : ℕ → List ℕ → Measures → List ℕ
+measured_line number side measures =
+    codes "sheet " ++ (decimal number ++ (codes " " ++ (side ++ (codes " " ++ (decimal measures.width ++ (codes "x" ++ (decimal measures.height
+    ++ (codes " black " ++ (decimal measures.black ++ 10 ∷ [])))))))))
+
+abbrev pub side_line : ℕ → List ℕ → Page → List ℕ
+side_line number side page = measured_line number side (measures_of page)
 
 -- the line of a back, if there is one
 abbrev pub back_line : ℕ → Option Page → List ℕ

@@ -1,5 +1,5 @@
 -- What printing a stream hands back.
-use Rattle.std.specs.Prelude.{Option, None, Result, Ok, Err}
+use Rattle.std.specs.Prelude.{ℕ, Option, Some, None, Result, Ok, Err}
 use Rattle.press_engine.specs.declared.machine.Machine.{Machine}
 use Rattle.press_stream.specs.declared.fault.JobError.{JobError}
 use Rattle.press_stream.specs.State.{JobState}
@@ -8,3 +8,8 @@ use Rattle.press_stream.specs.State.{JobState}
 abbrev pub machine_of : Result JobState JobError → Option Machine
 machine_of (Ok job) = job.machine
 machine_of (Err _) = None
+
+-- the status: 1 after a fault, else 0
+abbrev pub status_of_fault : Option JobError → ℕ
+status_of_fault None = 0
+status_of_fault (Some _) = 1

@@ -27,8 +27,8 @@ fn path(rt: &HostRuntime, folder: &String, name: &str) -> Result<String, Fail> {
 fn printed(rt: &HostRuntime, mut stream: &[u8], template: &str) -> Result<(u8, String), Fail> {
     let mut out = Vec::new(rt.alloc());
     let mut err = Vec::new(rt.alloc());
-    let status = print_files(rt.alloc(), rt, &mut stream, template, &mut out, &mut err);
-    Ok((status, String::from_utf8(err).ok().ok_or("text")?))
+    let finished = print_files(rt.alloc(), rt, &mut stream, template, &mut out, &mut err);
+    Ok((finished.status, String::from_utf8(err).ok().ok_or("text")?))
 }
 
 /// Reads a P4 file of a folder.
@@ -120,8 +120,8 @@ fn a_bad_template_is_told_before_the_stream_is_read(rt: HostRuntime) -> Result<(
         let mut stream: &[u8] = b"\x0C";
         let mut out = Vec::new(rt.alloc());
         let mut err = Vec::new(rt.alloc());
-        let status = print_files(rt.alloc(), &rt, &mut stream, template, &mut out, &mut err);
-        assert_eq!(rt; status, 1);
+        let finished = print_files(rt.alloc(), &rt, &mut stream, template, &mut out, &mut err);
+        assert_eq!(rt; finished.status, 1);
         assert_eq!(rt; stream.len(), 1);
         assert_eq!(rt; err.as_slice(), b"fault 121\n".as_slice());
     }

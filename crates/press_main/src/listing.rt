@@ -1,11 +1,13 @@
 ghost use Rattle.std.specs.Prelude.{◌≡◌, ◌≤◌, ◌++◌, IfSome, OnOk};
 ghost use Rattle.std.specs.Io.KnownBytes.{Appends};
-ghost use Rattle.press_main.specs.Listing.{side_line, sheet_lines, lines_from, Lists};
+ghost use Rattle.press_main.specs.Listing.{measured_line, sheet_lines, lines_from, Lists};
+ghost use Rattle.press_main.specs.Listed.{deliveries_of};
 ghost use Rattle.press_sink.specs.Sending.{sheets_in};
 
-use crate::stream::print_stream;
-use press_bits::Bitmap;
-use press_sink::{Delivery, ListReplies, ListSink, Sheet};
+use crate::listing_sink::{ListedSheet, ListingSink};
+use crate::measures::Measures;
+use crate::stream::{print_stream, told_status};
+use press_sink::ListReplies;
 use std::alloc::Global;
 use std::io::{self, Read, Write};
 
@@ -23,47 +25,43 @@ pub fn print_list<R: Read, W: Write, E: Write>(
     ensures lists { result ≡ 0 → IfSome (R.remaining reader.old) (λ bytes.
         Lists bytes (W.contents out.old) (W.contents out.new)) }
 {
-    let mut sheets = ListSink::new(alloc);
+    let mut sheets = ListingSink::new(alloc);
     let mut replies = ListReplies::new(alloc);
     let printed = print_stream(alloc, reader, 0, &mut sheets, &mut replies);
-    let listed = list(out, sheets.deliveries(), replies.bytes());
-    if let Err(fault) = &printed {
-        let _ = writeln!(err, "{fault}");
-    }
+    let listed = list(out, sheets.sheets(), replies.bytes());
+    let status = told_status(&printed, err);
     if listed.is_err() {
         let _ = writeln!(err, "fault output");
         return 1;
     }
-    match printed {
-        Ok(_) => 0,
-        Err(_) => 1,
-    }
+    status
 }
 
 /// Lists the sides of the sheets, and then the replies.
-fn list<W: Write>(out: &mut W, deliveries: &[Delivery], replies: &[u8]) -> io::Result<()>
+fn list<W: Write>(out: &mut W, sheets: &[ListedSheet], replies: &[u8]) -> io::Result<()>
     ensures { OnOk result (Appends (W.contents out.old) (W.contents out.new)
-        (lines_from 1 (sheets_in deliveries.now) ++ replies.now)) }
+        (lines_from 1 (sheets_in (deliveries_of sheets.now)) ++ replies.now)) }
 {
-    list_sheets(out, deliveries)?;
+    list_sheets(out, sheets)?;
     out.write_all(replies)?;
     out.flush()
 }
 
 /// Lists the sides of the sheets, which are numbered from 1.
-fn list_sheets<W: Write>(out: &mut W, deliveries: &[Delivery]) -> io::Result<()>
+fn list_sheets<W: Write>(out: &mut W, sheets: &[ListedSheet]) -> io::Result<()>
     ensures { OnOk result (Appends (W.contents out.old) (W.contents out.new)
-        (lines_from 1 (sheets_in deliveries.now))) }
+        (lines_from 1 (sheets_in (deliveries_of sheets.now)))) }
 {
-    for (index, delivery) in deliveries.iter().enumerate() {
-        list_sheet(out, index + 1, &delivery.sheet)?;
+    for (index, sheet) in sheets.iter().enumerate() {
+        list_sheet(out, index + 1, sheet)?;
     }
     Ok(())
 }
 
 /// Lists the sides of one sheet.
-fn list_sheet<W: Write>(out: &mut W, number: usize, sheet: &Sheet) -> io::Result<()>
-    ensures { OnOk result (Appends (W.contents out.old) (W.contents out.new) (sheet_lines number sheet.now)) }
+fn list_sheet<W: Write>(out: &mut W, number: usize, sheet: &ListedSheet) -> io::Result<()>
+    ensures { OnOk result (Appends (W.contents out.old) (W.contents out.new)
+        (sheet_lines number sheet.now.sheet.value)) }
 {
     list_side(out, number, "front", &sheet.front)?;
     match &sheet.back {
@@ -73,13 +71,18 @@ fn list_sheet<W: Write>(out: &mut W, number: usize, sheet: &Sheet) -> io::Result
 }
 
 /// Writes the line of one side.
-#[tactic(auto, unfolding(crate::specs::Listing::side_line))]
-fn list_side<W: Write>(out: &mut W, number: usize, side: &str, page: &Bitmap) -> io::Result<()>
+#[tactic(auto, unfolding(crate::specs::Listing::measured_line))]
+fn list_side<W: Write>(
+    out: &mut W,
+    number: usize,
+    side: &str,
+    measures: &Measures,
+) -> io::Result<()>
     ensures { OnOk result (Appends (W.contents out.old) (W.contents out.new)
-        (side_line number side.now page.now)) }
+        (measured_line number side.now measures.now)) }
 {
-    let width = page.width();
-    let height = page.height();
-    let black = page.count_black();
+    let width = measures.width;
+    let height = measures.height;
+    let black = measures.black;
     writeln!(out, "sheet {number} {side} {width}x{height} black {black}")
 }

@@ -9,10 +9,12 @@ mod assembly_tests;
 mod file_tests;
 mod files;
 mod listing;
+mod listing_sink;
 #[cfg(test)]
 mod macro_tests;
 #[cfg(test)]
 mod mark_tests;
+mod measures;
 mod program;
 #[cfg(test)]
 mod row_tests;
@@ -42,9 +44,9 @@ fn main(rt: HostRuntime) -> ExitCode {
         }
     };
     let mut input = rt.stdin();
-    let mut out = io::writer(&rt);
+    let out = io::writer(&rt);
     let mut err = rt.stderr();
-    ExitCode::from(run_words(rt.alloc(), &rt, &words, &mut input, &mut out, &mut err))
+    ExitCode::from(run_words(rt.alloc(), &rt, &words, &mut input, out, &mut err))
 }
 
 /// The words of the command line, the program's name among them.

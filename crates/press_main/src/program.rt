@@ -10,12 +10,12 @@ use std::fs::Files;
 use std::io::{Read, Write};
 
 /// Does what the words ask for, the program's name among them. The answer is the status.
-pub fn run_words<F: Files, S: Read, W: Write, E: Write>(
+pub fn run_words<F: Files, S: Read, W: Write + Drop, E: Write>(
     alloc: Global,
     files: &F,
     words: &[String],
     input: &mut S,
-    out: &mut W,
+    mut out: W,
     err: &mut E,
 ) -> u8 {
     let Ok(texts) = words
@@ -28,7 +28,7 @@ pub fn run_words<F: Files, S: Read, W: Write, E: Write>(
     };
     match request_of(alloc, &texts) {
         Ok(request) => print(alloc, files, &request, input, out, err),
-        Err(refusal) => refuse(&refusal, out, err),
+        Err(refusal) => refuse(&refusal, &mut out, err),
     }
 }
 
@@ -45,12 +45,12 @@ fn refuse<W: Write, E: Write>(refusal: &Refusal, out: &mut W, err: &mut E) -> u8
 }
 
 /// Opens the input, and makes what is asked for.
-fn print<F: Files, S: Read, W: Write, E: Write>(
+fn print<F: Files, S: Read, W: Write + Drop, E: Write>(
     alloc: Global,
     files: &F,
     request: &Request<'_>,
     input: &mut S,
-    out: &mut W,
+    out: W,
     err: &mut E,
 ) -> u8 {
     let Input::File(name) = request.input else {
@@ -66,18 +66,18 @@ fn print<F: Files, S: Read, W: Write, E: Write>(
 }
 
 /// Makes what is asked for of what a reader has.
-fn print_from<F: Files, R: Read, W: Write, E: Write>(
+fn print_from<F: Files, R: Read, W: Write + Drop, E: Write>(
     alloc: Global,
     files: &F,
     reader: &mut R,
     output: &Output<'_>,
-    out: &mut W,
+    mut out: W,
     err: &mut E,
 ) -> u8 {
     match output {
-        Output::Listing => print_list(alloc, reader, out, err),
-        Output::Files(template) => print_files(alloc, files, reader, template, out, err),
-        Output::Text => disasm_bytes(alloc, reader, out, err),
+        Output::Listing => print_list(alloc, reader, &mut out, err),
+        Output::Files(template) => print_files(alloc, files, reader, template, out, err).status,
+        Output::Text => disasm_bytes(alloc, reader, &mut out, err),
         Output::Assembled(name) => assemble_to(alloc, files, reader, name, err),
     }
 }

@@ -9,7 +9,8 @@ use std::io::{self, ErrorKind, Write};
 /// The most writes of one reply.
 const MOST_WRITES: u32 = u32::MAX;
 
-/// A sink that writes replies to a writer, and counts the replies at which a write failed. It does not flush the writer.
+/// A sink that writes replies to a writer, and flushes it after each of them, so that a host has its answer before it goes on.
+/// It counts the replies at which a write or the flush failed.
 #[derive(Drop)]
 pub struct WriteReplies<W: Write + Drop> {
     writer: W,
@@ -56,6 +57,14 @@ fn write_whole<W: Write>(writer: &mut W, bytes: &[u8]) -> io::Result<()>
     Err(io::Error::from(ErrorKind::Interrupted))
 }
 
+/// Writes all the bytes and flushes the writer; a front of them is written where that failed.
+fn send<W: Write>(writer: &mut W, bytes: &[u8]) -> io::Result<()>
+    ensures { Writes result (W.contents writer.old) (W.contents writer.new) bytes.now }
+{
+    write_whole(writer, bytes)?;
+    writer.flush()
+}
+
 impl<W: Write + Drop> ReplySink for WriteReplies<W> {
     ghost told = { λ sink. record { replied = W.contents sink.writer; faults = sink.faults } };
 
@@ -64,7 +73,7 @@ impl<W: Write + Drop> ReplySink for WriteReplies<W> {
     }
 
     fn reply(&mut self, bytes: &[u8]) -> Result<(), ReplyError> {
-        if write_whole(&mut self.writer, bytes).is_ok() {
+        if send(&mut self.writer, bytes).is_ok() {
             return Ok(());
         }
         self.faults += 1;

@@ -1,7 +1,7 @@
 //! Replies to a writer, and replies of which one fails.
 use press_pbm::FuseWrite;
 use press_sink::{FuseReplies, ListReplies, ReplyError, ReplySink, WriteReplies};
-use std::io::{self, Write};
+use std::io::{self, ErrorKind, Write};
 use std::process::Abort;
 use std::test::Fail;
 
@@ -81,6 +81,49 @@ fn a_writer_that_takes_nothing_is_a_fault(rt: HostRuntime) -> Result<(), Fail> {
     assert_eq!(rt; sink.faults(), 2);
     assert!(rt; !has_fault(&rt, &mut sink, b""));
     assert_eq!(rt; sink.faults(), 2);
+    Ok(())
+}
+
+/// A writer that notes how many bytes it holds where it is flushed, or fails there.
+#[derive(Drop)]
+struct Holding {
+    bytes: Vec<u8>,
+    flushed: Vec<usize>,
+    fails: bool,
+}
+
+impl Write for Holding {
+    fn write(&mut self, buf: &[u8]) -> io::Result<usize> {
+        self.bytes.extend_from_slice(buf)?;
+        Ok(buf.len())
+    }
+
+    fn flush(&mut self) -> io::Result<()> {
+        if self.fails {
+            return Err(io::Error::from(ErrorKind::Other));
+        }
+        self.flushed.push(self.bytes.len())?;
+        Ok(())
+    }
+}
+
+#[test]
+fn each_reply_is_flushed(rt: HostRuntime) -> Result<(), Fail> {
+    for fails in [false, true] {
+        let mut sink = WriteReplies::new(Holding {
+            bytes: Vec::with_capacity(rt.alloc(), 16)?,
+            flushed: Vec::with_capacity(rt.alloc(), 16)?,
+            fails,
+        });
+        for reply in [b"one".as_slice(), b"three".as_slice()] {
+            assert!(rt; has_fault(&rt, &mut sink, reply) == fails);
+        }
+        assert_eq!(rt; sink.faults(), if fails { 2 } else { 0 });
+        let writer = sink.into_inner();
+        assert_eq!(rt; writer.bytes.as_slice(), b"onethree".as_slice());
+        let wanted: &[usize] = if fails { &[] } else { &[3, 8] };
+        assert_eq!(rt; writer.flushed.as_slice(), wanted);
+    }
     Ok(())
 }
 
