@@ -110,10 +110,6 @@ copies_out-some sheet done copies count below =
     let P : ℕ → Type 0 = λ n. copies_out sheet n count ≢ [] in
     subst P (sym e) (λ (nothing : copies_out sheet (suc (copies - 1)) count ≡ []). cc)
 
--- memory ran out before anything went out
-pub Sends-nothing : (tag : ℕ) (outputs : List Output) (told : Told) → Sends tag outputs (Err engine_errors.NoMemory) told told
-Sends-nothing tag outputs told = record { taken = []; others = outputs; outputs_are = refl; took = TookAll-none tag told }
-
 -- where a part of the outputs is not empty, they are not
 pub some-before : (outputs others : List Output) → outputs ≢ [] → outputs ++ others ≢ []
 some-before [] others some nothing = some refl

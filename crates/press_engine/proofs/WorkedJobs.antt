@@ -78,6 +78,34 @@ a_job_closes_the_page :
 unfolding run_each run_at digits
 a_job_closes_the_page = refl
 
+-- a value that is set holds from the next page on: the page that the line closes goes out as it was set before
+a_value_holds_behind_the_page :
+    told (line "@PJL USTATUS PAGE=ON" ∷ small_box ++ (line "@PJL SET COPIES=2" ∷ form_feed ∷ []))
+    ≡ front boxed ∷ reply "@PJL USTATUS PAGE" "1"
+    ∷ front letter ∷ reply "@PJL USTATUS PAGE" "2" ∷ front letter ∷ reply "@PJL USTATUS PAGE" "3" ∷ []
+unfolding run_each run_at digits
+a_value_holds_behind_the_page = refl
+
+-- so does a front that waits, which goes out alone with its reply
+a_front_goes_out_alone :
+    told (line "@PJL SET DUPLEX=ON" ∷ line "@PJL USTATUS PAGE=ON" ∷ form_feed ∷ line "@PJL SET PAPER=A4" ∷ form_feed ∷ [])
+    ≡ front letter ∷ reply "@PJL USTATUS PAGE" "1" ∷ front (blank 2480 3507) ∷ reply "@PJL USTATUS PAGE" "2" ∷ []
+unfolding run_each run_at digits
+a_front_goes_out_alone = refl
+
+-- a definition that is open is dropped where a value is set, and goes on at a query
+abbrev define : Token
+define = Grouped (code "&") (code "f") (codes "0") (code "X") []
+
+a_value_drops_the_definition : told (define ∷ line "@PJL SET COPIES=1" ∷ form_feed ∷ []) ≡ front letter ∷ []
+unfolding run_each run_at
+a_value_drops_the_definition = refl
+
+a_query_leaves_the_definition :
+    told (define ∷ line "@PJL INQUIRE COPIES" ∷ form_feed ∷ []) ≡ reply "@PJL INQUIRE COPIES" "1" ∷ []
+unfolding run_each run_at digits
+a_query_leaves_the_definition = refl
+
 -- the page after a change of a value has it; the page of a default that changed has not
 another_page_size : told (line "@PJL SET PAPER=A4" ∷ form_feed ∷ []) ≡ front (blank 2480 3507) ∷ []
 unfolding run_each run_at

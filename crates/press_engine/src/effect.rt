@@ -41,7 +41,7 @@ pub enum Selection {
 #[derive(Clone, Copy, Debug, PartialEq, Eq)]
 pub enum PageChange {
     Reset,
-    /// A reset by other values of the job language, with which a job may begin.
+    /// A reset by new values of the job language, with which a job may begin.
     Language { language: PjlEnv, begins_job: bool },
     Size(PageSize),
     Orientation(Orientation),

@@ -50,11 +50,11 @@ struct Outcome {
 
 /// A page's width, and a digit for each of three dots: 1 where it is black.
 fn note(page: &Bitmap) -> u32 {
-    let mut digits = 0;
+    let mut digits: u32 = 0;
     for (x, y) in [(75, 150), (85, 170), (75, 187)] {
-        digits = digits * 10 + u32::from(page.get(x, y));
+        digits = u32::saturating_add(u32::saturating_mul(digits, 10), u32::from(page.get(x, y)));
     }
-    page.width() * 1000 + digits
+    page.width().saturating_mul(1000).saturating_add(digits)
 }
 
 /// A sink that notes each side of a sheet.
@@ -109,7 +109,8 @@ fn cut(alloc: Global, stream: &[u8], at: usize) -> Result<Outcome, Fail> {
     };
     let mut replies = ListReplies::new(alloc);
     let mut job = Job::open(alloc)?;
-    let (front, back) = stream.split_at(at);
+    let front = stream.get(..at).unwrap_or(stream);
+    let back = stream.get(at..).unwrap_or(stream);
     job.feed(front, 7, &mut sheets, &mut replies)?;
     job.feed(back, 7, &mut sheets, &mut replies)?;
     let open = job.ended();
