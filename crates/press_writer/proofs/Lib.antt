@@ -1,0 +1,4 @@
+pub mod ListLemmas
+pub mod ImageLemmas
+pub mod RunLemmas
+mod WorkedJobs

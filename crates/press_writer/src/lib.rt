@@ -1,0 +1,14 @@
+//! Jobs from tickets: which images a ticket can be printed with, and the PJL and PCL 5 stream that prints it.
+#![tactic(auto)]
+
+mod checking;
+mod fault;
+pub mod laws;
+mod media;
+mod part;
+mod plan;
+mod sequence;
+mod sheet;
+
+pub use checking::check;
+pub use fault::WriterError;
