@@ -4,7 +4,7 @@ use Prim.Native.Char.{code}
 use Rattle.std.specs.Prelude.{ℕ, ◌/◌, ◌%◌, ◌&&◌, ◌==◌, nat_lt, Bool, true, false, if◌then◌else◌, List, [], ◌∷◌, ◌++◌, length, map, replicate, Option, Some, None}
 use Rattle.std.specs.List.{flat_map}
 use Rattle.press_bits.specs.Page.{Page}
-use Rattle.press_cmd.specs.Token.{Token, Escape, Control, Uel, bytes_of}
+use Rattle.press_cmd.specs.Token.{Token, Escape, Control, Uel}
 use Rattle.press_ticket.specs.Ticket.{JobTicket}
 use Rattle.press_ticket.specs.declared.media.Media as names
 use Rattle.press_ticket.specs.declared.media.Media.TheVariants.{Letter, Legal, A4, Executive, Ledger, A3}
@@ -16,7 +16,7 @@ use Rattle.press_writer.specs.declared.plan.PrintRun.{PrintRun}
 use Rattle.press_writer.specs.declared.sequence.Sequence.TheVariants.{PageSize, Orientation, SimplexDuplex, TopMargin, Copies, SideSelection, RasterResolution}
 use Rattle.press_writer.specs.declared.sheet.SheetPages.{SheetPages}
 use Rattle.press_writer.specs.Picture.{picture}
-use Rattle.press_writer.specs.Sequences.{command}
+use Rattle.press_writer.specs.Sequences.{command, written}
 use Rattle.press_writer.specs.Sheets.{set_of}
 use Rattle.press_writer.specs.Wanted.{image_of}
 
@@ -102,16 +102,15 @@ abbrev pub sides_of : PrintRun → List Part
 sides_of run = Front run.sheet.front run.copies ∷ Back run.sheet.back ∷ []
 
 -- The parts of the job, in order.
+abbrev pub parts_of : List PrintRun → List Part
+parts_of runs = Head ∷ (flat_map sides_of runs ++ Tail ∷ [])
+
 abbrev pub parts : JobTicket → List Part
-parts ticket = Head ∷ (flat_map sides_of (runs ticket) ++ Tail ∷ [])
+parts ticket = parts_of (runs ticket)
 
 -- The job: its commands, and their bytes.
 abbrev pub job : JobTicket → List Page → List Token
 job ticket images = flat_map (part_commands ticket images) (parts ticket)
-
--- the bytes of commands one after another
-abbrev pub written : List Token → List ℕ
-written commands = flat_map bytes_of commands
 
 abbrev pub job_bytes : JobTicket → List Page → List ℕ
 job_bytes ticket images = written (job ticket images)

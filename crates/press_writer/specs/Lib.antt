@@ -6,3 +6,4 @@ pub mod Sequences
 pub mod Picture
 pub mod Job
 pub mod Laws
+pub mod Plan

@@ -35,16 +35,18 @@ sent method row seed = with_data TransferRow (length (encoding method row seed))
 abbrev pub is_white : List ℕ → Bool
 is_white row = list_all (λ byte. byte == 0) row
 
--- The rows from one on, where the method is this, the row before this, and so many white rows are still to be left out. Each
--- row is sent by the method with the shortest data; white rows are left out, and those below the last other row are not sent.
+-- A row that is sent by the method with the shortest data, where the method was this before.
+abbrev pub row_commands : (method : Method) → (before row : List ℕ) → List Token
+row_commands method before row =
+    method_change method (best_method row before) ++ sent (best_method row before) row before ∷ []
+
+-- The rows from one on, where the method is this, the row before this, and so many white rows are still to be left out. White
+-- rows are left out, and those below the last other row are not sent.
 unfoldable pub raster_rows : (method : Method) → (before : List ℕ) → (white : ℕ) → List (List ℕ) → List Token
 raster_rows method before white [] = []
 raster_rows method before white (row ∷ rows) =
     if is_white row then raster_rows method row (suc white) rows
-    else
-    left_out white
-    ++ (method_change method (best_method row before)
-    ++ (sent (best_method row before) row before ∷ raster_rows (best_method row before) row 0 rows))
+    else left_out white ++ (row_commands method before row ++ raster_rows (best_method row before) row 0 rows)
 
 -- the rows of an image from the top, and the white row that stands for the one above it
 abbrev pub rows_of : Page → List (List ℕ)
@@ -53,8 +55,16 @@ rows_of image = map (line_bytes image) (range_with_len 0 image.height)
 abbrev pub white_row : Page → List ℕ
 white_row image = replicate (bytes_per_line image.width) 0
 
+-- the row before a line of an image
+abbrev pub row_before : Page → (y : ℕ) → List ℕ
+row_before image zero = white_row image
+row_before image (suc y) = line_bytes image y
+
+abbrev pub image_rows : Page → List Token
+image_rows image = raster_rows Unencoded (white_row image) 0 (rows_of image)
+
 -- The raster graphics of an image, from the upper left corner of the logical page on: as wide as the image.
 abbrev pub picture : Page → List Token
 picture image =
     command VerticalPosition 0 ∷ command RasterWidth image.width ∷ command StartRaster 0
-    ∷ (raster_rows Unencoded (white_row image) 0 (rows_of image) ++ command EndRaster 0 ∷ [])
+    ∷ (image_rows image ++ command EndRaster 0 ∷ [])

@@ -2,10 +2,12 @@
 #![tactic(auto)]
 
 mod checking;
+mod commands;
 mod fault;
 pub mod laws;
 mod media;
 mod part;
+mod picture;
 mod plan;
 mod sequence;
 mod sheet;
