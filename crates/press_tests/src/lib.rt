@@ -17,6 +17,8 @@ mod files;
 #[cfg(test)]
 mod fills;
 #[cfg(test)]
+mod jobs_of_tickets;
+#[cfg(test)]
 mod macros;
 #[cfg(test)]
 mod patterns;

@@ -498,9 +498,9 @@ fn the_engine_reads_the_current_values(rt: HostRuntime) -> Result<(), Fail> {
     let page = PageEnv::reset_from(&env.current);
     assert_eq!(rt; page.settings.copies, 3);
     assert!(rt;
-        page.paper.size == PageSize::A3 && page.paper.orientation == Orientation::Landscape
+        page.media.size == PageSize::A3 && page.media.orientation == Orientation::Landscape
     );
-    assert!(rt; page.paper.duplex && page.paper.binding == Binding::ShortEdge);
+    assert!(rt; page.media.duplex && page.media.binding == Binding::ShortEdge);
     Ok(())
 }
 

@@ -11,6 +11,8 @@ mod picture;
 mod plan;
 mod sequence;
 mod sheet;
+mod writing;
 
 pub use checking::check;
 pub use fault::WriterError;
+pub use writing::write_job;

@@ -1,5 +1,6 @@
-ghost use Rattle.std.specs.Prelude.{◌≡◌, ◌<◌, ◌≤◌, length, slice_get, Some, IfOk};
-ghost use Rattle.press_writer.specs.Job.{batches, parts};
+ghost use Rattle.std.specs.Prelude.{◌≡◌, ◌<◌, ◌≤◌, All, length, slice_get, Some, IfOk};
+ghost use Rattle.press_ticket.specs.Pages.{page_order};
+ghost use Rattle.press_writer.specs.Job.{batches};
 ghost use Rattle.press_writer.specs.Plan.{IsPlan, IsSmall, plan_runs, plan_parts};
 
 use crate::part::Part;
@@ -56,6 +57,8 @@ impl Plan {
     pub(crate) fn of(alloc: Global, ticket: &Ticket) -> Result<Plan, AllocError>
         ensures plan { IfOk result (IsPlan ticket.now) }
         ensures small { IfOk result IsSmall }
+        ensures within { All (λ page. page < ticket.now.page_count)
+            (page_order ticket.now.run_list) }
     {
         let pages = ticket.page_order(alloc)?;
         let sheets = sheets_of(alloc, ticket.sides(), &pages)?;
