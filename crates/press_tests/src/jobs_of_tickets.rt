@@ -84,16 +84,31 @@ fn images_have_room_on_the_logical_page(rt: HostRuntime) -> Result<(), Fail> {
     let wide = Bitmap::blank(rt.alloc(), 2_339, 1)?;
     let tall = Bitmap::blank(rt.alloc(), 1, 3_508)?;
     assert!(rt; check(&ticket, &[full.copy()?, full.copy()?, full.copy()?]).is_ok());
-    assert!(rt; matches!(check(&ticket, &[full.copy()?, white, tall]), Err(WriterError::TooTall)));
+    assert!(rt;
+        matches!(
+            check(&ticket, &[full.copy()?, white, tall]),
+            Err(WriterError::TooTall)
+        )
+    );
     let tall = Bitmap::blank(rt.alloc(), 1, 3_508)?;
-    assert!(rt; matches!(check(&ticket, &[full, tall, wide]), Err(WriterError::TooWide)));
+    assert!(rt;
+        matches!(
+            check(&ticket, &[full, tall, wide]),
+            Err(WriterError::TooWide)
+        )
+    );
     Ok(())
 }
 
 /// How a job is printed: so many sets, collated or not, on these sides, and the black dots of each side in order; a sheet
 /// without back has none there.
 const PRINTED: [(u32, bool, &str, &[(u32, Option<u32>)]); 4] = [
-    (1, true, "OneSidedFront", &[(1, None), (16, None), (0, None)]),
+    (
+        1,
+        true,
+        "OneSidedFront",
+        &[(1, None), (16, None), (0, None)],
+    ),
     (
         2,
         true,
@@ -110,7 +125,14 @@ const PRINTED: [(u32, bool, &str, &[(u32, Option<u32>)]); 4] = [
         2,
         false,
         "OneSidedFront",
-        &[(1, None), (1, None), (16, None), (16, None), (0, None), (0, None)],
+        &[
+            (1, None),
+            (1, None),
+            (16, None),
+            (16, None),
+            (0, None),
+            (0, None),
+        ],
     ),
 ];
 

@@ -1,7 +1,7 @@
 -- The job of a ticket: a list of commands, part after part (PJL Technical Reference Manual, the universal exit; PCL 5 Printer
 -- Language Technical Reference Manual).
 use Prim.Native.Char.{code}
-use Rattle.std.specs.Prelude.{ℕ, ◌<◌, ⊤, ◌/◌, ◌%◌, ◌&&◌, ◌==◌, nat_lt, Bool, true, false, if◌then◌else◌, List, [], ◌∷◌, ◌++◌, length, map, replicate, Option, Some, None}
+use Rattle.std.specs.Prelude.{ℕ, ◌<◌, ⊤, IfSome, ◌/◌, ◌%◌, ◌&&◌, ◌==◌, nat_lt, Bool, true, false, if◌then◌else◌, List, [], ◌∷◌, ◌++◌, length, map, replicate, Option, Some, None}
 use Rattle.std.specs.List.{flat_map}
 use Rattle.press_bits.specs.Page.{Page}
 use Rattle.press_cmd.specs.Token.{Token, Escape, Control, Uel}
@@ -76,7 +76,7 @@ part_bytes ticket images part = written (part_commands ticket images part)
 -- there are images of so many pages, and of the part's among them
 abbrev pub FitsPart : (count : ℕ) → Part → Type 0
 FitsPart count (Front number copies) = number < count
-FitsPart count (Back (Some number)) = number < count
+FitsPart count (Back back) = IfSome back (λ number. number < count)
 FitsPart count other = ⊤
 
 -- the most copies that are asked for at once

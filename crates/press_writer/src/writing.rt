@@ -1,10 +1,10 @@
-ghost use Rattle.std.specs.Prelude.{◌≡◌, ◌++◌, ◌⊎◌, None, Err, length, OnOk, OnErr, IfSome, IfErr};
+ghost use Rattle.std.specs.Prelude.{◌≡◌, ◌<◌, ◌++◌, ◌⊎◌, None, Err, length, OnOk, OnErr, IfSome, IfErr};
 ghost use Rattle.std.specs.List.{flat_map};
 ghost use Rattle.std.specs.Io.KnownBytes.{Appends};
 ghost use Rattle.press_pbm.specs.Spelling.{AppendsFront, Writes};
 ghost use Rattle.press_writer.specs.declared.fault.WriterError.TheVariants.{WriteFault, NoMemory};
 ghost use Rattle.press_writer.specs.Fitting.{refusal};
-ghost use Rattle.press_writer.specs.Job.{size_number, sides_number, head, tail, page, part_commands, part_bytes, FitsPart, job_bytes};
+ghost use Rattle.press_writer.specs.Job.{size_number, sides_number, head, tail, page, back_of, part_commands, part_bytes, FitsPart, job_bytes};
 ghost use Rattle.press_writer.specs.Plan.{IsSmall, HasItsImages, plan_parts};
 ghost use Rattle.press_writer.specs.Sequences.{written};
 
@@ -89,6 +89,22 @@ fn push_page(alloc: Global, out: &mut Vec<u8>, image: &Bitmap) -> Result<(), All
     Ok(())
 }
 
+/// Appends the back of a sheet.
+fn push_back(
+    alloc: Global,
+    out: &mut Vec<u8>,
+    images: &[Bitmap],
+    back: Option<u16>,
+) -> Result<(), AllocError>
+    requires { IfSome back (λ number. number < length images.now) }
+    ensures { OnOk result (out.new.items ≡ out.old.items ++ written (back_of images.now back)) }
+{
+    match back {
+        Some(number) => push_page(alloc, out, &images[usize::from(number)]),
+        None => push_command(out, Sequence::SideSelection, 1),
+    }
+}
+
 /// Appends a part of the job.
 fn push_part(
     alloc: Global,
@@ -107,8 +123,7 @@ fn push_part(
             push_command(out, Sequence::Copies, u32::from(copies))?;
             push_page(alloc, out, &images[usize::from(number)])
         }
-        Part::Back(Some(number)) => push_page(alloc, out, &images[usize::from(number)]),
-        Part::Back(None) => push_command(out, Sequence::SideSelection, 1),
+        Part::Back(number) => push_back(alloc, out, images, number),
         Part::Tail => push_tail(out),
     }
 }

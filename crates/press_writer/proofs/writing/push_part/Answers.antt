@@ -1,10 +1,9 @@
-use Rattle.std.proofs.Common.{Some, ◌≡◌, ◌<◌, ◌++◌, length, slice_index_or, sym, ap, ◌∙◌, subst, append_assoc}
+use Rattle.std.proofs.Common.{◌≡◌, ◌<◌, ◌++◌, length, slice_index_or, sym, ap, ◌∙◌, subst, append_assoc}
 use Rattle.press_cmd.specs.Token.{bytes_of}
 use Rattle.press_writer.specs.Job.{page, FitsPart, part_commands}
 use Rattle.press_writer.specs.Sequences.{command, written}
 use Rattle.press_writer.specs.Wanted.{image_of}
 use Rattle.press_writer.specs.declared.sequence.Sequence.TheVariants.{Copies}
-use Rattle.press_writer.specs.declared.part.Part.TheVariants.{Back}
 use Rattle.press_writer.proofs.ImageLemmas.{image_of-within}
 use Rattle.press_writer.proofs.PartLemmas.{OnOk-then}
 use Rattle.press_writer.proofs.writing.push_part.Goals as goal
@@ -22,15 +21,5 @@ returns-in_ok-push_command-in-Front c =
     ∙ (λ j. c.args.out.now.items ++ (bytes_of (command Copies (c.from.ensures j)) ++ written (page (sym image j))))
     ∙ ap (λ part. c.args.out.now.items ++ written (part_commands c.args.ticket.now images part)) (sym c.in-Front.is)) c.push_page.ensures
 
-pub returns-in-Back-Some : goal.returns-in-Back-Some
-returns-in-Back-Some c =
-    let images = c.args.images.now in
-    let number = c.in-Back-Some.number in
-    let back : c.args.part ≡ Back (Some number) = ? in
-    let within : number < length images = subst (FitsPart (length images)) back c.requires in
-    let image : image_of images number ≡ c.index-images-from-in-Back-Some.result =
-    image_of-within images number c.index-images-from-in-Back-Some.result within
-    (c.index-images-from-in-Back-Some.is ∙ ap (λ i. slice_index_or images i c.index-images-from-in-Back-Some.result) c.from-in-Back-Some.ensures) in
-    OnOk-then c.push_page-in-Back-Some.result _ _
-    (λ pushed. pushed ∙ ap (λ image. c.args.out.now.items ++ written (page image)) (sym image)
-    ∙ ap (λ part. c.args.out.now.items ++ written (part_commands c.args.ticket.now images part)) (sym back)) c.push_page-in-Back-Some.ensures
+pub push_back-requires : goal.push_back-requires
+push_back-requires c = subst (FitsPart (length c.args.images.now)) c.in-Back.is c.requires
