@@ -19,6 +19,8 @@ mod fills;
 #[cfg(test)]
 mod jobs;
 #[cfg(test)]
+mod jobs_of_tickets;
+#[cfg(test)]
 mod macros;
 #[cfg(test)]
 mod patterns;

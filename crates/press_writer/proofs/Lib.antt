@@ -1,0 +1,8 @@
+pub mod ListLemmas
+pub mod ImageLemmas
+pub mod RunLemmas
+pub mod PlanLemmas
+pub mod PictureLemmas
+pub mod EachLemmas
+pub mod PartLemmas
+mod WorkedJobs

@@ -1,0 +1,125 @@
+-- The job of a ticket: a list of commands, part after part (PJL Technical Reference Manual, the universal exit; PCL 5 Printer
+-- Language Technical Reference Manual).
+use Prim.Native.Char.{code}
+use Rattle.std.specs.Prelude.{ℕ, ◌<◌, ⊤, IfSome, ◌/◌, ◌%◌, ◌&&◌, ◌==◌, nat_lt, Bool, true, false, if◌then◌else◌, List, [], ◌∷◌, ◌++◌, length, map, replicate, Option, Some, None}
+use Rattle.std.specs.List.{flat_map}
+use Rattle.press_bits.specs.Page.{Page}
+use Rattle.press_cmd.specs.Token.{Token, Escape, Control, Uel}
+use Rattle.press_ticket.specs.Ticket.{JobTicket}
+use Rattle.press_ticket.specs.declared.media.Media as names
+use Rattle.press_ticket.specs.declared.media.Media.TheVariants.{Letter, Legal, A4, Executive, Ledger, A3}
+use Rattle.press_ticket.specs.declared.media.Sides.{Sides}
+use Rattle.press_ticket.specs.declared.media.Sides.TheVariants.{OneSidedFront, TwoSidedHeadToHead, TwoSidedHeadToFoot}
+use Rattle.press_writer.specs.declared.part.Part.{Part}
+use Rattle.press_writer.specs.declared.part.Part.TheVariants.{Head, Front, Back, Tail}
+use Rattle.press_writer.specs.declared.plan.PrintRun.{PrintRun}
+use Rattle.press_writer.specs.declared.sequence.Sequence.TheVariants.{PageSize, Orientation, SimplexDuplex, TopMargin, Copies, SideSelection, RasterResolution}
+use Rattle.press_writer.specs.declared.sheet.SheetPages.{SheetPages}
+use Rattle.press_writer.specs.Picture.{picture}
+use Rattle.press_writer.specs.Sequences.{command, written}
+use Rattle.press_writer.specs.Sheets.{set_of}
+use Rattle.press_writer.specs.Wanted.{image_of}
+
+-- the number of a page size, of sides, and of a side of a sheet, as the commands of those names have it
+abbrev pub size_number : names.Media → ℕ
+size_number Executive = 1
+size_number Letter = 2
+size_number Legal = 3
+size_number Ledger = 6
+size_number A4 = 26
+size_number A3 = 27
+
+abbrev pub sides_number : Sides → ℕ
+sides_number OneSidedFront = 0
+sides_number TwoSidedHeadToHead = 1
+sides_number TwoSidedHeadToFoot = 2
+
+abbrev pub front_side : ℕ
+front_side = 1
+
+-- printer reset, and form feed
+abbrev pub printer_reset : Token
+printer_reset = Escape (code "E")
+
+abbrev pub form_feed : Token
+form_feed = Control (code "\u{c}")
+
+-- Before the first page: the universal exit, a reset, the medium in portrait, no margin at the top, and the raster resolution.
+abbrev pub head : JobTicket → List Token
+head ticket =
+    Uel ∷ printer_reset ∷ command PageSize (size_number ticket.media) ∷ command Orientation 0
+    ∷ command SimplexDuplex (sides_number ticket.sides) ∷ command TopMargin 0 ∷ command RasterResolution 300 ∷ []
+
+-- behind the last page
+abbrev pub tail : List Token
+tail = printer_reset ∷ Uel ∷ []
+
+-- a page with an image
+abbrev pub page : Page → List Token
+page image = picture image ++ form_feed ∷ []
+
+-- the back of a sheet; where there is none, the next page is a front again
+abbrev pub back_of : List Page → Option ℕ → List Token
+back_of images (Some number) = page (image_of images number)
+back_of images None = command SideSelection front_side ∷ []
+
+-- The commands of a part.
+abbrev pub part_commands : JobTicket → List Page → Part → List Token
+part_commands ticket images Head = head ticket
+part_commands ticket images (Front number copies) = command Copies copies ∷ page (image_of images number)
+part_commands ticket images (Back number) = back_of images number
+part_commands ticket images Tail = tail
+
+abbrev pub part_bytes : JobTicket → List Page → Part → List ℕ
+part_bytes ticket images part = written (part_commands ticket images part)
+
+-- there are images of so many pages, and of the part's among them
+abbrev pub FitsPart : (count : ℕ) → Part → Type 0
+FitsPart count (Front number copies) = number < count
+FitsPart count (Back back) = IfSome back (λ number. number < count)
+FitsPart count other = ⊤
+
+-- the most copies that are asked for at once
+abbrev pub most_copies : ℕ
+most_copies = 999
+
+-- so many copies of a sheet: as many as go at once, again and again, and what is left
+abbrev pub batches : ℕ → List ℕ
+batches amount =
+    replicate (amount / most_copies) most_copies
+    ++ (if amount % most_copies == 0 then [] else amount % most_copies ∷ [])
+
+-- so many copies of a sheet that is sent once
+abbrev pub run_of : SheetPages → (copies : ℕ) → PrintRun
+run_of sheet copies = record { sheet = sheet; copies = copies }
+
+-- The sheets that are sent, each with its copies: where sets are printed one after another, each sheet of each set once, else
+-- each sheet of the set once for as many copies as go at once.
+abbrev pub runs_of : (by_sets : Bool) → (amount : ℕ) → List SheetPages → List PrintRun
+runs_of true amount set = flat_map (λ set. map (λ sheet. run_of sheet 1) set) (replicate amount set)
+runs_of false amount set = flat_map (λ sheet. map (run_of sheet) (batches amount)) set
+
+-- Whether sets are printed one after another: where they are collated. Of sets of one sheet nothing tells the difference.
+abbrev pub goes_by_sets : JobTicket → Bool
+goes_by_sets ticket = ticket.collate && nat_lt 1 (length (set_of ticket))
+
+abbrev pub runs : JobTicket → List PrintRun
+runs ticket = runs_of (goes_by_sets ticket) ticket.amount (set_of ticket)
+
+-- the two sides of a sheet that is sent
+abbrev pub sides_of : PrintRun → List Part
+sides_of run = Front run.sheet.front run.copies ∷ Back run.sheet.back ∷ []
+
+-- The parts of the job, in order.
+abbrev pub parts_of : List PrintRun → List Part
+parts_of runs = Head ∷ (flat_map sides_of runs ++ Tail ∷ [])
+
+abbrev pub parts : JobTicket → List Part
+parts ticket = parts_of (runs ticket)
+
+-- The job: its commands, and their bytes.
+abbrev pub job : JobTicket → List Page → List Token
+job ticket images = flat_map (part_commands ticket images) (parts ticket)
+
+abbrev pub job_bytes : JobTicket → List Page → List ℕ
+job_bytes ticket images = written (job ticket images)
