@@ -138,4 +138,3 @@ pub sheets-few : (sides : Sides) (pages : List ℕ) → length (sheets_of sides 
 sheets-few OneSidedFront pages = let e : length (on_fronts pages) ≡ length pages = length-map pages (λ page. record { front = page; back = None }) in omega (arith, e)
 sheets-few TwoSidedHeadToHead pages = both_sides-few pages
 sheets-few TwoSidedHeadToFoot pages = both_sides-few pages
-
