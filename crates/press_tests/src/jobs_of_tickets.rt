@@ -75,28 +75,42 @@ fn faults_are_told_by_their_numbers(rt: HostRuntime) -> Result<(), Fail> {
     Ok(())
 }
 
+/// The number of the refusal of images; 0 where there is none.
+fn refusal(ticket: &Ticket, images: &[Bitmap]) -> u32 {
+    match check(ticket, images) {
+        Ok(()) => 0,
+        Err(WriterError::PageMissing) => 611,
+        Err(WriterError::TooWide) => 612,
+        Err(WriterError::TooTall) => 613,
+        Err(_) => 1,
+    }
+}
+
+/// Blank images of these widths and heights.
+fn blanks(alloc: Global, sizes: &[(u32, u32)]) -> Result<Vec<Bitmap>, Fail> {
+    let mut images = Vec::new(alloc);
+    for (width, height) in sizes {
+        images.push(Bitmap::blank(alloc, *width, *height)?)?;
+    }
+    Ok(images)
+}
+
+/// Sizes of images, in dots, and the number of their refusal on A4, whose logical page is 2,338 by 3,507 dots.
+const SIZES: [(&[(u32, u32)], u32); 5] = [
+    (&[(1, 1), (1, 1)], 611),
+    (&[(2338, 3507), (2338, 3507), (2338, 3507)], 0),
+    (&[(1, 1), (1, 1), (1, 3508)], 613),
+    (&[(1, 1), (1, 3508), (2339, 1)], 612),
+    (&[(2339, 3508)], 611),
+];
+
 #[test]
 fn images_have_room_on_the_logical_page(rt: HostRuntime) -> Result<(), Fail> {
     let ticket = ticket(rt.alloc(), 1, true, "OneSidedFront")?;
-    let [dot, lines, white] = images(rt.alloc())?;
-    assert!(rt; matches!(check(&ticket, &[dot, lines]), Err(WriterError::PageMissing)));
-    let full = Bitmap::blank(rt.alloc(), 2_338, 3_507)?;
-    let wide = Bitmap::blank(rt.alloc(), 2_339, 1)?;
-    let tall = Bitmap::blank(rt.alloc(), 1, 3_508)?;
-    assert!(rt; check(&ticket, &[full.copy()?, full.copy()?, full.copy()?]).is_ok());
-    assert!(rt;
-        matches!(
-            check(&ticket, &[full.copy()?, white, tall]),
-            Err(WriterError::TooTall)
-        )
-    );
-    let tall = Bitmap::blank(rt.alloc(), 1, 3_508)?;
-    assert!(rt;
-        matches!(
-            check(&ticket, &[full, tall, wide]),
-            Err(WriterError::TooWide)
-        )
-    );
+    for (sizes, number) in SIZES {
+        let images = blanks(rt.alloc(), sizes)?;
+        assert_eq!(rt; refusal(&ticket, &images), number);
+    }
     Ok(())
 }
 
