@@ -1,12 +1,12 @@
 -- What is written is a P4 file.
-use Rattle.std.proofs.Common.{◌≡◌, ℕ, ◌+◌, ◌-◌, ◌*◌, ◌/◌, ◌%◌, ◌^◌, ◌<◌, ◌≤◌, zero, suc, true, List, [], ◌∷◌, ◌++◌, length, refl, sym, ap, ◌∙◌, arith, length-append}
+use Rattle.std.proofs.Common.{◌≡◌, ℕ, ◌+◌, ◌*◌, ◌/◌, ◌%◌, ◌^◌, ◌<◌, ◌≤◌, zero, suc, true, List, [], ◌∷◌, ◌++◌, length, refl, sym, ap, ◌∙◌, arith, length-append}
 use Rattle.std.specs.Fmt.{decimal}
-use Rattle.std.specs.Char.{is_ascii_digit}
-use Rattle.std.specs.List.{AllByRecursion, fold, flat_map, range_with_len}
+use Rattle.std.specs.Char.{IsAsciiDigit, is_ascii_digit}
+use Rattle.std.specs.List.{AllByRecursion, flat_map, range_with_len}
 use Rattle.std.proofs.lemmas.Bool.Decides.{nat_tests}
-use Rattle.std.proofs.lemmas.Fmt.{decimal_by_steps, decimal_nonempty, length-decimal-le}
+use Rattle.std.proofs.lemmas.Fmt.{decimal_nonempty, length-decimal-le}
 use Rattle.std.proofs.lemmas.List.FromFn.{length-map-range_with_len, get_or-map-range_with_len}
-use Rattle.press_units.specs.Value.{number_of}
+use Rattle.press_units.proofs.DecimalLemmas.{decimal-digits, number_of-decimal}
 use Rattle.press_bits.specs.Page.{Page, black_at, is_page_size, HasNoDotOutside}
 use Rattle.press_bits.specs.Mark.{row_dot, byte_dot}
 use Rattle.press_bits.specs.Lines.{bytes_per_line}
@@ -20,38 +20,24 @@ use Rattle.press_pbm.proofs.RowsLemmas.{row_dot-front, row_dot-behind}
 
 -- ---- a number in decimal
 
-number_of-append : (digits : List ℕ) (number digit : ℕ) → fold (λ n d. 10 * n + (d - 48)) number (digits ++ digit ∷ []) ≡ 10 * fold (λ n d. 10 * n + (d - 48)) number digits + (digit - 48)
-number_of-append [] number digit = refl
-number_of-append (first ∷ digits) number digit = number_of-append digits (10 * number + (first - 48)) digit
+is_digit : (digit : ℕ) → IsAsciiDigit digit → is_ascii_digit digit ≡ true
+is_digit digit is = grind (arith, nat_tests)
 
-digits-append : (digits : List ℕ) (digit : ℕ) → AllByRecursion (λ d. is_ascii_digit d ≡ true) digits → is_ascii_digit digit ≡ true → AllByRecursion (λ d. is_ascii_digit d ≡ true) (digits ++ digit ∷ [])
-digits-append [] digit are is = (is, tt)
-digits-append (first ∷ digits) digit (one, are) is = (one, digits-append digits digit are is)
-
-is_digit : (n : ℕ) → n < 10 → is_ascii_digit (48 + n) ≡ true
-is_digit n small = grind (arith, nat_tests)
-
-abbrev IsDecimal : ℕ → List ℕ → Type 0
-IsDecimal n digits = AllByRecursion (λ d. is_ascii_digit d ≡ true) digits × (number_of digits ≡ n)
-
-decimal_is : (n : ℕ) → n < 2 ^ 64 → IsDecimal n (decimal n)
-decimal_is n small =
-    decimal_by_steps IsDecimal
-    (λ n below. ((is_digit n below, tt), omega arith))
-    (λ n ds above (are, is). (digits-append ds (48 + n % 10) are (is_digit (n % 10) (omega arith)), number_of-append ds 0 (48 + n % 10) ∙ omega arith))
-    n small
+are_digits : (digits : List ℕ) → AllByRecursion IsAsciiDigit digits → AllByRecursion (λ d. is_ascii_digit d ≡ true) digits
+are_digits [] are = tt
+are_digits (first ∷ digits) (one, are) = (is_digit first one, are_digits digits are)
 
 decimal-IsNumber : (n : ℕ) → n < 2 ^ 64 → IsNumber (decimal n)
-decimal-IsNumber n small = (decimal_nonempty n small, (decimal_is n small).0)
+decimal-IsNumber n small = (decimal_nonempty n small, are_digits (decimal n) (decimal-digits n small))
 
 -- ---- the lines
 
-length-line_bytes : (page : Page) (y : ℕ) → length (line_bytes page y) ≡ bytes_per_line page.width
+pub length-line_bytes : (page : Page) (y : ℕ) → length (line_bytes page y) ≡ bytes_per_line page.width
 unfolding line_bytes
 length-line_bytes page y = length-map-range_with_len (λ i. byte_of_dots (λ j. black_at page (8 * i + j) y)) 0 (bytes_per_line page.width)
 
 -- the dots of a line
-row_dot-line_bytes : (page : Page) (y x : ℕ) → x < 8 * bytes_per_line page.width → row_dot (line_bytes page y) x ≡ black_at page x y
+pub row_dot-line_bytes : (page : Page) (y x : ℕ) → x < 8 * bytes_per_line page.width → row_dot (line_bytes page y) x ≡ black_at page x y
 unfolding row_dot line_bytes
 row_dot-line_bytes page y x within =
     let place : 8 * (x / 8) + x % 8 ≡ x = omega arith in
@@ -103,8 +89,8 @@ read_back page size none =
     let (wide, high) = sides page.width page.height size in
     let rows : List ℕ = flat_map (line_bytes page) (range_with_len 0 page.height) in
     let parts : HeaderParts = record { before_width = White 10 ∷ []; width = decimal page.width; before_height = White 32 ∷ []; height = decimal page.height; last = 10 } in
-    let width_is = (decimal_is page.width (omega arith)).1 in
-    let height_is = (decimal_is page.height (omega arith)).1 in
+    let width_is = number_of-decimal page.width (omega arith) in
+    let height_is = number_of-decimal page.height (omega arith) in
     let short : length (header_spelling parts) ≤ 65536 =
     header_short (decimal page.width) (decimal page.height) (length-decimal-le 5 page.width (omega arith) (omega arith) (omega arith)) (length-decimal-le 5 page.height (omega arith) (omega arith) (omega arith)) in
     record {

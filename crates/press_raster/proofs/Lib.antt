@@ -1,4 +1,4 @@
-mod StripLemmas
+pub mod StripLemmas
 mod RunLemmas
 mod AlongLemmas
 mod ReadingLemmas

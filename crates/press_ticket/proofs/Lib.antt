@@ -1,5 +1,5 @@
 mod ItemLemmas
-mod JsonLemmas
+pub mod JsonLemmas
 mod LeastLemmas
 mod PageLemmas
 mod RangeLemmas

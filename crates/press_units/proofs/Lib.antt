@@ -1,3 +1,4 @@
 pub mod FieldLemmas
 pub mod FieldTest
+pub mod DecimalLemmas
 pub mod WorkedFields
