@@ -24,7 +24,8 @@ impl Model for StoredMacro {
 impl StoredMacro {
     /// The temporary macro of these commands. An error gives them back.
     pub fn of(commands: Vec<Owned>) -> Result<Self, Vec<Owned>>
-        ensures made { IfOk result (λ made. made ≡ record { commands = commands.items; permanent = false }) }
+        ensures made { IfOk result (λ made.
+            made ≡ record { commands = commands.items; permanent = false }) }
         ensures given_back { IfErr result (λ back. back.items ≡ commands.items) }
     {
         match Rc::new(*commands.allocator(), commands) {

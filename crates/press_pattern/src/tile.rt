@@ -106,7 +106,8 @@ impl<'a> Tile<'a> {
     /// The byte of eight dots of a column, from line `first` on; white below the last line.
     fn column_byte(&self, column: u32, first: u32) -> u8
         requires { first < 2 ^ 20 }
-        ensures { result ≡ byte_where (dots_from self.now.height (λ a b. tile_dot self.now b a) first column) }
+        ensures { result ≡
+            byte_where (dots_from self.now.height (λ a b. tile_dot self.now b a) first column) }
     {
         let mut byte = 0;
         for place in 0..8 {

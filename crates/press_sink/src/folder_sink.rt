@@ -46,7 +46,8 @@ impl<F: Files + Drop> FolderSink<F> {
         ensures template { IfOk result (λ sink. IsTemplate template.now (name_parts sink)) }
         ensures first { IfOk result (λ sink. next_number sink ≡ 1) }
         ensures faults { IfOk result (λ sink. file_faults sink ≡ 0) }
-        ensures bad { IfErr result (λ error. error ≡ TemplateError.BadTemplate → IsNoTemplate template.now) }
+        ensures bad { IfErr result (λ error.
+            error ≡ TemplateError.BadTemplate → IsNoTemplate template.now) }
         ensures exact { IsNoTemplate template.now → IsErrOf result TemplateError.BadTemplate }
     {
         Ok(FolderSink {
@@ -61,7 +62,8 @@ impl<F: Files + Drop> FolderSink<F> {
     /// A page as the side with this number.
     fn side<'a>(&self, number: u64, page: &'a Bitmap) -> Result<Side<'a>, AllocError>
         ensures page { IfOk result (λ side. side.page.now ≡ page.entry.now) }
-        ensures name { IfOk result (λ side. string_bytes side.name ≡ side_name (name_parts self.now) number) }
+        ensures name { IfOk result (λ side.
+            string_bytes side.name ≡ side_name (name_parts self.now) number) }
     {
         let name = self.template.name(self.alloc, number)?;
         Ok(Side { page, name })

@@ -17,7 +17,8 @@ pub trait SheetSink {
     /// `NoMemory`: nothing changed.
     fn deliver(&mut self, tag: u64, sheet: &Sheet) -> Result<(), SinkError>
         requires { (told self.old).faults < most_faults }
-        ensures { Delivers (told self.old) (record { tag = tag; sheet = sheet.now }) result (told self.new) };
+        ensures { Delivers (told self.old)
+            (record { tag = tag; sheet = sheet.now }) result (told self.new) };
 }
 
 /// Where replies go.
