@@ -10,7 +10,7 @@ use press_cmd::{Command, Param, data_count};
 
 /// What the byte that ends a value field stands for: the end in upper case, and the mode after it. The sequence ends
 /// at an upper-case one.
-fn ending(sequence: Sequence, byte: u8) -> Option<(u8, Mode)>
+pub fn ending(sequence: Sequence, byte: u8) -> Option<(u8, Mode)>
     ensures { MatchOption result (IsEndingByte byte → ⊥)
         (λ found. Ends sequence.character sequence.group byte found.0 (mode_of found.1)) }
 {

@@ -10,6 +10,7 @@ ghost use Rattle.press_scan.specs.Gives.{IsNext, IsDone};
 ghost use Rattle.press_scan.specs.Rest.{IsRestLength};
 ghost use Rattle.press_scan.specs.Sequences.{longest_rest};
 
+use crate::awaited::awaited;
 use crate::buffer::drop_consumed;
 use crate::closing::close;
 use crate::head::{head, scanned_in};
@@ -35,6 +36,8 @@ pub struct Scanner {
     ended: bool,
     /// How many bytes behind `@PJL` are known to be part of a line.
     searched: usize,
+    /// How many bytes there have to be from `start` on before a command can stand there: one at least.
+    awaited: usize,
 }
 
 impl Model for Scanner {
@@ -45,6 +48,7 @@ impl Model for Scanner {
 
     ghost use Rattle.press_scan.specs.Modes.{mode_of};
     ghost use Rattle.press_scan.specs.Lines.{IsKnownPlain};
+    ghost use Rattle.press_scan.specs.Awaited.{IsAwaited};
 
     ghost view = { λ s. record {
       mode = mode_of s.mode;
@@ -53,7 +57,8 @@ impl Model for Scanner {
     } };
 
     ghost invariant = { λ s. (s.start ≤ vec_len s.buffer)
-        × IsKnownPlain (drop s.start s.buffer.items) s.searched };
+        × IsKnownPlain (drop s.start s.buffer.items) s.searched
+        × IsAwaited (mode_of s.mode) (drop s.start s.buffer.items) s.awaited };
 }
 
 /// The next command of what is held, if there is one, and how many bytes behind `@PJL` are then known to be part of
@@ -111,6 +116,7 @@ impl Scanner {
             mode: Mode::Exit,
             ended: false,
             searched: 0,
+            awaited: 1,
         }
     }
 
@@ -137,21 +143,22 @@ impl Scanner {
         ensures none { IfOk result (λ answer. IfNone answer (IsDone self.old)) }
         ensures* after { sem 𝓛 (EndsAs self.entry result) }
     {
-        let (found, plain) = peek(
-            self.mode,
-            &self.buffer[self.start..],
-            self.searched,
-            self.ended,
-        );
+        let held = &self.buffer[self.start..];
+        if held.len() < self.awaited && !self.ended {
+            return Ok(None);
+        }
+        let (found, plain) = peek(self.mode, held, self.searched, self.ended);
         match found {
             Some(found) => {
                 self.start += found.length;
                 self.mode = found.mode;
                 self.searched = 0;
+                self.awaited = 1;
                 Ok(Some(found.command))
             }
             None => {
                 self.searched = plain;
+                self.awaited = awaited(self.mode, held);
                 Ok(None)
             }
         }
