@@ -12,6 +12,9 @@ use press_units::{Unit, Value};
 const GREATEST_PATTERN_ID: i64 = 32_767;
 
 /// How marks are made: what is set beside the page environment.
+///
+/// Source: PCL 5 Printer Language Technical Reference Manual, The PCL Print Model, Raster Graphics, and Rectangular Area Fill
+/// Graphics.
 #[derive(Clone, Copy, Debug)]
 pub struct Drawing {
     /// The rectangle that a fill paints.

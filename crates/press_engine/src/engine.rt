@@ -7,6 +7,9 @@ use press_units::Pos;
 use std::alloc::{AllocError, Global};
 
 /// The command table at work: it carries commands out one after another, and hands sheets and replies to their sinks.
+///
+/// Source: PCL 5 Printer Language Technical Reference Manual, the commands by their sequences; PJL Technical Reference Manual,
+/// the PJL commands. Which commands have a row, and what each row leaves, is this profile's.
 #[derive(Drop)]
 pub struct Engine {
     alloc: Global,
@@ -37,7 +40,10 @@ impl Engine {
         })
     }
 
-    /// Carries one command out, and delivers the sheets that it finishes under a tag.
+    /// Carries one command out whole, with the macro bodies that it starts, and delivers the sheets that it finishes under a tag,
+    /// each in its copies.
+    ///
+    /// Source: PCL 5 Printer Language Technical Reference Manual, Page Control Commands, and Macros.
     ///
     /// # Errors
     ///
@@ -54,7 +60,8 @@ impl Engine {
         ensures runs { Runs (live self.old) (token command.entry) tag result (live self.new)
             (both (S.told sheets.old) (R.told replies.old)) (both (S.told sheets.new) (R.told replies.new)) }
         ensures failed { IsErrOf result EngineError.Failed ↔ (live self.old ≡ None) }
-        ensures memory { IsErrOf result EngineError.NoMemory → NeedsMemory (live self.old) (token command.entry) }
+        ensures memory { IsErrOf result EngineError.NoMemory →
+            NeedsMemory (live self.old) (token command.entry) }
     {
         if self.failed {
             return Err(EngineError::Failed);
@@ -90,7 +97,8 @@ impl Engine {
 
     /// What can be seen of the engine. After a fault nothing is said of it.
     pub fn view(&self) -> View<'_>
-        ensures view { IfSome (live self.now) (λ machine. result ≡ view_of result.stack machine) }
+        ensures view { IfSome (live self.now) (λ machine.
+            result ≡ view_of result.stack machine) }
         ensures stack { IfSome (live self.now)
             (λ machine. result.stack.now ≡ machine.state.cursor.stack) }
     {

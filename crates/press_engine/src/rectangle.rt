@@ -4,6 +4,8 @@ ghost use Rattle.press_engine.specs.Rectangle.{no_rectangle, size_of, dots_up};
 use press_units::{POSITIONS_PER_DOT, Unit, Value, to_pos};
 
 /// The size of the rectangle that a fill paints, in positions (1/7200 inch).
+///
+/// Source: PCL 5 Printer Language Technical Reference Manual, Rectangular Area Fill Graphics.
 #[derive(Clone, Copy, Debug, PartialEq, Eq)]
 pub struct Rectangle {
     pub width: u32,

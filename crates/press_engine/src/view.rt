@@ -6,7 +6,10 @@ use press_pjl::PjlEnv;
 use press_raster::RasterPosition;
 use press_units::Pos;
 
-/// What can be seen of an engine.
+/// What can be seen of an engine. Positions are in 1/7200 inch.
+///
+/// Source: PCL 5 Printer Language Technical Reference Manual, the print environment; PJL Technical Reference Manual, the PJL
+/// environments.
 #[derive(Clone, Copy, Debug)]
 pub struct View<'a> {
     /// How many steps it took; the greatest number stays.
