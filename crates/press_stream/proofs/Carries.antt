@@ -14,7 +14,6 @@ use Rattle.press_engine.specs.declared.machine.Machine.{Machine}
 use Rattle.press_engine.specs.Engine.{Runs, NeedsMemory}
 use Rattle.press_stream.specs.declared.fault.JobError.{JobError}
 use Rattle.press_stream.specs.declared.fault.JobError.TheVariants as errors
-use Rattle.press_stream.specs.State.{JobState}
 use Rattle.press_stream.specs.Answers.{job_error, CarriesOne, CarriesNext, RanOne, Faults, WantsMemory}
 use Rattle.press_stream.proofs.Going.{Carried-one, Stopped-one, Goes-command, Goes-exit, Stops-command, Stops-exit}
 

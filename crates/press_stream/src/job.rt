@@ -125,14 +125,16 @@ impl Job {
 
     /// Whether no step is left. Before the end of input, and in a job that has failed, it is false.
     pub fn ended(&self) -> bool
-        ensures { IsTrue result ↔ IsOver self.now }
+        ensures over { IsTrue result ↔ IsOver self.now }
+        ensures exited { result ≡ self.now.exited }
     {
         matches!(self.phase, Phase::Over)
     }
 
     /// What can be seen of the engine. Of a job that has failed nothing is said.
     pub fn view(&self) -> View<'_>
-        ensures view { IfSome self.now.machine (λ machine. result ≡ view_of result.stack machine) }
+        ensures view { IfSome self.now.machine (λ machine.
+            result ≡ view_of result.stack machine) }
         ensures stack { IfSome self.now.machine
             (λ machine. result.stack.now ≡ machine.state.cursor.stack) }
     {
@@ -200,7 +202,8 @@ impl Job {
         replies: &mut P,
     ) -> Result<(), JobError>
         requires { CanCount (both (S.told sheets.old) (P.told replies.old)) }
-        ensures runs { RunsReader self.old (R.remaining reader.old) (R.remaining reader.new) tag result self.new
+        ensures runs { RunsReader self.old (R.remaining reader.old)
+            (R.remaining reader.new) tag result self.new
             (both (S.told sheets.old) (P.told replies.old)) (both (S.told sheets.new) (P.told replies.new)) }
         ensures unread { IsEarly result → reader.new ≡ reader.old }
     {
@@ -255,7 +258,8 @@ impl Job {
         requires going { self.old.held.ended ≡ false }
         requires none { count.old.reads ≡ 0 }
         requires can_count { CanCount (both (S.told sheets.old) (P.told replies.old)) }
-        ensures runs { RunsReader self.old (R.remaining reader.old) (R.remaining reader.new) tag result self.new
+        ensures runs { RunsReader self.old (R.remaining reader.old)
+            (R.remaining reader.new) tag result self.new
             (both (S.told sheets.old) (P.told replies.old)) (both (S.told sheets.new) (P.told replies.new)) }
         ensures bound { count.new.reads ≤ most_reads }
         ensures fault { IsErrOf result JobError.ReadFault
