@@ -1,5 +1,5 @@
 -- Facts of each element of a list; the pages of a job's parts have their images.
-use Rattle.std.proofs.Common.{◌≡◌, ◌<◌, ◌≤◌, ℕ, zero, suc, List, [], ◌∷◌, ◌++◌, length, map, replicate, get_or, slice_get, Bool, true, false, Some, None, All, refl, sym, subst, arith, lt_of_lt_of_le, rules, nat_lt, Option}
+use Rattle.std.proofs.Common.{◌≡◌, ◌<◌, ◌≤◌, ℕ, zero, suc, List, [], ◌∷◌, ◌++◌, length, map, replicate, slice_get, Bool, true, false, Some, None, All, refl, subst, arith, lt_of_lt_of_le, rules, nat_lt}
 use Rattle.std.specs.Prelude.{⊤}
 use Rattle.std.specs.List.{flat_map, list_any}
 use Rattle.std.proofs.lemmas.Option.{same_Some}
@@ -14,37 +14,37 @@ use Rattle.press_writer.specs.Fitting.{first_fault, is_beyond, refusal}
 use Rattle.press_writer.specs.Medium.{room}
 use Rattle.press_writer.specs.Plan.{IsPlan, HasItsImages, plan_parts}
 use Rattle.press_writer.specs.declared.part.Part.{Part}
-use Rattle.press_writer.specs.declared.part.Part.TheVariants.{Head, Front, Back, Tail}
+use Rattle.press_writer.specs.declared.part.Part.TheVariants.{Front, Back, Tail}
 use Rattle.press_writer.specs.declared.plan.PrintRun.{PrintRun}
 use Rattle.press_writer.specs.declared.sheet.SheetPages.{SheetPages}
 use Rattle.press_writer.specs.Job.{batches, run_of, runs_of, sides_of, parts_of, parts, FitsPart}
 use Rattle.press_writer.specs.Sheets.{on_fronts, on_both_sides, sheets_of}
 
-Each : {A : Type 0} → (A → Type 0) → List A → Type 0
+unfoldable pub Each : {A : Type 0} → (A → Type 0) → List A → Type 0
 Each P [] = ⊤
 Each P (x ∷ xs) = P x × Each P xs
 
-each-append : {A : Type 0} (P : A → Type 0) (xs ys : List A) → Each P xs → Each P ys → Each P (xs ++ ys)
+pub each-append : {A : Type 0} (P : A → Type 0) (xs ys : List A) → Each P xs → Each P ys → Each P (xs ++ ys)
 unfolding Each
 each-append P [] ys first second = second
 each-append P (x ∷ xs) ys first second = (first.0, each-append P xs ys first.1 second)
 
-each-flat_map : {A B : Type 0} (P : A → Type 0) (Q : B → Type 0) (f : A → List B) → ((x : A) → P x → Each Q (f x)) → (xs : List A) → Each P xs → Each Q (flat_map f xs)
+pub each-flat_map : {A B : Type 0} (P : A → Type 0) (Q : B → Type 0) (f : A → List B) → ((x : A) → P x → Each Q (f x)) → (xs : List A) → Each P xs → Each Q (flat_map f xs)
 unfolding Each
 each-flat_map P Q f gives [] each = tt
 each-flat_map P Q f gives (x ∷ xs) each = each-append Q (f x) (flat_map f xs) (gives x each.0) (each-flat_map P Q f gives xs each.1)
 
-each-map : {A B : Type 0} (P : A → Type 0) (Q : B → Type 0) (f : A → B) → ((x : A) → P x → Q (f x)) → (xs : List A) → Each P xs → Each Q (map f xs)
+pub each-map : {A B : Type 0} (P : A → Type 0) (Q : B → Type 0) (f : A → B) → ((x : A) → P x → Q (f x)) → (xs : List A) → Each P xs → Each Q (map f xs)
 unfolding Each
 each-map P Q f gives [] each = tt
 each-map P Q f gives (x ∷ xs) each = (gives x each.0, each-map P Q f gives xs each.1)
 
-each-replicate : {A : Type 0} (P : A → Type 0) (n : ℕ) (x : A) → P x → Each P (replicate n x)
+pub each-replicate : {A : Type 0} (P : A → Type 0) (n : ℕ) (x : A) → P x → Each P (replicate n x)
 unfolding Each
 each-replicate P zero x is = tt
 each-replicate P (suc n) x is = (is, each-replicate P n x is)
 
-each-all : {A : Type 0} (P : A → Type 0) → ((x : A) → P x) → (xs : List A) → Each P xs
+pub each-all : {A : Type 0} (P : A → Type 0) → ((x : A) → P x) → (xs : List A) → Each P xs
 unfolding Each
 each-all P gives [] = tt
 each-all P gives (x ∷ xs) = (gives x, each-all P gives xs)
@@ -55,7 +55,7 @@ each-at P [] i x at each = absurd (cc)
 each-at P (y ∷ xs) zero x at each = subst P (same_Some y x at) each.0
 each-at P (y ∷ xs) (suc i) x at each = each-at P xs i x at each.1
 
-each-from_All : (P : ℕ → Type 0) (xs : List ℕ) → All P xs → Each P xs
+pub each-from_All : (P : ℕ → Type 0) (xs : List ℕ) → All P xs → Each P xs
 unfolding Each
 each-from_All P [] all = tt
 each-from_All P (x ∷ xs) all = (all 0 0 (omega arith), each-from_All P xs (λ k d short. all (suc k) d (omega arith)))
@@ -114,7 +114,7 @@ part-fits count sides pages by_sets amount i part all at =
     (parts-fit count (runs_of by_sets amount (sheets_of sides pages))
     (runs-fit count by_sets amount (sheets_of sides pages) (sheets-fit count sides pages (each-from_All (λ page. page < count) pages all))))
 
-not_missing : (missing wide tall : Bool) → first_fault missing wide tall ≡ None → missing ≡ false
+pub not_missing : (missing wide tall : Bool) → first_fault missing wide tall ≡ None → missing ≡ false
 not_missing true wide tall none = absurd (cc)
 not_missing false wide tall none = refl
 

@@ -6,3 +6,25 @@ pub mod PictureLemmas
 pub mod EachLemmas
 pub mod PartLemmas
 mod WorkedJobs
+pub mod Between
+pub mod NumberLemmas
+pub mod LeavesLemmas
+pub mod LineDots
+pub mod SideLemmas
+pub mod AtRow
+pub mod CornerLemmas
+pub mod DecodedRow
+pub mod TransferLemmas
+pub mod MethodLemmas
+pub mod OffsetLemmas
+pub mod StartLemmas
+pub mod RasterRows
+pub mod PaintLemmas
+pub mod CommandLemmas
+pub mod ClosingLemmas
+pub mod HeadLemmas
+pub mod SheetLemmas
+pub mod FitLemmas
+pub mod SplitLemmas
+pub mod PrintingLemmas
+pub mod TicketLemmas

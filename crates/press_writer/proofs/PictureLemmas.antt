@@ -1,5 +1,5 @@
 -- The rows of an image, one after another.
-use Rattle.std.proofs.Common.{◌≡◌, ◌<◌, ℕ, suc, ◌+◌, ◌-◌, List, ◌∷◌, ◌++◌, map, Bool, true, false, if◌then◌else◌, refl, sym, ap, ◌∙◌, append_assoc, append-nil, ◌≤◌, arith}
+use Rattle.std.proofs.Common.{◌≡◌, ◌<◌, ℕ, suc, ◌+◌, ◌-◌, List, [], ◌∷◌, ◌++◌, map, true, false, if◌then◌else◌, refl, sym, ap, ◌∙◌, append_assoc, append-nil, ◌≤◌, arith}
 use Rattle.std.specs.List.{range_with_len}
 use Rattle.std.proofs.lemmas.Grind.{flat_map-append}
 use Rattle.press_bits.specs.Page.{Page}
@@ -30,15 +30,25 @@ raster_rows-white method before row white rows is =
     ap (λ b. if b then raster_rows method row (suc white) rows else left_out white ++ (row_commands method before row ++ raster_rows (best_method row before) row 0 rows)) is
 
 -- another row
+pub raster_rows-sent : (method : Method) (before row : List ℕ) (white : ℕ) (rows : List (List ℕ)) → is_white row ≡ false
+    → raster_rows method before white (row ∷ rows) ≡ left_out white ++ (row_commands method before row ++ raster_rows (best_method row before) row 0 rows)
+unfolding raster_rows
+raster_rows-sent method before row white rows is =
+    ap (λ b. if b then raster_rows method row (suc white) rows else left_out white ++ (row_commands method before row ++ raster_rows (best_method row before) row 0 rows)) is
+
 pub raster_rows-row : (method : Method) (before row : List ℕ) (white : ℕ) (rows : List (List ℕ)) → is_white row ≡ false
     → written (raster_rows method before white (row ∷ rows))
     ≡ written (left_out white) ++ (written (row_commands method before row) ++ written (raster_rows (best_method row before) row 0 rows))
-unfolding raster_rows
 raster_rows-row method before row white rows is =
     let others : List Token = raster_rows (best_method row before) row 0 rows in
-    ap (λ b. written (if b then raster_rows method row (suc white) rows else left_out white ++ (row_commands method before row ++ others))) is
+    ap written (raster_rows-sent method before row white rows is)
     ∙ flat_map-append bytes_of (left_out white) (row_commands method before row ++ others)
     ∙ ap (λ bytes. written (left_out white) ++ bytes) (flat_map-append bytes_of (row_commands method before row) others)
+
+-- no row
+pub raster_rows-none : (method : Method) (before : List ℕ) (white : ℕ) → raster_rows method before white [] ≡ []
+unfolding raster_rows
+raster_rows-none method before white = refl
 
 -- a step of the loop over the rows: a white row, another row, and the end
 pub white_next : (image : Page) (y white : ℕ) (method : Method) (out all : List ℕ) → y < image.height → is_white (line_bytes image y) ≡ true

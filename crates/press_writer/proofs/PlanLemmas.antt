@@ -1,12 +1,11 @@
 -- The sheets that a plan sends, and the parts of its job, by their indices.
-use Rattle.std.proofs.Common.{◌≡◌, ◌<◌, ◌≤◌, ℕ, zero, suc, ◌+◌, ◌-◌, ◌*◌, ◌/◌, ◌%◌, Bool, true, false, List, [], ◌∷◌, ◌++◌, length, drop, map, replicate, slice_get, slice_index_or, Option, Some, None, option_map, refl, sym, ap, ◌∙◌, subst, arith, mod-lt, div-add-mod', div-lt_iff_lt-mul}
+use Rattle.std.proofs.Common.{◌≡◌, ◌<◌, ◌≤◌, ℕ, zero, suc, ◌+◌, ◌-◌, ◌*◌, ◌/◌, ◌%◌, Bool, true, false, List, [], ◌∷◌, ◌++◌, length, map, replicate, slice_get, slice_index_or, Some, None, option_map, refl, sym, ap, ◌∙◌, subst, arith, mod-lt, div-add-mod', div-lt_iff_lt-mul}
 use Rattle.std.specs.List.{flat_map}
 use Rattle.std.proofs.lemmas.List.{length-map, length-append, length-replicate}
-use Rattle.std.proofs.lemmas.Option.{slice_get-map, slice_get_read, same_Some}
+use Rattle.std.proofs.lemmas.Option.{slice_get-map, slice_get_read}
 use Rattle.press_ticket.specs.declared.media.Sides.{Sides}
 use Rattle.press_ticket.specs.declared.media.Sides.TheVariants.{OneSidedFront, TwoSidedHeadToHead, TwoSidedHeadToFoot}
-use Rattle.press_writer.specs.declared.part.Part.{Part}
-use Rattle.press_writer.specs.declared.part.Part.TheVariants.{Head, Front, Back, Tail}
+use Rattle.press_writer.specs.declared.part.Part.TheVariants.{Tail}
 use Rattle.press_writer.specs.declared.plan.PrintRun.{PrintRun}
 use Rattle.press_writer.specs.declared.sheet.SheetPages.{SheetPages}
 use Rattle.press_writer.specs.Job.{batches, run_of, runs_of, sides_of, parts_of}

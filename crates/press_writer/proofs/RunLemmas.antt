@@ -1,12 +1,11 @@
 -- The sheets that are sent, with their copies, are those of so many sets in order.
-use Rattle.std.proofs.Common.{◌≡◌, ℕ, zero, suc, ◌+◌, ◌*◌, ◌/◌, ◌%◌, ◌<◌, ◌≤◌, List, [], ◌∷◌, ◌++◌, length, map, replicate, Bool, true, false, ◌&&◌, ◌==◌, nat_lt, if◌then◌else◌, refl, sym, ap, ◌∙◌, arith, rules, append_assoc, append-nil, sum}
+use Rattle.std.proofs.Common.{◌≡◌, ℕ, zero, suc, ◌+◌, ◌*◌, ◌/◌, ◌%◌, List, [], ◌∷◌, ◌++◌, length, map, replicate, Bool, true, false, ◌&&◌, ◌==◌, nat_lt, if◌then◌else◌, refl, ap, ◌∙◌, arith, rules, append-nil}
 use Rattle.std.specs.List.{flat_map}
 use Rattle.std.proofs.Math.ListN.{replicate-append-replicate}
 use Rattle.std.proofs.lemmas.Grind.{flat_map-append}
 use Rattle.press_ticket.specs.Ticket.{JobTicket}
-use Rattle.press_writer.specs.declared.plan.PrintRun.{PrintRun}
 use Rattle.press_writer.specs.declared.sheet.SheetPages.{SheetPages}
-use Rattle.press_writer.specs.Job.{batches, most_copies, run_of, runs_of, runs, goes_by_sets}
+use Rattle.press_writer.specs.Job.{batches, most_copies, run_of, runs_of, runs}
 use Rattle.press_writer.specs.Laws.{copies_of}
 use Rattle.press_writer.specs.Sheets.{in_order, set_of}
 

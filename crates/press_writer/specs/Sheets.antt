@@ -1,5 +1,5 @@
 -- The sheets of a set, and the order in which they are printed (CIP4 JDF 1.5, digital printing; this profile).
-use Rattle.std.specs.Prelude.{ℕ, suc, Bool, true, false, List, [], ◌∷◌, ◌++◌, map, replicate, Option, Some, None}
+use Rattle.std.specs.Prelude.{ℕ, Bool, true, false, List, [], ◌∷◌, map, replicate, Some, None}
 use Rattle.std.specs.List.{flat_map}
 use Rattle.press_ticket.specs.declared.media.Sides.{Sides}
 use Rattle.press_ticket.specs.declared.media.Sides.TheVariants.{OneSidedFront, TwoSidedHeadToHead, TwoSidedHeadToFoot}

@@ -1,4 +1,4 @@
-ghost use Rattle.std.specs.Prelude.{◌≡◌, ◌<◌, ◌++◌, ◌⊎◌, None, Err, length, OnOk, OnErr, IfSome, IfErr};
+ghost use Rattle.std.specs.Prelude.{◌≡◌, ◌<◌, ◌++◌, ◌⊎◌, [], None, Err, length, OnOk, OnErr, IfSome, IsSome, IfErr};
 ghost use Rattle.std.specs.List.{flat_map};
 ghost use Rattle.std.specs.Io.KnownBytes.{Appends};
 ghost use Rattle.press_pbm.specs.Spelling.{AppendsFront, Writes};
@@ -6,6 +6,7 @@ ghost use Rattle.press_writer.specs.declared.fault.WriterError.TheVariants.{Writ
 ghost use Rattle.press_writer.specs.Fitting.{refusal};
 ghost use Rattle.press_writer.specs.Job.{size_number, sides_number, head, tail, page, back_of, part_commands, part_bytes, FitsPart, job_bytes};
 ghost use Rattle.press_writer.specs.Plan.{IsSmall, HasItsImages, plan_parts};
+ghost use Rattle.press_writer.specs.Printing.{PrintsTheTicket};
 ghost use Rattle.press_writer.specs.Sequences.{written};
 
 use crate::checking::check;
@@ -175,6 +176,9 @@ fn write_parts<W: Write>(
 
 /// Writes the job of a ticket with these images: the commands by which its sets are printed, in order.
 ///
+/// A press that is powered on and reads the job to its end delivers the sheets that the ticket wants, in its order and as often
+/// as it says, and nothing else.
+///
 /// # Errors
 ///
 /// - those of [`check`](crate::check); nothing was written then
@@ -193,7 +197,11 @@ pub fn write_job<W: Write>(
         (job_bytes ticket.now images.now)) }
     ensures err { OnErr result (AppendsFront (W.contents output.old) (W.contents output.new)
         (job_bytes ticket.now images.now)) }
+    ensures prints { refusal ticket.now images.now ≡ None
+        → PrintsTheTicket ticket.now images.now (job_bytes ticket.now images.now) }
     ensures refused { IfSome (refusal ticket.now images.now) (λ error. result ≡ Err error) }
+    ensures nothing { IsSome (refusal ticket.now images.now)
+        → Appends (W.contents output.old) (W.contents output.new) [] }
     ensures fault { refusal ticket.now images.now ≡ None
         → IfErr result (λ error. (error ≡ WriteFault) ⊎ (error ≡ NoMemory)) }
 {

@@ -1,7 +1,6 @@
-use Rattle.std.proofs.Common.{arith, ◌≡◌, ◌++◌, ◌≤◌, ◌<◌, ℕ, ◌+◌, List, Bool, true, false, sym, ap, ◌∙◌, subst}
+use Rattle.std.proofs.Common.{arith, ◌≡◌, ◌++◌, ◌≤◌, ◌<◌, ℕ, ◌+◌, List, sym, ap, ◌∙◌, subst}
 use Rattle.press_pbm.specs.Spelling.{line_bytes}
 use Rattle.press_rows.specs.Encoding.{best_method}
-use Rattle.press_rows.specs.declared.compression.Method.{Method}
 use Rattle.press_writer.specs.Picture.{is_white, left_out, row_commands, raster_rows, row_before, image_rows}
 use Rattle.press_writer.specs.Sequences.{written}
 use Rattle.press_writer.proofs.PictureLemmas.{rows_from, white_next, row_next, no_rows}

@@ -1,4 +1,4 @@
-use Rattle.std.proofs.Common.{◌≡◌, ◌<◌, ◌++◌, ℕ, length, slice_index_or, sym, ap, ◌∙◌, subst, Option, Some, IfSome}
+use Rattle.std.proofs.Common.{◌≡◌, ◌<◌, ◌++◌, ℕ, length, slice_index_or, sym, ap, ◌∙◌, subst, Option, IfSome}
 use Rattle.press_writer.specs.Job.{page, back_of}
 use Rattle.press_writer.specs.Sequences.{written}
 use Rattle.press_writer.specs.Wanted.{image_of}

@@ -1,4 +1,4 @@
-use Rattle.std.proofs.Common.{◌≡◌, ◌≤◌, ◌<◌, ◌-◌, ◌/◌, ◌%◌, length, ap, ◌∙◌, sym, subst, slice_get, arith}
+use Rattle.std.proofs.Common.{◌≡◌, ◌≤◌, ◌<◌, ◌-◌, ◌/◌, ◌%◌, ap, ◌∙◌, subst, slice_get, arith}
 use Rattle.press_writer.specs.Job.{sides_of}
 use Rattle.press_writer.specs.Plan.{plan_runs}
 use Rattle.press_writer.proofs.PlanLemmas.{part_at-tail, part_at-side}

@@ -1,4 +1,4 @@
-use Rattle.std.proofs.Common.{◌≡◌, ◌+◌, ◌*◌, length, ap, ◌∙◌, sym}
+use Rattle.std.proofs.Common.{◌+◌, ◌*◌, ap, ◌∙◌, sym}
 use Rattle.press_writer.specs.Plan.{plan_runs}
 use Rattle.press_writer.proofs.PlanLemmas.{length-parts}
 use Rattle.press_writer.proofs.plan.Plan.part_count.Goals as goal
