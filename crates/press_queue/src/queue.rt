@@ -46,7 +46,9 @@ impl Model for Queue {
 }
 
 impl Queue {
-    ghost use Rattle.std.specs.Prelude.{◌≡◌, None, IfOk, IsTrue};
+    ghost use Rattle.std.specs.Prelude.{◌≡◌, None, IfOk, IsTrue, nat_eq};
+    ghost use Rattle.std.specs.List.{IsDistinct};
+    ghost use Rattle.std.specs.Map.{keys_of};
     ghost use Rattle.press_queue.specs.Answers.{Submits};
     ghost use Rattle.press_queue.specs.Entries.{entry_numbered};
     ghost use Rattle.press_queue.specs.State.{empty_queue};
@@ -275,8 +277,11 @@ impl Queue {
 
     /// Its entries, in order, its flags, and the last number that it gave.
     pub fn status(&self) -> QueueView<'_>
-        ensures { shown result ≡ self.now }
+        ensures shown { shown result ≡ self.now }
+        ensures distinct { IsDistinct nat_eq (keys_of self.now.entries) }
     {
+        // The length is what says that no number stands twice.
+        let _count = self.entries.len();
         QueueView {
             entries: &self.entries,
             held: self.held,
