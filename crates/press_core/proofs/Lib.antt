@@ -1,0 +1,10 @@
+mod AnswerLemmas
+mod EntryLemmas
+mod FloatLemmas
+mod FoundLemmas
+mod HandingLemmas
+mod JobLemmas
+mod SoundLemmas
+mod StandLemmas
+mod WorkLemmas
+pub mod WorkedMessages

@@ -1,0 +1,191 @@
+-- What each message does to the world of a press, and what it is answered (CIP4 JDF 1.5, queue commands and queries of JMF;
+-- this profile).
+use Rattle.std.specs.Prelude.{ℕ, ℤ, pos, List, Option, Some, None, Result, Ok, Err, ok_or, codes}
+use Rattle.serde_json.specs.Data.{Data, string}
+use Rattle.press_bits.specs.Page.{Page}
+use Rattle.press_queue.specs.declared.refusal.Refusal.{Refusal}
+use Rattle.press_queue.specs.declared.refusal.Refusal.TheVariants.{Unknown}
+use Rattle.press_queue.specs.Refusal.{return_code_of}
+use Rattle.press_queue.specs.Rows as rows
+use Rattle.press_queue.specs.State.{QueueState}
+use Rattle.press_ticket.specs.declared.fault.TicketError.{TicketError}
+use Rattle.press_ticket.specs.declared.fault.TicketError.TheVariants as ticket_errors
+use Rattle.press_ticket.specs.Members.{as_whole}
+use Rattle.press_ticket.specs.Reading.{ticket_from}
+use Rattle.press_ticket.specs.Ticket.{JobTicket}
+use Rattle.press_writer.specs.declared.fault.WriterError.{WriterError}
+use Rattle.press_writer.specs.declared.fault.WriterError.TheVariants as writer_errors
+use Rattle.press_writer.specs.Fitting.{refusal}
+use Rattle.press_core.specs.declared.fault.Refused.{Refused}
+use Rattle.press_core.specs.declared.message_type.MessageType.{MessageType}
+use Rattle.press_core.specs.declared.message_type.MessageType.TheVariants as types
+use Rattle.press_core.specs.Listings.{entry_id, number_with_id, listed_queue, listed_device}
+use Rattle.press_core.specs.Messages.{Heading, Headed, heading_of, message_in, no_message, refused_with, for_fault, for_parameter}
+use Rattle.press_core.specs.Parameters.{Found, optional_parameter, both_found, text_parameter, whole_parameter, object_parameter}
+use Rattle.press_core.specs.Response.{Addition, adding, accepted_text, refused_text, no_heading}
+use Rattle.press_core.specs.Work.{new_work}
+use Rattle.press_core.specs.World.{World, with_queue, with_new_work, without_gone, landed, device}
+
+-- What a message is answered, and the world after it: what the response adds, or why nothing was done.
+abbrev pub Answer : Type 0
+Answer = Result Addition Refused × World
+
+-- nothing changes
+abbrev pub refusing : Refused → World → Answer
+refusing refused world = (Err refused, world)
+
+-- the world changes, and the response adds nothing
+abbrev pub done : World → Answer
+done world = (Ok None, world)
+
+abbrev pub telling : Addition → World → Answer
+telling addition world = (Ok addition, world)
+
+-- what follows where a message names what it has to
+abbrev pub with_named : {A : Type 0} → Result A Refused → World → (A → Answer) → Answer
+with_named (Err refused) world row = refusing refused world
+with_named (Ok value) world row = row value
+
+-- the value of a parameter, or why the message is refused
+abbrev pub or_refused : {A : Type 0} → Found A → Result A Refused
+or_refused (Err fault) = Err (for_parameter fault)
+or_refused (Ok value) = Ok value
+
+-- a refusal of the queue
+abbrev pub for_queue : Refusal → Refused
+for_queue refusal = refused_with (return_code_of refusal)
+
+-- what follows where the queue carried a command out, with its value
+abbrev pub with_row : {A : Type 0} → rows.QueueAnswer A → World → (A → World → Answer) → Answer
+with_row (queue, Err refusal) world row = refusing (for_queue refusal) world
+with_row (queue, Ok value) world row = row value (with_queue queue world)
+
+-- the number of the entry that has this ID: 21 where there is none
+abbrev pub number_of : List ℕ → QueueState → Result ℕ Refused
+number_of id queue = ok_or (number_with_id id queue.entries) (for_queue Unknown)
+
+abbrev pub id_parameter : Data → Found (List ℕ)
+id_parameter message = text_parameter (codes "QueueEntryID") message
+
+-- the entry that a message names
+abbrev pub numbered : Result (List ℕ) Refused → QueueState → Result ℕ Refused
+numbered (Err refused) queue = Err refused
+numbered (Ok id) queue = number_of id queue
+
+abbrev pub named_entry : Data → QueueState → Result ℕ Refused
+named_entry message queue = numbered (or_refused (id_parameter message)) queue
+
+-- the entry that a message names, and a number beside it
+abbrev pub paired : {A : Type 0} → Result ℕ Refused → A → Result (ℕ × A) Refused
+paired (Err refused) value = Err refused
+paired (Ok number) value = Ok (number, value)
+
+abbrev pub numbered_with : Result (List ℕ × ℤ) Refused → QueueState → Result (ℕ × ℤ) Refused
+numbered_with (Err refused) queue = Err refused
+numbered_with (Ok both) queue = paired (number_of both.0 queue) both.1
+
+abbrev pub named_entry_with : List ℕ → Data → QueueState → Result (ℕ × ℤ) Refused
+named_entry_with key message queue =
+    numbered_with (or_refused (both_found (id_parameter message) (whole_parameter key message))) queue
+
+-- a command to one entry: the queue's row, and what follows for the world
+abbrev pub entry_row : Data → World → (ℕ → QueueState → rows.QueueAnswer (Unit {0})) → (ℕ → World → Answer) → Answer
+entry_row message world row next =
+    with_named (named_entry message world.queue) world (λ number.
+    with_row (row number world.queue) world (λ _ after. next number after))
+
+-- the same with a number beside the entry
+abbrev pub entry_number_row : List ℕ → Data → World → (ℕ → ℤ → QueueState → rows.QueueAnswer (Unit {0})) → Answer
+entry_number_row key message world row =
+    with_named (named_entry_with key message world.queue) world (λ both.
+    with_row (row both.0 both.1 world.queue) world (λ _ after. done after))
+
+-- The numbers of the refusals of tickets and of images.
+abbrev pub ticket_fault : TicketError → ℕ
+ticket_fault ticket_errors.NotJson = 601
+ticket_fault (ticket_errors.NotProfile key) = 602
+ticket_fault ticket_errors.WrongProcess = 603
+ticket_fault ticket_errors.BadRange = 604
+ticket_fault ticket_errors.BadAmount = 605
+ticket_fault ticket_errors.NoMemory = 0
+
+abbrev pub image_fault : WriterError → ℕ
+image_fault writer_errors.PageMissing = 611
+image_fault writer_errors.TooWide = 612
+image_fault writer_errors.TooTall = 613
+image_fault writer_errors.WriteFault = 614
+image_fault writer_errors.NoMemory = 0
+
+-- A ticket that can be printed with these images.
+abbrev pub fitting : JobTicket → Option WriterError → Result JobTicket Refused
+fitting ticket None = Ok ticket
+fitting ticket (Some error) = Err (for_fault (image_fault error))
+
+abbrev pub fitting_ticket : List Page → Result JobTicket TicketError → Result JobTicket Refused
+fitting_ticket images (Err error) = Err (for_fault (ticket_fault error))
+fitting_ticket images (Ok ticket) = fitting ticket (refusal ticket images)
+
+-- the priority of an entry where none is given
+abbrev pub default_priority : ℤ
+default_priority = pos 50
+
+abbrev pub priority_parameter : Data → Found ℤ
+priority_parameter message = optional_parameter (codes "Priority") as_whole default_priority message
+
+abbrev pub submitted_parameters : Data → Found (Data × ℤ)
+submitted_parameters message = both_found (object_parameter (codes "Ticket") message) (priority_parameter message)
+
+abbrev pub prioritized : Result JobTicket Refused → ℤ → Result (JobTicket × ℤ) Refused
+prioritized (Err refused) priority = Err refused
+prioritized (Ok ticket) priority = Ok (ticket, priority)
+
+abbrev pub ticketed : List Page → Result (Data × ℤ) Refused → Result (JobTicket × ℤ) Refused
+ticketed images (Err refused) = Err refused
+ticketed images (Ok both) = prioritized (fitting_ticket images (ticket_from both.0)) both.1
+
+-- The ticket and the priority of a new entry: the parameters, then the ticket, then its images.
+abbrev pub submission : Data → List Page → Result (JobTicket × ℤ) Refused
+submission message images = ticketed images (or_refused (submitted_parameters message))
+
+abbrev pub submit_row : Data → List Page → World → Answer
+submit_row message images world =
+    with_named (submission message images) world (λ both.
+    with_row (rows.submit both.1 world.queue) world (λ number after.
+    telling (adding (codes "QueueEntryID") (string (entry_id number)))
+    (with_new_work number (new_work both.0 images) after)))
+
+-- The row of each type of message.
+abbrev pub answered : MessageType → Data → List Page → World → Answer
+answered types.SubmitQueueEntry message images world = submit_row message images world
+answered types.HoldQueueEntry message images world = entry_row message world rows.hold (λ number after. done after)
+answered types.ResumeQueueEntry message images world = entry_row message world rows.resume (λ number after. done after)
+answered types.AbortQueueEntry message images world = entry_row message world rows.abort (λ number after. done (landed number after))
+answered types.RemoveQueueEntry message images world =
+    entry_row message world rows.remove (λ number after.
+    telling (adding (codes "Status") (string (codes "Removed"))) (without_gone after))
+answered types.SetQueueEntryPriority message images world = entry_number_row (codes "Priority") message world rows.set_priority
+answered types.SetQueueEntryPosition message images world = entry_number_row (codes "Position") message world rows.set_position
+answered types.HoldQueue message images world = done (with_queue (rows.hold_queue world.queue) world)
+answered types.ResumeQueue message images world = done (with_queue (rows.resume_queue world.queue) world)
+answered types.OpenQueue message images world = done (with_queue (rows.open_queue world.queue) world)
+answered types.CloseQueue message images world = done (with_queue (rows.close_queue world.queue) world)
+answered types.FlushQueue message images world = done (without_gone (with_queue (rows.flush world.queue) world))
+answered types.QueueStatus message images world = telling (adding (codes "Queue") (listed_queue world.queue)) world
+answered types.Status message images world = telling (adding (codes "Device") (listed_device (device world))) world
+
+-- The response to a message of this heading, and the world after it.
+abbrev pub responding : Heading → Answer → List ℕ × World
+responding heading (Ok addition, world) = (accepted_text heading addition, world)
+responding heading (Err refused, world) = (refused_text heading refused, world)
+
+abbrev pub responding_to : Headed → Data → List Page → World → List ℕ × World
+responding_to (Err stopped) message images world = (refused_text stopped.0 stopped.1, world)
+responding_to (Ok headed) message images world = responding headed.0 (answered headed.1 message images world)
+
+abbrev pub responding_in : Option Data → List Page → World → List ℕ × World
+responding_in None images world = (refused_text no_heading no_message, world)
+responding_in (Some message) images world = responding_to (heading_of message) message images world
+
+-- The response to a text with images, byte for byte, and the world after it.
+abbrev pub responded : (text : List ℕ) → List Page → World → List ℕ × World
+responded text images world = responding_in (message_in text) images world

@@ -1,0 +1,266 @@
+//! What each message does to a press. The response is made before anything changes.
+
+use crate::fault::{Refused, Stop};
+use crate::heading::Heading;
+use crate::listings::{entry_id, listed_device, listed_queue, number_with_id};
+use crate::message_type::MessageType;
+use crate::parameters::{id_and_number, id_parameter};
+use crate::press::Press;
+use crate::response::{accepted, text};
+use crate::submission::submission;
+use crate::work::Work;
+use crate::works::{enter, forget_gone, land};
+use press_bits::Bitmap;
+use press_queue::Refusal;
+use serde_json::Value;
+use std::alloc::AllocError;
+
+impl Press {
+    ghost use Rattle.std.specs.Prelude.{◌≡◌, ◌+◌, None, IfOk, IfErr, OnOk, codes, false, nat_eq};
+    ghost use Rattle.std.specs.List.{IsDistinct};
+    ghost use Rattle.std.specs.Map.{keys_of};
+    ghost use Rattle.serde_json.specs.Data.{string};
+    ghost use Rattle.serde_json.specs.View.{view};
+    ghost use Rattle.press_queue.specs.Rows as rows;
+    ghost use Rattle.press_core.specs.declared.fault.Stop.TheVariants.{NoMemory};
+    ghost use Rattle.press_core.specs.Listings.{entry_id, listed_queue, listed_device};
+    ghost use Rattle.press_core.specs.Response.{adding, accepted_text};
+    ghost use Rattle.press_core.specs.Rows as table;
+    ghost use Rattle.press_core.specs.Shown.{shown};
+    ghost use Rattle.press_core.specs.Stops.{Answers};
+    ghost use Rattle.press_core.specs.World as world;
+
+    /// Carries a message out. The response is made before anything changes.
+    pub(crate) fn carry_out(
+        &mut self,
+        heading: Heading<'_>,
+        message_type: MessageType,
+        message: &Value,
+        images: &[Bitmap],
+    ) -> Result<Vec<u8>, Stop>
+        ensures { Answers (table.answered message_type (view message.now) images.now self.old)
+            self.old (shown heading.entry) result self.new }
+    {
+        match message_type {
+            MessageType::SubmitQueueEntry => self.submit(heading, message, images),
+            MessageType::HoldQueueEntry => self.hold(heading, message),
+            MessageType::ResumeQueueEntry => self.resume(heading, message),
+            MessageType::AbortQueueEntry => self.abort(heading, message),
+            MessageType::RemoveQueueEntry => self.remove(heading, message),
+            MessageType::SetQueueEntryPriority => self.set_priority(heading, message),
+            MessageType::SetQueueEntryPosition => self.set_position(heading, message),
+            MessageType::QueueStatus => self.tell_queue(heading),
+            MessageType::Status => self.tell_device(heading),
+            MessageType::HoldQueue => self.hold_queue(heading),
+            MessageType::ResumeQueue => self.resume_queue(heading),
+            MessageType::OpenQueue => self.open_queue(heading),
+            MessageType::CloseQueue => self.close_queue(heading),
+            MessageType::FlushQueue => self.flush(heading),
+        }
+    }
+
+    /// The entry of this ID.
+    fn number_of(&self, id: &str) -> Result<u64, Refused>
+        ensures value { result ≡ table.number_of id.now self.now.queue }
+        ensures distinct { IsDistinct nat_eq (keys_of self.now.queue.entries) }
+    {
+        number_with_id(id, self.queue.status().entries).ok_or(Refused::with_code(
+            Refusal::Unknown.return_code(),
+        ))
+    }
+
+    /// The entry that a message names.
+    fn named_entry(&self, message: &Value) -> Result<u64, Refused>
+        ensures value { result ≡ table.named_entry (view message.now) self.now.queue }
+        ensures distinct { OnOk result (IsDistinct nat_eq (keys_of self.now.queue.entries)) }
+    {
+        match id_parameter(message) {
+            Ok(id) => self.number_of(id),
+            Err(fault) => Err(Refused::from(fault)),
+        }
+    }
+
+    /// The entry that a message names, and a number beside it.
+    fn named_entry_with(&self, key: &str, message: &Value) -> Result<(u64, i128), Refused>
+        ensures { result ≡ table.named_entry_with key.now (view message.now) self.now.queue }
+    {
+        match id_and_number(message, key) {
+            Ok((id, number)) => Ok((self.number_of(id)?, number)),
+            Err(fault) => Err(Refused::from(fault)),
+        }
+    }
+
+    /// Takes a new entry, with its ticket and its images.
+    fn submit(
+        &mut self,
+        heading: Heading<'_>,
+        message: &Value,
+        images: &[Bitmap],
+    ) -> Result<Vec<u8>, Stop>
+        ensures { Answers (table.submit_row (view message.now) images.now self.old)
+            self.old (shown heading.entry) result self.new }
+    {
+        let (ticket, priority) = submission(self.alloc, message, images)?;
+        let response = self.entered(heading)?;
+        self.works.reserve(1)?;
+        let work = Work::new(self.alloc, ticket, images)?;
+        enter(&mut self.queue, &mut self.works, priority, work)?;
+        Ok(response)
+    }
+
+    /// The response to the next submission, where it is taken.
+    fn entered(&self, heading: Heading<'_>) -> Result<Vec<u8>, AllocError>
+        ensures { IfOk result (λ bytes. nat_eq self.now.queue.last rows.last_number ≡ false
+            → bytes.items ≡ accepted_text (shown heading.entry)
+            (adding (codes "QueueEntryID") (string (entry_id (self.now.queue.last + 1))))) }
+    {
+        let next = self.queue.status().last.saturating_add(1);
+        let id = Value::String(entry_id(self.alloc, next)?);
+        accepted(self.alloc, heading, Some(("QueueEntryID", id)))
+    }
+
+    /// Holds an entry that waits.
+    fn hold(&mut self, heading: Heading<'_>, message: &Value) -> Result<Vec<u8>, Stop>
+        ensures { Answers (table.entry_row (view message.now) self.old rows.hold
+            (λ number after. table.done after)) self.old (shown heading.entry) result self.new }
+    {
+        let number = self.named_entry(message)?;
+        let response = accepted(self.alloc, heading, None)?;
+        self.queue.hold(number)?;
+        Ok(response)
+    }
+
+    /// Lets an entry that is held or suspended wait.
+    fn resume(&mut self, heading: Heading<'_>, message: &Value) -> Result<Vec<u8>, Stop>
+        ensures { Answers (table.entry_row (view message.now) self.old rows.resume
+            (λ number after. table.done after)) self.old (shown heading.entry) result self.new }
+    {
+        let number = self.named_entry(message)?;
+        let response = accepted(self.alloc, heading, None)?;
+        self.queue.resume(number)?;
+        Ok(response)
+    }
+
+    /// Aborts an entry that did not end, and its job with it.
+    fn abort(&mut self, heading: Heading<'_>, message: &Value) -> Result<Vec<u8>, Stop>
+        ensures { Answers (table.entry_row (view message.now) self.old rows.abort
+            (λ number after. table.done (world.landed number after))) self.old (shown heading.entry) result self.new }
+    {
+        let number = self.named_entry(message)?;
+        let response = accepted(self.alloc, heading, None)?;
+        self.queue.abort(number)?;
+        land(&mut self.works, number);
+        Ok(response)
+    }
+
+    /// Takes an entry that waits, is held or ended off the list.
+    fn remove(&mut self, heading: Heading<'_>, message: &Value) -> Result<Vec<u8>, Stop>
+        ensures { Answers (table.entry_row (view message.now) self.old rows.remove
+            (λ number after. table.telling (adding (codes "Status") (string (codes "Removed")))
+            (world.without_gone after))) self.old (shown heading.entry) result self.new }
+    {
+        let number = self.named_entry(message)?;
+        let removed = text(self.alloc, "Removed")?;
+        let response = accepted(self.alloc, heading, Some(("Status", removed)))?;
+        self.queue.remove(number)?;
+        forget_gone(&mut self.works, &self.queue);
+        Ok(response)
+    }
+
+    /// Gives an entry another priority.
+    fn set_priority(&mut self, heading: Heading<'_>, message: &Value) -> Result<Vec<u8>, Stop>
+        ensures { Answers
+            (table.entry_number_row (codes "Priority") (view message.now) self.old rows.set_priority)
+            self.old (shown heading.entry) result self.new }
+    {
+        let (number, priority) = self.named_entry_with("Priority", message)?;
+        let response = accepted(self.alloc, heading, None)?;
+        self.queue.set_priority(number, priority)?;
+        Ok(response)
+    }
+
+    /// Moves an entry to an index of the list.
+    fn set_position(&mut self, heading: Heading<'_>, message: &Value) -> Result<Vec<u8>, Stop>
+        ensures { Answers
+            (table.entry_number_row (codes "Position") (view message.now) self.old rows.set_position)
+            self.old (shown heading.entry) result self.new }
+    {
+        let (number, position) = self.named_entry_with("Position", message)?;
+        let response = accepted(self.alloc, heading, None)?;
+        self.queue.set_position(number, position)?;
+        Ok(response)
+    }
+
+    /// Tells the queue.
+    fn tell_queue(&self, heading: Heading<'_>) -> Result<Vec<u8>, Stop>
+        ensures tells { IfOk result (λ bytes. bytes.items ≡ accepted_text (shown heading.entry)
+            (adding (codes "Queue") (listed_queue self.now.queue))) }
+        ensures err { IfErr result (λ stop. stop ≡ NoMemory) }
+    {
+        let queue = listed_queue(self.alloc, &self.queue)?;
+        Ok(accepted(self.alloc, heading, Some(("Queue", queue)))?)
+    }
+
+    /// Tells what the press does.
+    fn tell_device(&self, heading: Heading<'_>) -> Result<Vec<u8>, Stop>
+        ensures tells { IfOk result (λ bytes. bytes.items ≡ accepted_text (shown heading.entry)
+            (adding (codes "Device") (listed_device (world.device self.now)))) }
+        ensures err { IfErr result (λ stop. stop ≡ NoMemory) }
+    {
+        let device = listed_device(self.alloc, self.status())?;
+        Ok(accepted(self.alloc, heading, Some(("Device", device)))?)
+    }
+
+    /// From now on no entry begins.
+    fn hold_queue(&mut self, heading: Heading<'_>) -> Result<Vec<u8>, Stop>
+        ensures { Answers (table.done (world.with_queue (rows.hold_queue self.old.queue) self.old))
+            self.old (shown heading.entry) result self.new }
+    {
+        let response = accepted(self.alloc, heading, None)?;
+        self.queue.hold_queue();
+        Ok(response)
+    }
+
+    /// Entries begin again.
+    fn resume_queue(&mut self, heading: Heading<'_>) -> Result<Vec<u8>, Stop>
+        ensures { Answers
+            (table.done (world.with_queue (rows.resume_queue self.old.queue) self.old))
+            self.old (shown heading.entry) result self.new }
+    {
+        let response = accepted(self.alloc, heading, None)?;
+        self.queue.resume_queue();
+        Ok(response)
+    }
+
+    /// New entries are taken again.
+    fn open_queue(&mut self, heading: Heading<'_>) -> Result<Vec<u8>, Stop>
+        ensures { Answers (table.done (world.with_queue (rows.open_queue self.old.queue) self.old))
+            self.old (shown heading.entry) result self.new }
+    {
+        let response = accepted(self.alloc, heading, None)?;
+        self.queue.open_queue();
+        Ok(response)
+    }
+
+    /// From now on no new entry is taken.
+    fn close_queue(&mut self, heading: Heading<'_>) -> Result<Vec<u8>, Stop>
+        ensures { Answers (table.done (world.with_queue (rows.close_queue self.old.queue) self.old))
+            self.old (shown heading.entry) result self.new }
+    {
+        let response = accepted(self.alloc, heading, None)?;
+        self.queue.close_queue();
+        Ok(response)
+    }
+
+    /// Takes every entry that does not run off the list.
+    fn flush(&mut self, heading: Heading<'_>) -> Result<Vec<u8>, Stop>
+        ensures { Answers
+            (table.done (world.without_gone (world.with_queue (rows.flush self.old.queue) self.old)))
+            self.old (shown heading.entry) result self.new }
+    {
+        let response = accepted(self.alloc, heading, None)?;
+        self.queue.flush();
+        forget_gone(&mut self.works, &self.queue);
+        Ok(response)
+    }
+}

@@ -1,0 +1,24 @@
+//! The press: messages, turns and operators on one queue of jobs.
+#![tactic(auto)]
+
+mod commands;
+mod device;
+mod fault;
+mod handing;
+mod heading;
+mod listings;
+mod message_type;
+mod no_replies;
+mod operator;
+mod parameters;
+mod press;
+mod response;
+mod submission;
+mod turn;
+mod work;
+mod works;
+
+pub use device::{Device, DeviceStatus};
+pub use operator::OperatorCommand;
+pub use press::Press;
+pub use turn::{Turn, TurnError};
