@@ -1,3 +1,4 @@
+mod JobLemmas
 pub mod Lines
 pub mod PrintedLemmas
 mod WordsLemmas

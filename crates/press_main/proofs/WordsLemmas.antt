@@ -1,11 +1,12 @@
 -- What the words of the command line come to.
 use Rattle.std.proofs.Common.{◌≡◌, ◌∙◌, ◌⊎◌, ◌<◌, List, [], ◌∷◌, length, Option, Some, None, option_map, Result, Ok, Err, IfOk, IfErr, IsErrAnd, refl, sym, ap, inl, inr, arith}
 use Rattle.std.specs.Prelude.{option_and_then, ok_or}
-use Rattle.clap.specs.Words.{Row, Text, first_of, first_value, rows_of, fault_of, subcommand_of, IsAmong, HasKind, kind_of}
+use Rattle.clap.specs.Words.{Row, Text, all_of, first_of, first_value, matched_of, raw_values, rows_of, fault_of, subcommand_of, IsAmong, HasKind, kind_of}
 use Rattle.clap.specs.declared.error.Error.{Error}
 use Rattle.clap.specs.declared.error.kind.ErrorKind.{ErrorKind}
+use Rattle.clap.specs.declared.error.kind.ErrorKind.TheVariants.{OutOfMemory}
 use Rattle.clap.specs.declared.parser.matches.Found.{Found}
-use Rattle.clap.proofs.WalkLemmas.{first_value-rows}
+use Rattle.clap.proofs.WalkLemmas.{first_value-rows, raw_values-rows}
 use Rattle.press_main.specs.declared.words.Request.{Request}
 use Rattle.press_main.specs.declared.words.Refusal.{Refusal}
 use Rattle.press_main.specs.declared.words.Refusal.TheVariants.{Words, NoTemplate}
@@ -15,6 +16,10 @@ use Rattle.press_main.specs.Words.{Asked, asked, asked_by, asked_without, press_
 -- the first value of a word, as the rows of the matches have it
 pub value_by_rows : (found : Found) (id : Text) → first_value found id ≡ first_of id (rows_of found)
 value_by_rows found id = first_value-rows found id
+
+-- and all of them
+pub values_by_rows : (found : Found) (id : Text) → option_map raw_values (matched_of found id) ≡ all_of id (rows_of found)
+values_by_rows found id = raw_values-rows found id
 
 -- with a word behind the program's name, what the command line makes of them
 asked_with_words : (words : List Text) → 1 < length words → asked words ≡ asked_without (fault_of press_app words) words
@@ -49,3 +54,8 @@ pub asked-err-kinds : (words : List Text) (result : Result Request Refusal) (err
 asked-err-kinds words (Ok request) error more kinds is = tt
 asked-err-kinds words (Err refusal) error more kinds is =
     rw is (elim kinds [ inl memory ↦ inl memory | inr among ↦ inr (asked-faulty words (kind_of error) more among) ])
+
+-- an answer for want of memory
+pub asked-err-memory : (words : List Text) (result : Result Request Refusal) (error : Error) → kind_of error ≡ OutOfMemory → IsErrAnd result (λ refusal. refusal ≡ Words error) → IfErr result (λ refusal. IsForMemory refusal ⊎ (asked words ≡ None))
+asked-err-memory words (Ok request) error memory is = tt
+asked-err-memory words (Err refusal) error memory is = rw is (inl memory)

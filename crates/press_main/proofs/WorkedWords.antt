@@ -1,7 +1,7 @@
 -- What some words ask for.
 use Rattle.std.specs.Prelude.{◌≡◌, [], ◌∷◌, Some, None, codes, refl}
 use Rattle.clap.proofs.OnLiterals.{clap_on_literals}
-use Rattle.press_main.specs.Words.{Standard, FileNamed, Listed, FilesBy, Disassembled, AssembledTo, asked}
+use Rattle.press_main.specs.Words.{Standard, FileNamed, Listed, FilesBy, Disassembled, AssembledTo, JobTo, asked}
 
 nothing : asked (codes "press" ∷ []) ≡ Some (record { source = Standard; made = Listed })
 nothing = refl
@@ -37,6 +37,18 @@ no_output = refl
 disassembling : asked (codes "press" ∷ codes "disasm" ∷ codes "-" ∷ []) ≡ Some (record { source = Standard; made = Disassembled })
 unfolding clap_on_literals
 disassembling = refl
+
+writing : asked (codes "press" ∷ codes "write" ∷ codes "-" ∷ codes "o" ∷ codes "b" ∷ codes "a" ∷ codes "b" ∷ []) ≡ Some (record { source = FileNamed (codes "-"); made = JobTo (codes "o") (codes "b" ∷ codes "a" ∷ codes "b" ∷ []) })
+unfolding clap_on_literals
+writing = refl
+
+no_images : asked (codes "press" ∷ codes "write" ∷ codes "t" ∷ codes "o" ∷ []) ≡ Some (record { source = FileNamed (codes "t"); made = JobTo (codes "o") [] })
+unfolding clap_on_literals
+no_images = refl
+
+no_job : asked (codes "press" ∷ codes "write" ∷ codes "t" ∷ []) ≡ None
+unfolding clap_on_literals
+no_job = refl
 
 other_subcommand : asked (codes "press" ∷ codes "debug" ∷ codes "a" ∷ []) ≡ None
 unfolding clap_on_literals

@@ -1,5 +1,6 @@
 pub mod Assembly
 pub mod Files
+pub mod Jobs
 pub mod Listed
 pub mod Listing
 pub mod Measured

@@ -1,5 +1,5 @@
 -- The code's requests and refusals as contracts see them.
-use Rattle.std.specs.Prelude.{◌≡◌, ℕ}
+use Rattle.std.specs.Prelude.{◌≡◌, ℕ, map}
 use Rattle.clap.specs.Words.{kind_of}
 use Rattle.clap.specs.declared.error.kind.ErrorKind.{ErrorKind}
 use Rattle.clap.specs.declared.error.kind.ErrorKind.TheVariants.{DisplayHelp, DisplayVersion, OutOfMemory}
@@ -10,19 +10,20 @@ use Rattle.press_main.specs.declared.words.Output.TheVariants as outputs
 use Rattle.press_main.specs.declared.words.Request.{Request}
 use Rattle.press_main.specs.declared.words.Refusal.{Refusal}
 use Rattle.press_main.specs.declared.words.Refusal.TheVariants.{Words, NoTemplate}
-use Rattle.press_main.specs.Words.{Source, Standard, FileNamed, Made, Listed, FilesBy, Disassembled, AssembledTo, Asked}
+use Rattle.press_main.specs.Words.{Source, Standard, FileNamed, Made, Listed, FilesBy, Disassembled, AssembledTo, JobTo, Asked}
 
 -- an input by the text of its name
 abbrev pub source_seen : Input → Source
 source_seen inputs.Standard = Standard
 source_seen (inputs.File name) = FileNamed name.now
 
--- an output by the text of its template
+-- an output by its texts
 abbrev pub made_seen : Output → Made
 made_seen outputs.Listing = Listed
 made_seen (outputs.Files template) = FilesBy template.now
 made_seen outputs.Text = Disassembled
 made_seen (outputs.Assembled name) = AssembledTo name.now
+made_seen (outputs.Job name images) = JobTo name.now (map (λ image. image.now) images.items)
 
 -- a request by its texts
 abbrev pub request_seen : Request → Asked

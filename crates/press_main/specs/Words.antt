@@ -1,22 +1,23 @@
 -- What the words of the command line ask for.
-use Rattle.std.specs.Prelude.{List, [], ◌∷◌, Option, Some, None, Bool, true, false, codes, option_map, option_and_then, if◌then◌else◌}
+use Rattle.std.specs.Prelude.{List, [], ◌∷◌, Option, Some, None, Bool, true, false, codes, option_map, option_and_then, unwrap_or, if◌then◌else◌}
 use Rattle.std.specs.Option.{option_map_or}
 use Rattle.std.specs.Str.{bytes_eq}
-use Rattle.clap.specs.Words.{App, Row, Rule, Text, new_app, new_rule, with_rule, with_subcommand, subcommand_of, first_of, fault_of}
-use Rattle.clap.specs.declared.builder.action.ArgAction.TheVariants.{SetTrue}
+use Rattle.clap.specs.Words.{App, Row, Rule, Text, new_app, new_rule, with_rule, with_subcommand, subcommand_of, first_of, all_of, fault_of}
+use Rattle.clap.specs.declared.builder.action.ArgAction.TheVariants.{Append, SetTrue}
 
--- Where a stream is read: from standard input, or from the file of this name.
+-- Where an input is read: from standard input, or from the file of this name.
 pub data Source : Type 0 where
   Standard : Source
   FileNamed : Text → Source
 
 -- What is made of an input: of a stream a listing, files by this template, or its assembly text; of assembly text the file
--- of this name.
+-- of this name; of a ticket the file of this name, its job with the images of these files.
 pub data Made : Type 0 where
   Listed : Made
   FilesBy : Text → Made
   Disassembled : Made
   AssembledTo : Text → Made
+  JobTo : (name : Text) (images : List Text) → Made
 
 -- What the program is asked to do.
 pub record Asked : Type 0 where
@@ -41,6 +42,13 @@ asm_app = with_rule (with_rule (new_app (codes "asm")) (needed_rule (codes "in")
 abbrev pub disasm_app : App
 disasm_app = with_rule (new_app (codes "disasm")) (needed_rule (codes "in"))
 
+-- The words of `write`: the ticket, the output, and any number of images.
+abbrev pub images_rule : Rule
+images_rule = record (new_rule (codes "images")) { action = Some Append }
+
+abbrev pub write_app : App
+write_app = with_rule (with_rule (with_rule (new_app (codes "write")) (needed_rule (codes "ticket"))) (needed_rule (codes "out"))) images_rule
+
 -- the subcommands of the program, one after another
 abbrev pub printing_app : App
 printing_app = with_subcommand (new_app (codes "press")) print_app.top
@@ -48,8 +56,11 @@ printing_app = with_subcommand (new_app (codes "press")) print_app.top
 abbrev pub assembling_app : App
 assembling_app = with_subcommand printing_app asm_app.top
 
+abbrev pub disassembling_app : App
+disassembling_app = with_subcommand assembling_app disasm_app.top
+
 abbrev pub press_app : App
-press_app = with_subcommand assembling_app disasm_app.top
+press_app = with_subcommand disassembling_app write_app.top
 
 -- a flag is set where its value is `true`
 abbrev pub is_set : Text → List Row → Bool
@@ -70,10 +81,24 @@ made_by subcommand rows =
     else if bytes_eq subcommand (codes "disasm") then Some Disassembled
     else made_of rows
 
+-- the images that `write` names, in the order of the words
+abbrev pub images_of : List Row → List Text
+images_of rows = unwrap_or (all_of (codes "images") rows) []
+
+-- what the values of the words of `write` ask for: the ticket is a file, whatever its name
+abbrev pub job_asked : List Row → Option Asked
+job_asked rows =
+    option_and_then (λ ticket. option_map (λ name. record { source = FileNamed ticket; made = JobTo name (images_of rows) }) (first_of (codes "out") rows)) (first_of (codes "ticket") rows)
+
+-- what the values of the words of another subcommand ask for
+abbrev pub input_asked : Text → List Row → Option Asked
+input_asked subcommand rows =
+    option_and_then (λ name. option_map (λ made. record { source = source_of name; made = made }) (made_by subcommand rows)) (first_of (codes "in") rows)
+
 -- what the values of the words of a subcommand ask for
 abbrev pub asked_by : Text → List Row → Option Asked
 asked_by subcommand rows =
-    option_and_then (λ name. option_map (λ made. record { source = source_of name; made = made }) (made_by subcommand rows)) (first_of (codes "in") rows)
+    if bytes_eq subcommand (codes "write") then job_asked rows else input_asked subcommand rows
 
 -- what words ask for in which the command line finds these faults
 abbrev pub asked_without : {K : Type 0} → List K → List Text → Option Asked

@@ -4,27 +4,22 @@ ghost use Rattle.std.specs.Io.KnownBytes.{Appends};
 ghost use Rattle.std.specs.String.{string_bytes};
 ghost use Rattle.press_main.specs.Assembly.{ReadWhole, Assembled, AssembledTo, Disassembled, DisassembledTo};
 
+use crate::inputs::{InputError, read_all};
 use press_asm::{AssembleError, assemble};
 use press_disasm::disassemble;
-use press_stream::READ_FAULT;
 use press_units::NO_MEMORY;
 use std::alloc::{AllocError, Global};
-use std::io::{self, ErrorKind, Read, Write};
+use std::fmt::Display;
+use std::io::{self, Read, Write};
 use std::str;
 use thiserror::Error;
-
-/// The most reads of one input.
-const MOST_READS: u32 = u32::MAX;
-
-/// How many bytes are read at once.
-const PIECE: usize = 16_384;
 
 /// Why an input was not assembled or disassembled.
 #[derive(Debug, Drop, Error)]
 pub enum TextError {
-    /// A read failed, or there were too many.
-    #[error("{text}", text = READ_FAULT)]
-    ReadFault,
+    /// The input was not read to its end.
+    #[error("{0}")]
+    Input(#[from] InputError),
     /// The text is refused.
     #[error("{0}")]
     Refused(AssembleError),
@@ -44,27 +39,6 @@ impl From<AllocError> for TextError {
     fn from(_error: AllocError) -> TextError {
         TextError::NoMemory
     }
-}
-
-/// All that a reader has.
-fn read_all<R: Read>(alloc: Global, reader: &mut R) -> Result<Vec<u8>, TextError>
-    ensures { IfOk result (λ all.
-        ReadWhole (R.remaining reader.old) (R.remaining reader.new) all.items) }
-{
-    let mut piece = [0; PIECE];
-    let mut all = Vec::new(alloc);
-    for _ in 0..MOST_READS {
-        match reader.read(&mut piece) {
-            Ok(0) => return Ok(all),
-            Ok(count) => all.extend_from_slice(&piece[..count])?,
-            Err(error) => {
-                if error.kind() != ErrorKind::Interrupted {
-                    return Err(TextError::ReadFault);
-                }
-            }
-        }
-    }
-    Err(TextError::ReadFault)
 }
 
 /// How many lines the bytes end.
@@ -166,7 +140,7 @@ fn disassembled<R: Read>(alloc: Global, reader: &mut R) -> Result<String, TextEr
 }
 
 /// Tells a fault. The answer is the status after it.
-pub fn told<E: Write>(error: &TextError, err: &mut E) -> u8
+pub fn told<D: Display, E: Write>(error: &D, err: &mut E) -> u8
     ensures { result ≡ 1 }
 {
     let _ = writeln!(err, "{error}");

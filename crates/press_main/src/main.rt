@@ -1,23 +1,19 @@
 //! The program: it reads a print stream, and lists its sheets, writes them to files, or writes the stream as assembly text;
-//! and it makes a stream of assembly text.
+//! it makes a stream of assembly text; and it writes the job of a ticket.
 #![tactic(auto)]
 
 mod assembly;
 #[cfg(test)]
-mod assembly_tests;
-#[cfg(test)]
 mod file_tests;
 mod files;
+mod inputs;
+#[cfg(test)]
+mod job_tests;
+mod jobs;
 mod listing;
 mod listing_sink;
-#[cfg(test)]
-mod macro_tests;
-#[cfg(test)]
-mod mark_tests;
 mod measures;
 mod program;
-#[cfg(test)]
-mod row_tests;
 mod stream;
 #[cfg(test)]
 mod tests;

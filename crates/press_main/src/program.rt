@@ -1,9 +1,12 @@
 use crate::assembly::{TextError, assembled, disasm_bytes, told, write_whole};
 use crate::files::print_files;
+use crate::inputs::InputError;
+use crate::jobs::{JobFileError, image_in, ticket_in, write_to};
 use crate::listing::print_list;
 use crate::words::{Input, Output, Refusal, Request, request_of};
-use press_stream::JobError;
+use press_bits::Bitmap;
 use press_units::NO_MEMORY;
+use press_writer::{WriterError, check};
 use std::alloc::Global;
 use std::fs;
 use std::fs::Files;
@@ -58,10 +61,7 @@ fn print<F: Files, S: Read, W: Write + Drop, E: Write>(
     };
     match fs::open(files, name) {
         Ok(mut file) => print_from(alloc, files, &mut file, &request.output, out, err),
-        Err(_) => {
-            let _ = writeln!(err, "{}", JobError::ReadFault);
-            1
-        }
+        Err(_) => told(&InputError::ReadFault, err),
     }
 }
 
@@ -79,6 +79,10 @@ fn print_from<F: Files, R: Read, W: Write + Drop, E: Write>(
         Output::Files(template) => print_files(alloc, files, reader, template, out, err).status,
         Output::Text => disasm_bytes(alloc, reader, &mut out, err),
         Output::Assembled(name) => assemble_to(alloc, files, reader, name, err),
+        Output::Job(name, images) => match job_to(alloc, files, reader, name, images) {
+            Ok(()) => 0,
+            Err(error) => told(&error, err),
+        },
     }
 }
 
@@ -101,4 +105,34 @@ fn assemble_to<F: Files, R: Read, E: Write>(
         Ok(()) => 0,
         Err(_) => told(&TextError::WriteFault, err),
     }
+}
+
+/// The images of the files of these names. Each file is opened when the one before it is read.
+fn images_of<F: Files>(
+    alloc: Global,
+    files: &F,
+    names: &[&str],
+) -> Result<Vec<Bitmap>, JobFileError> {
+    let mut images = Vec::new(alloc);
+    for name in names {
+        let mut file = fs::open(files, name).map_err(|_| InputError::ReadFault)?;
+        images.push(image_in(alloc, &mut file)?)?;
+    }
+    Ok(images)
+}
+
+/// Makes the file of this name of the ticket that a reader has, with the images of these files. The file is made once the
+/// images are found to fit.
+fn job_to<F: Files, R: Read>(
+    alloc: Global,
+    files: &F,
+    reader: &mut R,
+    name: &str,
+    images: &[&str],
+) -> Result<(), JobFileError> {
+    let ticket = ticket_in(alloc, reader)?;
+    let images = images_of(alloc, files, images)?;
+    check(&ticket, &images)?;
+    let mut file = fs::create(files, name).map_err(|_| WriterError::WriteFault)?;
+    write_to(alloc, &ticket, &images, &mut file)
 }

@@ -1,7 +1,8 @@
 ghost use Rattle.std.specs.Prelude.{◌≡◌, ◌↔◌, ◌⊎◌, IfOk, IfErr, IsTrue, Some, None, map, option_map, option_and_then, codes, false};
 ghost use Rattle.clap.specs.Words.{app_of, rule_of, new_rule, kind_of, first_of, rows_of, found_of, subcommand_of, subcommand_rows_of, fault_of, FailsBy};
 ghost use Rattle.clap.specs.declared.builder.command.Command.TheViews.{out-Command};
-ghost use Rattle.press_main.specs.Words.{list_rule, needed_rule, print_app, asm_app, disasm_app, printing_app, assembling_app, press_app, source_of, made_of, made_by, asked_by, asked, is_set};
+ghost use Rattle.clap.specs.declared.error.kind.ErrorKind.TheVariants.{OutOfMemory};
+ghost use Rattle.press_main.specs.Words.{list_rule, needed_rule, images_rule, print_app, asm_app, disasm_app, write_app, printing_app, assembling_app, disassembling_app, press_app, source_of, made_of, made_by, images_of, job_asked, input_asked, asked_by, asked, is_set};
 ghost use Rattle.press_main.specs.View.{source_seen, made_seen, request_seen, status_of, IsForMemory};
 
 use clap::error::ErrorKind;
@@ -12,9 +13,9 @@ use std::fmt;
 
 /// An example of each subcommand, for help.
 const EXAMPLES: &str =
-    "Examples:\n  press print page.pcl page-%d.pbm\n  press asm page.asm page.pcl\n  press disasm page.pcl";
+    "Examples:\n  press print page.pcl page-%d.pbm\n  press asm page.asm page.pcl\n  press disasm page.pcl\n  press write ticket.json job.prn page-1.pbm page-2.pbm";
 
-/// Where a stream is read.
+/// Where an input is read.
 #[derive(Debug, Drop)]
 pub enum Input<'a> {
     /// From standard input.
@@ -34,6 +35,8 @@ pub enum Output<'a> {
     Text,
     /// The file of this name, of the bytes of assembly text.
     Assembled(&'a str),
+    /// The file of this name, of the job of a ticket with the images of these files.
+    Job(&'a str, Vec<&'a str>),
 }
 
 /// What the program is asked to do.
@@ -163,6 +166,38 @@ fn disasm_command<'a>(alloc: Global) -> Result<Command<'a>, AllocError>
         .arg(input_word(alloc))
 }
 
+/// The word for the ticket.
+fn ticket_word<'a>(alloc: Global) -> Arg<'a>
+    ensures rule { rule_of result ≡ needed_rule (codes "ticket") }
+    ensures local { result.global ≡ false }
+{
+    Arg::new(alloc, "ticket")
+        .required(true)
+        .help("The file of the ticket")
+}
+
+/// The words for the images.
+fn images_word<'a>(alloc: Global) -> Arg<'a>
+    ensures rule { rule_of result ≡ images_rule }
+    ensures local { result.global ≡ false }
+{
+    Arg::new(alloc, "images")
+        .action(ArgAction::Append)
+        .help("The P4 files of the pages, from the first one")
+}
+
+/// The subcommand `write`.
+fn write_command<'a>(alloc: Global) -> Result<Command<'a>, AllocError>
+    ensures app { IfOk result (λ command. app_of command ≡ write_app) }
+    ensures local { IfOk result (λ command. (out-Command command).has_globals ≡ false) }
+{
+    Command::new(alloc, "write")
+        .about("Writes the job of a ticket and the images of its pages")
+        .arg(ticket_word(alloc))?
+        .arg(made_word(alloc))?
+        .arg(images_word(alloc))
+}
+
 /// The command line with `print` alone.
 fn printing<'a>(alloc: Global) -> Result<Command<'a>, AllocError>
     ensures app { IfOk result (λ command. app_of command ≡ printing_app) }
@@ -182,11 +217,19 @@ fn assembling<'a>(alloc: Global) -> Result<Command<'a>, AllocError>
     printing(alloc)?.subcommand(asm_command(alloc)?)
 }
 
+/// The command line with `print`, `asm` and `disasm`.
+fn disassembling<'a>(alloc: Global) -> Result<Command<'a>, AllocError>
+    ensures app { IfOk result (λ command. app_of command ≡ disassembling_app) }
+    ensures local { IfOk result (λ command. (out-Command command).has_globals ≡ false) }
+{
+    assembling(alloc)?.subcommand(disasm_command(alloc)?)
+}
+
 /// The command line that is taken.
 fn command<'a>(alloc: Global) -> Result<Command<'a>, AllocError>
     ensures { IfOk result (λ command. app_of command ≡ press_app) }
 {
-    assembling(alloc)?.subcommand(disasm_command(alloc)?)
+    disassembling(alloc)?.subcommand(write_command(alloc)?)
 }
 
 /// The matches of words, the program's name among them.
@@ -245,11 +288,45 @@ fn made_by<'a>(subcommand: &str, matches: &ArgMatches<'a>) -> Option<Output<'a>>
     output_of(matches)
 }
 
-/// What the matches of a subcommand ask for.
+/// The images that the matches of `write` name.
+#[tactic(auto, using(crate::proofs::WordsLemmas::values_by_rows))]
+fn images_of<'a>(alloc: Global, matches: &ArgMatches<'a>) -> Result<Vec<&'a str>, AllocError>
+    ensures { IfOk result (λ images.
+        map (λ image. image.now) images.items ≡ images_of (rows_of (found_of matches.now))) }
+{
+    match matches.get_strs("images") {
+        Some(images) => images.to_vec(alloc),
+        None => Ok(Vec::new(alloc)),
+    }
+}
+
+/// What the matches of `write` ask for.
 #[tactic(auto, using(crate::proofs::WordsLemmas::value_by_rows))]
-fn subcommand_request<'a>(subcommand: &str, matches: &ArgMatches<'a>) -> Option<Request<'a>>
+fn job_request<'a>(
+    alloc: Global,
+    matches: &ArgMatches<'a>,
+) -> Result<Option<Request<'a>>, AllocError>
+    ensures { IfOk result (λ found. option_map request_seen found
+        ≡ job_asked (rows_of (found_of matches.now))) }
+{
+    let images = images_of(alloc, matches)?;
+    let Some(ticket) = matches.get_str("ticket") else {
+        return Ok(None);
+    };
+    let Some(name) = matches.get_str("out") else {
+        return Ok(None);
+    };
+    Ok(Some(Request {
+        input: Input::File(ticket),
+        output: Output::Job(name, images),
+    }))
+}
+
+/// What the matches of a subcommand with a stream or assembly text ask for.
+#[tactic(auto, using(crate::proofs::WordsLemmas::value_by_rows))]
+fn input_request<'a>(subcommand: &str, matches: &ArgMatches<'a>) -> Option<Request<'a>>
     ensures { option_map request_seen result
-        ≡ asked_by subcommand.now (rows_of (found_of matches.now)) }
+        ≡ input_asked subcommand.now (rows_of (found_of matches.now)) }
 {
     let name = matches.get_str("in")?;
     let output = made_by(subcommand, matches)?;
@@ -259,13 +336,32 @@ fn subcommand_request<'a>(subcommand: &str, matches: &ArgMatches<'a>) -> Option<
     })
 }
 
-/// What the matches of the command line ask for.
-fn request_in<'a>(matches: &ArgMatches<'a>) -> Option<Request<'a>>
-    ensures { option_map request_seen result
-        ≡ option_and_then (λ found. asked_by found.0 found.1) (subcommand_rows_of matches.now) }
+/// What the matches of a subcommand ask for.
+fn subcommand_request<'a>(
+    alloc: Global,
+    subcommand: &str,
+    matches: &ArgMatches<'a>,
+) -> Result<Option<Request<'a>>, AllocError>
+    ensures { IfOk result (λ found. option_map request_seen found
+        ≡ asked_by subcommand.now (rows_of (found_of matches.now))) }
 {
-    let (subcommand, values) = matches.subcommand()?;
-    subcommand_request(subcommand, values)
+    if subcommand == "write" {
+        job_request(alloc, matches)
+    } else {
+        Ok(input_request(subcommand, matches))
+    }
+}
+
+/// What the matches of the command line ask for.
+fn request_in<'a>(alloc: Global, matches: &ArgMatches<'a>) -> Result<Option<Request<'a>>, Error>
+    ensures ok { IfOk result (λ asked. option_map request_seen asked
+        ≡ option_and_then (λ found. asked_by found.0 found.1) (subcommand_rows_of matches.now)) }
+    ensures memory { IfErr result (λ error. kind_of error ≡ OutOfMemory) }
+{
+    match matches.subcommand() {
+        Some((subcommand, values)) => Ok(subcommand_request(alloc, subcommand, values)?),
+        None => Ok(None),
+    }
 }
 
 /// What the words ask for, the program's name among them. Without words it is the listing of standard input.
@@ -286,5 +382,6 @@ pub fn request_of<'a>(alloc: Global, words: &'a [&'a str]) -> Result<Request<'a>
         });
     }
     let matches = parse(alloc, words)?;
-    request_in(&matches).ok_or(Refusal::NoTemplate)
+    let request = request_in(alloc, &matches)?;
+    request.ok_or(Refusal::NoTemplate)
 }

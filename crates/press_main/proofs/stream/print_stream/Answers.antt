@@ -1,8 +1,4 @@
-use Rattle.std.proofs.Common.{Err}
 use Rattle.std.proofs.lemmas.Result.{err_from_is_err_and}
-use Rattle.press_sink.specs.Told.{both, Told}
-use Rattle.press_stream.specs.State.{JobState}
-use Rattle.press_stream.specs.Answers.{RunsReader}
 use Rattle.press_main.proofs.PrintedLemmas.{Printed-no_memory, Printed-error, Printed-whole, run_err}
 use Rattle.press_main.proofs.stream.print_stream.Goals as goal
 

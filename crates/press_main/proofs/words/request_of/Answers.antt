@@ -1,6 +1,6 @@
 use Rattle.std.proofs.Common.{◌<◌, length, map, List, ℕ, Bor}
 use Rattle.std.proofs.lemmas.List.{length-map}
-use Rattle.press_main.proofs.WordsLemmas.{asked-matches, asked-err-kinds, asked-ok, asked-err}
+use Rattle.press_main.proofs.WordsLemmas.{asked-matches, asked-err-kinds, asked-ok, asked-err, asked-err-memory}
 use Rattle.press_main.proofs.words.request_of.Goals as goal
 
 -- there is a word behind the program's name
@@ -11,12 +11,16 @@ pub returns-in_err-matches-clause-refused : goal.returns-in_err-matches-clause-r
 returns-in_err-matches-clause-refused c =
     asked-err-kinds _ c.from_residual.result c.in_err-matches.field-0.0 (more_words _ c.if-words-le1.false) c.in_err-matches.ensures.fault c.from_residual.ensures.1
 
+pub returns-in_err-request-clause-refused : goal.returns-in_err-request-clause-refused
+returns-in_err-request-clause-refused c =
+    asked-err-memory _ c.from_residual-in_err-request.result c.in_err-request.field-0.0 c.in_err-request.ensures.memory c.from_residual-in_err-request.ensures.1
+
 pub returns-clause-ok : goal.returns-clause-ok
 returns-clause-ok c =
-    asked-ok _ c.request_in.result _ c.ok_or.ensures.value
-    (asked-matches _ _ _ (more_words _ c.if-words-le1.false) c.in_ok-matches.ensures.fault c.in_ok-matches.ensures.rows c.request_in.ensures)
+    asked-ok _ c.in_ok-request.request _ c.ok_or.ensures.value
+    (asked-matches _ _ _ (more_words _ c.if-words-le1.false) c.in_ok-matches.ensures.fault c.in_ok-matches.ensures.rows c.in_ok-request.ensures.ok)
 
 pub returns-clause-refused : goal.returns-clause-refused
 returns-clause-refused c =
-    asked-err _ c.request_in.result _ c.ok_or.ensures.value
-    (asked-matches _ _ _ (more_words _ c.if-words-le1.false) c.in_ok-matches.ensures.fault c.in_ok-matches.ensures.rows c.request_in.ensures)
+    asked-err _ c.in_ok-request.request _ c.ok_or.ensures.value
+    (asked-matches _ _ _ (more_words _ c.if-words-le1.false) c.in_ok-matches.ensures.fault c.in_ok-matches.ensures.rows c.in_ok-request.ensures.ok)

@@ -1,5 +1,5 @@
 use Rattle.std.specs.Io.KnownBytes.{Consumes}
-use Rattle.press_main.proofs.assembly.read_all.Given as goal
+use Rattle.press_main.proofs.inputs.read_all.Given as goal
 
 -- the bytes are those that the reader gave so far
 abbrev pub invariant-loop : goal.invariant-loop
