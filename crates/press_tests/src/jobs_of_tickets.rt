@@ -9,22 +9,31 @@ use std::alloc::Global;
 use std::process::Abort;
 use std::test::Fail;
 
-/// A ticket of three pages on A4.
-fn ticket(alloc: Global, amount: u32, collate: bool, sides: &str) -> Result<Ticket, Fail> {
+/// A ticket of three pages, with these members more.
+fn ticket(alloc: Global, members: &str) -> Result<Ticket, Fail> {
     let text = format!(in alloc;
-        "{{\"Amount\":{amount},\"Collate\":{collate},\"JobID\":\"J\",\"NPage\":3,\"Media\":\"A4\",\"Sides\":\"{sides}\",\"Type\":\"DigitalPrinting\",\"Version\":\"1.5\"}}"
+        "{{\"JobID\":\"J\",\"NPage\":3,\"Type\":\"DigitalPrinting\",\"Version\":\"1.5\",{members}}}"
     )?;
     Ok(read_ticket(alloc, text.as_bytes())?)
 }
 
-/// A line of an image black, as far as eight dots go.
-fn black_line(image: &mut Bitmap, y: i64) -> Result<(), Fail> {
+/// One set on A4.
+const ON_A4: &str = r#""Amount":1,"Media":"A4""#;
+
+/// Dots of these bits black on a line of an image, from its left edge.
+fn black_dots(image: &mut Bitmap, y: i64, bits: &[u8]) -> Result<(), Fail> {
     let mode = Mode {
         source_opaque: false,
         pattern_opaque: false,
     };
-    image.paint_row(0, y, DotRow::black(), DotRow::black(), mode)?;
+    let dots = bits.len().saturating_mul(8);
+    image.paint_row(0, y, DotRow { bits, dots }, DotRow::black(), mode)?;
     Ok(())
+}
+
+/// Eight dots black on a line of an image, as far as it goes.
+fn black_line(image: &mut Bitmap, y: i64) -> Result<(), Fail> {
+    black_dots(image, y, &[0xFF])
 }
 
 /// Three images: a black dot; two white lines and two with eight black dots of nine; a white dot.
@@ -43,7 +52,8 @@ fn a_job_is_written_part_by_part(rt: HostRuntime) -> Result<(), Fail> {
         \x1b&l1X\x1b*p0Y\x1b*r1S\x1b*r0A\x1b*b1W\x80\x1b*r0C\x0c\
         \x1b*p0Y\x1b*r9S\x1b*r0A\x1b*b2Y\x1b*b1W\xff\x1b*b3M\x1b*b0W\x1b*r0C\x0c\
         \x1b&l1X\x1b*p0Y\x1b*r1S\x1b*r0A\x1b*r0C\x0c\x1b&a1G\x1bE\x1b%-12345X";
-    let ticket = ticket(rt.alloc(), 1, true, "TwoSidedHeadToFoot")?;
+    let members = r#""Amount":1,"Media":"A4","Sides":"TwoSidedHeadToFoot""#;
+    let ticket = ticket(rt.alloc(), members)?;
     let mut job = Vec::new(rt.alloc());
     write_job(rt.alloc(), &ticket, &images(rt.alloc())?, &mut job)?;
     assert_eq!(rt; job.as_slice(), wanted.as_slice());
@@ -53,7 +63,7 @@ fn a_job_is_written_part_by_part(rt: HostRuntime) -> Result<(), Fail> {
 /// A write that fails, and the answer.
 #[test]
 fn a_failed_write_is_told(rt: HostRuntime) -> Result<(), Fail> {
-    let ticket = ticket(rt.alloc(), 1, true, "OneSidedFront")?;
+    let ticket = ticket(rt.alloc(), ON_A4)?;
     let mut output = FuseWrite::new(Vec::new(rt.alloc()), 2);
     let written = write_job(rt.alloc(), &ticket, &images(rt.alloc())?, &mut output);
     assert!(rt; matches!(written, Err(WriterError::WriteFault)));
@@ -95,50 +105,56 @@ fn blanks(alloc: Global, sizes: &[(u32, u32)]) -> Result<Vec<Bitmap>, Fail> {
     Ok(images)
 }
 
-/// Sizes of images, in dots, and the number of their refusal on A4, whose logical page is 2,338 by 3,507 dots.
-const SIZES: [(&[(u32, u32)], u32); 5] = [
-    (&[(1, 1), (1, 1)], 611),
-    (&[(2338, 3507), (2338, 3507), (2338, 3507)], 0),
-    (&[(1, 1), (1, 1), (1, 3508)], 613),
-    (&[(1, 1), (1, 3508), (2339, 1)], 612),
-    (&[(2339, 3508)], 611),
+/// Members of a ticket, sizes of images, in dots, and the number of their refusal. On A4 the logical page has 2,338 by 3,507
+/// dots, on Letter 2,400 by 3,300.
+const SIZES: [(&str, &[(u32, u32)], u32); 9] = [
+    (ON_A4, &[(1, 1), (1, 1)], 611),
+    (ON_A4, &[(2338, 3507), (2338, 3507), (2338, 3507)], 0),
+    (ON_A4, &[(1, 1), (1, 1), (1, 3508)], 613),
+    (ON_A4, &[(1, 1), (1, 3508), (2339, 1)], 612),
+    (ON_A4, &[(2339, 3508)], 611),
+    (r#""Amount":1"#, &[(1, 1), (1, 1)], 611),
+    (r#""Amount":1"#, &[(1, 1), (2401, 1), (1, 1)], 612),
+    (r#""Amount":1"#, &[(2400, 3300), (1, 1), (1, 1)], 0),
+    (
+        r#""Amount":1,"RunList":[[2,2],[0,0]]"#,
+        &[(1, 1), (2401, 3301), (1, 1), (9999, 1)],
+        0,
+    ),
 ];
 
 #[test]
 fn images_have_room_on_the_logical_page(rt: HostRuntime) -> Result<(), Fail> {
-    let ticket = ticket(rt.alloc(), 1, true, "OneSidedFront")?;
-    for (sizes, number) in SIZES {
+    for (members, sizes, number) in &SIZES {
+        let ticket = ticket(rt.alloc(), members)?;
         let images = blanks(rt.alloc(), sizes)?;
-        assert_eq!(rt; refusal(&ticket, &images), number);
+        assert_eq!(rt; refusal(&ticket, &images), *number, "{members}");
     }
     Ok(())
 }
 
-/// How a job is printed: so many sets, collated or not, on these sides, and the black dots of each side in order; a sheet
-/// without back has none there.
-const PRINTED: [(u32, bool, &str, &[(u32, Option<u32>)]); 4] = [
+/// Members of a ticket, and the black dots of each side that it prints with the three images, in order; a sheet without back
+/// has none there.
+const PRINTED: [(&str, &[(u32, Option<u32>)]); 6] = [
+    (ON_A4, &[(1, None), (16, None), (0, None)]),
     (
-        1,
-        true,
-        "OneSidedFront",
-        &[(1, None), (16, None), (0, None)],
-    ),
-    (
-        2,
-        true,
-        "TwoSidedHeadToHead",
+        r#""Amount":2,"Collate":true,"Sides":"TwoSidedHeadToHead""#,
         &[(1, Some(16)), (0, None), (1, Some(16)), (0, None)],
     ),
     (
-        2,
-        false,
-        "TwoSidedHeadToHead",
+        r#""Amount":2,"Collate":false,"Sides":"TwoSidedHeadToHead""#,
         &[(1, Some(16)), (1, Some(16)), (0, None), (0, None)],
     ),
     (
-        2,
-        false,
-        "OneSidedFront",
+        r#""Amount":2,"RunList":[[-1,-1]],"Sides":"TwoSidedHeadToHead""#,
+        &[(0, None), (0, None)],
+    ),
+    (
+        r#""Amount":1,"RunList":[[-1,0],[1,1]],"Sides":"TwoSidedHeadToFoot""#,
+        &[(0, Some(16)), (1, Some(16))],
+    ),
+    (
+        r#""Amount":2,"Collate":false,"Media":"A3""#,
         &[
             (1, None),
             (1, None),
@@ -150,33 +166,80 @@ const PRINTED: [(u32, bool, &str, &[(u32, Option<u32>)]); 4] = [
     ),
 ];
 
-/// The black dots of the sides that a job prints are these.
-fn expect_printed(
-    rt: &(impl Abort + AllocGlobal),
-    job: &[u8],
-    wanted: &[(u32, Option<u32>)],
-) -> Result<(), Fail> {
-    let mut sheets = ListSink::new(rt.alloc());
-    let mut replies = ListReplies::new(rt.alloc());
+/// What a job prints, by a press that is powered on.
+fn printed(alloc: Global, job: &[u8]) -> Result<ListSink, Fail> {
+    let mut sheets = ListSink::new(alloc);
+    let mut replies = ListReplies::new(alloc);
     let mut input = job;
-    Job::open(rt.alloc())?.run(&mut input, 1, &mut sheets, &mut replies)?;
-    assert_eq!(rt; replies.bytes().len(), 0);
-    assert_eq!(rt; sheets.deliveries().len(), wanted.len());
-    for (delivery, sides) in sheets.deliveries().iter().zip(wanted) {
-        assert_eq!(rt; delivery.sheet.front.count_black(), sides.0);
-        let back = delivery.sheet.back.as_ref().map(|back| back.count_black());
-        assert_eq!(rt; back, sides.1);
+    Job::open(alloc)?.run(&mut input, 1, &mut sheets, &mut replies)?;
+    if replies.bytes().is_empty() {
+        Ok(sheets)
+    } else {
+        Err(Fail::from("a reply"))
+    }
+}
+
+/// The job of a ticket with these members.
+fn job_of(alloc: Global, members: &str, images: &[Bitmap]) -> Result<Vec<u8>, Fail> {
+    let ticket = ticket(alloc, members)?;
+    let mut job = Vec::new(alloc);
+    write_job(alloc, &ticket, images, &mut job)?;
+    Ok(job)
+}
+
+#[test]
+fn sets_are_printed_in_order(rt: HostRuntime) -> Result<(), Fail> {
+    let images = images(rt.alloc())?;
+    for (members, wanted) in &PRINTED {
+        let job = job_of(rt.alloc(), members, &images)?;
+        let sheets = printed(rt.alloc(), &job)?;
+        assert_eq!(rt; sheets.deliveries().len(), wanted.len(), "{members}");
+        for (delivery, sides) in sheets.deliveries().iter().zip(*wanted) {
+            assert_eq!(rt; delivery.sheet.front.count_black(), sides.0, "{members}");
+            let back = delivery.sheet.back.as_ref().map(|back| back.count_black());
+            assert_eq!(rt; back, sides.1, "{members}");
+        }
+    }
+    Ok(())
+}
+
+/// Whether a side is that of an image of one dot on Letter, whose logical page begins 75 dots from the left edge.
+fn has_its_dot(side: &Bitmap) -> bool {
+    (side.width(), side.height()) == (2550, 3300) && side.count_black() == 1 && side.get(75, 0)
+}
+
+#[test]
+fn dots_lie_at_the_corner_of_the_logical_page(rt: HostRuntime) -> Result<(), Fail> {
+    let members = r#""Amount":2,"Collate":true,"Sides":"TwoSidedHeadToHead""#;
+    let mut images = images(rt.alloc())?;
+    for image in &mut images {
+        *image = Bitmap::blank(rt.alloc(), 1, 1)?;
+        black_line(image, 0)?;
+    }
+    let job = job_of(rt.alloc(), members, &images)?;
+    let sheets = printed(rt.alloc(), &job)?;
+    assert_eq!(rt; sheets.deliveries().len(), 4);
+    for (number, delivery) in sheets.deliveries().iter().enumerate() {
+        assert!(rt; has_its_dot(&delivery.sheet.front));
+        let back = delivery.sheet.back.as_ref().map(has_its_dot);
+        assert_eq!(rt; back, if number % 2 == 0 { Some(true) } else { None });
     }
     Ok(())
 }
 
 #[test]
-fn sets_are_printed_in_order(rt: HostRuntime) -> Result<(), Fail> {
-    for (amount, collate, sides, wanted) in &PRINTED {
-        let ticket = ticket(rt.alloc(), *amount, *collate, sides)?;
-        let mut job = Vec::new(rt.alloc());
-        write_job(rt.alloc(), &ticket, &images(rt.alloc())?, &mut job)?;
-        expect_printed(&rt, &job, wanted)?;
+fn a_black_page_is_short(rt: HostRuntime) -> Result<(), Fail> {
+    let mut black = Bitmap::blank(rt.alloc(), 2400, 3300)?;
+    for y in 0..3300 {
+        black_dots(&mut black, y, &[0xFF; 300])?;
     }
+    assert_eq!(rt; black.count_black(), 2400 * 3300);
+    let images = [
+        black,
+        Bitmap::blank(rt.alloc(), 1, 1)?,
+        Bitmap::blank(rt.alloc(), 1, 1)?,
+    ];
+    let job = job_of(rt.alloc(), r#""Amount":1,"RunList":[[0,0]]"#, &images)?;
+    assert!(rt; job.len() <= 65_536, "{}", job.len());
     Ok(())
 }

@@ -13,6 +13,8 @@ mod cursor;
 #[cfg(test)]
 mod environment;
 #[cfg(test)]
+mod faults;
+#[cfg(test)]
 mod files;
 #[cfg(test)]
 mod fills;
@@ -22,6 +24,8 @@ mod jobs;
 mod jobs_of_tickets;
 #[cfg(test)]
 mod macros;
+#[cfg(test)]
+mod messages;
 #[cfg(test)]
 mod patterns;
 #[cfg(test)]
@@ -42,6 +46,10 @@ mod rows;
 mod scanner;
 #[cfg(test)]
 mod sinks;
+#[cfg(test)]
+mod stream_tables;
+#[cfg(test)]
+mod streams;
 #[cfg(test)]
 mod tickets;
 #[cfg(test)]

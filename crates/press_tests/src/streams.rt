@@ -1,0 +1,287 @@
+//! Streams that are carried out without an end of input, with what they leave, by the tables of `stream_tables`.
+use crate::stream_tables::{Shows, TABLES};
+use press_bits::Bitmap;
+use press_cmd::Kind;
+use press_engine::{Engine, Last, View};
+use press_page::Binding;
+use press_scan::Scanner;
+use press_sink::{ListReplies, ListSink, Sheet};
+use std::test::Fail;
+
+/// More commands than any stream of these tests has.
+const MOST_COMMANDS: u32 = 100;
+
+/// What the streams of a table come behind where they follow a page with a mark.
+const MARK: &[u8] = b"\x1B*p10x20Y\x1B*c1a1b0P";
+
+/// The number that a hexadecimal digit stands for.
+fn digit(byte: u8) -> Result<u8, Fail> {
+    let number = char::from(byte).to_digit(16).ok_or("no digit")?;
+    Ok(number as u8)
+}
+
+/// The bytes of a stream, as the tables spell it.
+fn bytes_of(rt: &HostRuntime, stream: &str) -> Result<Vec<u8>, Fail> {
+    let mut bytes = Vec::new(rt.alloc());
+    let mut spelled = stream.bytes();
+    let mut in_data = false;
+    while let Some(byte) = spelled.next() {
+        match byte {
+            b'[' => in_data = true,
+            b']' => in_data = false,
+            first if in_data => {
+                let second = spelled.next().ok_or("one digit")?;
+                bytes.push(digit(first)? << 4 | digit(second)?)?;
+            }
+            b'^' => bytes.push(0x1B)?,
+            b'<' => bytes.push(b'\r')?,
+            b'|' => bytes.push(b'\n')?,
+            b'~' => bytes.push(0x0C)?,
+            other => bytes.push(other)?,
+        }
+    }
+    Ok(bytes)
+}
+
+/// The stream of a line of a table, and its numbers.
+fn row_of(rt: &HostRuntime, line: &str) -> Result<(Vec<u8>, Vec<i64>), Fail> {
+    let mut words = line.split(' ');
+    let stream = bytes_of(rt, words.next().ok_or("no stream")?)?;
+    let mut numbers = Vec::new(rt.alloc());
+    for word in words {
+        if !word.is_empty() {
+            numbers.push(word.parse::<i64>().ok().ok_or("no number")?)?;
+        }
+    }
+    Ok((stream, numbers))
+}
+
+/// What a stream left: the engine, and the sheets that went out.
+#[derive(Drop)]
+struct CarriedOut {
+    engine: Engine,
+    sheets: ListSink,
+}
+
+/// Carries the commands of a stream out.
+fn carried_out(rt: &HostRuntime, stream: &[u8]) -> Result<CarriedOut, Fail> {
+    let mut scanner = Scanner::new(rt.alloc());
+    scanner.feed(stream)?;
+    let mut engine = Engine::power_on(rt.alloc())?;
+    let mut sheets = ListSink::new(rt.alloc());
+    let mut replies = ListReplies::new(rt.alloc());
+    for _ in 0..MOST_COMMANDS {
+        let Some(command) = scanner.next()? else {
+            return Ok(CarriedOut { engine, sheets });
+        };
+        let Ok(()) = engine.run_command(command, 0, &mut sheets, &mut replies) else {
+            return Err(Fail::from("a command was not carried out"));
+        };
+    }
+    Err(Fail::from("too many commands"))
+}
+
+/// An ID, or -1 for none.
+fn id_of(id: Option<u16>) -> i64 {
+    match id {
+        Some(id) => i64::from(id),
+        None => -1,
+    }
+}
+
+/// A count, which is small.
+fn small(count: u64) -> i64 {
+    i64::try_from(count).ok().unwrap_or(-1)
+}
+
+/// The number of a kind of pattern.
+fn kind_number(kind: press_pattern::Kind) -> i64 {
+    match kind {
+        press_pattern::Kind::Black => 0,
+        press_pattern::Kind::White => 1,
+        press_pattern::Kind::Shading => 2,
+        press_pattern::Kind::CrossHatch => 3,
+        press_pattern::Kind::User => 4,
+    }
+}
+
+/// Margins, text length and the cursor.
+fn margins_of(view: &View<'_>) -> [i64; 6] {
+    let margins = view.environment.margins;
+    [
+        i64::from(margins.left),
+        i64::from(margins.right),
+        i64::from(margins.top),
+        i64::from(margins.text_length),
+        view.x.0,
+        view.y.0,
+    ]
+}
+
+/// Copies and sides.
+fn copies_of(view: &View<'_>) -> [i64; 3] {
+    let environment = view.environment;
+    [
+        i64::from(environment.settings.copies),
+        i64::from(environment.media.duplex),
+        i64::from(environment.media.binding == Binding::LongEdge),
+    ]
+}
+
+/// Where raster graphics stands, and the cursor.
+fn raster_of(view: &View<'_>) -> [i64; 4] {
+    let (left, rows) = match view.raster {
+        Some(raster) => (i64::from(raster.left), i64::from(raster.rows)),
+        None => (-1, -1),
+    };
+    [left, rows, view.x.0, view.y.0]
+}
+
+/// What is set for marks.
+fn drawing_of(view: &View<'_>) -> [i64; 5] {
+    let drawing = view.drawing;
+    [
+        i64::from(drawing.pattern_id),
+        kind_number(drawing.pattern.kind),
+        i64::from(drawing.pattern.id),
+        i64::from(drawing.mode.source_opaque),
+        i64::from(drawing.mode.pattern_opaque),
+    ]
+}
+
+/// Macros.
+fn macros_of(view: &View<'_>) -> [i64; 4] {
+    [
+        i64::from(view.macro_id),
+        id_of(view.overlay),
+        id_of(view.defining),
+        small(view.step),
+    ]
+}
+
+/// Adds what is shown of an engine.
+fn push_view(numbers: &mut Vec<i64>, shows: Shows, view: &View<'_>) -> Result<(), Fail> {
+    match shows {
+        Shows::Margins => numbers.extend_from_slice(&margins_of(view))?,
+        Shows::Copies => numbers.extend_from_slice(&copies_of(view))?,
+        Shows::Raster => numbers.extend_from_slice(&raster_of(view))?,
+        Shows::Drawing => numbers.extend_from_slice(&drawing_of(view))?,
+        Shows::Macros => numbers.extend_from_slice(&macros_of(view))?,
+        Shows::Stack => {
+            let pushed = small(view.stack.len() as u64);
+            numbers.extend_from_slice(&[view.x.0, view.y.0, pushed])?;
+        }
+        Shows::Runs => {
+            let depth = i64::from(view.depth);
+            numbers.extend_from_slice(&[small(view.step), view.x.0, view.y.0, depth])?;
+        }
+        _ => numbers.extend_from_slice(&[view.x.0, view.y.0])?,
+    }
+    Ok(())
+}
+
+/// Adds how many dots of the sides of a sheet are black.
+fn push_black(numbers: &mut Vec<i64>, sheet: &Sheet) -> Result<(), Fail> {
+    numbers.push(i64::from(sheet.front.count_black()))?;
+    numbers.push(match &sheet.back {
+        Some(back) => i64::from(back.count_black()),
+        None => -1,
+    })?;
+    Ok(())
+}
+
+/// The numbers that a stream gives.
+fn numbers_of(rt: &HostRuntime, shows: Shows, stream: &[u8]) -> Result<Vec<i64>, Fail> {
+    let mut numbers = Vec::new(rt.alloc());
+    let left = carried_out(rt, stream)?;
+    match shows {
+        Shows::Sides => {
+            for delivery in left.sheets.deliveries() {
+                push_black(&mut numbers, &delivery.sheet)?;
+            }
+        }
+        _ => push_view(&mut numbers, shows, &left.engine.view())?,
+    }
+    Ok(numbers)
+}
+
+/// How many sheets go out behind a page with a mark, and behind one without; and the cursor after the former.
+fn closes_of(rt: &HostRuntime, stream: &[u8]) -> Result<Vec<i64>, Fail> {
+    let mut after_mark = Vec::new(rt.alloc());
+    after_mark.extend_from_slice(MARK)?;
+    after_mark.extend_from_slice(stream)?;
+    let marked = carried_out(rt, &after_mark)?;
+    let unmarked = carried_out(rt, stream)?;
+    let mut numbers = Vec::new(rt.alloc());
+    numbers.push(small(marked.sheets.deliveries().len() as u64))?;
+    numbers.push(small(unmarked.sheets.deliveries().len() as u64))?;
+    push_view(&mut numbers, Shows::Position, &marked.engine.view())?;
+    Ok(numbers)
+}
+
+/// Whether the black dots of a page are those of boxes that do not meet.
+fn is_boxes(page: &Bitmap, boxes: &[u32]) -> bool {
+    let mut dots = 0u32;
+    for corner in boxes.chunks(4) {
+        let [x, y, width, height] = *corner else {
+            return false;
+        };
+        for line in y..y.saturating_add(height) {
+            for column in x..x.saturating_add(width) {
+                if !page.get(column, line) {
+                    return false;
+                }
+            }
+        }
+        dots = width.saturating_mul(height).saturating_add(dots);
+    }
+    page.count_black() == dots
+}
+
+/// Whether the black dots of the first front are those of the boxes.
+fn gives_boxes(rt: &HostRuntime, stream: &[u8], numbers: &[i64]) -> Result<bool, Fail> {
+    let mut boxes = Vec::new(rt.alloc());
+    for number in numbers {
+        boxes.push(u32::try_from(*number).ok().ok_or("no number of dots")?)?;
+    }
+    let left = carried_out(rt, stream)?;
+    let first = left.sheets.deliveries().first().ok_or("no sheet")?;
+    Ok(is_boxes(&first.sheet.front, &boxes))
+}
+
+/// Whether a line of a table holds.
+fn holds(rt: &HostRuntime, shows: Shows, line: &str) -> Result<bool, Fail> {
+    let (stream, wanted) = row_of(rt, line)?;
+    let given = match shows {
+        Shows::Boxes => return gives_boxes(rt, &stream, &wanted),
+        Shows::Closes => closes_of(rt, &stream)?,
+        _ => numbers_of(rt, shows, &stream)?,
+    };
+    Ok(given.as_slice() == wanted.as_slice())
+}
+
+#[test]
+fn streams_leave_what_their_rows_say(rt: HostRuntime) -> Result<(), Fail> {
+    for (shows, count, table) in &TABLES {
+        assert_eq!(rt; table.lines().count(), *count);
+        for line in table.lines() {
+            assert!(rt; holds(&rt, *shows, line)?, "{line}");
+        }
+    }
+    Ok(())
+}
+
+/// What the last step of a stream took.
+fn last_of(rt: &HostRuntime, stream: &[u8]) -> Result<Last, Fail> {
+    Ok(carried_out(rt, stream)?.engine.view().last)
+}
+
+#[test]
+fn the_last_step_is_shown(rt: HostRuntime) -> Result<(), Fail> {
+    let recorded = last_of(&rt, b"\x1B&f0X\x0C")?;
+    assert_eq!(rt; recorded, Last::Recorded(Kind::Control(0x0C)));
+    let ran = last_of(&rt, b"\x1B&f0X\x0D\x1B&f1x2X")?;
+    assert_eq!(rt; ran, Last::Ran(Kind::Control(b'\r')));
+    assert_eq!(rt; last_of(&rt, b"")?, Last::Nothing);
+    Ok(())
+}
