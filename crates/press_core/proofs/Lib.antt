@@ -6,5 +6,7 @@ mod HandingLemmas
 mod JobLemmas
 mod SoundLemmas
 mod StandLemmas
+mod StepsLemmas
+mod TurnLemmas
 mod WorkLemmas
 pub mod WorkedMessages

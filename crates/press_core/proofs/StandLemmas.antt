@@ -39,6 +39,14 @@ over_place work o running is place stands commands job =
     over_is at.0 running.steps running.job at.2 running.job.exited refl
     ∙ ap (λ n. nat_eq n (length at.0)) (sym (placed work o running is place)) ∙ ap (λ cs. nat_eq (place_of work) (length cs)) (IsJobOf-one work at.0 commands at.1 job)
 
+-- no job is behind the end of its commands
+pub within_place : (work : Work) (o : Option RunningJob) (running : RunningJob) → o ≡ Some running → work.place ≡ option_map (λ r. r.steps) o → IfSome o (λ r. IsJobAt work r)
+    → (commands : List Token) → IsJobOf work commands → place_of work ≤ length commands
+within_place work o running is place stands commands job =
+    let at = standing work o running is stands in
+    subst (λ cs. place_of work ≤ length cs) (IsJobOf-one work at.0 commands at.1 job)
+    (subst (λ n. n ≤ length at.0) (sym (placed work o running is place)) at.2.within)
+
 -- a job that may go on is before the end of its commands
 pub may_go_on : (work : Work) (o : Option RunningJob) (running : RunningJob) → o ≡ Some running → work.place ≡ option_map (λ r. r.steps) o → IfSome o (λ r. IsJobAt work r)
     → ((commands : List Token) → IsJobOf work commands → place_of work < length commands)

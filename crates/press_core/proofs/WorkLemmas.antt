@@ -57,31 +57,26 @@ other_kept : {X : Type 0} (n number : ℕ) (es : List (ℕ × X)) (w : X) → na
 other_kept n number [] w differs = refl
 other_kept n number (x ∷ es) w differs = grind (arith, rules, eqb-true, differs, other_kept n number es w differs)
 
-listed_landed : (n number : ℕ) (works : List (ℕ × Work)) → is_some (lookup (nat_eq n) (landed_works number works)) ≡ is_some (lookup (nat_eq n) works)
-listed_landed n number works = at_work (lookup (nat_eq number) works) refl
-  where
-    at_work : (o : Option Work) → lookup (nat_eq number) works ≡ o → is_some (lookup (nat_eq n) (landed_works number works)) ≡ is_some (lookup (nat_eq n) works)
-    at_work None is = rw is refl
-    at_work (Some work) is = rw is (listed_set n number works (at_place None work))
-
-other_landed : (n number : ℕ) (works : List (ℕ × Work)) → nat_eq n number ≡ false → lookup (nat_eq n) (landed_works number works) ≡ lookup (nat_eq n) works
-other_landed n number works differs = at_work (lookup (nat_eq number) works) refl
-  where
-    at_work : (o : Option Work) → lookup (nat_eq number) works ≡ o → lookup (nat_eq n) (landed_works number works) ≡ lookup (nat_eq n) works
-    at_work None is = rw is refl
-    at_work (Some work) is = rw is (other_kept n number works (at_place None work) differs)
-
--- where no entry of the number runs, its work may land
-pub IsSound-landed : (number : ℕ) (queue : QueueState) (works : List (ℕ × Work)) → EachRunning (λ n. nat_eq n number ≡ false) queue.entries → IsSound queue works
-    → IsSound queue (landed_works number works)
-IsSound-landed number queue works none sound = record {
-  listed = λ n. sound.listed n ∙ sym (listed_landed n number works);
-  begun = running_more (λ n. HasPlace works n × (nat_eq n number ≡ false)) (HasPlace (landed_works number works)) queue.entries
-      (λ n some both. subst (λ o. IsSome (option_and_then (λ work. work.place) o)) (sym (other_landed n number works both.1)) both.0)
+-- where no entry of the number runs, its work may be any
+pub IsSound-set : (number : ℕ) (queue : QueueState) (works : List (ℕ × Work)) (work : Work) → EachRunning (λ n. nat_eq n number ≡ false) queue.entries → IsSound queue works
+    → IsSound queue (set_value (nat_eq number) works work)
+IsSound-set number queue works work none sound = record {
+  listed = λ n. sound.listed n ∙ sym (listed_set n number works work);
+  begun = running_more (λ n. HasPlace works n × (nat_eq n number ≡ false)) (HasPlace (set_value (nat_eq number) works work)) queue.entries
+      (λ n some both. subst (λ o. IsSome (option_and_then (λ work. work.place) o)) (sym (other_kept n number works work both.1)) both.0)
       (running_both (HasPlace works) (λ n. nat_eq n number ≡ false) queue.entries sound.begun none);
 }
 
-there_set : (number : ℕ) (es : List (ℕ × Entry)) (old new : Entry) → lookup (nat_eq number) es ≡ Some old → lookup (nat_eq number) (set_value (nat_eq number) es new) ≡ Some new
+-- it may land
+pub IsSound-landed : (number : ℕ) (queue : QueueState) (works : List (ℕ × Work)) → EachRunning (λ n. nat_eq n number ≡ false) queue.entries → IsSound queue works
+    → IsSound queue (landed_works number works)
+IsSound-landed number queue works none sound = at_work (lookup (nat_eq number) works) refl
+  where
+    at_work : (o : Option Work) → lookup (nat_eq number) works ≡ o → IsSound queue (landed_works number works)
+    at_work None is = rw is sound
+    at_work (Some work) is = rw is (IsSound-set number queue works (at_place None work) none sound)
+
+pub there_set : {X : Type 0} (number : ℕ) (es : List (ℕ × X)) (old new : X) → lookup (nat_eq number) es ≡ Some old → lookup (nat_eq number) (set_value (nat_eq number) es new) ≡ Some new
 there_set number [] old new there = absurd (cc)
 there_set number (x ∷ es) old new there = grind (arith, rules, there, there_set number es old new)
 

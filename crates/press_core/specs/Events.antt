@@ -3,7 +3,7 @@ use Rattle.std.specs.Prelude.{◌≡◌, ℕ, List, [], ◌∷◌, true, false, 
 use Rattle.press_bits.specs.Page.{Page}
 use Rattle.press_queue.specs.declared.status.End.TheVariants.{Aborted}
 use Rattle.press_queue.specs.Rows.{finish, running}
-use Rattle.press_sink.specs.Sides.{Sides}
+use Rattle.press_sink.specs.declared.sheet.Delivery.{Delivery}
 use Rattle.press_core.specs.declared.operator.OperatorCommand.{OperatorCommand}
 use Rattle.press_core.specs.declared.operator.OperatorCommand.TheVariants as operators
 use Rattle.press_core.specs.declared.turn.Turn.{Turn}
@@ -35,25 +35,25 @@ pub data EventAnswer : Type 0 where
   Turned : Result Turn TurnError → EventAnswer
   Nothing : EventAnswer
 
--- The event happens to a world: its answer, the sheets that go out, and the world after it.
-abbrev pub Happens : World → Event → EventAnswer → List Sides → World → Type 0
-Happens world (Message text images) (Response (Some bytes)) sheets next = (sheets ≡ []) × ((bytes, next) ≡ responded text images world)
-Happens world (Message text images) (Response None) sheets next = (sheets ≡ []) × (next ≡ world)
-Happens world (TurnOf most) (Turned result) sheets next = TakesTurn world most result sheets next
-Happens world (Operator command) Nothing sheets next = (sheets ≡ []) × (next ≡ operated command world)
-Happens world event answer sheets next = ⊥
+-- The event happens to a world: its answer, the sheets that are handed out, each under the number of its entry, and the world after it.
+abbrev pub Happens : World → Event → EventAnswer → List Delivery → World → Type 0
+Happens world (Message text images) (Response (Some bytes)) handed next = (handed ≡ []) × ((bytes, next) ≡ responded text images world)
+Happens world (Message text images) (Response None) handed next = (handed ≡ []) × (next ≡ world)
+Happens world (TurnOf most) (Turned result) handed next = TakesTurn world most result handed next
+Happens world (Operator command) Nothing handed next = (handed ≡ []) × (next ≡ operated command world)
+Happens world event answer handed next = ⊥
 
--- an event with its answer and its sheets
+-- an event with its answer and the sheets that were handed out
 pub record Happening : Type 0 where
   pub event : Event
   pub answer : EventAnswer
-  pub sheets : List Sides
+  pub handed : List Delivery
 
 -- The events happen one after another, from one world to another.
 abbrev pub Leads : World → List Happening → World → Type 0
 Leads world [] last = last ≡ world
 Leads world (happening ∷ happenings) last =
-    (next : World) × Happens world happening.event happening.answer happening.sheets next × Leads next happenings last
+    (next : World) × Happens world happening.event happening.answer happening.handed next × Leads next happenings last
 
 -- A run of events begins with a press at its beginning.
 abbrev pub IsRun : List Happening → World → Type 0

@@ -1,5 +1,5 @@
 -- Turns: the entry that runs takes steps of its job.
-use Rattle.std.specs.Prelude.{◌≡◌, ◌+◌, ◌-◌, ◌++◌, ◌==◌, ◌||◌, ℕ, min, List, [], length, take, drop, Bool, MatchBool, if◌then◌else◌, Option, Some, None, unwrap_or, Result, Ok, Err}
+use Rattle.std.specs.Prelude.{◌≡◌, ◌<◌, ◌+◌, ◌-◌, ◌++◌, ◌==◌, ◌||◌, ℕ, min, List, [], length, take, drop, Bool, MatchBool, if◌then◌else◌, Option, Some, None, option_map, unwrap_or, Result, Ok, Err}
 use Rattle.press_cmd.specs.Split.{Closed}
 use Rattle.press_cmd.specs.Token.{Token}
 use Rattle.press_engine.specs.declared.machine.Machine.{Machine}
@@ -7,12 +7,15 @@ use Rattle.press_engine.specs.Machine.{run_all}
 use Rattle.press_queue.specs.declared.status.End.TheVariants.{Completed, Aborted}
 use Rattle.press_queue.specs.Rows.{begin, finish, running}
 use Rattle.press_queue.specs.State.{QueueState}
-use Rattle.press_sink.specs.Sending.{sheets_of}
+use Rattle.press_sink.specs.declared.sheet.Delivery.{Delivery}
+use Rattle.press_sink.specs.Sending.{sheets_of, under_tag}
 use Rattle.press_sink.specs.Sides.{Sides}
+use Rattle.press_sink.specs.Told.{SheetsTold}
 use Rattle.press_stream.specs.Meaning.{meaning_of, with_exit}
 use Rattle.press_writer.specs.Job.{job_bytes}
 use Rattle.press_core.specs.declared.turn.Turn.{Turn}
 use Rattle.press_core.specs.declared.turn.TurnError.{TurnError}
+use Rattle.press_core.specs.declared.turn.TurnError.TheVariants.{SinkFault}
 use Rattle.press_core.specs.Work.{Work, at_place, with_sheets}
 use Rattle.press_core.specs.World.{World, with_queue, work_numbered, with_work}
 
@@ -59,16 +62,18 @@ stepped number work commands steps world =
 
 -- The same, by what is answered: where a fault came, the entry is aborted.
 abbrev pub after_steps : ℕ → Work → List Token → Result ℕ TurnError → List Sides → World → World
-after_steps number work commands (Ok steps) sheets world = stepped number (with_sheets (length sheets) work) commands steps world
-after_steps number work commands (Err error) sheets world = aborted number (with_sheets (length sheets) work) world
+after_steps number work commands (Ok steps) sheets world = stepped number (with_sheets sheets work) commands steps world
+after_steps number work commands (Err error) sheets world = aborted number (with_sheets sheets work) world
 
--- The entry of this number took steps of at most so many.
-pub record EntrySteps (world : World) (number most : ℕ) (result : Result ℕ TurnError) (sheets : List Sides) (next : World) : Type 0 where
+-- The entry of this number took steps of at most so many, and their sheets were handed out under its number.
+pub record EntrySteps (world : World) (number most : ℕ) (result : Result ℕ TurnError) (handed : List Delivery) (next : World) : Type 0 where
   pub work : Work
   pub is_work : work_numbered number world ≡ Some work
   pub commands : List Token
   pub is_job : IsJobOf work commands
+  pub sheets : List Sides
   pub steps : StepsTo work commands most result sheets
+  pub handed_are : handed ≡ under_tag number sheets
   pub after : next ≡ after_steps number work commands result sheets world
 
 -- the steps of an answer
@@ -86,9 +91,9 @@ abbrev pub no_turn : Turn
 no_turn = record { entry = None; steps = 0 }
 
 -- The turn of the entry that then runs, if one does.
-abbrev pub TurnAt : World → Option ℕ → (most : ℕ) → Result Turn TurnError → List Sides → World → Type 0
-TurnAt world None most result sheets next = (result ≡ Ok no_turn) × (sheets ≡ []) × (next ≡ world)
-TurnAt world (Some number) most result sheets next = NamesEntry result number × EntrySteps world number most (steps_of result) sheets next
+abbrev pub TurnAt : World → Option ℕ → (most : ℕ) → Result Turn TurnError → List Delivery → World → Type 0
+TurnAt world None most result handed next = (result ≡ Ok no_turn) × (handed ≡ []) × (next ≡ world)
+TurnAt world (Some number) most result handed next = NamesEntry result number × EntrySteps world number most (steps_of result) handed next
 
 -- the entry that runs; where none does, the first that waits begins, unless the queue is held
 abbrev pub turned_with : Option ℕ → QueueState → QueueState × Option ℕ
@@ -102,8 +107,18 @@ turned queue = turned_with (running queue) queue
 abbrev pub is_idle : (most : ℕ) → World → Bool
 is_idle most world = most == 0 || world.paused
 
--- A turn of at most so many steps, with its sheets: nothing where they are none or the press is paused.
-abbrev pub TakesTurn : World → (most : ℕ) → Result Turn TurnError → List Sides → World → Type 0
-TakesTurn world most result sheets next =
-    MatchBool (is_idle most world) (TurnAt world None most result sheets next)
-    (TurnAt (with_queue (turned world.queue).0 world) (turned world.queue).1 most result sheets next)
+-- A turn of at most so many steps, and the sheets that it handed out: nothing where they are none or the press is paused.
+abbrev pub TakesTurn : World → (most : ℕ) → Result Turn TurnError → List Delivery → World → Type 0
+TakesTurn world most result handed next =
+    MatchBool (is_idle most world) (TurnAt world None most result handed next)
+    (TurnAt (with_queue (turned world.queue).0 world) (turned world.queue).1 most result handed next)
+
+-- what the faults of a sink are, by what is answered: more where it had a fault, and otherwise as many as before
+abbrev pub FaultsAfter : {A : Type 0} → Result A TurnError → (before after : ℕ) → Type 0
+FaultsAfter (Err SinkFault) before after = before < after
+FaultsAfter result before after = after ≡ before
+
+-- A sink took all that was handed out, and had a fault exactly where that is answered.
+pub record WereHandedOut {A : Type 0} (handed : List Delivery) (result : Result A TurnError) (before after : SheetsTold) : Type 0 where
+  pub told : after.delivered ≡ option_map (λ all. all ++ handed) before.delivered
+  pub faults : FaultsAfter result before.faults after.faults

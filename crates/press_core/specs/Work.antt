@@ -1,7 +1,8 @@
 -- What an entry of the queue is to print, and how far that has come.
-use Rattle.std.specs.Prelude.{ℕ, List, Option, None}
+use Rattle.std.specs.Prelude.{ℕ, List, [], ◌∷◌, Option, None}
 use Rattle.press_bits.specs.Page.{Page}
 use Rattle.press_engine.specs.Counts.{counted}
+use Rattle.press_sink.specs.Sides.{Sides}
 use Rattle.press_ticket.specs.Ticket.{JobTicket}
 
 -- Its ticket, the images of its pages, and how many sheets it delivered; and while it is in flight, the place in its job: how
@@ -20,6 +21,11 @@ new_work ticket images = record { ticket = ticket; images = images; delivered = 
 abbrev pub at_place : Option ℕ → Work → Work
 at_place place work = record work { place = place }
 
--- with so many sheets more
-abbrev pub with_sheets : ℕ → Work → Work
-with_sheets count work = record work { delivered = counted work.delivered count }
+-- a count after sheets: one more for each
+abbrev pub counting : List Sides → ℕ → ℕ
+counting [] count = count
+counting (sheet ∷ sheets) count = counting sheets (counted count 1)
+
+-- with these sheets delivered
+abbrev pub with_sheets : List Sides → Work → Work
+with_sheets sheets work = record work { delivered = counting sheets work.delivered }

@@ -15,6 +15,7 @@ mod press;
 mod response;
 mod submission;
 mod turn;
+mod turning;
 mod work;
 mod works;
 

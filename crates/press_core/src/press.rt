@@ -5,9 +5,11 @@ use crate::message_type::MessageType;
 use crate::operator::OperatorCommand;
 use crate::parameters::message_in;
 use crate::response::refused;
-use crate::works::{Works, land};
+use crate::turn::{Turn, TurnError};
+use crate::works::{Works, finish};
 use press_bits::Bitmap;
 use press_queue::{End, Queue};
+use press_sink::SheetSink;
 use serde_json::Value;
 use std::alloc::{AllocError, Global};
 use std::marker::Model;
@@ -44,15 +46,18 @@ impl Model for Press {
 }
 
 impl Press {
-    ghost use Rattle.std.specs.Prelude.{◌≡◌, IfOk, IfSome, IsTrue, OnErr, nat_eq, option_and_then};
+    ghost use Rattle.std.specs.Prelude.{◌≡◌, ◌<◌, List, IfOk, IfSome, IsTrue, OnErr, nat_eq, option_and_then};
     ghost use Rattle.std.specs.List.{IsDistinct};
     ghost use Rattle.std.specs.Map.{keys_of};
     ghost use Rattle.std.specs.Option.{option_map_or};
     ghost use Rattle.serde_json.specs.View.{view};
     ghost use Rattle.press_queue.specs.Rows as rows;
+    ghost use Rattle.press_sink.specs.declared.sheet.Delivery.{Delivery};
+    ghost use Rattle.press_sink.specs.Told.{most_faults};
     ghost use Rattle.press_core.specs.Events.{operated, aborted_running};
     ghost use Rattle.press_core.specs.Rows as table;
     ghost use Rattle.press_core.specs.Shown.{shown};
+    ghost use Rattle.press_core.specs.Turns.{TakesTurn, WereHandedOut};
     ghost use Rattle.press_core.specs.World as world;
 
     /// A press with an empty queue, open and not held, and not paused.
@@ -113,6 +118,33 @@ impl Press {
         }
     }
 
+    /// Takes a turn: the entry that runs takes at most so many steps of its job, and their sheets go to the sink, under its
+    /// number. Where no entry runs, the first that waits begins, unless the queue is held. The entry is completed with the last
+    /// step of its job. Nothing is done in a turn of no steps, or where the press is paused.
+    ///
+    /// # Errors
+    ///
+    /// Where the sink had a fault, or memory ran out: the entry is aborted. The sheets before that were handed out, and count.
+    ///
+    /// Source: this profile's.
+    pub fn turn<S: SheetSink>(&mut self, most: u64, sink: &mut S) -> Result<Turn, TurnError>
+        requires { (S.told sink.old).faults < most_faults }
+        ensures { (handed : List Delivery) × TakesTurn self.old most result handed self.new
+            × WereHandedOut handed result (S.told sink.old) (S.told sink.new) }
+    {
+        if most == 0 || self.paused {
+            return Ok(Turn::NOTHING);
+        }
+        let Some(number) = self.next_running()? else {
+            return Ok(Turn::NOTHING);
+        };
+        let steps = self.take_steps(number, most, sink)?;
+        Ok(Turn {
+            entry: Some(number),
+            steps,
+        })
+    }
+
     /// Carries out a command of the operator.
     pub fn operator(&mut self, command: OperatorCommand)
         ensures { self.new ≡ operated command self.old }
@@ -129,8 +161,7 @@ impl Press {
         ensures { self.new ≡ aborted_running (rows.running self.old.queue) self.old }
     {
         if let Some(number) = self.running() {
-            self.queue.finish(number, End::Aborted);
-            land(&mut self.works, number);
+            finish(&mut self.queue, &mut self.works, number, End::Aborted);
         }
     }
 

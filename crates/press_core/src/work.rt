@@ -4,15 +4,20 @@ ghost use Rattle.std.specs.Prelude.{◌≡◌, ◌≤◌, ◌<◌, ◌+◌, List
 ghost use Rattle.press_units.specs.Limits.{greatest_of_64_bits};
 ghost use Rattle.press_cmd.specs.Token.{Token};
 ghost use Rattle.press_sink.specs.Kept.{deliveries};
+ghost use Rattle.press_sink.specs.Told.{most_faults};
 ghost use Rattle.press_writer.specs.Job.{job_bytes};
+ghost use Rattle.press_core.specs.Handing.{TakesSteps};
+ghost use Rattle.press_core.specs.Inside.{begun};
 ghost use Rattle.press_core.specs.Jobs.{IsAt, GoesOn, Advances, job_at_start};
 ghost use Rattle.press_core.specs.Turns.{IsJobOf, place_of};
 ghost use Rattle.press_writer.specs.Fitting.{refusal};
 ghost use Rattle.press_core.specs.Work.{new_work, at_place};
 
+use crate::handing::hand_over;
 use crate::no_replies::NoReplies;
+use crate::turn::TurnError;
 use press_bits::Bitmap;
-use press_sink::ListSink;
+use press_sink::{ListSink, SheetSink};
 use press_stream::{Job, Step};
 use press_ticket::Ticket;
 use press_writer::write_job;
@@ -89,6 +94,7 @@ impl RunningJob {
             }
             Ok(Step::Hungry) => unreachable!(),
             Ok(Step::Ended) => unreachable!(),
+            // Neither the list nor the sink without replies has a fault.
             Err(_) => Err(AllocError),
         }
     }
@@ -126,11 +132,14 @@ impl Work {
         self.delivered
     }
 
-    /// Its job begins.
+    /// Its job begins, unless it did.
     pub fn begin(&mut self, alloc: Global) -> Result<(), AllocError>
-        ensures ok { OnOk result (self.new ≡ at_place (Some 0) self.old) }
+        ensures ok { OnOk result (self.new ≡ begun self.old) }
         ensures err { OnErr result (self.new ≡ self.old) }
     {
+        if self.running.is_some() {
+            return Ok(());
+        }
         let job = opened_job(alloc, &self.ticket, &self.images)?;
         self.running = Some(RunningJob { job, steps: 0 });
         Ok(())
@@ -138,8 +147,10 @@ impl Work {
 
     /// Whether no step of its job is left.
     pub fn is_over(&self) -> bool
-        ensures { IsSome self.now.place → (commands : List Token) → IsJobOf self.now commands
+        ensures over { IsSome self.now.place → (commands : List Token) → IsJobOf self.now commands
             → result ≡ nat_eq (place_of self.now) (length commands) }
+        ensures within { IsSome self.now.place → (commands : List Token) → IsJobOf self.now commands
+            → place_of self.now ≤ length commands }
     {
         match &self.running {
             Some(running) => running.job.ended(),
@@ -161,6 +172,27 @@ impl Work {
         let sheets = running.step(alloc, number)?;
         self.running = Some(running);
         Ok(sheets)
+    }
+
+    /// Takes at most so many steps of its job, and hands their sheets over under a number: how many steps it took.
+    pub fn take_steps<S: SheetSink>(
+        &mut self,
+        alloc: Global,
+        number: u64,
+        most: u64,
+        sink: &mut S,
+    ) -> Result<u64, TurnError>
+        requires begun { IsSome self.old.place }
+        requires can_count { (S.told sink.old).faults < most_faults }
+        ensures { TakesSteps number most self.old result self.new (S.told sink.old) (S.told sink.new) }
+    {
+        let mut taken = 0;
+        while taken < most && !self.is_over() {
+            let sheets = self.advance(alloc, number)?;
+            hand_over(number, sheets.deliveries(), sink, &mut self.delivered)?;
+            taken += 1;
+        }
+        Ok(taken)
     }
 
     /// Its job is given up, or at its end.

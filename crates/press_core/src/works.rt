@@ -1,16 +1,17 @@
 //! The works of the entries in the list, under their numbers.
 
-ghost use Rattle.std.specs.Prelude.{◌≡◌, ◌<◌, ◌++◌, ◌∷◌, [], None, IfOk, OnErr, nat_eq};
+ghost use Rattle.std.specs.Prelude.{◌≡◌, ◌<◌, ◌++◌, ◌∷◌, [], None, IfOk, IsTrue, OnOk, OnErr, nat_eq};
 ghost use Rattle.std.specs.Map.{lookup};
 ghost use Rattle.indexmap.specs.IndexMap.{spare};
 ghost use Rattle.press_queue.specs.Answers.{Submits};
-ghost use Rattle.press_queue.specs.Rows.{submit};
-ghost use Rattle.press_core.specs.Inside.{IsSound};
+ghost use Rattle.press_queue.specs.Rows.{submit, runs, finish};
+ghost use Rattle.press_core.specs.Inside.{IsSound, begun_works};
 ghost use Rattle.press_core.specs.World.{landed_works, works_listed};
 
 use crate::work::Work;
 use indexmap::IndexMap;
-use press_queue::{Queue, SubmitError};
+use press_queue::{End, Queue, SubmitError};
+use std::alloc::{AllocError, Global};
 
 pub type Works = IndexMap<u64, Work>;
 
@@ -53,6 +54,27 @@ pub fn land(works: &mut Works, number: u64)
     if let Some(work) = works.get_mut(&number) {
         work.end();
     }
+}
+
+/// Begins the job of an entry.
+pub fn begin(alloc: Global, works: &mut Works, number: u64) -> Result<(), AllocError>
+    ensures ok { OnOk result (works.new.entries ≡ begun_works number works.old.entries) }
+    ensures err { OnErr result (works.new.entries ≡ works.old.entries) }
+{
+    match works.get_mut(&number) {
+        Some(work) => work.begin(alloc),
+        None => Ok(()),
+    }
+}
+
+/// Ends an entry that runs, and its job with it.
+pub fn finish(queue: &mut Queue, works: &mut Works, number: u64, end: End)
+    requires { IsTrue (runs number queue.old) }
+    ensures queue { queue.new ≡ finish number end queue.old }
+    ensures works { works.new.entries ≡ landed_works number works.old.entries }
+{
+    queue.finish(number, end);
+    land(works, number);
 }
 
 /// Forgets the works of entries that left the list.

@@ -9,7 +9,7 @@ use Rattle.press_core.proofs.press.Press.abort_running.Goals as goal
 
 pub invariant_of-self : goal.invariant_of-self
 invariant_of-self c =
-    rw (c.land.ensures, c.finish.ensures)
+    rw (c.finish.ensures.works, c.finish.ensures.queue)
     (IsSound-finished c.in-Some.number Aborted c.self.inside.queue c.self.inside.works.entries
     (subst (λ (w : World). IsTrue (runs c.in-Some.number w.queue)) (sym c.self.view_is)
     (subst (λ r. IfSome r (λ n. IsTrue (runs n c.args.self.now.queue))) c.in-Some.is c.running.ensures.runs))

@@ -1,0 +1,231 @@
+-- Steps of a work's job, one after another.
+use Rattle.std.proofs.Common.{◌≡◌, ◌∙◌, ◌+◌, ◌-◌, ◌<◌, ◌≤◌, ◌++◌, ℕ, List, [], ◌∷◌, ◌⊎◌, inl, inr, length, take, drop, Option, Some, None, IsSome, Result, Ok, Err, refl, sym, ap, subst, arith, rules, nat_eq, is_some, Bool, false, true≢false}
+use Rattle.std.proofs.Math.Seq.{take-add}
+use Rattle.std.proofs.lemmas.List.{append_assoc, append-nil, drop-drop, map-append}
+use Rattle.press_cmd.specs.Token.{Token}
+use Rattle.press_engine.specs.Counts.{counted}
+use Rattle.press_engine.specs.declared.machine.Machine.{Machine}
+use Rattle.press_engine.specs.Machine.{Run, run_all, power_on}
+use Rattle.press_engine.proofs.Runs.{run_all-none, run_all-append}
+use Rattle.press_sink.specs.declared.sheet.Delivery.{Delivery}
+use Rattle.press_sink.specs.Sending.{Output, Deliver, Reply, sheets_of, under_tag, sheets_in}
+use Rattle.press_sink.specs.Sides.{Sides}
+use Rattle.press_sink.specs.Told.{SheetsTold}
+use Rattle.press_sink.proofs.SendingLemmas.{told-nothing}
+use Rattle.press_core.specs.declared.turn.TurnError.{TurnError}
+use Rattle.press_core.specs.declared.turn.TurnError.TheVariants as errors
+use Rattle.press_core.specs.Handing.{HandsOver, TakesSteps}
+use Rattle.press_core.specs.Jobs.{Advances}
+use Rattle.press_core.specs.Turns.{IsJobOf, WereHandedOut, machine_at, place_of, sheets_from, steps_from}
+use Rattle.press_core.specs.Work.{Work, at_place, counting, with_sheets}
+use Rattle.press_core.proofs.HandingLemmas.{handed_twice}
+use Rattle.press_core.proofs.JobLemmas.{IsJobOf-some}
+
+-- ---- the sheets of steps
+
+sheets_of-append : (outputs others : List Output) → sheets_of (outputs ++ others) ≡ sheets_of outputs ++ sheets_of others
+sheets_of-append [] others = refl
+sheets_of-append (Deliver sheet ∷ outputs) others = ap (λ l. sheet ∷ l) (sheets_of-append outputs others)
+sheets_of-append (Reply bytes ∷ outputs) others = sheets_of-append outputs others
+
+sheets_in-tagged : (tag : ℕ) (sheets : List Sides) → sheets_in (under_tag tag sheets) ≡ sheets
+sheets_in-tagged tag [] = refl
+sheets_in-tagged tag (sheet ∷ sheets) = ap (λ l. sheet ∷ l) (sheets_in-tagged tag sheets)
+
+machine_after : (place steps : ℕ) (commands : List Token) → (run_all (take steps (drop place commands)) (machine_at place commands)).machine ≡ machine_at (place + steps) commands
+machine_after place steps commands =
+    sym (ap (λ cs. (run_all cs power_on).machine) (take-add place steps commands)
+    ∙ ap (λ (run : Run). run.machine) (run_all-append (take place commands) (take steps (drop place commands)) power_on))
+
+-- steps, and then others
+pub sheets_from-more : (place steps more : ℕ) (commands : List Token)
+    → sheets_from place (steps + more) commands ≡ sheets_from place steps commands ++ sheets_from (place + steps) more commands
+sheets_from-more place steps more commands =
+    let first = take steps (drop place commands) in
+    let from = machine_at place commands in
+    let split : take (steps + more) (drop place commands) ≡ first ++ take more (drop (place + steps) commands) =
+    take-add steps more (drop place commands) ∙ ap (λ cs. first ++ take more cs) (drop-drop steps place commands) in
+    ap (λ cs. sheets_of (run_all cs from).outputs) split
+    ∙ ap (λ (run : Run). sheets_of run.outputs) (run_all-append first (take more (drop (place + steps) commands)) from)
+    ∙ sheets_of-append (run_all first from).outputs _
+    ∙ ap (λ (m : Machine). sheets_of (run_all first from).outputs ++ sheets_of (run_all (take more (drop (place + steps) commands)) m).outputs) (machine_after place steps commands)
+
+no_sheets : (place : ℕ) (commands : List Token) → sheets_from place 0 commands ≡ []
+no_sheets place commands = ap (λ (run : Run). sheets_of run.outputs) (run_all-none (machine_at place commands))
+
+-- ---- no step
+
+pub no_steps : (number : ℕ) (work : Work) (told : SheetsTold) → IsSome work.place → TakesSteps number 0 work (Ok 0) work told told
+no_steps number work told begun = record {
+  sheets = [];
+  steps = λ commands job. (omega arith, sym (no_sheets (place_of work) commands));
+  left = at_place_of work.place refl begun;
+  were = record { told = told-nothing told.delivered; faults = refl };
+} where
+  at_place_of : (o : Option ℕ) → work.place ≡ o → IsSome o → work ≡ at_place (Some (place_of work + 0)) (with_sheets [] work)
+  at_place_of None is begun = absurd (true≢false (sym begun))
+  at_place_of (Some place) is begun =
+      let here : Some (place_of work + 0) ≡ work.place = rw is (ap (λ n. Some n) (omega arith)) in
+      sym (ap (λ o. record work { place = o }) here)
+
+-- ---- a step
+
+-- where a work is that took so many steps
+pub placed_at : (number taken : ℕ) (old now : Work) (before after : SheetsTold) → TakesSteps number taken old (Ok taken) now before after → place_of now ≡ place_of old + taken
+placed_at number taken old now before after took = ap place_of took.left
+
+same_job : (number taken : ℕ) (old now : Work) (before after : SheetsTold) (commands : List Token) → TakesSteps number taken old (Ok taken) now before after
+    → IsJobOf old commands → IsJobOf now commands
+same_job number taken old now before after commands took job = subst (λ (w : Work). IsJobOf w commands) (sym took.left) job
+
+-- its job has begun
+pub still_begun : (number taken : ℕ) (old now : Work) (before after : SheetsTold) → TakesSteps number taken old (Ok taken) now before after → IsSome now.place
+still_begun number taken old now before after took = ap (λ (w : Work). is_some w.place) took.left
+
+-- a work that is not over is before the end of its job
+pub may_step : (work : Work) (over : Bool) → over ≡ false → IsSome work.place
+    → (IsSome work.place → (commands : List Token) → IsJobOf work commands → over ≡ nat_eq (place_of work) (length commands))
+    → (IsSome work.place → (commands : List Token) → IsJobOf work commands → place_of work ≤ length commands)
+    → (commands : List Token) → IsJobOf work commands → place_of work < length commands
+may_step work over going begun ends within commands job =
+    let apart : nat_eq (place_of work) (length commands) ≡ false = sym (ends begun commands job) ∙ going in
+    grind (arith, rules, apart, within begun commands job)
+
+-- What a work handed out at its next step, as far as no fault came.
+record OneStep (number : ℕ) (old now next : Work) (taken : ℕ) (handed others : List Sides) : Type 0 where
+  pub here : (commands : List Token) → IsJobOf old commands → sheets_from (place_of old + taken) 1 commands ≡ handed ++ others
+  pub within : (commands : List Token) → IsJobOf old commands → place_of old + taken < length commands
+  pub next_is : next ≡ at_place (Some (place_of old + taken + 1)) now
+
+one_step : (number taken : ℕ) (old now next : Work) (deliveries : List Delivery) (result : Result (Unit {0}) TurnError) (before between after : SheetsTold) (count : ℕ)
+    → TakesSteps number taken old (Ok taken) now before between → Advances number now next deliveries
+    → (hands : HandsOver number (sheets_in deliveries) result between after next.delivered count)
+    → ((commands : List Token) → IsJobOf now commands → place_of now < length commands)
+    → OneStep number old now next taken hands.handed hands.others
+one_step number taken old now next deliveries result before between after count took advances hands going =
+    let here = placed_at number taken old now before between took in
+    let some = IsJobOf-some old in
+    record {
+      here = λ commands job.
+          let advanced = advances commands (same_job number taken old now before between commands took job) in
+          sym (sheets_in-tagged number (sheets_from (place_of old + taken) 1 commands))
+          ∙ sym (ap (λ n. sheets_in (under_tag number (sheets_from n 1 commands))) here)
+          ∙ sym (ap sheets_in advanced.1) ∙ hands.sheets_are;
+      within = λ commands job. subst (λ n. n < length commands) here (going commands (same_job number taken old now before between commands took job));
+      next_is = (advances some.0 (same_job number taken old now before between some.0 took some.1)).0 ∙ ap (λ n. at_place (Some (n + 1)) now) here;
+    }
+
+-- the sheets of the steps so far, and of one more
+with_one : (place taken : ℕ) (commands : List Token) (sheets handed others : List Sides) → sheets ≡ sheets_from place taken commands
+    → sheets_from (place + taken) 1 commands ≡ handed ++ others → sheets_from place (taken + 1) commands ≡ (sheets ++ handed) ++ others
+with_one place taken commands sheets handed others are here =
+    sheets_from-more place taken 1 commands ∙ ap (λ l. l ++ sheets_from (place + taken) 1 commands) (sym are)
+    ∙ ap (λ l. sheets ++ l) here ∙ sym (append_assoc sheets handed others)
+
+-- what was handed out so far, and what of one step more
+handed_on : {A B : Type 0} (number : ℕ) (sheets handed : List Sides) (done : A) (result : Result B TurnError) (before between after : SheetsTold)
+    → WereHandedOut {A = A} (under_tag number sheets) (Ok done) before between → WereHandedOut (under_tag number handed) result between after
+    → WereHandedOut (under_tag number (sheets ++ handed)) result before after
+handed_on number sheets handed done result before between after first second =
+    subst (λ l. WereHandedOut l result before after) (sym (map-append (λ (sheet : Sides). record { tag = number; sheet = sheet }) sheets handed))
+    (handed_twice (under_tag number sheets) (under_tag number handed) done result before between after first second)
+
+counting-append : (sheets others : List Sides) (count : ℕ) → counting (sheets ++ others) count ≡ counting others (counting sheets count)
+counting-append [] others count = refl
+counting-append (sheet ∷ sheets) others count = counting-append sheets others (counted count 1)
+
+-- the count after the sheets so far and those of a step
+counts_on : (number taken : ℕ) (old now next : Work) (deliveries : List Delivery) (result : Result (Unit {0}) TurnError) (before between after : SheetsTold) (count : ℕ)
+    → (took : TakesSteps number taken old (Ok taken) now before between) → (hands : HandsOver number (sheets_in deliveries) result between after next.delivered count)
+    → next ≡ at_place (Some (place_of old + taken + 1)) now → count ≡ counting (took.sheets ++ hands.handed) old.delivered
+counts_on number taken old now next deliveries result before between after count took hands is =
+    hands.count_is ∙ ap (λ (w : Work). counting hands.handed w.delivered) is ∙ ap (λ (w : Work). counting hands.handed w.delivered) took.left
+    ∙ sym (counting-append took.sheets hands.handed old.delivered)
+
+-- a step more
+pub one_more : (number taken : ℕ) (old now next : Work) (deliveries : List Delivery) (before between after : SheetsTold) (count : ℕ)
+    → TakesSteps number taken old (Ok taken) now before between → Advances number now next deliveries
+    → HandsOver number (sheets_in deliveries) (Ok tt) between after next.delivered count
+    → ((commands : List Token) → IsJobOf now commands → place_of now < length commands)
+    → TakesSteps number (taken + 1) old (Ok (taken + 1)) (record next { delivered = count }) before after
+one_more number taken old now next deliveries before between after count took advances hands going =
+    let step = one_step number taken old now next deliveries (Ok tt) before between after count took advances hands going in
+    let were = handed_on number took.sheets hands.handed taken (Ok tt) before between after took.were hands.were in
+    record {
+      sheets = took.sheets ++ hands.handed;
+      steps = λ commands job.
+          let so_far = took.steps commands job in (
+            omega (arith, so_far.0, step.within commands job),
+            sym (append-nil (took.sheets ++ hands.handed)) ∙ ap (λ l. (took.sheets ++ hands.handed) ++ l) (sym hands.complete)
+                ∙ sym (with_one (place_of old) taken commands took.sheets hands.handed hands.others so_far.1 (step.here commands job)),
+          );
+      left =
+          ap (λ (w : Work). record w { delivered = count }) step.next_is
+          ∙ ap (λ (w : Work). record w { delivered = count; place = Some (place_of old + taken + 1) }) took.left
+          ∙ ap (λ n. record old { delivered = n; place = Some (place_of old + taken + 1) }) (counts_on number taken old now next deliveries (Ok tt) before between after count took hands step.next_is)
+          ∙ ap (λ n. record old { delivered = counting (took.sheets ++ hands.handed) old.delivered; place = Some n }) (omega arith);
+      were = record { told = were.told; faults = were.faults };
+    }
+
+-- ---- a fault
+
+-- a fault at a step after so many: the sheets so far are a front of those of all steps
+fronts : (place taken most : ℕ) (commands : List Token) (sheets others : List Sides) → taken ≤ steps_from place most commands → sheets_from place taken commands ≡ sheets ++ others
+    → (left : List Sides) × (sheets_from place (steps_from place most commands) commands ≡ sheets ++ left)
+fronts place taken most commands sheets others within are =
+    let left = steps_from place most commands - taken in
+    let all : steps_from place most commands ≡ taken + left = omega (arith, within) in (
+      others ++ sheets_from (place + taken) left commands,
+      ap (λ n. sheets_from place n commands) all ∙ sheets_from-more place taken left commands
+          ∙ ap (λ l. l ++ sheets_from (place + taken) left commands) are ∙ append_assoc sheets others (sheets_from (place + taken) left commands),
+    )
+
+pub stopped_in_step : (number taken most : ℕ) (old now next : Work) (deliveries : List Delivery) (error : TurnError) (before between after : SheetsTold) (count : ℕ)
+    → TakesSteps number taken old (Ok taken) now before between → Advances number now next deliveries
+    → HandsOver number (sheets_in deliveries) (Err error) between after next.delivered count
+    → ((commands : List Token) → IsJobOf now commands → place_of now < length commands) → taken < most
+    → TakesSteps number most old (Err error) (record next { delivered = count }) before after
+stopped_in_step number taken most old now next deliveries error before between after count took advances hands going below =
+    let step = one_step number taken old now next deliveries (Err error) before between after count took advances hands going in
+    let were = handed_on number took.sheets hands.handed taken (Err error) before between after took.were hands.were in
+    record {
+      sheets = took.sheets ++ hands.handed;
+      steps = λ commands job.
+          let so_far = took.steps commands job in
+          fronts (place_of old) (taken + 1) most commands (took.sheets ++ hands.handed) hands.others (omega (arith, so_far.0, below, step.within commands job))
+          (with_one (place_of old) taken commands took.sheets hands.handed hands.others so_far.1 (step.here commands job));
+      left =
+          ap (λ (w : Work). record w { delivered = count; place = None }) step.next_is
+          ∙ ap (λ (w : Work). record w { delivered = count; place = None }) took.left
+          ∙ ap (λ n. record old { delivered = n; place = None }) (counts_on number taken old now next deliveries (Err error) before between after count took hands step.next_is);
+      were = record { told = were.told; faults = were.faults };
+    }
+
+-- memory ran out before a step
+pub stopped_before_step : (number taken most : ℕ) (old now next : Work) (before after : SheetsTold) → TakesSteps number taken old (Ok taken) now before after
+    → next ≡ at_place None now → taken < most → TakesSteps number most old (Err errors.NoMemory) next before after
+stopped_before_step number taken most old now next before after took is below = record {
+  sheets = took.sheets;
+  steps = λ commands job.
+      let so_far = took.steps commands job in
+      fronts (place_of old) taken most commands took.sheets [] (omega (arith, so_far.0, below)) (sym so_far.1 ∙ sym (append-nil took.sheets));
+  left = ap (at_place None) (is ∙ ap (at_place None) took.left);
+  were = record { told = took.were.told; faults = took.were.faults };
+}
+
+-- ---- the last step
+
+-- so many steps were asked for, or no step is left
+pub took_all : (number taken most : ℕ) (old now : Work) (before after : SheetsTold) → TakesSteps number taken old (Ok taken) now before after → taken ≤ most
+    → ((commands : List Token) → IsJobOf now commands → (most ≤ taken) ⊎ (place_of now ≡ length commands)) → TakesSteps number most old (Ok taken) now before after
+took_all number taken most old now before after took below ends = record {
+  sheets = took.sheets;
+  steps = λ commands job.
+      let so_far = took.steps commands job in
+      (at_end commands so_far.0 (ends commands (same_job number taken old now before after commands took job)), so_far.1);
+  left = took.left;
+  were = took.were;
+} where
+  at_end : (commands : List Token) → taken ≡ steps_from (place_of old) taken commands → (most ≤ taken) ⊎ (place_of now ≡ length commands) → taken ≡ steps_from (place_of old) most commands
+  at_end commands within (inl all) = omega (arith, within, below, all)
+  at_end commands within (inr over) = omega (arith, within, below, over, placed_at number taken old now before after took)

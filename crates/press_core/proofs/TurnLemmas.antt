@@ -1,0 +1,426 @@
+-- Turns: the entry that begins, and what its steps leave of the press.
+use Rattle.std.proofs.Common.{◌≡◌, ℕ, ◌+◌, Bool, true, false, List, [], ◌∷◌, Option, Some, None, Result, Ok, Err, IsSome, IsTrue, OnErr, is_some, nat_eq, cond, if◌then◌else◌, length, option_and_then, ◌==◌, refl, sym, ap, subst, ◌∙◌, arith, rules, true≢false}
+use Rattle.std.specs.declared.alloc.AllocError.{AllocError}
+use Rattle.std.specs.List.{IsDistinct}
+use Rattle.std.specs.Map.{keys_of, lookup, set_value}
+use Rattle.std.specs.Option.{option_map_or}
+use Rattle.std.proofs.lemmas.Cmp.{nat_eq_equiv}
+use Rattle.std.proofs.lemmas.Map.{keys-set_value, lookup-set_value}
+use Rattle.std.proofs.lemmas.Map.Steps.{set_value_same}
+use Rattle.press_cmd.specs.Token.{Token}
+use Rattle.press_queue.specs.declared.entry.Entry.{Entry}
+use Rattle.press_queue.specs.declared.status.End.{End}
+use Rattle.press_queue.specs.declared.status.End.TheVariants.{Completed, Aborted}
+use Rattle.press_queue.specs.Entries.{entry_numbered, with_entry, first_waiting}
+use Rattle.press_queue.specs.Rows as rows
+use Rattle.press_queue.specs.State.{QueueState}
+use Rattle.press_queue.specs.Status.{is_running, is_waiting, status_at_end}
+use Rattle.press_sink.specs.declared.sheet.Delivery.{Delivery}
+use Rattle.press_sink.specs.Sending.{under_tag}
+use Rattle.press_sink.specs.Sides.{Sides}
+use Rattle.press_sink.specs.Told.{SheetsTold}
+use Rattle.press_sink.proofs.SendingLemmas.{told-nothing}
+use Rattle.press_core.specs.declared.turn.Turn.{Turn}
+use Rattle.press_core.specs.declared.turn.TurnError.{TurnError}
+use Rattle.press_core.specs.declared.turn.TurnError.TheVariants.{SinkFault, NoMemory}
+use Rattle.press_core.specs.Handing.{IsAfterSteps, TakesSteps}
+use Rattle.press_core.specs.Inside.{Begins, EachRunning, HasPlace, IsSound, begun, begun_works, with_begun}
+use Rattle.press_core.specs.Turns.{EntrySteps, FaultsAfter, IsJobOf, NamesEntry, StepsTo, TakesTurn, TurnAt, WereHandedOut, aborted, after_steps, completed, is_idle, place_of, sheets_from, steps_from, steps_of, turned, turned_with}
+use Rattle.press_core.specs.Work.{Work, at_place, with_sheets}
+use Rattle.press_core.specs.World.{World, landed_works, with_queue, with_work, work_numbered}
+use Rattle.press_core.proofs.EntryLemmas.{listed_set, none_runs, first_is_numbered, running_more, running_set, same_number}
+use Rattle.press_core.proofs.JobLemmas.{IsJobOf-some}
+use Rattle.press_core.proofs.SoundLemmas.{Keeps, IsSound-kept, set_status_keeps}
+use Rattle.press_core.proofs.WorkLemmas.{IsSound-landed, IsSound-set, none_runs_after, there_set}
+
+-- ---- a value set under a number
+
+set_lookup : {X : Type 0} (n number : ℕ) (es : List (ℕ × X)) (w : X) → IsSome (lookup (nat_eq number) es)
+    → lookup (nat_eq n) (set_value (nat_eq number) es w) ≡ cond (nat_eq number n) (Some w) (lookup (nat_eq n) es)
+set_lookup n number es w some = lookup-set_value nat_eq_equiv (nat_eq number) (λ x y same. ap (λ m. nat_eq m y) (same_number number x same)) n w es some
+
+set_twice : {X : Type 0} (number : ℕ) (es : List (ℕ × X)) (v w : X) → set_value (nat_eq number) (set_value (nat_eq number) es v) w ≡ set_value (nat_eq number) es w
+set_twice number [] v w = refl
+set_twice number (x ∷ es) v w = grind (arith, rules, set_twice number es v w)
+
+some_there : {X : Type 0} (o : Option X) (x : X) → o ≡ Some x → IsSome o
+some_there o x is = ap is_some is
+
+place_set : (n number : ℕ) (works : List (ℕ × Work)) (work : Work) → IsSome work.place → IsSome (lookup (nat_eq number) works) → HasPlace works n
+    → HasPlace (set_value (nat_eq number) works work) n
+place_set n number works work placed there has =
+    subst (λ o. IsSome (option_and_then (λ work. work.place) o)) (sym (set_lookup n number works work there)) (at_number (nat_eq number n))
+  where
+    at_number : (b : Bool) → IsSome (option_and_then (λ work. work.place) (cond b (Some work) (lookup (nat_eq n) works)))
+    at_number true = placed
+    at_number false = has
+
+-- a work at a place of its job may stand for another
+pub IsSound-placed : (number : ℕ) (queue : QueueState) (works : List (ℕ × Work)) (work : Work) → IsSome work.place → IsSome (lookup (nat_eq number) works) → IsSound queue works
+    → IsSound queue (set_value (nat_eq number) works work)
+IsSound-placed number queue works work placed there sound = record {
+  listed = λ n. sound.listed n ∙ sym (listed_set n number works work);
+  begun = running_more (HasPlace works) (HasPlace (set_value (nat_eq number) works work)) queue.entries
+      (λ n some has. place_set n number works work placed there has) sound.begun;
+}
+
+-- ---- an entry that begins
+
+each_cond : (P : ℕ → Type 0) (b : Bool) (xs ys : List (ℕ × Entry)) → (b ≡ true → EachRunning P xs) → EachRunning P ys → EachRunning P (cond b xs ys)
+each_cond P true xs ys p q = p refl
+each_cond P false xs ys p q = q
+
+running_begun : (P : ℕ → Type 0) (number : ℕ) (es : List (ℕ × Entry)) (e : Entry) → P number → EachRunning P es → EachRunning P (set_value (nat_eq number) es e)
+running_begun P number [] e p all = all
+running_begun P number (x ∷ es) e p all =
+    each_cond P (nat_eq number x.0) _ _ (λ same. (λ runs. subst P (same_number number x.0 same) p, all.1)) (all.0, running_begun P number es e p all.1)
+
+-- The entry of this number, which waited, runs.
+pub record IsBegun (queue new : QueueState) (number : ℕ) : Type 0 where
+  pub entry : Entry
+  pub there : entry_numbered number queue.entries ≡ Some entry
+  pub is : new ≡ rows.with_entries (with_entry number (rows.begun_entry entry) queue.entries) queue
+
+pub begun_is : (queue new : QueueState) (number : ℕ) → IsDistinct nat_eq (keys_of queue.entries) → (new, Some number) ≡ rows.begin queue → IsBegun queue new number
+begun_is queue new number distinct is = at_held queue.held is
+  where
+    at_first : (o : Option (ℕ × Entry)) → first_waiting queue.entries ≡ o → (new, Some number) ≡ rows.begin_with o queue → IsBegun queue new number
+    at_first None found e = absurd (true≢false (ap (λ r. is_some r.1) e))
+    at_first (Some x) found e =
+        let same : number ≡ x.0 = grind (arith, rules, e) in
+        let numbered = first_is_numbered (λ y. is_waiting y.1.status) queue.entries x distinct found in
+        record {
+          entry = x.1;
+          there = ap (λ n. entry_numbered n queue.entries) same ∙ numbered.1;
+          is = ap (λ r. r.0) e ∙ ap (λ n. rows.with_entries (with_entry n (rows.begun_entry x.1) queue.entries) queue) (sym same);
+        }
+
+    at_held : (held : Bool) → (new, Some number) ≡ rows.begin_with (if held then None else first_waiting queue.entries) queue → IsBegun queue new number
+    at_held true e = absurd (true≢false (ap (λ r. is_some r.1) e))
+    at_held false e = at_first (first_waiting queue.entries) refl e
+
+-- it runs then
+pub begun_runs : (queue new : QueueState) (number : ℕ) → IsBegun queue new number → IsTrue (rows.runs number new)
+begun_runs queue new number begins =
+    ap (λ (q : QueueState). rows.runs number q) begins.is
+    ∙ ap (λ o. option_map_or (λ entry. is_running entry.status) o false) (there_set number queue.entries begins.entry (rows.begun_entry begins.entry) begins.there)
+
+-- there is a work for it
+pub has_work : (queue : QueueState) (works : List (ℕ × Work)) (number : ℕ) (entry : Entry) → IsSound queue works → entry_numbered number queue.entries ≡ Some entry → IsSome (lookup (nat_eq number) works)
+has_work queue works number entry sound there = sym (sound.listed number) ∙ ap is_some there
+
+pub IsSound-begun : (queue new : QueueState) (works : List (ℕ × Work)) (number : ℕ) → IsBegun queue new number → IsSound queue works → IsSound new (begun_works number works)
+IsSound-begun queue new works number begins sound = at_work (lookup (nat_eq number) works) refl
+  where
+    some : IsSome (lookup (nat_eq number) works)
+    some = has_work queue works number begins.entry sound begins.there
+
+    at_work : (o : Option Work) → lookup (nat_eq number) works ≡ o → IsSound new (begun_works number works)
+    at_work None is = absurd (true≢false (sym some ∙ ap is_some is))
+    at_work (Some work) is =
+        let after = set_value (nat_eq number) works (begun work) in
+        let placed : HasPlace after number = ap (λ o. is_some (option_and_then (λ work. work.place) o)) (there_set number works work (begun work) is) in
+        rw (is, begins.is) (record {
+          listed = λ n. listed_set n number queue.entries (rows.begun_entry begins.entry) ∙ sound.listed n ∙ sym (listed_set n number works (begun work));
+          begun = running_begun (HasPlace after) number queue.entries (rows.begun_entry begins.entry) placed
+              (running_more (HasPlace works) (HasPlace after) queue.entries (λ n there has. place_set n number works (begun work) refl some has) sound.begun);
+        })
+
+-- ---- the entry that runs
+
+-- what is true of each entry that runs is true of this one
+running_has : (P : ℕ → Type 0) (number : ℕ) (es : List (ℕ × Entry)) → option_map_or (λ entry. is_running entry.status) (lookup (nat_eq number) es) false ≡ true → EachRunning P es → P number
+running_has P number [] runs all = absurd (true≢false (sym runs))
+running_has P number (x ∷ es) runs all = at_head (nat_eq number x.0) refl (λ below. running_has P number es below all.1)
+  where
+    at_head : (b : Bool) → nat_eq number x.0 ≡ b → (option_map_or (λ entry. is_running entry.status) (lookup (nat_eq number) es) false ≡ true → P number) → P number
+    at_head true is below = subst P (sym (same_number number x.0 is)) (all.0 (grind (arith, rules, is, runs)))
+    at_head false is below = below (grind (arith, rules, is, runs))
+
+pub runs_placed : (number : ℕ) (queue : QueueState) (works : List (ℕ × Work)) → IsTrue (rows.runs number queue) → IsSound queue works → HasPlace works number
+runs_placed number queue works runs sound = running_has (HasPlace works) number queue.entries runs sound.begun
+
+-- its work, and that its job has begun
+pub placed_work : (number : ℕ) (works : List (ℕ × Work)) (o : Option Work) (work : Work) → HasPlace works number → lookup (nat_eq number) works ≡ o → o ≡ Some work → IsSome work.place
+placed_work number works o work has is same =
+    sym (ap (λ o. is_some (option_and_then (λ work. work.place) o)) (is ∙ same)) ∙ has
+
+pub unplaced : (number : ℕ) (works : List (ℕ × Work)) → HasPlace works number → lookup (nat_eq number) works ≡ None → ⊥
+unplaced number works has is = true≢false (sym has ∙ ap (λ o. is_some (option_and_then (λ work. work.place) o)) is)
+
+-- the work of an entry that runs has begun before
+begun_place : (work : Work) (o : Option ℕ) → work.place ≡ o → IsSome o → begun work ≡ work
+begun_place work None is placed = absurd (true≢false (sym placed))
+begun_place work (Some place) is placed =
+    let here : Some (place_of work) ≡ work.place = rw is refl in
+    ap (λ o. record work { place = o }) here
+
+pub begun_already : (number : ℕ) (works : List (ℕ × Work)) → HasPlace works number → begun_works number works ≡ works
+begun_already number works has = at_work (lookup (nat_eq number) works) refl
+  where
+    at_work : (o : Option Work) → lookup (nat_eq number) works ≡ o → begun_works number works ≡ works
+    at_work None is = rw is refl
+    at_work (Some work) is =
+        let placed : IsSome work.place = sym (ap (λ o. is_some (option_and_then (λ work. work.place) o)) is) ∙ has in
+        let same = begun_place work work.place refl placed in
+        rw is (ap (λ w. set_value (nat_eq number) works w) same ∙ set_value_same (nat_eq number) works work is)
+
+pub begins_running : (world : World) (number : ℕ) → rows.running world.queue ≡ Some number → IsTrue (rows.runs number world.queue) → IsSound world.queue world.works
+    → Begins world (Ok (Some number)) world
+begins_running world number is runs sound =
+    let same : turned world.queue ≡ (world.queue, Some number) = ap (λ o. turned_with o world.queue) is in (
+      ap (λ r. r.1) same,
+      sym (ap (λ (q : QueueState). with_queue q (with_begun number world)) (ap (λ r. r.0) same)
+          ∙ ap (λ works. record world { works = works }) (begun_already number world.works (runs_placed number world.queue world.works runs sound))),
+    )
+
+begins_at : (world : World) (new : QueueState) (number : ℕ) → rows.running world.queue ≡ None → (new, Some number) ≡ rows.begin world.queue → turned world.queue ≡ (new, Some number)
+begins_at world new number none is = ap (λ o. turned_with o world.queue) none ∙ sym is
+
+-- ---- an entry that ends as it begins
+
+still_at_end : (end : End) → is_running (status_at_end end) ≡ false
+still_at_end Completed = refl
+still_at_end Aborted = refl
+
+ended_is : (queue new : QueueState) (number : ℕ) (end : End) → (begins : IsBegun queue new number)
+    → rows.finish number end new ≡ rows.with_entries (with_entry number (record begins.entry { status = status_at_end end; begun = true }) queue.entries) queue
+ended_is queue new number end begins =
+    let ended = record begins.entry { status = status_at_end end; begun = true } in
+    let there = ap (λ (q : QueueState). entry_numbered number q.entries) begins.is ∙ there_set number queue.entries begins.entry (rows.begun_entry begins.entry) begins.there in
+    ap (λ o. rows.finish_at o number end new) there
+    ∙ ap (λ (q : QueueState). rows.set_status number (status_at_end end) (rows.begun_entry begins.entry) q) begins.is
+    ∙ ap (λ es. rows.with_entries es queue) (set_twice number queue.entries (rows.begun_entry begins.entry) ended)
+
+-- no number stands twice then
+pub distinct_begun : (queue new : QueueState) (number : ℕ) → IsBegun queue new number → IsDistinct nat_eq (keys_of queue.entries) → IsDistinct nat_eq (keys_of new.entries)
+distinct_begun queue new number begins distinct =
+    subst (λ (q : QueueState). IsDistinct nat_eq (keys_of q.entries)) (sym begins.is)
+    (subst (λ ks. IsDistinct nat_eq ks) (sym (keys-set_value (nat_eq number) queue.entries (rows.begun_entry begins.entry))) distinct)
+
+pub distinct_ended : (queue new : QueueState) (number : ℕ) (end : End) → IsBegun queue new number → IsDistinct nat_eq (keys_of queue.entries)
+    → IsDistinct nat_eq (keys_of (rows.finish number end new).entries)
+distinct_ended queue new number end begins distinct =
+    subst (λ (q : QueueState). IsDistinct nat_eq (keys_of q.entries)) (sym (ended_is queue new number end begins))
+    (subst (λ ks. IsDistinct nat_eq ks) (sym (keys-set_value (nat_eq number) queue.entries (record begins.entry { status = status_at_end end; begun = true }))) distinct)
+
+pub IsSound-given_up : (queue new : QueueState) (works : List (ℕ × Work)) (number : ℕ) (end : End) → IsDistinct nat_eq (keys_of queue.entries) → IsBegun queue new number → IsSound queue works
+    → IsSound (rows.finish number end new) (landed_works number works)
+IsSound-given_up queue new works number end distinct begins sound =
+    let ended = record begins.entry { status = status_at_end end; begun = true } in
+    let after = rows.with_entries (with_entry number ended queue.entries) queue in
+    let keeps : Keeps queue after = record {
+      listed = λ n. listed_set n number queue.entries ended;
+      running = λ P all. running_set P number queue.entries ended (still_at_end end) all;
+    } in
+    let none = none_runs number after.entries ended
+    (subst (λ ks. IsDistinct nat_eq ks) (sym (keys-set_value (nat_eq number) queue.entries ended)) distinct)
+    (there_set number queue.entries begins.entry ended begins.there) (still_at_end end) in
+    subst (λ q. IsSound q (landed_works number works)) (sym (ended_is queue new number end begins))
+    (IsSound-landed number after works none (IsSound-kept queue after works keeps sound))
+
+pub begins_given_up : (world : World) (number : ℕ) (new after : QueueState) (works : List (ℕ × Work)) (error : AllocError) → rows.running world.queue ≡ None
+    → IsDistinct nat_eq (keys_of world.queue.entries) → IsSound world.queue world.works → (new, Some number) ≡ rows.begin world.queue
+    → after ≡ rows.finish number Aborted new → works ≡ landed_works number world.works → Begins world (Err error) (record { queue = after; paused = world.paused; works = works })
+begins_given_up world number new after works error none distinct sound is ends lands = at_work (lookup (nat_eq number) world.works) refl
+  where
+    begins : IsBegun world.queue new number
+    begins = begun_is world.queue new number distinct is
+
+    at_work : (o : Option Work) → lookup (nat_eq number) world.works ≡ o → Begins world (Err error) (record { queue = after; paused = world.paused; works = works })
+    at_work None there = absurd (true≢false (sym (has_work world.queue world.works number begins.entry sound begins.there) ∙ ap is_some there))
+    at_work (Some work) there =
+        let same = begins_at world new number none is in
+        let works_are = lands ∙ ap (λ o. option_map_or (λ w. set_value (nat_eq number) world.works (at_place None w)) o world.works) there in (
+          number,
+          work,
+          ap (λ r. r.1) same,
+          there,
+          ap (λ q. record { queue = q; paused = world.paused; works = works }) (ends ∙ sym (ap (λ r. rows.finish number Aborted r.0) same))
+              ∙ ap (λ ws. record { queue = rows.finish number Aborted (turned world.queue).0; paused = world.paused; works = ws }) works_are,
+        )
+
+-- a work that is given up after another stood for it
+pub landed_set : (number : ℕ) (works : List (ℕ × Work)) (old work : Work) → lookup (nat_eq number) works ≡ Some old
+    → landed_works number (set_value (nat_eq number) works work) ≡ set_value (nat_eq number) works (at_place None work)
+landed_set number works old work there =
+    ap (λ o. option_map_or (λ w. set_value (nat_eq number) (set_value (nat_eq number) works work) (at_place None w)) o (set_value (nat_eq number) works work)) (there_set number works old work there)
+    ∙ set_twice number works work (at_place None work)
+
+-- ---- the entry that runs ends
+
+-- the entry ends, and its work is what its steps left of it, given up
+pub IsSound-ended : (number : ℕ) (end : End) (queue : QueueState) (works : List (ℕ × Work)) (work : Work) → IsTrue (rows.runs number queue) → IsDistinct nat_eq (keys_of queue.entries)
+    → IsSound queue works → IsSound (rows.finish number end queue) (set_value (nat_eq number) works work)
+IsSound-ended number end queue works work runs distinct sound = at_entry (entry_numbered number queue.entries) refl
+  where
+    at_entry : (o : Option Entry) → entry_numbered number queue.entries ≡ o → IsSound (rows.finish number end queue) (set_value (nat_eq number) works work)
+    at_entry None is = absurd (true≢false (sym runs ∙ ap (λ o. option_map_or (λ entry. is_running entry.status) o false) is))
+    at_entry (Some entry) is =
+        let new = rows.set_status number (status_at_end end) entry queue in
+        subst (λ o. IsSound (rows.finish_at o number end queue) (set_value (nat_eq number) works work)) (sym is)
+        (IsSound-set number new works work (none_runs_after number (status_at_end end) entry queue (still_at_end end) is distinct)
+        (IsSound-kept queue new works (set_status_keeps number (status_at_end end) entry queue (still_at_end end)) sound))
+
+-- ---- steps
+
+-- what steps leave, where the job goes on, is at its end, or met a fault
+pub leaves_going : (world : World) (number steps : ℕ) (old new : Work) (sheets : List Sides) (commands : List Token) → new ≡ at_place (Some (place_of old + steps)) (with_sheets sheets old)
+    → nat_eq (place_of new) (length commands) ≡ false → with_work number new world ≡ after_steps number old commands (Ok steps) sheets world
+leaves_going world number steps old new sheets commands left going =
+    let e : (place_of old + steps == length commands) ≡ false = sym (ap (λ (w : Work). nat_eq (place_of w) (length commands)) left) ∙ going in
+    rw e (ap (λ (w : Work). with_work number w world) left)
+
+pub leaves_over : (world : World) (number steps : ℕ) (old new : Work) (sheets : List Sides) (commands : List Token) → new ≡ at_place (Some (place_of old + steps)) (with_sheets sheets old)
+    → nat_eq (place_of new) (length commands) ≡ true → completed number new world ≡ after_steps number old commands (Ok steps) sheets world
+leaves_over world number steps old new sheets commands left over =
+    let e : (place_of old + steps == length commands) ≡ true = sym (ap (λ (w : Work). nat_eq (place_of w) (length commands)) left) ∙ over in
+    rw e (ap (λ (w : Work). completed number w world) left)
+
+pub leaves_fault : (world : World) (number : ℕ) (error : TurnError) (old new : Work) (sheets : List Sides) (commands : List Token) → at_place None new ≡ at_place None (with_sheets sheets old)
+    → aborted number new world ≡ after_steps number old commands (Err error) sheets world
+leaves_fault world number error old new sheets commands left =
+    ap (λ (w : Work). record world { queue = rows.finish number Aborted world.queue; works = set_value (nat_eq number) world.works w }) left
+
+pub after_ok : (old new : Work) (result : Result ℕ TurnError) (steps : ℕ) (sheets : List Sides) → result ≡ Ok steps → IsAfterSteps old result sheets new
+    → new ≡ at_place (Some (place_of old + steps)) (with_sheets sheets old)
+after_ok old new result steps sheets is left = subst (λ r. IsAfterSteps old r sheets new) is left
+
+pub after_err : (old new : Work) (result : Result ℕ TurnError) (error : TurnError) (sheets : List Sides) → result ≡ Err error → IsAfterSteps old result sheets new
+    → at_place None new ≡ at_place None (with_sheets sheets old)
+after_err old new result error sheets is left = subst (λ r. IsAfterSteps old r sheets new) is left
+
+abbrev pub the_world : QueueState → Bool → List (ℕ × Work) → World
+the_world queue paused works = record { queue = queue; paused = paused; works = works }
+
+-- the world after an entry that ran ended, by what its queue and its works are
+pub ended_world : (world : World) (number : ℕ) (end : End) (old new : Work) (queue : QueueState) (works : List (ℕ × Work)) → work_numbered number world ≡ Some old
+    → queue ≡ rows.finish number end world.queue → works ≡ landed_works number (set_value (nat_eq number) world.works new)
+    → record { queue = queue; paused = world.paused; works = works } ≡ with_queue (rows.finish number end world.queue) (with_work number (at_place None new) world)
+ended_world world number end old new queue works there ends lands =
+    ap (λ q. record { queue = q; paused = world.paused; works = works }) ends
+    ∙ ap (λ ws. record { queue = rows.finish number end world.queue; paused = world.paused; works = ws }) (lands ∙ landed_set number world.works old new there)
+
+-- the steps of an entry, from those of its work
+pub entry_steps : (world : World) (number most : ℕ) (old new : Work) (result : Result ℕ TurnError) (before after : SheetsTold) (next : World) → work_numbered number world ≡ Some old
+    → (took : TakesSteps number most old result new before after)
+    → ((commands : List Token) → IsJobOf old commands → next ≡ after_steps number old commands result took.sheets world)
+    → (handed : List Delivery) × EntrySteps world number most result handed next × WereHandedOut handed result before after
+entry_steps world number most old new result before after next is took leaves =
+    let some = IsJobOf-some old in (
+      under_tag number took.sheets,
+      record {
+        work = old;
+        is_work = is;
+        commands = some.0;
+        is_job = some.1;
+        sheets = took.sheets;
+        steps = took.steps some.0 some.1;
+        handed_are = refl;
+        after = leaves some.0 some.1;
+      },
+      took.were,
+    )
+
+-- an entry that has begun takes its steps from the place that it had
+ifs : {X : Type 0} (b : Bool) (x y v w : X) → x ≡ v → y ≡ w → (if b then x else y) ≡ (if b then v else w)
+ifs true x y v w p q = p
+ifs false x y v w p q = q
+
+begun_again : (number : ℕ) (works : List (ℕ × Work)) (work other : Work) → lookup (nat_eq number) works ≡ Some work
+    → set_value (nat_eq number) (begun_works number works) other ≡ set_value (nat_eq number) works other
+begun_again number works work other is =
+    ap (λ o. set_value (nat_eq number) (option_map_or (λ w. set_value (nat_eq number) works (begun w)) o works) other) is ∙ set_twice number works (begun work) other
+
+after_begun : (world : World) (number : ℕ) (work : Work) (commands : List Token) (result : Result ℕ TurnError) (sheets : List Sides) → work_numbered number world ≡ Some work
+    → after_steps number (begun work) commands result sheets (with_begun number world) ≡ after_steps number work commands result sheets world
+after_begun world number work commands (Ok steps) sheets is =
+    ifs (place_of work + steps == length commands) _ _ _ _
+    (ap (λ works. record world { queue = rows.finish number Completed world.queue; works = works }) (begun_again number world.works work (at_place None (with_sheets sheets work)) is))
+    (ap (λ works. record world { works = works }) (begun_again number world.works work (at_place (Some (place_of work + steps)) (with_sheets sheets work)) is))
+after_begun world number work commands (Err error) sheets is =
+    ap (λ works. record world { queue = rows.finish number Aborted world.queue; works = works }) (begun_again number world.works work (at_place None (with_sheets sheets work)) is)
+
+steps_begun : (work : Work) (commands : List Token) (most : ℕ) (result : Result ℕ TurnError) (sheets : List Sides) → StepsTo (begun work) commands most result sheets
+    → StepsTo work commands most result sheets
+steps_begun work commands most (Ok steps) sheets took = took
+steps_begun work commands most (Err error) sheets took = took
+
+same_some : (o : Option Work) (one other : Work) → o ≡ Some one → o ≡ Some other → one ≡ other
+same_some o one other p q = cc
+
+pub steps_of_begun : (world next : World) (number most : ℕ) (result : Result ℕ TurnError) (handed : List Delivery) → EntrySteps (with_begun number world) number most result handed next
+    → EntrySteps world number most result handed next
+steps_of_begun world next number most result handed steps = at_work (work_numbered number world) refl
+  where
+    at_work : (o : Option Work) → work_numbered number world ≡ o → EntrySteps world number most result handed next
+    at_work None is =
+        let same = ap (λ o. option_map_or (λ w. set_value (nat_eq number) world.works (begun w)) o world.works) is in
+        absurd (true≢false (sym (sym (ap is_some is) ∙ ap (λ works. is_some (lookup (nat_eq number) works)) (sym same) ∙ ap is_some steps.is_work)))
+    at_work (Some work) is =
+        let works_are = ap (λ o. option_map_or (λ w. set_value (nat_eq number) world.works (begun w)) o world.works) is in
+        let there = ap (λ works. lookup (nat_eq number) works) works_are ∙ there_set number world.works work (begun work) is in
+        let same : steps.work ≡ begun work = same_some (work_numbered number (with_begun number world)) steps.work (begun work) steps.is_work there in
+        record {
+          work = work;
+          is_work = is;
+          commands = steps.commands;
+          is_job = subst (λ (w : Work). IsJobOf w steps.commands) same steps.is_job;
+          sheets = steps.sheets;
+          steps = steps_begun work steps.commands most result steps.sheets (subst (λ (w : Work). StepsTo w steps.commands most result steps.sheets) same steps.steps);
+          handed_are = steps.handed_are;
+          after =
+              steps.after ∙ ap (λ (w : Work). after_steps number w steps.commands result steps.sheets (with_begun number world)) same
+              ∙ after_begun world number work steps.commands result steps.sheets is;
+        }
+
+-- ---- a turn
+
+-- a turn that does something
+pub turn_of : (world next : World) (most : ℕ) (result : Result Turn TurnError) (handed : List Delivery) → is_idle most world ≡ false
+    → TurnAt (with_queue (turned world.queue).0 world) (turned world.queue).1 most result handed next → TakesTurn world most result handed next
+turn_of world next most result handed works turn = rw works turn
+
+-- memory ran out as the entry began
+pub turn_stopped : (world next : World) (most : ℕ) (error : AllocError) → is_idle most world ≡ false → Begins world (Err error) next → TakesTurn world most (Err NoMemory) [] next
+turn_stopped world next most error works (number, work, is, there, after) =
+    let some = IsJobOf-some work in
+    turn_of world next most (Err NoMemory) [] works
+    (subst (λ o. TurnAt (with_queue (turned world.queue).0 world) o most (Err NoMemory) [] next) (sym is) (
+      tt,
+      record {
+        work = work;
+        is_work = there;
+        commands = some.0;
+        is_job = some.1;
+        sheets = [];
+        steps = (sheets_from (place_of work) (steps_from (place_of work) most some.0) some.0, refl);
+        handed_are = refl;
+        after = after;
+      },
+    ))
+
+-- an entry that began, or ran before, took steps
+pub turn_taken : (world begun next : World) (number most : ℕ) (result : Result Turn TurnError) (handed : List Delivery) → is_idle most world ≡ false → Begins world (Ok (Some number)) begun
+    → NamesEntry result number → EntrySteps begun number most (steps_of result) handed next → TakesTurn world most result handed next
+turn_taken world begun next number most result handed works begins names steps =
+    turn_of world next most result handed works
+    (subst (λ o. TurnAt (with_queue (turned world.queue).0 world) o most result handed next) (sym begins.0) (
+      names,
+      steps_of_begun (with_queue (turned world.queue).0 world) next number most (steps_of result) handed
+          (subst (λ (w : World). EntrySteps w number most (steps_of result) handed next) begins.1 steps),
+    ))
+
+pub nothing_handed : {A : Type 0} (result : Result A TurnError) (told : SheetsTold) → FaultsAfter result told.faults told.faults → WereHandedOut [] result told told
+nothing_handed result told faults = record { told = told-nothing told.delivered; faults = faults }
+
+pub begins_some : (world begun : World) (entry : Option ℕ) (number : ℕ) → entry ≡ Some number → Begins world (Ok entry) begun → Begins world (Ok (Some number)) begun
+begins_some world begun entry number is begins = subst (λ o. Begins world (Ok o) begun) is begins
+
+pub fault_of_turn : (A B : Type 0) (error : TurnError) (before after : ℕ) → FaultsAfter {A = A} (Err error) before after → FaultsAfter {A = B} (Err error) before after
+fault_of_turn A B SinkFault before after faults = faults
+fault_of_turn A B NoMemory before after faults = faults
+
+pub on_err_of : {A E P Q : Type 0} (r : Result A E) → (P → Q) → OnErr r P → OnErr r Q
+on_err_of (Ok a) f p = tt
+on_err_of (Err e) f p = f p
