@@ -43,9 +43,6 @@ set_twice : {X : Type 0} (number : ℕ) (es : List (ℕ × X)) (v w : X) → set
 set_twice number [] v w = refl
 set_twice number (x ∷ es) v w = grind (arith, rules, set_twice number es v w)
 
-some_there : {X : Type 0} (o : Option X) (x : X) → o ≡ Some x → IsSome o
-some_there o x is = ap is_some is
-
 place_set : (n number : ℕ) (works : List (ℕ × Work)) (work : Work) → IsSome work.place → IsSome (lookup (nat_eq number) works) → HasPlace works n
     → HasPlace (set_value (nat_eq number) works work) n
 place_set n number works work placed there has =
@@ -144,9 +141,6 @@ runs_placed number queue works runs sound = running_has (HasPlace works) number 
 pub placed_work : (number : ℕ) (works : List (ℕ × Work)) (o : Option Work) (work : Work) → HasPlace works number → lookup (nat_eq number) works ≡ o → o ≡ Some work → IsSome work.place
 placed_work number works o work has is same =
     sym (ap (λ o. is_some (option_and_then (λ work. work.place) o)) (is ∙ same)) ∙ has
-
-pub unplaced : (number : ℕ) (works : List (ℕ × Work)) → HasPlace works number → lookup (nat_eq number) works ≡ None → ⊥
-unplaced number works has is = true≢false (sym has ∙ ap (λ o. is_some (option_and_then (λ work. work.place) o)) is)
 
 -- the work of an entry that runs has begun before
 begun_place : (work : Work) (o : Option ℕ) → work.place ≡ o → IsSome o → begun work ≡ work
