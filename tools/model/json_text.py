@@ -12,6 +12,7 @@ NUMBER = re.compile(r"-?(?:0|[1-9][0-9]*)(\.[0-9]+)?([eE][+-]?[0-9]+)?")
 ESCAPED = {'"': '"', "\\": "\\", "/": "/", "b": "\b", "f": "\f", "n": "\n", "r": "\r", "t": "\t"}
 WORDS = {"true": True, "false": False, "null": None}
 LEAST_WHOLE, GREATEST_WHOLE = -2 ** 63, 2 ** 64 - 1
+MOST_CHARACTERS = 20  # of a whole number between these
 
 
 class NotJson(Exception):
@@ -108,7 +109,7 @@ class Reader:
         self.place = found.end()
         spelled = found.group()
         fraction, exponent = found.groups()
-        if fraction is None and exponent is None and spelled != "-0":
+        if fraction is None and exponent is None and spelled != "-0" and len(spelled) <= MOST_CHARACTERS:
             whole = int(spelled)
             if LEAST_WHOLE <= whole <= GREATEST_WHOLE:
                 return whole

@@ -12,11 +12,12 @@ DEFAULT_PRIORITY = 50
 
 # The parameters of each type, in their order; those after the bar may be absent.
 ENTRY = ["QueueEntryID"]
+SUSPEND = "SuspendQueueEntry"
 PARAMETERS = {
     "SubmitQueueEntry": ["Ticket", "|", "Priority"],
     "HoldQueueEntry": ENTRY,
     "ResumeQueueEntry": ENTRY,
-    "SuspendQueueEntry": ENTRY,
+    SUSPEND: ENTRY,
     "AbortQueueEntry": ENTRY,
     "RemoveQueueEntry": ENTRY,
     "SetQueueEntryPriority": ENTRY + ["Priority"],
@@ -63,16 +64,21 @@ class Sink:
 class Context:
     """What the press knows of an entry in the list."""
 
-    def __init__(self, read_ticket, images):
+    def __init__(self, members, read_ticket, images):
+        self.members = members  # of the ticket as the message had it
         self.ticket = read_ticket
         self.images = images
         self.delivered = 0
         self.items = None  # of the trace of its job, once begun
         self.place = 0
 
-    def begin(self):
+    def begin(self, job_of):
         if self.items is None:
-            self.items = runs.trace(writer.job_of(self.ticket, self.images), viewed=False)
+            self.items = runs.trace(job_of(self), viewed=False)
+
+
+def plain_job(context):
+    return writer.job_of(context.ticket, context.images)
 
 
 class Answer(Exception):
@@ -102,7 +108,7 @@ def compact(fields):
     return json.dumps(fields, sort_keys=True, separators=(",", ":"), ensure_ascii=False).encode()
 
 
-def read_message(text):
+def read_message(text, suspends=True):
     """ID, type and the object of a message, or the answer to a faulty one."""
     try:
         message = json_text.read(text)
@@ -121,7 +127,7 @@ def read_message(text):
         raise Answer(MISSING, "", message_id)
     if not json_text.is_text(kind):
         raise Answer(BAD_MESSAGE, "", message_id)
-    if kind not in PARAMETERS:
+    if kind not in PARAMETERS or (kind == SUSPEND and not suspends):
         raise Answer(UNKNOWN_TYPE, kind, message_id)
     check_parameters(message, kind, message_id)
     return message_id, kind, message
@@ -138,14 +144,19 @@ def check_parameters(message, kind, message_id):
 
 
 class Press:
-    def __init__(self):
+    """Without suspension the message that asks for it is of an unknown type. The job of an entry may be any that prints its
+    ticket: how many steps it has depends on it."""
+
+    def __init__(self, suspends=True, job_of=plain_job):
         self.queue = Queue()
         self.paused = False
         self.contexts = {}
+        self.suspends = suspends
+        self.job_of = job_of
 
     def message(self, text, images=()):
         try:
-            message_id, kind, message = read_message(text)
+            message_id, kind, message = read_message(text, self.suspends)
             try:
                 added = self.do(kind, message, list(images))
             except Refused as refused:
@@ -180,7 +191,7 @@ class Press:
         read = ticket.ticket_of(message["Ticket"])
         ticket.check(read, images)
         number = self.queue.submit(message.get("Priority", DEFAULT_PRIORITY))
-        self.contexts[number] = Context(read, images)
+        self.contexts[number] = Context(message["Ticket"], read, images)
         return {"QueueEntryID": entry_name(number)}
 
     def do_to_entry(self, kind, message):
@@ -195,7 +206,7 @@ class Press:
             return {"Status": "Removed"}
         else:
             calls = {"HoldQueueEntry": self.queue.hold, "ResumeQueueEntry": self.queue.resume,
-                     "SuspendQueueEntry": self.queue.suspend, "AbortQueueEntry": self.queue.abort}
+                     SUSPEND: self.queue.suspend, "AbortQueueEntry": self.queue.abort}
             calls[kind](number)
         return {}
 
@@ -229,7 +240,7 @@ class Press:
         if entry is None:
             return None, 0
         context = self.contexts[entry.number]
-        context.begin()
+        context.begin(self.job_of)
         steps = min(most, len(context.items) - context.place)
         for item in context.items[context.place:context.place + steps]:
             self.hand_out(entry, context, item, sink)
@@ -258,5 +269,3 @@ class Press:
         entry = self.queue.running()
         if entry is not None:
             self.queue.finish(entry, ABORTED)
-
-

@@ -2,15 +2,17 @@
 """Worked examples with their values. Run as a script; each test is a function named for what it shows."""
 
 import sys
+import tempfile
 from pathlib import Path
 
 if __package__ in (None, ""):
     sys.path[0] = str(Path(__file__).resolve().parent.parent)
 
 from model import (  # noqa: E402
-    asm, commands, job_queue, pages, patterns, pbm, press, rows, runs, ticket, values)
+    asm, commands, job_queue, pages, patterns, pbm, press, rows, runs, ticket, values, writer)
 from model.commands import (  # noqa: E402
     Broken, Control, Param, PjlLine, Text, Uel, closed, same_commands, split)
+from model.press_lines import Lines  # noqa: E402
 
 UEL = b"\x1b%-12345X"
 FF = b"\x0c"
@@ -439,32 +441,70 @@ def code(response):
     return press.json.loads(response)["ReturnCode"]
 
 
+def shown_state(at):
+    """All that messages and calls show of a press."""
+    texts = at.message(message("QueueStatus")), at.message(message("Status"))
+    return texts, at.queue.last_number, [at.delivered(number) for number in span(0, 70)]
+
+
+def answer(response_code, kind, message_id="m1"):
+    return b'{"ReturnCode":%d,"Type":"%s","refID":"%s"}' % (response_code, kind.encode(), message_id.encode())
+
+
 def test_submissions():
     at = press.Press()
     expected = b'{"QueueEntryID":"Q1","ReturnCode":0,"Type":"SubmitQueueEntry","refID":"m1"}'
     assert at.message(submission(), [IMAGE]) == expected
-    for _ in range(63):
-        assert code(at.message(submission(), [IMAGE])) == 0
-    assert code(at.message(submission(), [IMAGE])) == 24 and len(at.queue.entries) == 64
-    assert code(at.message(message("CloseQueue"))) == 0
-    assert code(at.message(submission(), [IMAGE])) == 23
+    for number in span(2, 64):
+        assert at.message(submission(), [IMAGE]) == expected.replace(b"Q1", b"Q%d" % number)
+    full = shown_state(at)
+    assert b'"Status":"Full"' in full[0][0] and len(at.queue.entries) == 64
+    assert at.message(submission(), [IMAGE]) == answer(24, "SubmitQueueEntry")
+    assert shown_state(at) == full
+    assert at.message(message("CloseQueue")) == answer(0, "CloseQueue")
+    assert at.message(submission(), [IMAGE]) == answer(23, "SubmitQueueEntry")
+    assert at.message(message("OpenQueue")) == answer(0, "OpenQueue")
+    assert shown_state(at) == full
+
+
+def test_last_number():
+    at = press.Press()
+    at.queue.last_number = job_queue.GREATEST_NUMBER - 1
+    assert b'"QueueEntryID":"Q18446744073709551615"' in at.message(submission(), [IMAGE])
+    assert at.message(submission(), [IMAGE]) == answer(24, "SubmitQueueEntry")
 
 
 def test_refused_messages():
     at = press.Press()
-    assert code(at.message(submission(Priority=101), [IMAGE])) == 25
-    assert code(at.message(submission(), [IMAGE])) == 0
-    assert code(at.message(message("SetQueueEntryPosition", QueueEntryID="Q1", Position=1))) == 26
-    assert code(at.message(message("HoldQueueEntry", QueueEntryID="Q2"))) == 21
-    assert code(at.message(message("Foo"))) == 5
-    assert at.message(b'{"ID":"m1"}') == b'{"ReturnCode":7,"Type":"","refID":"m1"}'
+    assert at.message(submission(Priority=101), [IMAGE]) == answer(25, "SubmitQueueEntry")
+    assert code(at.message(submission(), [IMAGE])) == code(at.message(submission(), [IMAGE])) == 0
+    before = shown_state(at)
+    for position, expected in [(2, 26), (-1, 26), (1, 0), (0, 0)]:
+        moved = at.message(message("SetQueueEntryPosition", QueueEntryID="Q1", Position=position))
+        assert moved == answer(expected, "SetQueueEntryPosition")
+    assert at.message(message("HoldQueueEntry", QueueEntryID="Q3")) == answer(21, "HoldQueueEntry")
+    assert at.message(message("HoldQueueEntry", QueueEntryID="Q01")) == answer(21, "HoldQueueEntry")
+    assert at.message(message("Foo")) == answer(5, "Foo")
+    assert at.message(b'{"ID":"m1"}') == answer(7, "")
     assert at.message(b"no json") == b'{"ReturnCode":6,"Type":"","refID":""}'
-    assert at.message(b'{"Type":"Foo"}') == b'{"ReturnCode":7,"Type":"Foo","refID":""}'
-    assert at.message(b'{"ID":1,"Type":2}') == b'{"ReturnCode":6,"Type":"","refID":""}'
-    assert code(at.message(message("HoldQueueEntry"))) == 7
-    assert code(at.message(message("HoldQueueEntry", QueueEntryID=1))) == 6
+    assert at.message(b'{"Type":"Foo"}') == answer(7, "Foo", "")
+    assert at.message(b'{"ID":1,"Type":2}') == answer(6, "", "")
+    assert at.message(message("HoldQueueEntry")) == answer(7, "HoldQueueEntry")
+    assert at.message(message("HoldQueueEntry", QueueEntryID=1)) == answer(6, "HoldQueueEntry")
+    assert at.message(message("SetQueueEntryPriority", QueueEntryID=1)) == answer(7, "SetQueueEntryPriority")
     no_image = b'{"Fault":611,"ReturnCode":6,"Type":"SubmitQueueEntry","refID":"m1"}'
     assert at.message(submission()) == no_image
+    assert at.message(submission(Priority=101, changes={"Amount": 0})) == no_image.replace(b"611", b"605")
+    assert shown_state(at) == before
+
+
+def test_press_without_suspension():
+    at = press.Press(suspends=False)
+    at.message(submission(), [IMAGE])
+    at.turn(1, press.Sink())
+    assert at.message(message("SuspendQueueEntry", QueueEntryID="Q1")) == answer(5, "SuspendQueueEntry")
+    assert at.message(message("SuspendQueueEntry")) == answer(5, "SuspendQueueEntry")
+    assert at.queue.entries[0].status == "Running"
 
 
 def test_states_that_messages_show():
@@ -507,7 +547,10 @@ def test_faulty_deliveries():
     at, sink = press.Press(), press.Sink(failing=[1])
     at.message(submission(changes={"Amount": 3}), [IMAGE])
     refused(301, at.turn, 10 ** 6, sink)
-    assert len(sink.delivered) == 1 and at.queue.entries[0].status == "Aborted"
+    (number, sheet), = sink.delivered
+    assert number == 1 and sheet.front.black_dots() == {(75, 0)} and sheet.back is None
+    assert at.queue.entries[0].status == "Aborted" and at.delivered(1) == 1
+    assert at.turn(10 ** 6, sink) == (None, 0) and len(sink.delivered) == 1
     at, sink = press.Press(), press.Sink(failing=[0])
     for _ in range(2):
         at.message(submission(changes={"Amount": 2}), [IMAGE])
@@ -517,6 +560,33 @@ def test_faulty_deliveries():
     assert [number for number, _ in sink.delivered] == [2, 2]
 
 
+def test_turns():
+    at, sink = press.Press(), press.Sink()
+    for _ in range(3):
+        at.message(submission(), [IMAGE])
+    before = shown_state(at)
+    assert at.turn(0, sink) == (None, 0) and shown_state(at) == before
+    at.pause()
+    paused = shown_state(at)
+    assert b'"Status":"Stopped"' in paused[0][1]
+    assert at.turn(5, sink) == (None, 0) and shown_state(at) == paused
+    at.carry_on()
+    at.message(message("HoldQueue"))
+    assert at.turn(5, sink) == (None, 0)
+    at.message(message("ResumeQueue"))
+    steps = len(runs.trace(press.plain_job(at.contexts[1]), viewed=False))
+    assert at.turn(1, sink) == (1, 1)
+    at.message(message("HoldQueue"))
+    assert at.turn(steps - 2, sink) == (1, steps - 2) and at.queue.entries[0].status == "Running"
+    assert at.turn(5, sink) == (1, 1) and at.queue.entries[0].status == "Completed" and at.delivered(1) == 1
+    assert at.turn(5, sink) == (None, 0)
+    at.message(message("ResumeQueue"))
+    assert at.turn(3, sink) == (2, 3)
+    at.abort_running()
+    assert at.queue.entries[1].status == "Aborted" and at.delivered(2) == 0
+    assert at.turn(10 ** 6, sink) == (3, steps) and at.delivered(3) == 1 and at.delivered(4) is None
+
+
 def test_eight_in_flight():
     queue = job_queue.Queue()
     for number in span(1, 8):
@@ -524,12 +594,55 @@ def test_eight_in_flight():
         assert queue.begin().number == number
         if number < 8:
             queue.suspend(number)
+    refused_code(27, queue.suspend, 8)
+    at = press.Press()
+    for number in span(1, 8):
+        at.message(submission(), [IMAGE])
+        assert at.turn(1, press.Sink()) == (number, 1)
+        suspend = message("SuspendQueueEntry", QueueEntryID="Q%d" % number)
+        assert at.message(suspend) == answer(0 if number < 8 else 27, "SuspendQueueEntry")
+
+
+def refused_code(number, call, *arguments):
     try:
-        queue.suspend(8)
+        call(*arguments)
     except job_queue.Refused as fault:
-        assert fault.code == 27
+        assert fault.code == number
     else:
-        raise AssertionError("the ninth context was admitted")
+        raise AssertionError("it was carried out")
+
+
+def session(script, files):
+    """What the lines of a script print, with files of these contents; a file of no content is a folder."""
+    with tempfile.TemporaryDirectory() as place:
+        for name, content in files.items():
+            if content is None:
+                (Path(place) / name).mkdir()
+            else:
+                (Path(place) / name).write_bytes(content)
+        return Lines(press.Press(), place).run(script)
+
+
+def test_lines_of_the_press():
+    files = {"submission": submission(2, changes={"Sides": "TwoSidedHeadToHead", "Amount": 2}), "dot": pbm.bytes_of_rows(["1"]),
+             "other": pbm.bytes_of_rows(["101", "111"]), "single": submission(), "status": message("Status"), "bad": b"P5", "folder": None}
+    accepted = b'{"QueueEntryID":"Q%d","ReturnCode":0,"Type":"SubmitQueueEntry","refID":"m1"}\n'
+    listed = b"Q%d sheet %d %s 2550x3300 black %d\n"
+    twice = b"".join(listed % (1, number, name, black) for number in span(1, 2) for name, black in [(b"front", 1), (b"back", 5)])
+    script = b"turn 1\nmessage submission dot other\nmessage single other\nturn 0\nturn 100000\npause\nturn 7\ncontinue\nturn 100000\nabort"
+    steps = [len(runs.trace(writer.job_of(ticket.ticket_of(press.json.loads(files[name])["Ticket"]), images), viewed=False))
+             for name, images in [("submission", [(1, ["1"]), (3, ["101", "111"])]), ("single", [(3, ["101", "111"])])]]
+    printed = (b"turn - 0\n" + accepted % 1 + accepted % 2 + b"turn - 0\nturn Q1 %d\nok\nturn - 0\nok\nturn Q2 %d\nok\n" % tuple(steps))
+    assert session(script, files) == (0, printed + twice + listed % (2, 1, b"front", 5), b"")
+    assert session(b"", files) == (0, b"", b"")
+    for line in [b"", b" pause", b"pause ", b"turn", b"turn ", b"turn -1", b"turn 1 1", b"turn  1", b"turn 18446744073709551616",
+                 b"turn \xb2", b"message", b"Turn 1", b"\xff", b"ok"]:
+        assert session(line + b"\npause\n", files) == (0, b"what?\nok\n", b"")
+    for line in [b"turn 18446744073709551615", b"turn 000000000000000000000000", b"turn 007"]:
+        assert session(line, files) == (0, b"turn - 0\n", b"")
+    for line, fault in [(b"none", 304), (b"single none", 304), (b"single bad", 111), (b"single dot bad none", 111), (b"folder", 304),
+                        (b"single folder", 114), (b"none bad", 304), (b"status none", 304)]:
+        assert session(b"pause\nmessage " + line + b"\npause\n", files) == (1, b"ok\n", b"fault %d\n" % fault)
 
 
 def test_failed_reply_after_two_sheets():

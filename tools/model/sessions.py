@@ -1,0 +1,350 @@
+"""Random sessions of the press: files of messages and images, and a script of lines.
+
+Most sessions are of any events; some end their jobs by long turns, some fill the queue first, and in some a file is missing or
+is no image, which ends the program.
+"""
+
+import json
+
+from . import ticket
+from .pages import SIZES
+
+MIXED, LONG, FULL, FAULTY = "mixed", "long", "full", "faulty"
+ENTRIES_OF_A_FULL_QUEUE = 64
+
+ENTRY_TYPES = ["HoldQueueEntry", "ResumeQueueEntry", "SuspendQueueEntry", "AbortQueueEntry", "RemoveQueueEntry",
+               "SetQueueEntryPriority", "SetQueueEntryPosition"]
+PLAIN_TYPES = ["QueueStatus", "QueueStatus", "Status", "Status", "Status", "OpenQueue", "OpenQueue", "ResumeQueue", "ResumeQueue",
+               "CloseQueue", "HoldQueue"]
+MANY_STEPS = [7, 20, 40, 60, 100, 200, 1000, 10 ** 6, 2 ** 64 - 1]
+
+NO_JSON = [
+    b"", b" \n", b"{", b"}", b"message", b'{"ID":"m","Type":"Status",}', b"{'ID':'m'}", b"\xff\xfe", b"\xef\xbb\xbf{}",
+    b'{"ID":"\xff","Type":"Status"}', b'{"ID":"\xed\xa0\x80","Type":"Status"}', b'{"ID":"\xc0\x80","Type":"Status"}',
+    b'{"ID":"m","Type":"Status"} x', b'{"ID":"m","Type":"Status"}{}', b'{"ID":"m" "Type":"Status"}', b'{"ID" "m"}',
+    b'{"ID":"a\nb","Type":"Status"}', b'{"ID":"\\x","Type":"Status"}', b'{"ID":"\\ud800","Type":"Status"}',
+    b'{"ID":"\\udc00","Type":"Status"}', b'{"ID":"\\ud800\\u0041","Type":"Status"}', b'{"ID":"\\u12g4","Type":"Status"}',
+    b'{"ID":"m","Type":"Status', b'{"ID":"m","Type":"Status","A":01}', b'{"ID":"m","Type":"Status","A":1.}',
+    b'{"ID":"m","Type":"Status","A":.5}', b'{"ID":"m","Type":"Status","A":+1}', b'{"ID":"m","Type":"Status","A":1e}',
+    b'{"ID":"m","Type":"Status","A":-}', b'{"ID":"m","Type":"Status","A":nul}', b'{"ID":"m","Type":"Status","A":True}',
+    b'{"ID":"m","Type":"Status","A":1e999}', b'{"ID":"m","Type":"Status","A":-1e999}', b'{"ID":"m","Type":"Status","A":NaN}',
+    b'{"ID":"m","Type":"Status","A":[1,]}', b'{"ID":"m",,"Type":"Status"}', b'{1:2}', b'{"ID":"m","Type":"Status"/**/}',
+]
+NO_OBJECT = [b"null", b"[]", b'"x"', b"12", b"-0.5e3", b"true", b'[{"ID":"m","Type":"Status"}]']
+ODD_BUT_LEGAL = [
+    b'{"ID":"a","Type":"Status","ID":"b"}', b'{"Type":"Nothing","ID":"a","Type":"Status"}', b' \r\n\t{ "ID" : "m" , "Type" : "Status" } \n',
+    b'{"ID":"\\u00e9\\/\\b\\f\\n\\r\\t\\"\\\\","Type":"Status"}', b'{"ID":"\\ud83d\\ude00","Type":"Status"}',
+    b'{"ID":"\\u0000\\u001f\\u007f\\u0080","Type":"Status"}', b'{"I\\u0044":"m","Type":"Stat\\u0075s"}',
+    b'{"ID":"m","Type":"Status","A":-0,"B":1e5,"C":123456789012345678901234567890,"D":1e-999,"E":{"":[null,true,false]}}',
+    b'{"ID":"m","Type":"Status","A":' + b"9" * 300 + b"}", b'{"ID":"m","Type":"Status","A":0e999}',
+    b'{"id":"m","ID":"n","type":"x","Type":"Status"}',
+]
+IDS = ["m1", "m2", "", "\u00e9", "\U0001f600", "a\"b\\c/", "\n\t\x01\x1f\x7f", "i" * 300, "Q1"]
+OTHER_KINDS = ["null", "1", "true", "[]", "{}", "1.5"]
+UNKNOWN_TYPES = ["Foo", "", "status", "Status ", "SubmitQueueEntr", "ResubmitQueueEntry", "\u00e9\"", "SuspendQueueEntry"]
+UNKNOWN_ENTRIES = ["Q0", "Q01", "q1", "Q", "", "1", "Q-1", "Q+1", "Q1 ", "Q18446744073709551615", "Q18446744073709551616", "Q" + "1" * 40]
+BAD_WHOLES = ["-1", "101", "255", "256", "4294967296", "9223372036854775807", "9223372036854775808", "-9223372036854775808",
+              "18446744073709551615"]
+NO_WHOLES = ["18446744073709551616", "-9223372036854775809", "1e2", "50.0", "-0", '"50"', "null", "true", "[50]"]
+NO_EVENTS = [
+    b"", b" ", b"turn", b"turn ", b"turn -1", b"turn +1", b"turn 1 ", b"turn  1", b"turn 1.0", b"turn x", b"turn 1e3", b"turn 0x10",
+    b"turn 18446744073709551616", b"turn " + b"9" * 50, b"turn 1\r", b"turn\t1", b"turn \xd9\xa1", b"TURN 1", b"Pause", b"pause ",
+    b" pause", b"pause now", b"continue\r", b"abort 1", b"message", b"messages m", b"what?", b"status", b"step", b"go 1", b"\xff\xfe",
+    b"\x00", b"; pause", b"x" * 3000,
+]
+
+
+def spelled(value):
+    return json.dumps(value)
+
+
+def object_of(members, separators=(",", ":")):
+    """An object of keys and spelled values, in this order."""
+    comma, colon = separators
+    return ("{" + comma.join(spelled(key) + colon + value for key, value in members) + "}").encode()
+
+
+class Maker:
+    """Makes a session; `kind` says which. `files` are by name, and None for a folder."""
+
+    def __init__(self, maker, events):
+        self.maker = maker
+        self.events = events
+        self.files = {}
+        self.lines = []
+        self.submitted = 0
+        self.held = ["Q1"]  # entries that were to be held
+        self.kind = maker.choices([MIXED, LONG, FULL, FAULTY], [70, 14, 6, 10])[0]
+
+    def session(self):
+        if self.kind == FULL:
+            self.fill_queue()
+        place = self.maker.randrange(self.events) if self.kind == FAULTY else None
+        for number in range(self.events):
+            self.lines.append(self.faulty_line() if number == place else self.event())
+        return self
+
+    def script(self):
+        """The last line may lack its LF."""
+        return b"\n".join(self.lines) + (b"" if self.maker.random() < 0.1 and self.lines[-1] else b"\n")
+
+    def pick(self, choices):
+        return self.maker.choice(choices)
+
+    def chance(self, probability):
+        return self.maker.random() < probability
+
+    def file(self, letter, content):
+        """The name of a file of this content; files of equal content are one."""
+        for name, other in self.files.items():
+            if name[0] == letter and other == content:
+                return name
+        name = f"{letter}{len(self.files)}"
+        self.files[name] = content
+        return name
+
+    def message(self, text, images=()):
+        words = [self.file("m", text)] + [self.file("i", image) for image in images]
+        return " ".join(["message", *words]).encode()
+
+    # Events
+
+    def event(self):
+        makers = [self.legal_submission, self.broken_submission, self.entry_command, self.plain_message, self.flush,
+                  self.broken_message, self.turn, self.operator, self.no_event]
+        weights = [18, 7, 22, 12, 0.6, 9, 22, 6, 4]
+        if self.kind == LONG:
+            weights = [16, 2, 8, 6, 0.3, 2, 56, 3, 1]
+        return self.maker.choices(makers, weights)[0]()
+
+    def turn(self):
+        many = str(self.pick(MANY_STEPS))
+        words = ["0", "1", "3", "003", many]
+        return b"turn " + self.maker.choices(words, [2, 4, 4, 1, 30 if self.kind == LONG else 8])[0].encode()
+
+    def operator(self):
+        return self.maker.choices([b"pause", b"continue", b"abort"], [2, 4, 2])[0]
+
+    def no_event(self):
+        return self.pick(NO_EVENTS)
+
+    def faulty_line(self):
+        """A message with a file that is missing, cannot be read, or is no image; or with several of these."""
+        text = self.file("m", self.submission_text(self.members(), []))
+        missing, folder = "none", self.file("d", None)
+        wrong = [self.file("i", broken) for broken in BROKEN_IMAGES]
+        images = self.maker.choices([*wrong, missing, folder, self.file("i", self.image())], k=self.maker.randint(1, 2))
+        first = self.maker.choices([text, missing, folder], [6, 1, 1])[0]
+        return " ".join(["message", first, *images]).encode()
+
+    def fill_queue(self):
+        texts = [(self.submission_text(self.plain_members(), [("Priority", str(priority))] if priority != 50 else []))
+                 for priority in (50, 50, 7, 80)]
+        image = [self.image()]
+        for _ in range(ENTRIES_OF_A_FULL_QUEUE):
+            self.lines.append(self.message(self.pick(texts), image))
+            self.submitted += 1
+        for _ in range(2):
+            self.lines.append(self.message(self.pick(texts), image))
+            self.lines.append(self.message(self.text_of("QueueStatus", [])))
+
+    # Messages
+
+    def text_of(self, kind, members):
+        """A message with texts ID and Type, its keys in any order, and now and then a key that nobody asks for."""
+        message_id = json.dumps(self.pick(IDS[:3] if self.chance(0.8) else IDS), ensure_ascii=self.chance(0.5))
+        members = [("ID", message_id), ("Type", spelled(kind)), *members]
+        if self.chance(0.1):
+            members.append((self.pick(["Comment", "", "Q", "Priorities"]), self.pick(OTHER_KINDS)))
+        self.maker.shuffle(members)
+        return object_of(members, self.pick([(",", ":"), (", ", ": "), ("\n,", "\t:\r")]))
+
+    def plain_message(self):
+        return self.message(self.text_of(self.pick(PLAIN_TYPES), []))
+
+    def flush(self):
+        return self.message(self.text_of("FlushQueue", []))
+
+    def entry_name(self):
+        if self.chance(0.05):
+            return self.pick(UNKNOWN_ENTRIES)
+        last = max(1, self.submitted)
+        least = max(1, last - 6) if self.chance(0.7) else 1
+        return f"Q{self.maker.randint(least, last + self.chance(0.1))}"
+
+    def whole(self, most):
+        pick = self.maker.random()
+        if pick < 0.7:
+            return str(self.maker.randint(0, most))
+        return self.pick([str(most), str(most + 1), *BAD_WHOLES]) if pick < 0.88 else self.pick(NO_WHOLES)
+
+    def entry_command(self):
+        kind = self.maker.choices(ENTRY_TYPES, [6, 6, 2, 4, 3, 5, 5])[0]
+        name = self.pick(self.held[-4:]) if kind == "ResumeQueueEntry" and self.chance(0.7) else self.entry_name()
+        if kind == "HoldQueueEntry":
+            self.held.append(name)
+        members = [("QueueEntryID", spelled(name))]
+        if kind == "SetQueueEntryPriority":
+            members.append(("Priority", self.whole(100)))
+        if kind == "SetQueueEntryPosition":
+            members.append(("Position", self.whole(max(1, self.submitted - 2))))
+        return self.message(self.text_of(kind, self.spoilt(members) if self.chance(0.1) else members))
+
+    def spoilt(self, members):
+        """One of the parameters is absent, or of another kind; or both are."""
+        members = list(members)
+        for place in range(len(members) - 1, -1, -1):
+            pick = self.maker.random()
+            if pick < 0.4:
+                members.pop(place)
+            elif pick < 0.7:
+                members[place] = members[place][0], self.pick(OTHER_KINDS)
+        return members
+
+    def broken_message(self):
+        pick = self.maker.random()
+        if pick < 0.25:
+            return self.message(self.pick(NO_JSON))
+        if pick < 0.32:
+            return self.message(self.pick(NO_OBJECT))
+        if pick < 0.44:
+            return self.message(self.pick(ODD_BUT_LEGAL))
+        if pick < 0.54:
+            return self.message(self.deep_message())
+        if pick < 0.78:
+            return self.message(self.headless_message())
+        named = [("QueueEntryID", spelled(self.entry_name()))]
+        return self.message(self.damaged(self.text_of(self.pick(PLAIN_TYPES + ENTRY_TYPES), named)))
+
+    def deep_message(self):
+        """A value that nests up to, or beyond, the greatest depth."""
+        depth = self.pick([1, 125, 126, 126, 127, 127, 128, 400])
+        value = "[" * depth + "]" * depth if self.chance(0.5) else '{"":' * depth + "0" + "}" * depth
+        return object_of([("ID", '"deep"'), ("Type", '"Status"'), ("X", value)])
+
+    def headless_message(self):
+        """ID or type is absent, of another kind, or of no known name."""
+        members = []
+        for key, known in (("ID", ["m1", ""]), ("Type", ["Status", *UNKNOWN_TYPES])):
+            pick = self.maker.random()
+            if pick < 0.55:
+                members.append((key, spelled(self.pick(known))))
+            elif pick < 0.8:
+                members.append((key, self.pick(OTHER_KINDS)))
+        return object_of(members)
+
+    def damaged(self, text):
+        place = self.maker.randrange(len(text))
+        if self.chance(0.3):
+            return text[:place]
+        return text[:place] + bytes([self.pick(list(b'{}[]":,\\ \x00\x7f\xc3aQ09-.e'))]) + text[place + self.maker.randint(0, 1):]
+
+    # Submissions
+
+    def plain_members(self):
+        return {"Version": "1.5", "Type": "DigitalPrinting", "JobID": "J", "NPage": 1, "Amount": 1}
+
+    def members(self):
+        count = self.pick([1, 1, 1, 2, 2, 3])
+        members = self.plain_members()
+        members |= {"JobID": self.pick(["J", "a job", "~" * 63]), "NPage": count, "Amount": self.pick([1, 1, 1, 2, 3])}
+        if self.chance(0.3):
+            members["RunList"] = [[self.maker.randint(-count, count - 1) for _ in range(2)] for _ in range(self.maker.randint(1, 3))]
+        members["Media"] = self.maker.choices(list(SIZES), [4, 1, 2, 6, 1, 1])[0]
+        if members["Media"] == "Letter" and self.chance(0.5):
+            del members["Media"]
+        if self.chance(0.5):
+            members["Sides"] = self.pick(ticket.SIDES)
+        if self.chance(0.5):
+            members["Collate"] = self.pick([True, False])
+        return members
+
+    def submission_text(self, members, others):
+        """The members of the ticket in any order; a value that is a text of JSON already is of bytes."""
+        names = list(members)
+        self.maker.shuffle(names)
+        values = [members[name] for name in names]
+        texts = [value.decode() if isinstance(value, bytes) else spelled(value) for value in values]
+        return self.text_of("SubmitQueueEntry", [("Ticket", object_of(zip(names, texts)).decode()), *others])
+
+    def legal_submission(self):
+        members = self.members()
+        others = [("Priority", str(self.pick([0, 1, 49, 50, 51, 99, 100])))] if self.chance(0.4) else []
+        images = [self.image() for _ in range(members["NPage"] + self.chance(0.1))]
+        self.submitted += 1
+        return self.message(self.submission_text(members, others), images)
+
+    def broken_submission(self):
+        members, others = self.members(), []
+        images = [self.image() for _ in range(members["NPage"])]
+        pick = self.maker.randrange(9)
+        if pick < 5:
+            self.spoil(members)
+        if pick == 5:
+            images.pop()
+        if pick == 6:
+            place = self.maker.randrange(len(images))
+            images[place] = self.large_image(members.get("Media", "Letter"))
+        if pick == 7 or self.chance(0.2):
+            others = [("Priority", self.pick(BAD_WHOLES + NO_WHOLES))]
+        text = self.submission_text(members, others)
+        if pick == 8:
+            text = self.text_of("SubmitQueueEntry", self.spoilt([("Ticket", self.pick(OTHER_KINDS)), *others]))
+        return self.message(text, images)
+
+    def spoil(self, members):
+        change = self.maker.randrange(8)
+        if change == 0:
+            del members[self.pick(list(members))]
+        elif change == 1:
+            members[self.pick(["Copies", "amount", "", "~", "\u00e9", "Resolution"])] = 1
+        elif change == 2:
+            members[self.pick(list(members))] = self.pick([None, "x", 1.5, [], [[0, 0, 0]], -1, b"-0", b"1e0", b"18446744073709551616"])
+        elif change == 3:
+            members["Type"] = "Folding"
+        elif change == 4:
+            members["NPage"] = self.pick([0, -1, 1000, b"18446744073709551615"])
+        elif change == 5:
+            members["Amount"] = self.pick([0, -1, 10000, b"-9223372036854775808"])
+        elif change == 6:
+            members["RunList"] = self.pick([[[0, 3]], [[-4, 0]], [[0, 0]] * 65, [], [[0, -1]] * 64, [[0]], [[0, 0.5]], [["0", 0]]])
+        else:
+            members["JobID"] = self.pick(["", "J" * 64, "\n", "\u00e9", "\x7f"])
+
+    # Images
+
+    def image(self):
+        """A P4 file of few dots. Rows are like the one above, white, of one byte, or any. Each session has few different ones."""
+        known = [content for name, content in self.files.items() if name[0] == "i" and is_small_image(content)]
+        if len(known) >= 6 and self.chance(0.9):
+            return self.pick(known)
+        width, height = self.maker.randint(1, 70), self.maker.randint(1, 12)
+        row_bytes = (width + 7) // 8
+        rows = []
+        for _ in range(height):
+            pick = self.maker.random()
+            if pick < 0.3 and rows:
+                rows.append(rows[-1])
+            elif pick < 0.6:
+                rows.append(bytes(row_bytes))
+            elif pick < 0.75:
+                rows.append(bytes([self.maker.randrange(256)]) * row_bytes)
+            else:
+                rows.append(self.maker.randbytes(row_bytes))
+        header = self.maker.choices([b"P4\n%d %d\n", b"P4#\r%d# 9 9\n %d\t", b"P4 0%d\n\n#\n#\n00%d "], [8, 1, 1])[0] % (width, height)
+        return header + b"".join(rows) + (b"more" if self.chance(0.1) else b"")
+
+    def large_image(self, media):
+        """As wide or as tall as the logical page, or a dot more, or both."""
+        size = SIZES.get(media, SIZES["Letter"])
+        width = size.width - 2 * size.portrait_offset + self.pick([0, 1, 1])
+        height = size.height + self.pick([0, 1, 1])
+        width, height = self.pick([(width, 1), (width, 1), (1, height), (1, height), (width, height)])
+        return b"P4\n%d %d\n" % (width, height) + bytes((width + 7) // 8 * height)
+
+
+BROKEN_IMAGES = [b"P5\n1 1\n\xff", b"P4 0 1 ", b"P4 16385 1\n", b"P4\n3 1\n", b"", b"P4\n9 2\n\xff\xff\xff", b"P4\n1 x\n", b"P4#"]
+
+
+def is_small_image(content):
+    return len(content) < 200 and content not in BROKEN_IMAGES
