@@ -65,7 +65,8 @@ def object_of(members, separators=(",", ":")):
 
 
 class Maker:
-    """Makes a session; `kind` says which. `files` are by name, and None for a folder."""
+    """Makes a session of so many events, at whose end queue and device are asked for; `kind` says which. `files` are by name,
+    and None for a folder."""
 
     def __init__(self, maker, events):
         self.maker = maker
@@ -82,6 +83,7 @@ class Maker:
         place = self.maker.randrange(self.events) if self.kind == FAULTY else None
         for number in range(self.events):
             self.lines.append(self.faulty_line() if number == place else self.event())
+        self.lines += [self.message(self.text_of(kind, [])) for kind in ("QueueStatus", "Status")]
         return self
 
     def script(self):
@@ -144,8 +146,8 @@ class Maker:
         for _ in range(ENTRIES_OF_A_FULL_QUEUE):
             self.lines.append(self.message(self.pick(texts), image))
             self.submitted += 1
-        for _ in range(2):
-            self.lines.append(self.message(self.pick(texts), image))
+        for text in [texts[0], self.submission_text(self.plain_members(), [("Priority", "101")])]:
+            self.lines.append(self.message(text, image))
             self.lines.append(self.message(self.text_of("QueueStatus", [])))
 
     # Messages
