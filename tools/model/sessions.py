@@ -75,6 +75,7 @@ class Maker:
         self.lines = []
         self.submitted = 0
         self.held = ["Q1"]  # entries that were to be held
+        self.end = b""
         self.kind = maker.choices([MIXED, LONG, FULL, FAULTY], [70, 14, 6, 10])[0]
 
     def session(self):
@@ -84,11 +85,12 @@ class Maker:
         for number in range(self.events):
             self.lines.append(self.faulty_line() if number == place else self.event())
         self.lines += [self.message(self.text_of(kind, [])) for kind in ("QueueStatus", "Status")]
+        self.end = b"" if self.chance(0.1) else b"\n"
         return self
 
     def script(self):
         """The last line may lack its LF."""
-        return b"\n".join(self.lines) + (b"" if self.maker.random() < 0.1 and self.lines[-1] else b"\n")
+        return b"\n".join(self.lines) + self.end
 
     def pick(self, choices):
         return self.maker.choice(choices)
