@@ -47,6 +47,7 @@ mod scanner;
 #[cfg(test)]
 mod sinks;
 #[cfg(test)]
+mod statuses;
 mod stream_tables;
 #[cfg(test)]
 mod streams;
