@@ -7,6 +7,9 @@ pub mod DeltaRowLemmas
 pub mod OverlayLemmas
 pub mod ChangesLemmas
 pub mod EarlyLemmas
+pub mod PickLemmas
+pub mod BoundLemmas
+pub mod CountLemmas
 pub mod EncodingLemmas
 pub mod DeltaEncodingLemmas
 pub mod LawLemmas

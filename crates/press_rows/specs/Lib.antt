@@ -7,3 +7,4 @@ pub mod DeltaRowEncoding
 pub mod Methods
 pub mod Row
 pub mod Encoding
+pub mod LeastLengths

@@ -5,9 +5,9 @@ ghost use Rattle.press_rows.specs.Row.{raster_row};
 ghost use Rattle.press_rows.specs.Encoding.{best_method, encoded, encoding, without_white_end};
 
 use crate::compression::Method;
-use crate::delta_row::{changes_len, write_changes};
-use crate::pack_bits::{packed_len, write_packed};
-use crate::run_length::{run_pairs_len, write_run_pairs};
+use crate::delta_row::{changes_len_within, write_changes};
+use crate::pack_bits::{packed_len_within, write_packed};
+use crate::run_length::{run_pairs_len_within, write_run_pairs};
 use std::alloc::AllocError;
 
 /// Gives the data of a transfer that stands for a row, and its compression method; `seed` is the row
@@ -51,7 +51,7 @@ struct Plan {
 }
 
 /// The method with the shortest data. A white row, and one that equals its seed row, are answered before anything is
-/// measured.
+/// measured; delta rows, which most often win, are measured first, so that the others are given up where they cannot win.
 fn best_plan(row: &[u8], seed: &[u8]) -> Plan
     requires { length seed.now ≡ length row.now }
     ensures method { result.method ≡ best_method row.now seed.now }
@@ -71,17 +71,18 @@ fn best_plan(row: &[u8], seed: &[u8]) -> Plan
             len: 0,
         };
     }
+    let delta = Plan {
+        method: Method::DeltaRow,
+        len: changes_len_within(row, seed, plain.len),
+    };
+    let most = plain.len.min(delta.len);
     let pairs = Plan {
         method: Method::RunLength,
-        len: run_pairs_len(inked),
+        len: run_pairs_len_within(inked, most),
     };
     let packed = Plan {
         method: Method::PackBits,
-        len: packed_len(inked),
-    };
-    let delta = Plan {
-        method: Method::DeltaRow,
-        len: changes_len(row, seed),
+        len: packed_len_within(inked, most),
     };
     shorter_plan(shorter_plan(shorter_plan(plain, pairs), packed), delta)
 }

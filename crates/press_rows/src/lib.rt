@@ -5,6 +5,7 @@
 //! is the row before it, zero at first.
 #![tactic(auto)]
 
+mod bounds;
 mod compression;
 mod decoder;
 mod delta_row;
