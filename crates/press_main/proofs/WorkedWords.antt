@@ -1,7 +1,7 @@
 -- What some words ask for.
 use Rattle.std.specs.Prelude.{◌≡◌, [], ◌∷◌, Some, None, codes, refl}
 use Rattle.clap.proofs.OnLiterals.{clap_on_literals}
-use Rattle.press_main.specs.Words.{Standard, FileNamed, Listed, FilesBy, Disassembled, AssembledTo, JobTo, asked}
+use Rattle.press_main.specs.Words.{Standard, FileNamed, Listed, FilesBy, Answered, Disassembled, AssembledTo, JobTo, asked}
 
 nothing : asked (codes "press" ∷ []) ≡ Some (record { source = Standard; made = Listed })
 nothing = refl
@@ -49,6 +49,14 @@ no_images = refl
 no_job : asked (codes "press" ∷ codes "write" ∷ codes "t" ∷ []) ≡ None
 unfolding clap_on_literals
 no_job = refl
+
+session : asked (codes "press" ∷ codes "press" ∷ []) ≡ Some (record { source = Standard; made = Answered })
+unfolding clap_on_literals
+session = refl
+
+session_of_a_file : asked (codes "press" ∷ codes "press" ∷ codes "a" ∷ []) ≡ None
+unfolding clap_on_literals
+session_of_a_file = refl
 
 other_subcommand : asked (codes "press" ∷ codes "debug" ∷ codes "a" ∷ []) ≡ None
 unfolding clap_on_literals

@@ -1,4 +1,5 @@
 pub mod Assembly
+pub mod EntrySheets
 pub mod Files
 pub mod Jobs
 pub mod Listed

@@ -11,10 +11,12 @@ pub data Source : Type 0 where
   FileNamed : Text → Source
 
 -- What is made of an input: of a stream a listing, files by this template, or its assembly text; of assembly text the file
--- of this name; of a ticket the file of this name, its job with the images of these files.
+-- of this name; of a ticket the file of this name, its job with the images of these files; of lines of events the answers of
+-- a press, and the listing of what it delivered.
 pub data Made : Type 0 where
   Listed : Made
   FilesBy : Text → Made
+  Answered : Made
   Disassembled : Made
   AssembledTo : Text → Made
   JobTo : (name : Text) (images : List Text) → Made
@@ -49,6 +51,10 @@ images_rule = record (new_rule (codes "images")) { action = Some Append }
 abbrev pub write_app : App
 write_app = with_rule (with_rule (with_rule (new_app (codes "write")) (needed_rule (codes "ticket"))) (needed_rule (codes "out"))) images_rule
 
+-- `press` has no words.
+abbrev pub session_app : App
+session_app = new_app (codes "press")
+
 -- the subcommands of the program, one after another
 abbrev pub printing_app : App
 printing_app = with_subcommand (new_app (codes "press")) print_app.top
@@ -59,8 +65,11 @@ assembling_app = with_subcommand printing_app asm_app.top
 abbrev pub disassembling_app : App
 disassembling_app = with_subcommand assembling_app disasm_app.top
 
+abbrev pub writing_app : App
+writing_app = with_subcommand disassembling_app write_app.top
+
 abbrev pub press_app : App
-press_app = with_subcommand disassembling_app write_app.top
+press_app = with_subcommand writing_app session_app.top
 
 -- a flag is set where its value is `true`
 abbrev pub is_set : Text → List Row → Bool
@@ -95,10 +104,16 @@ abbrev pub input_asked : Text → List Row → Option Asked
 input_asked subcommand rows =
     option_and_then (λ name. option_map (λ made. record { source = source_of name; made = made }) (made_by subcommand rows)) (first_of (codes "in") rows)
 
+-- what `press` asks for: the events stand on standard input
+abbrev pub session_asked : Asked
+session_asked = record { source = Standard; made = Answered }
+
 -- what the values of the words of a subcommand ask for
 abbrev pub asked_by : Text → List Row → Option Asked
 asked_by subcommand rows =
-    if bytes_eq subcommand (codes "write") then job_asked rows else input_asked subcommand rows
+    if bytes_eq subcommand (codes "write") then job_asked rows
+    else if bytes_eq subcommand (codes "press") then Some session_asked
+    else input_asked subcommand rows
 
 -- what words ask for in which the command line finds these faults
 abbrev pub asked_without : {K : Type 0} → List K → List Text → Option Asked

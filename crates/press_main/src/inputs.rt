@@ -9,10 +9,10 @@ use std::io::{ErrorKind, Read};
 use thiserror::Error;
 
 /// The most reads of one input.
-const MOST_READS: u32 = u32::MAX;
+pub const MOST_READS: u32 = u32::MAX;
 
 /// How many bytes are read at once.
-const PIECE: usize = 16_384;
+pub const PIECE: usize = 16_384;
 
 /// Why an input was not read to its end.
 #[derive(Debug, Drop, Error)]

@@ -4,6 +4,7 @@ ghost use Rattle.press_main.specs.Listing.{measured_line, sheet_lines, lines_fro
 ghost use Rattle.press_main.specs.Listed.{deliveries_of};
 ghost use Rattle.press_sink.specs.Sending.{sheets_in};
 
+use crate::entry_sheets::EntrySheet;
 use crate::listing_sink::{ListedSheet, ListingSink};
 use crate::measures::Measures;
 use crate::stream::{print_stream, told_status};
@@ -85,4 +86,27 @@ fn list_side<W: Write>(
     let height = measures.height;
     let black = measures.black;
     writeln!(out, "sheet {number} {side} {width}x{height} black {black}")
+}
+
+/// Lists the sides of the sheets of a press's entries, in the order of delivery: each line as `print --list` has it, behind the
+/// ID of the entry.
+pub fn list_entries<W: Write>(out: &mut W, sheets: &[EntrySheet]) -> io::Result<()> {
+    for sheet in sheets {
+        list_entry_sheet(out, sheet)?;
+    }
+    out.flush()
+}
+
+/// Lists the sides of one sheet of an entry.
+fn list_entry_sheet<W: Write>(out: &mut W, sheet: &EntrySheet) -> io::Result<()> {
+    let entry = sheet.sheet.tag;
+    write!(out, "Q{entry} ")?;
+    list_side(out, sheet.number, "front", &sheet.sheet.front)?;
+    match &sheet.sheet.back {
+        Some(back) => {
+            write!(out, "Q{entry} ")?;
+            list_side(out, sheet.number, "back", back)
+        }
+        None => Ok(()),
+    }
 }

@@ -28,7 +28,7 @@ impl ListedSheet {
     ghost use Rattle.press_main.specs.Listed.{delivery_of};
 
     /// What the listing tells of a sheet that is delivered under a tag.
-    fn of(tag: u64, sheet: &Sheet) -> Self
+    pub fn of(tag: u64, sheet: &Sheet) -> Self
         ensures { delivery_of result ≡ record { tag = tag; sheet = sheet.now } }
     {
         let back = match &sheet.back {

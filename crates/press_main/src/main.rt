@@ -3,6 +3,8 @@
 #![tactic(auto)]
 
 mod assembly;
+mod entry_sheets;
+mod event_lines;
 #[cfg(test)]
 mod file_tests;
 mod files;
@@ -13,7 +15,9 @@ mod jobs;
 mod listing;
 mod listing_sink;
 mod measures;
+mod named_inputs;
 mod program;
+mod sessions;
 mod stream;
 #[cfg(test)]
 mod tests;

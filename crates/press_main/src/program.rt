@@ -3,6 +3,8 @@ use crate::files::print_files;
 use crate::inputs::InputError;
 use crate::jobs::{JobFileError, image_in, ticket_in, write_to};
 use crate::listing::print_list;
+use crate::named_inputs::NamedFiles;
+use crate::sessions::press_lines;
 use crate::words::{Input, Output, Refusal, Request, request_of};
 use press_bits::Bitmap;
 use press_units::NO_MEMORY;
@@ -77,6 +79,7 @@ fn print_from<F: Files, R: Read, W: Write + Drop, E: Write>(
     match output {
         Output::Listing => print_list(alloc, reader, &mut out, err),
         Output::Files(template) => print_files(alloc, files, reader, template, out, err).status,
+        Output::Session => press_lines(alloc, &NamedFiles { files }, reader, &mut out, err),
         Output::Text => disasm_bytes(alloc, reader, &mut out, err),
         Output::Assembled(name) => assemble_to(alloc, files, reader, name, err),
         Output::Job(name, images) => match job_to(alloc, files, reader, name, images) {

@@ -2,7 +2,7 @@ ghost use Rattle.std.specs.Prelude.{◌≡◌, ◌↔◌, ◌⊎◌, IfOk, IfErr
 ghost use Rattle.clap.specs.Words.{app_of, rule_of, new_rule, kind_of, first_of, rows_of, found_of, subcommand_of, subcommand_rows_of, fault_of, FailsBy};
 ghost use Rattle.clap.specs.declared.builder.command.Command.TheViews.{out-Command};
 ghost use Rattle.clap.specs.declared.error.kind.ErrorKind.TheVariants.{OutOfMemory};
-ghost use Rattle.press_main.specs.Words.{list_rule, needed_rule, images_rule, print_app, asm_app, disasm_app, write_app, printing_app, assembling_app, disassembling_app, press_app, source_of, made_of, made_by, images_of, job_asked, input_asked, asked_by, asked, is_set};
+ghost use Rattle.press_main.specs.Words.{list_rule, needed_rule, images_rule, print_app, asm_app, disasm_app, write_app, session_app, printing_app, assembling_app, disassembling_app, writing_app, press_app, source_of, made_of, made_by, images_of, job_asked, input_asked, asked_by, asked, is_set};
 ghost use Rattle.press_main.specs.View.{source_seen, made_seen, request_seen, status_of, IsForMemory};
 
 use clap::error::ErrorKind;
@@ -13,7 +13,7 @@ use std::fmt;
 
 /// An example of each subcommand, for help.
 const EXAMPLES: &str =
-    "Examples:\n  press print page.pcl page-%d.pbm\n  press asm page.asm page.pcl\n  press disasm page.pcl\n  press write ticket.json job.prn page-1.pbm page-2.pbm";
+    "Examples:\n  press print page.pcl page-%d.pbm\n  press asm page.asm page.pcl\n  press disasm page.pcl\n  press write ticket.json job.prn page-1.pbm page-2.pbm\n  press press < events.txt";
 
 /// Where an input is read.
 #[derive(Debug, Drop)]
@@ -31,6 +31,8 @@ pub enum Output<'a> {
     Listing,
     /// A file for each side of a stream, by this template.
     Files(&'a str),
+    /// The answers to lines of events, and the listing of the sheets that a press then delivered.
+    Session,
     /// The assembly text of a stream.
     Text,
     /// The file of this name, of the bytes of assembly text.
@@ -45,6 +47,12 @@ pub struct Request<'a> {
     pub input: Input<'a>,
     pub output: Output<'a>,
 }
+
+/// A session with a press.
+const SESSION: Request<'static> = Request {
+    input: Input::Standard,
+    output: Output::Session,
+};
 
 /// Why the words ask for nothing.
 #[derive(Debug, Drop)]
@@ -198,6 +206,16 @@ fn write_command<'a>(alloc: Global) -> Result<Command<'a>, AllocError>
         .arg(images_word(alloc))
 }
 
+/// The subcommand `press`.
+fn press_command<'a>(alloc: Global) -> Command<'a>
+    ensures app { app_of result ≡ session_app }
+    ensures local { (out-Command result).has_globals ≡ false }
+{
+    Command::new(alloc, "press").about(
+        "Runs a press by the events on standard input, and lists its sheets",
+    )
+}
+
 /// The command line with `print` alone.
 fn printing<'a>(alloc: Global) -> Result<Command<'a>, AllocError>
     ensures app { IfOk result (λ command. app_of command ≡ printing_app) }
@@ -225,11 +243,19 @@ fn disassembling<'a>(alloc: Global) -> Result<Command<'a>, AllocError>
     assembling(alloc)?.subcommand(disasm_command(alloc)?)
 }
 
+/// The command line with `print`, `asm`, `disasm` and `write`.
+fn writing<'a>(alloc: Global) -> Result<Command<'a>, AllocError>
+    ensures app { IfOk result (λ command. app_of command ≡ writing_app) }
+    ensures local { IfOk result (λ command. (out-Command command).has_globals ≡ false) }
+{
+    disassembling(alloc)?.subcommand(write_command(alloc)?)
+}
+
 /// The command line that is taken.
 fn command<'a>(alloc: Global) -> Result<Command<'a>, AllocError>
     ensures { IfOk result (λ command. app_of command ≡ press_app) }
 {
-    disassembling(alloc)?.subcommand(write_command(alloc)?)
+    writing(alloc)?.subcommand(press_command(alloc))
 }
 
 /// The matches of words, the program's name among them.
@@ -347,6 +373,8 @@ fn subcommand_request<'a>(
 {
     if subcommand == "write" {
         job_request(alloc, matches)
+    } else if subcommand == "press" {
+        Ok(Some(SESSION))
     } else {
         Ok(input_request(subcommand, matches))
     }

@@ -1,0 +1,207 @@
+//! Sessions with a press: lines of events, and what each is answered.
+use crate::assembly::told;
+use crate::entry_sheets::EntrySheets;
+use crate::event_lines::{LineEvent, event_of, words_of};
+use crate::inputs::{InputError, MOST_READS, PIECE, read_all};
+use crate::jobs::{JobFileError, image_in};
+use crate::listing::list_entries;
+use crate::named_inputs::{NamedInputs, open_named};
+use press_bits::Bitmap;
+use press_core::{Press, TurnError};
+use press_units::NO_MEMORY;
+use std::alloc::{AllocError, Global};
+use std::io::{self, ErrorKind, Read, Write};
+use thiserror::Error;
+
+/// What ends a line.
+const LINE_END: u8 = b'\n';
+
+/// Why a session ended early.
+#[derive(Debug, Drop, Error)]
+pub enum SessionError {
+    /// The file or an image of a message cannot be opened or read, or an image is refused.
+    #[error("{0}")]
+    File(JobFileError),
+    /// A turn had a fault.
+    #[error("{0}")]
+    Turn(#[from] TurnError),
+    /// An answer or the listing cannot be written.
+    #[error("fault output")]
+    Output(io::Error),
+    #[error("{text}", text = NO_MEMORY)]
+    NoMemory(#[from(alloc)] AllocError),
+}
+
+impl From<InputError> for SessionError {
+    fn from(error: InputError) -> SessionError {
+        SessionError::File(JobFileError::Input(error))
+    }
+}
+
+impl From<JobFileError> for SessionError {
+    fn from(error: JobFileError) -> SessionError {
+        SessionError::File(error)
+    }
+}
+
+impl From<io::Error> for SessionError {
+    fn from(error: io::Error) -> SessionError {
+        SessionError::Output(error)
+    }
+}
+
+/// Has a session with a press that has no entries: carries out each line of events that a reader has, writes its answer to
+/// `out`, and at the end of the lines the listing, a line for each side that was delivered. The files of a message are opened
+/// by their names. After a fault, which stands on `err`, no line is carried out, and nothing is listed. The answer is the
+/// status: 0, or 1 after a fault.
+pub fn press_lines<I: NamedInputs, R: Read, W: Write, E: Write>(
+    alloc: Global,
+    inputs: &I,
+    reader: &mut R,
+    out: &mut W,
+    err: &mut E,
+) -> u8 {
+    let mut session = Session::new(alloc);
+    match session.run(inputs, reader, out) {
+        Ok(()) => 0,
+        Err(error) => told(&error, err),
+    }
+}
+
+/// A press, and the sheets that it delivered.
+#[derive(Drop)]
+struct Session {
+    alloc: Global,
+    press: Press,
+    sheets: EntrySheets,
+}
+
+impl Session {
+    /// A session with a press that has no entries.
+    fn new(alloc: Global) -> Self {
+        Session {
+            alloc,
+            press: Press::new(alloc),
+            sheets: EntrySheets::new(alloc),
+        }
+    }
+
+    /// Carries out the lines that a reader has, and lists the sheets. A line is carried out before more is read.
+    fn run<I: NamedInputs, R: Read, W: Write>(
+        &mut self,
+        inputs: &I,
+        reader: &mut R,
+        out: &mut W,
+    ) -> Result<(), SessionError> {
+        let mut piece = [0; PIECE];
+        let mut line = Vec::new(self.alloc);
+        for _ in 0..MOST_READS {
+            match reader.read(&mut piece) {
+                Ok(0) => return self.end(inputs, &line, out),
+                Ok(count) => self.take(inputs, &piece[..count], &mut line, out)?,
+                Err(error) => {
+                    if error.kind() != ErrorKind::Interrupted {
+                        return Err(SessionError::from(InputError::ReadFault));
+                    }
+                }
+            }
+        }
+        Err(SessionError::from(InputError::ReadFault))
+    }
+
+    /// Carries out the lines that end in a piece, and leaves in `line` what stands behind them.
+    fn take<I: NamedInputs, W: Write>(
+        &mut self,
+        inputs: &I,
+        piece: &[u8],
+        line: &mut Vec<u8>,
+        out: &mut W,
+    ) -> Result<(), SessionError> {
+        for byte in piece {
+            if *byte == LINE_END {
+                self.carry_out(inputs, line, out)?;
+                line.clear();
+            } else {
+                line.push(*byte)?;
+            }
+        }
+        Ok(())
+    }
+
+    /// Carries out the last line, if it has no end of its own, and lists the sheets.
+    fn end<I: NamedInputs, W: Write>(
+        &mut self,
+        inputs: &I,
+        line: &[u8],
+        out: &mut W,
+    ) -> Result<(), SessionError> {
+        if !line.is_empty() {
+            self.carry_out(inputs, line, out)?;
+        }
+        list_entries(out, self.sheets.sheets())?;
+        Ok(())
+    }
+
+    /// Carries out a line, and writes its answer.
+    fn carry_out<I: NamedInputs, W: Write>(
+        &mut self,
+        inputs: &I,
+        line: &[u8],
+        out: &mut W,
+    ) -> Result<(), SessionError> {
+        let words = words_of(self.alloc, line)?;
+        match event_of(&words) {
+            Some(LineEvent::Message(file, images)) => self.message(inputs, file, images, out)?,
+            Some(LineEvent::Turn(most)) => self.turn(most, out)?,
+            Some(LineEvent::Operator(command)) => {
+                self.press.operator(command);
+                writeln!(out, "ok")?;
+            }
+            None => writeln!(out, "what?")?,
+        }
+        out.flush()?;
+        Ok(())
+    }
+
+    /// Takes the message of a file, with the images of others, and writes its response.
+    fn message<I: NamedInputs, W: Write>(
+        &mut self,
+        inputs: &I,
+        file: &[u8],
+        images: &[&[u8]],
+        out: &mut W,
+    ) -> Result<(), SessionError> {
+        let mut input = open_named(inputs, file)?;
+        let text = read_all(self.alloc, &mut input)?;
+        let images = images_named(self.alloc, inputs, images)?;
+        let response = self.press.message(&text, &images)?;
+        out.write_all(&response)?;
+        out.write_all(&[LINE_END])?;
+        Ok(())
+    }
+
+    /// Takes a turn, and writes what it did.
+    fn turn<W: Write>(&mut self, most: u64, out: &mut W) -> Result<(), SessionError> {
+        let turn = self.press.turn(most, &mut self.sheets)?;
+        let steps = turn.steps;
+        match turn.entry {
+            Some(number) => writeln!(out, "turn Q{number} {steps}")?,
+            None => writeln!(out, "turn - {steps}")?,
+        }
+        Ok(())
+    }
+}
+
+/// The images of the inputs of these names, each of which is opened when the one before it is read.
+fn images_named<I: NamedInputs>(
+    alloc: Global,
+    inputs: &I,
+    names: &[&[u8]],
+) -> Result<Vec<Bitmap>, JobFileError> {
+    let mut images = Vec::new(alloc);
+    for name in names {
+        let mut input = open_named(inputs, name)?;
+        images.push(image_in(alloc, &mut input)?)?;
+    }
+    Ok(images)
+}
