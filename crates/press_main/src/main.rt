@@ -17,6 +17,8 @@ mod listing_sink;
 mod measures;
 mod named_inputs;
 mod program;
+#[cfg(test)]
+mod session_tests;
 mod sessions;
 mod stream;
 #[cfg(test)]

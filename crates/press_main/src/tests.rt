@@ -6,10 +6,10 @@ use std::test::Fail;
 
 /// A reader that is interrupted once, gives its bytes one at a time, and then fails or ends.
 #[derive(Drop)]
-struct Reluctant<'a> {
-    bytes: &'a [u8],
-    interrupted: bool,
-    fails: bool,
+pub struct Reluctant<'a> {
+    pub bytes: &'a [u8],
+    pub interrupted: bool,
+    pub fails: bool,
 }
 
 impl Read for Reluctant<'_> {
@@ -56,10 +56,10 @@ fn a_failed_read_is_told_after_what_came_before_it(rt: HostRuntime) -> Result<()
 
 /// A writer that hands its bytes on only where it is flushed, and may fail there.
 #[derive(Drop)]
-struct Held {
-    bytes: Vec<u8>,
-    flushed: usize,
-    fails: bool,
+pub struct Held {
+    pub bytes: Vec<u8>,
+    pub flushed: usize,
+    pub fails: bool,
 }
 
 impl Write for Held {
