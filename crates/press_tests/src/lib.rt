@@ -54,4 +54,6 @@ mod streams;
 #[cfg(test)]
 mod tickets;
 #[cfg(test)]
+mod turns;
+#[cfg(test)]
 mod values;
