@@ -1,5 +1,7 @@
+mod EntryLines
 mod JobLemmas
 pub mod Lines
+mod NumberingLemmas
 pub mod PrintedLemmas
 mod WordsLemmas
 pub mod WorkedWords

@@ -1,10 +1,12 @@
 pub mod Assembly
+pub mod EntryListing
 pub mod EntrySheets
 pub mod Files
 pub mod Jobs
 pub mod Listed
 pub mod Listing
 pub mod Measured
+pub mod Numbering
 pub mod Printing
 pub mod View
 pub mod Words

@@ -1,8 +1,12 @@
 //! The sheets of the entries of a press, of which the listing keeps what it tells.
+ghost use Rattle.std.specs.Prelude.{◌≡◌, ℕ, [], map, nat_eq, unwrap_or};
+ghost use Rattle.std.specs.Map.{lookup};
+ghost use Rattle.press_main.specs.Numbering.{count_of, numbers_after};
+
 use crate::listing_sink::ListedSheet;
 use indexmap::IndexMap;
 use press_sink::{Sheet, SheetSink, SinkError};
-use std::alloc::Global;
+use std::alloc::{AllocError, Global};
 
 /// What the listing tells of a sheet, and its number among the sheets of its entry, from 1.
 #[derive(Drop)]
@@ -18,11 +22,21 @@ pub struct EntrySheets {
     /// How many sheets each entry delivered.
     counts: IndexMap<u64, usize>,
     sheets: Vec<EntrySheet>,
+    ghost numbered: { map (λ one. one.number) sheets.items
+        ≡ numbers_after [] (map (λ one. one.sheet.tag) sheets.items) },
+    ghost counted: { (entry : ℕ) → unwrap_or (lookup (nat_eq entry) counts.entries) 0
+        ≡ count_of entry (map (λ one. one.sheet.tag) sheets.items) },
 }
 
 impl EntrySheets {
+    ghost use Rattle.std.specs.Prelude.{◌++◌, ◌∷◌, OnOk, OnErr};
+    ghost use Rattle.press_main.specs.EntrySheets.{kept, entries_of, numbers_of, entry_deliveries_of};
+    ghost use Rattle.press_main.specs.Listed.{delivery_of};
+
     /// A sink that took nothing yet.
-    pub fn new(alloc: Global) -> Self {
+    pub fn new(alloc: Global) -> Self
+        ensures { kept result ≡ [] }
+    {
         EntrySheets {
             counts: IndexMap::new(alloc),
             sheets: Vec::new(alloc),
@@ -30,8 +44,31 @@ impl EntrySheets {
     }
 
     /// What it kept of the sheets that it took, in the order of delivery.
-    pub fn sheets(&self) -> &[EntrySheet] {
+    pub fn sheets(&self) -> &[EntrySheet]
+        ensures sheets { result.now ≡ kept self.now }
+        ensures numbers { numbers_of result.now ≡ numbers_after [] (entries_of result.now) }
+    {
         &self.sheets
+    }
+
+    /// How many sheets an entry delivered.
+    fn delivered(&self, entry: u64) -> usize
+        ensures { result ≡ count_of entry (entries_of (kept self.now)) }
+    {
+        self.counts.get(&entry).copied().unwrap_or(0)
+    }
+
+    /// Keeps what the listing tells of a sheet, under the next number of its entry.
+    fn keep(&mut self, sheet: ListedSheet) -> Result<(), AllocError>
+        ensures ok { OnOk result (entry_deliveries_of (kept self.new)
+            ≡ entry_deliveries_of (kept self.old) ++ delivery_of sheet ∷ []) }
+        ensures err { OnErr result (kept self.new ≡ kept self.old) }
+    {
+        self.sheets.reserve(1)?;
+        let number = self.delivered(sheet.tag) + 1;
+        self.counts.insert(sheet.tag, number)?;
+        self.sheets.push(EntrySheet { number, sheet })?;
+        Ok(())
     }
 }
 
@@ -46,17 +83,7 @@ impl SheetSink for EntrySheets {
     }
 
     fn deliver(&mut self, tag: u64, sheet: &Sheet) -> Result<(), SinkError> {
-        let delivered = self.counts.get(&tag).copied().unwrap_or(0);
-        let number = delivered.saturating_add(1);
-        self.sheets.reserve(1).map_err(|_| SinkError::NoMemory)?;
-        self.counts
-            .insert(tag, number)
-            .map_err(|_| SinkError::NoMemory)?;
-        self.sheets
-            .push(EntrySheet {
-                number,
-                sheet: ListedSheet::of(tag, sheet),
-            })
+        self.keep(ListedSheet::of(tag, sheet))
             .map_err(|_| SinkError::NoMemory)
     }
 }

@@ -2,9 +2,11 @@ ghost use Rattle.std.specs.Prelude.{◌≡◌, ◌≤◌, ◌++◌, IfSome, OnOk
 ghost use Rattle.std.specs.Io.KnownBytes.{Appends};
 ghost use Rattle.press_main.specs.Listing.{measured_line, sheet_lines, lines_from, Lists};
 ghost use Rattle.press_main.specs.Listed.{deliveries_of};
+ghost use Rattle.press_main.specs.EntryListing.{entry_mark, entry_measured_line, entry_sheet_lines, entry_lines, entry_listing};
+ghost use Rattle.press_main.specs.EntrySheets.{kept, entry_deliveries_of};
 ghost use Rattle.press_sink.specs.Sending.{sheets_in};
 
-use crate::entry_sheets::EntrySheet;
+use crate::entry_sheets::{EntrySheet, EntrySheets};
 use crate::listing_sink::{ListedSheet, ListingSink};
 use crate::measures::Measures;
 use crate::stream::{print_stream, told_status};
@@ -88,9 +90,20 @@ fn list_side<W: Write>(
     writeln!(out, "sheet {number} {side} {width}x{height} black {black}")
 }
 
-/// Lists the sides of the sheets of a press's entries, in the order of delivery: each line as `print --list` has it, behind the
-/// ID of the entry.
-pub fn list_entries<W: Write>(out: &mut W, sheets: &[EntrySheet]) -> io::Result<()> {
+/// Lists the sides of the sheets that a press delivered, in the order of delivery: each line as `print --list` has it, behind the
+/// ID of the entry, and with the number of the sheet among those of the entry.
+pub fn list_delivered<W: Write>(out: &mut W, sheets: &EntrySheets) -> io::Result<()>
+    ensures { OnOk result (Appends (W.contents out.old) (W.contents out.new)
+        (entry_listing (entry_deliveries_of (kept sheets.now)))) }
+{
+    list_entries(out, sheets.sheets())
+}
+
+/// Lists the sides of sheets of entries.
+fn list_entries<W: Write>(out: &mut W, sheets: &[EntrySheet]) -> io::Result<()>
+    ensures { OnOk result (Appends (W.contents out.old) (W.contents out.new)
+        (entry_lines sheets.now)) }
+{
     for sheet in sheets {
         list_entry_sheet(out, sheet)?;
     }
@@ -98,15 +111,37 @@ pub fn list_entries<W: Write>(out: &mut W, sheets: &[EntrySheet]) -> io::Result<
 }
 
 /// Lists the sides of one sheet of an entry.
-fn list_entry_sheet<W: Write>(out: &mut W, sheet: &EntrySheet) -> io::Result<()> {
+fn list_entry_sheet<W: Write>(out: &mut W, sheet: &EntrySheet) -> io::Result<()>
+    ensures { OnOk result (Appends (W.contents out.old) (W.contents out.new)
+        (entry_sheet_lines sheet.now.sheet.tag sheet.now.number sheet.now.sheet.sheet.value)) }
+{
     let entry = sheet.sheet.tag;
-    write!(out, "Q{entry} ")?;
-    list_side(out, sheet.number, "front", &sheet.sheet.front)?;
+    list_entry_side(out, entry, sheet.number, "front", &sheet.sheet.front)?;
     match &sheet.sheet.back {
-        Some(back) => {
-            write!(out, "Q{entry} ")?;
-            list_side(out, sheet.number, "back", back)
-        }
+        Some(back) => list_entry_side(out, entry, sheet.number, "back", back),
         None => Ok(()),
     }
+}
+
+/// Writes the line of one side of a sheet of an entry.
+fn list_entry_side<W: Write>(
+    out: &mut W,
+    entry: u64,
+    number: usize,
+    side: &str,
+    measures: &Measures,
+) -> io::Result<()>
+    ensures { OnOk result (Appends (W.contents out.old) (W.contents out.new)
+        (entry_measured_line entry number side.now measures.now)) }
+{
+    write_entry(out, entry)?;
+    list_side(out, number, side, measures)
+}
+
+/// Writes the ID of an entry, and a space.
+fn write_entry<W: Write>(out: &mut W, entry: u64) -> io::Result<()>
+    ensures { OnOk result (Appends (W.contents out.old) (W.contents out.new)
+        (entry_mark entry)) }
+{
+    write!(out, "Q{entry} ")
 }

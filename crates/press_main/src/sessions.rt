@@ -4,7 +4,7 @@ use crate::entry_sheets::EntrySheets;
 use crate::event_lines::{LineEvent, event_of, words_of};
 use crate::inputs::{InputError, MOST_READS, PIECE, read_all};
 use crate::jobs::{JobFileError, image_in};
-use crate::listing::list_entries;
+use crate::listing::list_delivered;
 use crate::named_inputs::{NamedInputs, open_named};
 use press_bits::Bitmap;
 use press_core::{Press, TurnError};
@@ -138,7 +138,7 @@ impl Session {
         if !line.is_empty() {
             self.carry_out(inputs, line, out)?;
         }
-        list_entries(out, self.sheets.sheets())?;
+        list_delivered(out, &self.sheets)?;
         Ok(())
     }
 
