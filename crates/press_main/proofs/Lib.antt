@@ -3,5 +3,6 @@ mod JobLemmas
 pub mod Lines
 mod NumberingLemmas
 pub mod PrintedLemmas
+mod SessionLemmas
 mod WordsLemmas
 pub mod WorkedWords

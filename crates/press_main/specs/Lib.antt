@@ -8,5 +8,6 @@ pub mod Listing
 pub mod Measured
 pub mod Numbering
 pub mod Printing
+pub mod Sessions
 pub mod View
 pub mod Words

@@ -1,4 +1,8 @@
 //! Sessions with a press: lines of events, and what each is answered.
+ghost use Rattle.std.specs.Prelude.{◌≡◌, ◌≤◌, ◌++◌, ◌∷◌, [], OnOk};
+ghost use Rattle.std.specs.Io.KnownBytes.{Appends};
+ghost use Rattle.press_main.specs.Sessions.{turn_text, GoesOn, Ends, Plays, delivered_by};
+
 use crate::assembly::told;
 use crate::entry_sheets::EntrySheets;
 use crate::event_lines::{LineEvent, event_of, words_of};
@@ -7,7 +11,7 @@ use crate::jobs::{JobFileError, image_in};
 use crate::listing::list_delivered;
 use crate::named_inputs::{NamedInputs, open_named};
 use press_bits::Bitmap;
-use press_core::{Press, TurnError};
+use press_core::{OperatorCommand, Press, Turn, TurnError};
 use press_units::NO_MEMORY;
 use std::alloc::{AllocError, Global};
 use std::io::{self, ErrorKind, Read, Write};
@@ -60,7 +64,10 @@ pub fn press_lines<I: NamedInputs, R: Read, W: Write, E: Write>(
     reader: &mut R,
     out: &mut W,
     err: &mut E,
-) -> u8 {
+) -> u8
+    ensures status { result ≤ 1 }
+    ensures plays { result ≡ 0 → Plays (W.contents out.old) (W.contents out.new) }
+{
     let mut session = Session::new(alloc);
     match session.run(inputs, reader, out) {
         Ok(()) => 0,
@@ -77,8 +84,13 @@ struct Session {
 }
 
 impl Session {
+    ghost use Rattle.press_core.specs.World.{empty_world};
+
     /// A session with a press that has no entries.
-    fn new(alloc: Global) -> Self {
+    fn new(alloc: Global) -> Self
+        ensures press { result.press ≡ empty_world }
+        ensures delivered { delivered_by result ≡ [] }
+    {
         Session {
             alloc,
             press: Press::new(alloc),
@@ -92,7 +104,10 @@ impl Session {
         inputs: &I,
         reader: &mut R,
         out: &mut W,
-    ) -> Result<(), SessionError> {
+    ) -> Result<(), SessionError>
+        ensures { OnOk result (Ends self.old.press (delivered_by self.old)
+            (W.contents out.old) (W.contents out.new)) }
+    {
         let mut piece = [0; PIECE];
         let mut line = Vec::new(self.alloc);
         for _ in 0..MOST_READS {
@@ -116,7 +131,9 @@ impl Session {
         piece: &[u8],
         line: &mut Vec<u8>,
         out: &mut W,
-    ) -> Result<(), SessionError> {
+    ) -> Result<(), SessionError>
+        ensures { OnOk result (GoesOn self.old (W.contents out.old) self.new (W.contents out.new)) }
+    {
         for byte in piece {
             if *byte == LINE_END {
                 self.carry_out(inputs, line, out)?;
@@ -134,33 +151,56 @@ impl Session {
         inputs: &I,
         line: &[u8],
         out: &mut W,
-    ) -> Result<(), SessionError> {
-        if !line.is_empty() {
-            self.carry_out(inputs, line, out)?;
+    ) -> Result<(), SessionError>
+        ensures { OnOk result (Ends self.old.press (delivered_by self.old)
+            (W.contents out.old) (W.contents out.new)) }
+    {
+        if line.is_empty() {
+            return self.list(out);
         }
+        self.carry_out(inputs, line, out)?;
+        self.list(out)
+    }
+
+    /// Lists the sheets.
+    fn list<W: Write>(&self, out: &mut W) -> Result<(), SessionError>
+        ensures { OnOk result (Ends self.now.press (delivered_by self.now)
+            (W.contents out.old) (W.contents out.new)) }
+    {
         list_delivered(out, &self.sheets)?;
         Ok(())
     }
 
-    /// Carries out a line, and writes its answer.
+    /// Carries out a line, and has its answer written.
     fn carry_out<I: NamedInputs, W: Write>(
         &mut self,
         inputs: &I,
         line: &[u8],
         out: &mut W,
-    ) -> Result<(), SessionError> {
-        let words = words_of(self.alloc, line)?;
-        match event_of(&words) {
-            Some(LineEvent::Message(file, images)) => self.message(inputs, file, images, out)?,
-            Some(LineEvent::Turn(most)) => self.turn(most, out)?,
-            Some(LineEvent::Operator(command)) => {
-                self.press.operator(command);
-                writeln!(out, "ok")?;
-            }
-            None => writeln!(out, "what?")?,
-        }
+    ) -> Result<(), SessionError>
+        ensures { OnOk result (GoesOn self.old (W.contents out.old) self.new (W.contents out.new)) }
+    {
+        self.answer(inputs, line, out)?;
         out.flush()?;
         Ok(())
+    }
+
+    /// Carries out a line, and writes its answer.
+    fn answer<I: NamedInputs, W: Write>(
+        &mut self,
+        inputs: &I,
+        line: &[u8],
+        out: &mut W,
+    ) -> Result<(), SessionError>
+        ensures { OnOk result (GoesOn self.old (W.contents out.old) self.new (W.contents out.new)) }
+    {
+        let words = words_of(self.alloc, line)?;
+        match event_of(&words) {
+            Some(LineEvent::Message(file, images)) => self.message(inputs, file, images, out),
+            Some(LineEvent::Turn(most)) => self.turn(most, out),
+            Some(LineEvent::Operator(command)) => self.operate(command, out),
+            None => self.ask(out),
+        }
     }
 
     /// Takes the message of a file, with the images of others, and writes its response.
@@ -170,25 +210,65 @@ impl Session {
         file: &[u8],
         images: &[&[u8]],
         out: &mut W,
-    ) -> Result<(), SessionError> {
+    ) -> Result<(), SessionError>
+        ensures { OnOk result (GoesOn self.old (W.contents out.old) self.new (W.contents out.new)) }
+    {
         let mut input = open_named(inputs, file)?;
         let text = read_all(self.alloc, &mut input)?;
         let images = images_named(self.alloc, inputs, images)?;
         let response = self.press.message(&text, &images)?;
-        out.write_all(&response)?;
-        out.write_all(&[LINE_END])?;
+        write_line(out, &response)?;
         Ok(())
     }
 
     /// Takes a turn, and writes what it did.
-    fn turn<W: Write>(&mut self, most: u64, out: &mut W) -> Result<(), SessionError> {
+    fn turn<W: Write>(&mut self, most: u64, out: &mut W) -> Result<(), SessionError>
+        ensures { OnOk result (GoesOn self.old (W.contents out.old) self.new (W.contents out.new)) }
+    {
         let turn = self.press.turn(most, &mut self.sheets)?;
-        let steps = turn.steps;
-        match turn.entry {
-            Some(number) => writeln!(out, "turn Q{number} {steps}")?,
-            None => writeln!(out, "turn - {steps}")?,
-        }
+        write_turn(out, turn)?;
         Ok(())
+    }
+
+    /// Carries out a command of the operator, and writes that it was.
+    fn operate<W: Write>(
+        &mut self,
+        command: OperatorCommand,
+        out: &mut W,
+    ) -> Result<(), SessionError>
+        ensures { OnOk result (GoesOn self.old (W.contents out.old) self.new (W.contents out.new)) }
+    {
+        self.press.operator(command);
+        write_line(out, b"ok")?;
+        Ok(())
+    }
+
+    /// Asks what a line means that is no event.
+    fn ask<W: Write>(&self, out: &mut W) -> Result<(), SessionError>
+        ensures { OnOk result (GoesOn self.now (W.contents out.old) self.now (W.contents out.new)) }
+    {
+        write_line(out, b"what?")?;
+        Ok(())
+    }
+}
+
+/// Writes a line.
+fn write_line<W: Write>(out: &mut W, text: &[u8]) -> io::Result<()>
+    ensures { OnOk result (Appends (W.contents out.old) (W.contents out.new) (text.now ++ 10 ∷ [])) }
+{
+    out.write_all(text)?;
+    out.write_all(&[LINE_END])
+}
+
+/// Writes what a turn did.
+fn write_turn<W: Write>(out: &mut W, turn: Turn) -> io::Result<()>
+    ensures { OnOk result (Appends (W.contents out.old) (W.contents out.new)
+        (turn_text turn.entry turn.steps)) }
+{
+    let steps = turn.steps;
+    match turn.entry {
+        Some(number) => writeln!(out, "turn Q{number} {steps}"),
+        None => writeln!(out, "turn - {steps}"),
     }
 }
 
