@@ -43,10 +43,6 @@ Goes-then world middle last had between has old written new first second = recor
   written = subst (λ (all : List ℕ). Appends old new all) (sym (answers-join first.lines second.lines)) (Appends-trans old written new _ _ first.written second.written);
 }
 
--- no line
-pub Goes-nil : (world : World) (had : List Delivery) (old new : Option (List ℕ)) → Appends old new [] → Goes world had old world had new
-Goes-nil world had old new written = record { lines = []; leads = refl; handed = sym (append-nil had); written = written }
-
 -- a line that is no event
 pub Goes-none : (world : World) (had : List Delivery) (old new : Option (List ℕ)) → Appends old new (line_text None) → Goes world had old world had new
 Goes-none world had old new written = record {
@@ -86,15 +82,6 @@ Ends-then world middle had between old written new first second =
           ∙ ap (λ (all : List Delivery). answers_to first.lines ++ (answers_to second.lines ++ entry_listing all)) joined))
           (Appends-trans old written new _ _ first.written second.written);
     }
-
--- the listing
-pub Ends-listing : (world : World) (had : List Delivery) (old new : Option (List ℕ)) → Appends old new (entry_listing had) → Ends world had old new
-Ends-listing world had old new written = record {
-  lines = [];
-  last = world;
-  leads = refl;
-  written = subst (λ (all : List Delivery). Appends old new (entry_listing all)) (sym (append-nil had)) written;
-}
 
 -- what a sink tells that tells its list
 pub same_deliveries : (has had handed : List Delivery) → Some has ≡ option_map (λ (all : List Delivery). all ++ handed) (Some had) → has ≡ had ++ handed
