@@ -1,5 +1,4 @@
-use Rattle.std.proofs.Common.{◌≡◌, List, ◌++◌, Result, Ok, Some, subst}
-use Rattle.press_sink.specs.declared.sheet.Delivery.{Delivery}
+use Rattle.std.proofs.Common.{Result, Ok, subst}
 use Rattle.press_core.specs.declared.turn.Turn.{Turn}
 use Rattle.press_core.specs.declared.turn.TurnError.{TurnError}
 use Rattle.press_core.specs.Events.{TurnOf, Turned}
