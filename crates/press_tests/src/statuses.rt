@@ -154,6 +154,24 @@ fn messages_of_the_queue_in_each_status(rt: HostRuntime) -> Result<(), Fail> {
 }
 
 #[test]
+fn messages_of_a_full_queue(rt: HostRuntime) -> Result<(), Fail> {
+    let mut press = Press::new(rt.alloc());
+    for _ in 0..64 {
+        answer(&mut press, rt.alloc(), "SubmitQueueEntry", SUBMIT)?;
+    }
+    let told = answer(&mut press, rt.alloc(), "QueueStatus", "")?;
+    assert!(rt; has(&told, "\"Status\":\"Waiting\"}],\"Status\":\"Full\"}"));
+    for type_name in &["Status", "HoldQueue", "ResumeQueue"] {
+        assert!(rt; answers_with(&mut press, rt.alloc(), (type_name, ""), 0)?);
+    }
+    assert!(rt; answers_with(&mut press, rt.alloc(), ("SubmitQueueEntry", SUBMIT), 24)?);
+    assert!(rt; answers_with(&mut press, rt.alloc(), ("HoldQueueEntry", ENTRY), 0)?);
+    assert!(rt; answers_with(&mut press, rt.alloc(), ("RemoveQueueEntry", ENTRY), 0)?);
+    assert!(rt; answers_with(&mut press, rt.alloc(), ("SubmitQueueEntry", SUBMIT), 0)?);
+    Ok(())
+}
+
+#[test]
 fn a_held_queue_begins_no_entry_and_goes_on_with_one(rt: HostRuntime) -> Result<(), Fail> {
     let mut press = press_on(rt.alloc(), Way::Steps(0))?;
     let mut sheets = ListSink::new(rt.alloc());

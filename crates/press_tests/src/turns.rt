@@ -2,44 +2,60 @@
 use press_bits::Bitmap;
 use press_core::{DeviceStatus, Press, Turn, TurnError};
 use press_sink::{FuseSink, ListSink, SheetSink};
+use std::alloc::Global;
 use std::test::Fail;
 
 /// The submission of three copies of a page.
 const SUBMIT: &[u8] = br#"{"ID":"m","Type":"SubmitQueueEntry","Ticket":
 {"Amount":3,"JobID":"J","NPage":1,"Type":"DigitalPrinting","Version":"1.5"}}"#;
 
+/// A press with two entries.
+fn press_of_two(alloc: Global) -> Result<Press, Fail> {
+    let mut press = Press::new(alloc);
+    let mut images = Vec::new(alloc);
+    images.push(Bitmap::blank(alloc, 8, 1)?)?;
+    press.message(SUBMIT, &images)?;
+    press.message(SUBMIT, &images)?;
+    Ok(press)
+}
+
+/// A turn of all steps, with a sink that can have one fault more.
+fn whole_turn(press: &mut Press, sink: &mut FuseSink<ListSink>) -> Result<Turn, TurnError> {
+    if sink.faults() == u64::MAX {
+        return Err(TurnError::NoMemory);
+    }
+    press.turn(u64::MAX, sink)
+}
+
+/// The tags under which a sink took its sheets.
+fn tags_of(alloc: Global, sink: &FuseSink<ListSink>) -> Result<Vec<u64>, Fail> {
+    let mut tags = Vec::new(alloc);
+    for delivery in sink.sink().deliveries() {
+        tags.push(delivery.tag)?;
+    }
+    Ok(tags)
+}
+
 #[test]
 fn a_fault_of_the_sink_aborts_its_entry_alone(rt: HostRuntime) -> Result<(), Fail> {
-    let mut press = Press::new(rt.alloc());
-    let mut images = Vec::new(rt.alloc());
-    images.push(Bitmap::blank(rt.alloc(), 8, 1)?)?;
-    press.message(SUBMIT, &images)?;
-    press.message(SUBMIT, &images)?;
+    let mut press = press_of_two(rt.alloc())?;
     let mut sink = FuseSink::new(ListSink::new(rt.alloc()), 1);
-    let stopped = press.turn(u64::MAX, &mut sink);
+    let stopped = whole_turn(&mut press, &mut sink);
     assert!(rt; matches!(&stopped, Err(TurnError::SinkFault)));
-    assert_eq!(rt; sink.sink().deliveries().len(), 1);
-    assert_eq!(rt;
-        (press.delivered(1), press.delivered(2)),
-        (Some(1), Some(0))
-    );
+    let counts = (press.delivered(1), press.delivered(2));
+    assert_eq!(rt; counts, (Some(1), Some(0)));
     assert_eq!(rt; press.status().status, DeviceStatus::Idle);
-    if sink.faults() != 1 {
-        return Err(Fail::from("faults"));
-    }
+    let turn = whole_turn(&mut press, &mut sink).ok().ok_or("a fault")?;
     // sixteen commands, none for a white row, and the exit that is added
     let whole = Turn {
         entry: Some(2),
         steps: 17,
     };
-    let turn = press.turn(u64::MAX, &mut sink).ok().ok_or("a fault")?;
     assert_eq!(rt; turn, whole);
-    assert_eq!(rt;
-        (press.delivered(1), press.delivered(2)),
-        (Some(1), Some(3))
-    );
-    for (delivery, number) in sink.sink().deliveries().iter().zip([1, 2, 2, 2]) {
-        assert_eq!(rt; delivery.tag, number);
-    }
+    let counts = (press.delivered(1), press.delivered(2));
+    assert_eq!(rt; counts, (Some(1), Some(3)));
+    let tags = tags_of(rt.alloc(), &sink)?;
+    assert_eq!(rt; tags.as_slice(), [1, 2, 2, 2].as_slice());
+    assert_eq!(rt; sink.faults(), 1);
     Ok(())
 }
