@@ -82,9 +82,12 @@ fn answer(
 
 /// Whether an answer has this text somewhere.
 fn has(answer: &[u8], text: &str) -> bool {
-    answer
-        .windows(text.len())
-        .any(|part| part == text.as_bytes())
+    for start in 0..answer.len() {
+        if answer[start..].starts_with(text.as_bytes()) {
+            return true;
+        }
+    }
+    false
 }
 
 /// Whether a message is answered with this return code.
