@@ -6,15 +6,18 @@ ghost use Rattle.press_pbm.specs.Spelling.{header_of, line_bytes, file_of, Appen
 use crate::fault::WritePbmError;
 use itoa::Buffer;
 use press_bits::Bitmap;
-use std::io::{ErrorKind, Write};
+use std::io::{self, ErrorKind, Write};
 
-/// The most writes of one text.
+/// The most writes of one list of bytes.
 const MOST_WRITES: u32 = u32::MAX;
 
-/// Writes all the bytes, or a front of them.
-fn write_bytes<W: Write>(output: &mut W, bytes: &[u8]) -> Result<(), WritePbmError>
-    ensures written { Writes result (W.contents output.old) (W.contents output.new) bytes.now }
-    ensures bytes { (i : ℕ) → slice_index bytes.now i < 256 }
+/// Writes all the bytes, or a front of them where a write failed. The `write_all` of std does not say what was written then.
+///
+/// # Errors
+///
+/// Where a write failed, or took nothing, or there were more than 4,294,967,295. An interrupted one is made again.
+pub fn write_whole<W: Write>(output: &mut W, bytes: &[u8]) -> io::Result<()>
+    ensures { Writes result (W.contents output.old) (W.contents output.new) bytes.now }
 {
     let mut rest = bytes;
     for _ in 0..MOST_WRITES {
@@ -22,16 +25,27 @@ fn write_bytes<W: Write>(output: &mut W, bytes: &[u8]) -> Result<(), WritePbmErr
             return Ok(());
         }
         match output.write(rest) {
-            Ok(0) => return Err(WritePbmError::WriteFault),
+            Ok(0) => return Err(io::Error::from(ErrorKind::WriteZero)),
             Ok(count) => rest = &rest[count..],
             Err(error) => {
                 if error.kind() != ErrorKind::Interrupted {
-                    return Err(WritePbmError::WriteFault);
+                    return Err(error);
                 }
             }
         }
     }
-    Err(WritePbmError::WriteFault)
+    Err(io::Error::from(ErrorKind::Interrupted))
+}
+
+/// Writes all the bytes of a part of a file, or a front of them.
+fn write_bytes<W: Write>(output: &mut W, bytes: &[u8]) -> Result<(), WritePbmError>
+    ensures written { Writes result (W.contents output.old) (W.contents output.new) bytes.now }
+    ensures bytes { (i : ℕ) → slice_index bytes.now i < 256 }
+{
+    match write_whole(output, bytes) {
+        Ok(()) => Ok(()),
+        Err(_) => Err(WritePbmError::WriteFault),
+    }
 }
 
 fn write_header<W: Write>(bitmap: &Bitmap, output: &mut W) -> Result<(), WritePbmError>

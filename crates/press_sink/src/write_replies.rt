@@ -4,10 +4,8 @@ ghost use Rattle.press_sink.specs.Kept.{reply_writer, write_faults};
 
 use crate::fault::ReplyError;
 use crate::sink::ReplySink;
-use std::io::{self, ErrorKind, Write};
-
-/// The most writes of one reply.
-const MOST_WRITES: u32 = u32::MAX;
+use press_pbm::write_whole;
+use std::io::{self, Write};
 
 /// A sink that writes replies to a writer, and flushes it after each of them, so that a host has its answer before it goes on.
 /// It counts the replies at which a write or the flush failed.
@@ -33,28 +31,6 @@ impl<W: Write + Drop> WriteReplies<W> {
         let WriteReplies { writer, faults: _ } = self;
         writer
     }
-}
-
-/// Writes all the bytes, or a front of them where a write failed.
-fn write_whole<W: Write>(writer: &mut W, bytes: &[u8]) -> io::Result<()>
-    ensures { Writes result (W.contents writer.old) (W.contents writer.new) bytes.now }
-{
-    let mut rest = bytes;
-    for _ in 0..MOST_WRITES {
-        if rest.is_empty() {
-            return Ok(());
-        }
-        match writer.write(rest) {
-            Ok(0) => return Err(io::Error::from(ErrorKind::WriteZero)),
-            Ok(count) => rest = &rest[count..],
-            Err(error) => {
-                if error.kind() != ErrorKind::Interrupted {
-                    return Err(error);
-                }
-            }
-        }
-    }
-    Err(io::Error::from(ErrorKind::Interrupted))
 }
 
 /// Writes all the bytes and flushes the writer; a front of them is written where that failed.

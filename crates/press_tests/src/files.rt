@@ -1,6 +1,8 @@
 //! Worked files, and devices that fail.
 use press_bits::Bitmap;
-use press_pbm::{FuseRead, FuseWrite, ReadPbmError, WritePbmError, read_pbm, write_pbm};
+use press_pbm::{
+    FuseRead, FuseWrite, ReadPbmError, WritePbmError, read_pbm, write_pbm, write_whole,
+};
 use std::alloc::Global;
 use std::io::{self, ErrorKind, Read, Write};
 use std::process::Abort;
@@ -260,16 +262,25 @@ impl Write for Tight {
     }
 }
 
-fn expect_tight(rt: &impl Abort, page: &Bitmap, alloc: Global, most: usize) {
-    let mut output = Tight {
+/// Such a writer that has nothing yet.
+fn empty_writer(alloc: Global, most: usize) -> Tight {
+    Tight {
         bytes: Vec::new(alloc),
         most,
         interrupted: false,
-    };
+    }
+}
+
+fn expect_tight(rt: &impl Abort, page: &Bitmap, alloc: Global, most: usize) {
+    let wanted = &THREE[..most.min(8)];
+    let mut output = empty_writer(alloc, most);
     let whole = write_pbm(page, &mut output).is_ok();
-    let wanted = most.min(8);
-    assert_eq!(rt; whole, wanted == 8, "{most} bytes");
-    assert_eq!(rt; output.bytes.as_slice(), &THREE[..wanted], "{most} bytes");
+    assert_eq!(rt; whole, wanted.len() == 8, "{most} bytes of a file");
+    assert_eq!(rt; output.bytes.as_slice(), wanted, "{most} bytes of a file");
+    let mut output = empty_writer(alloc, most);
+    let whole = write_whole(&mut output, THREE).is_ok();
+    assert_eq!(rt; whole, wanted.len() == 8, "{most} bytes");
+    assert_eq!(rt; output.bytes.as_slice(), wanted, "{most} bytes");
 }
 
 #[test]

@@ -1,6 +1,6 @@
 use Rattle.std.proofs.Common.{◌≡◌, ℕ, List, ◌++◌}
 use Rattle.std.specs.Io.KnownBytes.{Appends}
-use Rattle.press_pbm.proofs.writing.write_bytes.Given as goal
+use Rattle.press_pbm.proofs.writing.write_whole.Given as goal
 
 -- what is gone from the rest was written
 abbrev pub invariant-loop : goal.invariant-loop

@@ -2,11 +2,11 @@ use Rattle.std.proofs.Common.{◌++◌, [], take, ap, ◌∙◌, sym, subst, app
 use Rattle.std.specs.Io.KnownBytes.{Appends}
 use Rattle.std.proofs.KnownBytes.{Appends-trans, Appends-kept}
 use Rattle.press_pbm.proofs.WritesLemmas.{moves_front}
-use Rattle.press_pbm.proofs.writing.write_bytes.Goals.{in-Ok, in-Err+else-ne}
-use Rattle.press_pbm.proofs.writing.write_bytes.Goals as goal
+use Rattle.press_pbm.proofs.writing.write_whole.Goals.{in-Ok, in-Err+else-ne}
+use Rattle.press_pbm.proofs.writing.write_whole.Goals as goal
 
-pub returns-then-is_empty-clause-written : goal.returns-then-is_empty-clause-written
-returns-then-is_empty-clause-written g c =
+pub returns-then-is_empty : goal.returns-then-is_empty
+returns-then-is_empty g c =
     let (done, split, wrote) = c.loop.invariant in
     let empty : c.loop.rest.now ≡ [] = drop_of_length-le c.loop.rest.now {i = 0} (search rules) in
     subst (Appends _ _) (sym (split ∙ ap (λ l. done ++ l) empty ∙ append-nil done)) wrote
