@@ -21,7 +21,7 @@ use Rattle.press_stream.specs.State.{JobState, IsOver}
 use Rattle.press_stream.proofs.Going.{Owes-some}
 use Rattle.press_writer.specs.Job.{job_bytes}
 use Rattle.press_core.specs.declared.work.RunningJob.{RunningJob}
-use Rattle.press_core.specs.Jobs.{IsAt, GoesOn, job_at_start}
+use Rattle.press_core.specs.Jobs.{IsAt, JobGoesOn, job_at_start}
 use Rattle.press_core.specs.Turns.{IsJobOf, machine_at}
 use Rattle.press_core.specs.Work.{Work}
 
@@ -167,7 +167,7 @@ same_list one other is = cc
 
 pub goes_on : (commands : List Token) (number : ℕ) (kind : Kind) (old new : RunningJob) (before after : Told) (sheets : List Delivery) → IsAt commands old.steps old.job
     → RanOne old.job number kind new.job before after → new.steps ≡ old.steps + 1 → before.sheets.delivered ≡ Some [] → after.sheets.delivered ≡ Some sheets
-    → GoesOn commands number old new sheets
+    → JobGoesOn commands number old new sheets
 goes_on commands number kind old new before after sheets at ran next none listed =
     let on = steps_on commands old.steps number kind old.job new.job before after at ran in
     record {
@@ -179,7 +179,7 @@ goes_on commands number kind old new before after sheets at ran next none listed
 -- by what the step was
 pub goes_on_after : (commands : List Token) (number : ℕ) (kind : Kind) (step : Step) (old new : RunningJob) (before after : Told) (sheets : List Delivery) → IsAt commands old.steps old.job
     → step ≡ answers.Ran kind → Takes old.job number (Ok step) new.job before after → new.steps ≡ old.steps + 1 → before.sheets.delivered ≡ Some [] → after.sheets.delivered ≡ Some sheets
-    → GoesOn commands number old new sheets
+    → JobGoesOn commands number old new sheets
 goes_on_after commands number kind step old new before after sheets at is takes =
     goes_on commands number kind old new before after sheets at (subst (λ s. Takes old.job number (Ok s) new.job before after) is takes)
 

@@ -171,23 +171,23 @@ still_at_end : (end : End) → is_running (status_at_end end) ≡ false
 still_at_end Completed = refl
 still_at_end Aborted = refl
 
-pub IsSound-finished : (number : ℕ) (end : End) (queue : QueueState) (works : List (ℕ × Work)) → rows.runs number queue ≡ true → IsDistinct nat_eq (keys_of queue.entries)
-    → IsSound queue works → IsSound (rows.finish number end queue) (landed_works number works)
+pub IsSound-finished : (number : ℕ) (end : End) (queue : QueueState) (works : List (ℕ × Work)) → rows.entry_runs number queue ≡ true → IsDistinct nat_eq (keys_of queue.entries)
+    → IsSound queue works → IsSound (rows.finish_entry number end queue) (landed_works number works)
 IsSound-finished number end queue works runs distinct sound = at_entry (entry_numbered number queue.entries) refl
   where
-    at_entry : (o : Option Entry) → entry_numbered number queue.entries ≡ o → IsSound (rows.finish number end queue) (landed_works number works)
+    at_entry : (o : Option Entry) → entry_numbered number queue.entries ≡ o → IsSound (rows.finish_entry number end queue) (landed_works number works)
     at_entry None is = absurd (true≢false (sym runs ∙ ap (λ o. option_map_or (λ entry. is_running entry.status) o false) is))
     at_entry (Some entry) is =
         let new = rows.set_status number (status_at_end end) entry queue in
-        subst (λ o. IsSound (rows.finish_at o number end queue) (landed_works number works)) (sym is)
+        subst (λ o. IsSound (rows.finish_entry_at o number end queue) (landed_works number works)) (sym is)
         (IsSound-landed number new works (none_runs_after number (status_at_end end) entry queue (still_at_end end) is distinct)
         (IsSound-kept queue new works (set_status_keeps number (status_at_end end) entry queue (still_at_end end)) sound))
 
 -- the entry that runs is the one of its number
-pub running_runs : (queue : QueueState) → IsDistinct nat_eq (keys_of queue.entries) → IfSome (rows.running queue) (λ number. IsTrue (rows.runs number queue))
+pub running_runs : (queue : QueueState) → IsDistinct nat_eq (keys_of queue.entries) → IfSome (rows.running queue) (λ number. IsTrue (rows.entry_runs number queue))
 running_runs queue distinct = at_first (find (λ e. is_running e.1.status) queue.entries) refl
   where
-    at_first : (o : Option (ℕ × Entry)) → find (λ e. is_running e.1.status) queue.entries ≡ o → IfSome (option_map (λ e. e.0) o) (λ number. IsTrue (rows.runs number queue))
+    at_first : (o : Option (ℕ × Entry)) → find (λ e. is_running e.1.status) queue.entries ≡ o → IfSome (option_map (λ e. e.0) o) (λ number. IsTrue (rows.entry_runs number queue))
     at_first None is = tt
     at_first (Some x) is =
         let found = first_is_numbered (λ e. is_running e.1.status) queue.entries x distinct is in

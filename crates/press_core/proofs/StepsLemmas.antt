@@ -8,29 +8,20 @@ use Rattle.press_engine.specs.declared.machine.Machine.{Machine}
 use Rattle.press_engine.specs.Machine.{Run, run_all, power_on}
 use Rattle.press_engine.proofs.Runs.{run_all-none, run_all-append}
 use Rattle.press_sink.specs.declared.sheet.Delivery.{Delivery}
-use Rattle.press_sink.specs.Sending.{Output, Deliver, Reply, sheets_of, under_tag, sheets_in}
+use Rattle.press_sink.specs.Sending.{sheets_of, under_tag, sheets_in}
 use Rattle.press_sink.specs.Sides.{Sides}
 use Rattle.press_sink.specs.Told.{SheetsTold}
-use Rattle.press_sink.proofs.SendingLemmas.{told-nothing}
+use Rattle.press_sink.proofs.SendingLemmas.{sheets_of-append, sheets_in-tagged, told-nothing}
 use Rattle.press_core.specs.declared.turn.TurnError.{TurnError}
 use Rattle.press_core.specs.declared.turn.TurnError.TheVariants as errors
 use Rattle.press_core.specs.Handing.{HandsOver, TakesSteps}
 use Rattle.press_core.specs.Jobs.{Advances}
-use Rattle.press_core.specs.Turns.{IsJobOf, WereHandedOut, machine_at, place_of, sheets_from, steps_from}
-use Rattle.press_core.specs.Work.{Work, at_place, counting, with_sheets}
+use Rattle.press_core.specs.Turns.{IsJobOf, WereHandedOut, machine_at, place_in_job, sheets_from, steps_from}
+use Rattle.press_core.specs.Work.{Work, at_place, counting, with_delivered}
 use Rattle.press_core.proofs.HandingLemmas.{handed_twice}
 use Rattle.press_core.proofs.JobLemmas.{IsJobOf-some}
 
 -- ---- the sheets of steps
-
-sheets_of-append : (outputs others : List Output) → sheets_of (outputs ++ others) ≡ sheets_of outputs ++ sheets_of others
-sheets_of-append [] others = refl
-sheets_of-append (Deliver sheet ∷ outputs) others = ap (λ l. sheet ∷ l) (sheets_of-append outputs others)
-sheets_of-append (Reply bytes ∷ outputs) others = sheets_of-append outputs others
-
-sheets_in-tagged : (tag : ℕ) (sheets : List Sides) → sheets_in (under_tag tag sheets) ≡ sheets
-sheets_in-tagged tag [] = refl
-sheets_in-tagged tag (sheet ∷ sheets) = ap (λ l. sheet ∷ l) (sheets_in-tagged tag sheets)
 
 machine_after : (place steps : ℕ) (commands : List Token) → (run_all (take steps (drop place commands)) (machine_at place commands)).machine ≡ machine_at (place + steps) commands
 machine_after place steps commands =
@@ -58,21 +49,21 @@ no_sheets place commands = ap (λ (run : Run). sheets_of run.outputs) (run_all-n
 pub no_steps : (number : ℕ) (work : Work) (told : SheetsTold) → IsSome work.place → TakesSteps number 0 work (Ok 0) work told told
 no_steps number work told begun = record {
   sheets = [];
-  steps = λ commands job. (omega arith, sym (no_sheets (place_of work) commands));
-  left = at_place_of work.place refl begun;
+  steps = λ commands job. (omega arith, sym (no_sheets (place_in_job work) commands));
+  left = at_place_in_job work.place refl begun;
   were = record { told = told-nothing told.delivered; faults = refl };
 } where
-  at_place_of : (o : Option ℕ) → work.place ≡ o → IsSome o → work ≡ at_place (Some (place_of work + 0)) (with_sheets [] work)
-  at_place_of None is begun = absurd (true≢false (sym begun))
-  at_place_of (Some place) is begun =
-      let here : Some (place_of work + 0) ≡ work.place = rw is (ap (λ n. Some n) (omega arith)) in
+  at_place_in_job : (o : Option ℕ) → work.place ≡ o → IsSome o → work ≡ at_place (Some (place_in_job work + 0)) (with_delivered [] work)
+  at_place_in_job None is begun = absurd (true≢false (sym begun))
+  at_place_in_job (Some place) is begun =
+      let here : Some (place_in_job work + 0) ≡ work.place = rw is (ap (λ n. Some n) (omega arith)) in
       sym (ap (λ o. record work { place = o }) here)
 
 -- ---- a step
 
 -- where a work is that took so many steps
-pub placed_at : (number taken : ℕ) (old now : Work) (before after : SheetsTold) → TakesSteps number taken old (Ok taken) now before after → place_of now ≡ place_of old + taken
-placed_at number taken old now before after took = ap place_of took.left
+pub placed_at : (number taken : ℕ) (old now : Work) (before after : SheetsTold) → TakesSteps number taken old (Ok taken) now before after → place_in_job now ≡ place_in_job old + taken
+placed_at number taken old now before after took = ap place_in_job took.left
 
 same_job : (number taken : ℕ) (old now : Work) (before after : SheetsTold) (commands : List Token) → TakesSteps number taken old (Ok taken) now before after
     → IsJobOf old commands → IsJobOf now commands
@@ -84,23 +75,23 @@ still_begun number taken old now before after took = ap (λ (w : Work). is_some 
 
 -- a work that is not over is before the end of its job
 pub may_step : (work : Work) (over : Bool) → over ≡ false → IsSome work.place
-    → (IsSome work.place → (commands : List Token) → IsJobOf work commands → over ≡ nat_eq (place_of work) (length commands))
-    → (IsSome work.place → (commands : List Token) → IsJobOf work commands → place_of work ≤ length commands)
-    → (commands : List Token) → IsJobOf work commands → place_of work < length commands
+    → (IsSome work.place → (commands : List Token) → IsJobOf work commands → over ≡ nat_eq (place_in_job work) (length commands))
+    → (IsSome work.place → (commands : List Token) → IsJobOf work commands → place_in_job work ≤ length commands)
+    → (commands : List Token) → IsJobOf work commands → place_in_job work < length commands
 may_step work over going begun ends within commands job =
-    let apart : nat_eq (place_of work) (length commands) ≡ false = sym (ends begun commands job) ∙ going in
+    let apart : nat_eq (place_in_job work) (length commands) ≡ false = sym (ends begun commands job) ∙ going in
     grind (arith, rules, apart, within begun commands job)
 
 -- What a work handed out at its next step, as far as no fault came.
 record OneStep (number : ℕ) (old now next : Work) (taken : ℕ) (handed others : List Sides) : Type 0 where
-  pub here : (commands : List Token) → IsJobOf old commands → sheets_from (place_of old + taken) 1 commands ≡ handed ++ others
-  pub within : (commands : List Token) → IsJobOf old commands → place_of old + taken < length commands
-  pub next_is : next ≡ at_place (Some (place_of old + taken + 1)) now
+  pub here : (commands : List Token) → IsJobOf old commands → sheets_from (place_in_job old + taken) 1 commands ≡ handed ++ others
+  pub within : (commands : List Token) → IsJobOf old commands → place_in_job old + taken < length commands
+  pub next_is : next ≡ at_place (Some (place_in_job old + taken + 1)) now
 
 one_step : (number taken : ℕ) (old now next : Work) (deliveries : List Delivery) (result : Result (Unit {0}) TurnError) (before between after : SheetsTold) (count : ℕ)
     → TakesSteps number taken old (Ok taken) now before between → Advances number now next deliveries
     → (hands : HandsOver number (sheets_in deliveries) result between after next.delivered count)
-    → ((commands : List Token) → IsJobOf now commands → place_of now < length commands)
+    → ((commands : List Token) → IsJobOf now commands → place_in_job now < length commands)
     → OneStep number old now next taken hands.handed hands.others
 one_step number taken old now next deliveries result before between after count took advances hands going =
     let here = placed_at number taken old now before between took in
@@ -108,7 +99,7 @@ one_step number taken old now next deliveries result before between after count 
     record {
       here = λ commands job.
           let advanced = advances commands (same_job number taken old now before between commands took job) in
-          sym (sheets_in-tagged number (sheets_from (place_of old + taken) 1 commands))
+          sym (sheets_in-tagged number (sheets_from (place_in_job old + taken) 1 commands))
           ∙ sym (ap (λ n. sheets_in (under_tag number (sheets_from n 1 commands))) here)
           ∙ sym (ap sheets_in advanced.1) ∙ hands.sheets_are;
       within = λ commands job. subst (λ n. n < length commands) here (going commands (same_job number taken old now before between commands took job));
@@ -137,7 +128,7 @@ counting-append (sheet ∷ sheets) others count = counting-append sheets others 
 -- the count after the sheets so far and those of a step
 counts_on : (number taken : ℕ) (old now next : Work) (deliveries : List Delivery) (result : Result (Unit {0}) TurnError) (before between after : SheetsTold) (count : ℕ)
     → (took : TakesSteps number taken old (Ok taken) now before between) → (hands : HandsOver number (sheets_in deliveries) result between after next.delivered count)
-    → next ≡ at_place (Some (place_of old + taken + 1)) now → count ≡ counting (took.sheets ++ hands.handed) old.delivered
+    → next ≡ at_place (Some (place_in_job old + taken + 1)) now → count ≡ counting (took.sheets ++ hands.handed) old.delivered
 counts_on number taken old now next deliveries result before between after count took hands is =
     hands.count_is ∙ ap (λ (w : Work). counting hands.handed w.delivered) is ∙ ap (λ (w : Work). counting hands.handed w.delivered) took.left
     ∙ sym (counting-append took.sheets hands.handed old.delivered)
@@ -146,7 +137,7 @@ counts_on number taken old now next deliveries result before between after count
 pub one_more : (number taken : ℕ) (old now next : Work) (deliveries : List Delivery) (before between after : SheetsTold) (count : ℕ)
     → TakesSteps number taken old (Ok taken) now before between → Advances number now next deliveries
     → HandsOver number (sheets_in deliveries) (Ok tt) between after next.delivered count
-    → ((commands : List Token) → IsJobOf now commands → place_of now < length commands)
+    → ((commands : List Token) → IsJobOf now commands → place_in_job now < length commands)
     → TakesSteps number (taken + 1) old (Ok (taken + 1)) (record next { delivered = count }) before after
 one_more number taken old now next deliveries before between after count took advances hands going =
     let step = one_step number taken old now next deliveries (Ok tt) before between after count took advances hands going in
@@ -157,12 +148,12 @@ one_more number taken old now next deliveries before between after count took ad
           let so_far = took.steps commands job in (
             omega (arith, so_far.0, step.within commands job),
             sym (append-nil (took.sheets ++ hands.handed)) ∙ ap (λ l. (took.sheets ++ hands.handed) ++ l) (sym hands.complete)
-                ∙ sym (with_one (place_of old) taken commands took.sheets hands.handed hands.others so_far.1 (step.here commands job)),
+                ∙ sym (with_one (place_in_job old) taken commands took.sheets hands.handed hands.others so_far.1 (step.here commands job)),
           );
       left =
           ap (λ (w : Work). record w { delivered = count }) step.next_is
-          ∙ ap (λ (w : Work). record w { delivered = count; place = Some (place_of old + taken + 1) }) took.left
-          ∙ ap (λ n. record old { delivered = n; place = Some (place_of old + taken + 1) }) (counts_on number taken old now next deliveries (Ok tt) before between after count took hands step.next_is)
+          ∙ ap (λ (w : Work). record w { delivered = count; place = Some (place_in_job old + taken + 1) }) took.left
+          ∙ ap (λ n. record old { delivered = n; place = Some (place_in_job old + taken + 1) }) (counts_on number taken old now next deliveries (Ok tt) before between after count took hands step.next_is)
           ∙ ap (λ n. record old { delivered = counting (took.sheets ++ hands.handed) old.delivered; place = Some n }) (omega arith);
       were = record { told = were.told; faults = were.faults };
     }
@@ -183,7 +174,7 @@ fronts place taken most commands sheets others within are =
 pub stopped_in_step : (number taken most : ℕ) (old now next : Work) (deliveries : List Delivery) (error : TurnError) (before between after : SheetsTold) (count : ℕ)
     → TakesSteps number taken old (Ok taken) now before between → Advances number now next deliveries
     → HandsOver number (sheets_in deliveries) (Err error) between after next.delivered count
-    → ((commands : List Token) → IsJobOf now commands → place_of now < length commands) → taken < most
+    → ((commands : List Token) → IsJobOf now commands → place_in_job now < length commands) → taken < most
     → TakesSteps number most old (Err error) (record next { delivered = count }) before after
 stopped_in_step number taken most old now next deliveries error before between after count took advances hands going below =
     let step = one_step number taken old now next deliveries (Err error) before between after count took advances hands going in
@@ -192,8 +183,8 @@ stopped_in_step number taken most old now next deliveries error before between a
       sheets = took.sheets ++ hands.handed;
       steps = λ commands job.
           let so_far = took.steps commands job in
-          fronts (place_of old) (taken + 1) most commands (took.sheets ++ hands.handed) hands.others (omega (arith, so_far.0, below, step.within commands job))
-          (with_one (place_of old) taken commands took.sheets hands.handed hands.others so_far.1 (step.here commands job));
+          fronts (place_in_job old) (taken + 1) most commands (took.sheets ++ hands.handed) hands.others (omega (arith, so_far.0, below, step.within commands job))
+          (with_one (place_in_job old) taken commands took.sheets hands.handed hands.others so_far.1 (step.here commands job));
       left =
           ap (λ (w : Work). record w { delivered = count; place = None }) step.next_is
           ∙ ap (λ (w : Work). record w { delivered = count; place = None }) took.left
@@ -208,7 +199,7 @@ stopped_before_step number taken most old now next before after took is below = 
   sheets = took.sheets;
   steps = λ commands job.
       let so_far = took.steps commands job in
-      fronts (place_of old) taken most commands took.sheets [] (omega (arith, so_far.0, below)) (sym so_far.1 ∙ sym (append-nil took.sheets));
+      fronts (place_in_job old) taken most commands took.sheets [] (omega (arith, so_far.0, below)) (sym so_far.1 ∙ sym (append-nil took.sheets));
   left = ap (at_place None) (is ∙ ap (at_place None) took.left);
   were = record { told = took.were.told; faults = took.were.faults };
 }
@@ -217,7 +208,7 @@ stopped_before_step number taken most old now next before after took is below = 
 
 -- so many steps were asked for, or no step is left
 pub took_all : (number taken most : ℕ) (old now : Work) (before after : SheetsTold) → TakesSteps number taken old (Ok taken) now before after → taken ≤ most
-    → ((commands : List Token) → IsJobOf now commands → (most ≤ taken) ⊎ (place_of now ≡ length commands)) → TakesSteps number most old (Ok taken) now before after
+    → ((commands : List Token) → IsJobOf now commands → (most ≤ taken) ⊎ (place_in_job now ≡ length commands)) → TakesSteps number most old (Ok taken) now before after
 took_all number taken most old now before after took below ends = record {
   sheets = took.sheets;
   steps = λ commands job.
@@ -226,6 +217,6 @@ took_all number taken most old now before after took below ends = record {
   left = took.left;
   were = took.were;
 } where
-  at_end : (commands : List Token) → taken ≡ steps_from (place_of old) taken commands → (most ≤ taken) ⊎ (place_of now ≡ length commands) → taken ≡ steps_from (place_of old) most commands
+  at_end : (commands : List Token) → taken ≡ steps_from (place_in_job old) taken commands → (most ≤ taken) ⊎ (place_in_job now ≡ length commands) → taken ≡ steps_from (place_in_job old) most commands
   at_end commands within (inl all) = omega (arith, within, below, all)
   at_end commands within (inr over) = omega (arith, within, below, over, placed_at number taken old now before after took)

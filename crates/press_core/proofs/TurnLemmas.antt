@@ -24,9 +24,9 @@ use Rattle.press_core.specs.declared.turn.Turn.{Turn}
 use Rattle.press_core.specs.declared.turn.TurnError.{TurnError}
 use Rattle.press_core.specs.declared.turn.TurnError.TheVariants.{SinkFault, NoMemory}
 use Rattle.press_core.specs.Handing.{IsAfterSteps, TakesSteps}
-use Rattle.press_core.specs.Inside.{Begins, EachRunning, HasPlace, IsSound, begun, begun_works, with_begun}
-use Rattle.press_core.specs.Turns.{EntrySteps, FaultsAfter, IsJobOf, NamesEntry, StepsTo, TakesTurn, TurnAt, WereHandedOut, aborted, after_steps, completed, is_idle, place_of, sheets_from, steps_from, steps_of, turned, turned_with}
-use Rattle.press_core.specs.Work.{Work, at_place, with_sheets}
+use Rattle.press_core.specs.Inside.{Begins, EachRunning, HasPlace, IsSound, begun_work, begun_works, with_begun}
+use Rattle.press_core.specs.Turns.{EntrySteps, FaultsAfter, IsJobOf, NamesEntry, StepsTo, TakesTurn, TurnAt, WereHandedOut, aborted, after_steps, completed, is_idle, place_in_job, sheets_from, steps_from, steps_of, at_turn, at_turn_with}
+use Rattle.press_core.specs.Work.{Work, at_place, with_delivered}
 use Rattle.press_core.specs.World.{World, landed_works, with_queue, with_work, work_numbered}
 use Rattle.press_core.proofs.EntryLemmas.{listed_set, none_runs, first_is_numbered, running_more, running_set, same_number}
 use Rattle.press_core.proofs.JobLemmas.{IsJobOf-some}
@@ -97,9 +97,9 @@ begun_is queue new number distinct is = at_held queue.held is
     at_held false e = at_first (first_waiting queue.entries) refl e
 
 -- it runs then
-pub begun_runs : (queue new : QueueState) (number : ℕ) → IsBegun queue new number → IsTrue (rows.runs number new)
+pub begun_runs : (queue new : QueueState) (number : ℕ) → IsBegun queue new number → IsTrue (rows.entry_runs number new)
 begun_runs queue new number begins =
-    ap (λ (q : QueueState). rows.runs number q) begins.is
+    ap (λ (q : QueueState). rows.entry_runs number q) begins.is
     ∙ ap (λ o. option_map_or (λ entry. is_running entry.status) o false) (there_set number queue.entries begins.entry (rows.begun_entry begins.entry) begins.there)
 
 -- there is a work for it
@@ -115,12 +115,12 @@ IsSound-begun queue new works number begins sound = at_work (lookup (nat_eq numb
     at_work : (o : Option Work) → lookup (nat_eq number) works ≡ o → IsSound new (begun_works number works)
     at_work None is = absurd (true≢false (sym some ∙ ap is_some is))
     at_work (Some work) is =
-        let after = set_value (nat_eq number) works (begun work) in
-        let placed : HasPlace after number = ap (λ o. is_some (option_and_then (λ work. work.place) o)) (there_set number works work (begun work) is) in
+        let after = set_value (nat_eq number) works (begun_work work) in
+        let placed : HasPlace after number = ap (λ o. is_some (option_and_then (λ work. work.place) o)) (there_set number works work (begun_work work) is) in
         rw (is, begins.is) (record {
-          listed = λ n. listed_set n number queue.entries (rows.begun_entry begins.entry) ∙ sound.listed n ∙ sym (listed_set n number works (begun work));
+          listed = λ n. listed_set n number queue.entries (rows.begun_entry begins.entry) ∙ sound.listed n ∙ sym (listed_set n number works (begun_work work));
           begun = running_begun (HasPlace after) number queue.entries (rows.begun_entry begins.entry) placed
-              (running_more (HasPlace works) (HasPlace after) queue.entries (λ n there has. place_set n number works (begun work) refl some has) sound.begun);
+              (running_more (HasPlace works) (HasPlace after) queue.entries (λ n there has. place_set n number works (begun_work work) refl some has) sound.begun);
         })
 
 -- ---- the entry that runs
@@ -134,7 +134,7 @@ running_has P number (x ∷ es) runs all = at_head (nat_eq number x.0) refl (λ 
     at_head true is below = subst P (sym (same_number number x.0 is)) (all.0 (grind (arith, rules, is, runs)))
     at_head false is below = below (grind (arith, rules, is, runs))
 
-pub runs_placed : (number : ℕ) (queue : QueueState) (works : List (ℕ × Work)) → IsTrue (rows.runs number queue) → IsSound queue works → HasPlace works number
+pub runs_placed : (number : ℕ) (queue : QueueState) (works : List (ℕ × Work)) → IsTrue (rows.entry_runs number queue) → IsSound queue works → HasPlace works number
 runs_placed number queue works runs sound = running_has (HasPlace works) number queue.entries runs sound.begun
 
 -- its work, and that its job has begun
@@ -143,10 +143,10 @@ placed_work number works o work has is same =
     sym (ap (λ o. is_some (option_and_then (λ work. work.place) o)) (is ∙ same)) ∙ has
 
 -- the work of an entry that runs has begun before
-begun_place : (work : Work) (o : Option ℕ) → work.place ≡ o → IsSome o → begun work ≡ work
+begun_place : (work : Work) (o : Option ℕ) → work.place ≡ o → IsSome o → begun_work work ≡ work
 begun_place work None is placed = absurd (true≢false (sym placed))
 begun_place work (Some place) is placed =
-    let here : Some (place_of work) ≡ work.place = rw is refl in
+    let here : Some (place_in_job work) ≡ work.place = rw is refl in
     ap (λ o. record work { place = o }) here
 
 pub begun_already : (number : ℕ) (works : List (ℕ × Work)) → HasPlace works number → begun_works number works ≡ works
@@ -159,17 +159,17 @@ begun_already number works has = at_work (lookup (nat_eq number) works) refl
         let same = begun_place work work.place refl placed in
         rw is (ap (λ w. set_value (nat_eq number) works w) same ∙ set_value_same (nat_eq number) works work is)
 
-pub begins_running : (world : World) (number : ℕ) → rows.running world.queue ≡ Some number → IsTrue (rows.runs number world.queue) → IsSound world.queue world.works
+pub begins_running : (world : World) (number : ℕ) → rows.running world.queue ≡ Some number → IsTrue (rows.entry_runs number world.queue) → IsSound world.queue world.works
     → Begins world (Ok (Some number)) world
 begins_running world number is runs sound =
-    let same : turned world.queue ≡ (world.queue, Some number) = ap (λ o. turned_with o world.queue) is in (
+    let same : at_turn world.queue ≡ (world.queue, Some number) = ap (λ o. at_turn_with o world.queue) is in (
       ap (λ r. r.1) same,
       sym (ap (λ (q : QueueState). with_queue q (with_begun number world)) (ap (λ r. r.0) same)
           ∙ ap (λ works. record world { works = works }) (begun_already number world.works (runs_placed number world.queue world.works runs sound))),
     )
 
-begins_at : (world : World) (new : QueueState) (number : ℕ) → rows.running world.queue ≡ None → (new, Some number) ≡ rows.begin world.queue → turned world.queue ≡ (new, Some number)
-begins_at world new number none is = ap (λ o. turned_with o world.queue) none ∙ sym is
+begins_at : (world : World) (new : QueueState) (number : ℕ) → rows.running world.queue ≡ None → (new, Some number) ≡ rows.begin world.queue → at_turn world.queue ≡ (new, Some number)
+begins_at world new number none is = ap (λ o. at_turn_with o world.queue) none ∙ sym is
 
 -- ---- an entry that ends as it begins
 
@@ -178,11 +178,11 @@ still_at_end Completed = refl
 still_at_end Aborted = refl
 
 ended_is : (queue new : QueueState) (number : ℕ) (end : End) → (begins : IsBegun queue new number)
-    → rows.finish number end new ≡ rows.with_entries (with_entry number (record begins.entry { status = status_at_end end; begun = true }) queue.entries) queue
+    → rows.finish_entry number end new ≡ rows.with_entries (with_entry number (record begins.entry { status = status_at_end end; begun = true }) queue.entries) queue
 ended_is queue new number end begins =
     let ended = record begins.entry { status = status_at_end end; begun = true } in
     let there = ap (λ (q : QueueState). entry_numbered number q.entries) begins.is ∙ there_set number queue.entries begins.entry (rows.begun_entry begins.entry) begins.there in
-    ap (λ o. rows.finish_at o number end new) there
+    ap (λ o. rows.finish_entry_at o number end new) there
     ∙ ap (λ (q : QueueState). rows.set_status number (status_at_end end) (rows.begun_entry begins.entry) q) begins.is
     ∙ ap (λ es. rows.with_entries es queue) (set_twice number queue.entries (rows.begun_entry begins.entry) ended)
 
@@ -193,13 +193,13 @@ distinct_begun queue new number begins distinct =
     (subst (λ ks. IsDistinct nat_eq ks) (sym (keys-set_value (nat_eq number) queue.entries (rows.begun_entry begins.entry))) distinct)
 
 pub distinct_ended : (queue new : QueueState) (number : ℕ) (end : End) → IsBegun queue new number → IsDistinct nat_eq (keys_of queue.entries)
-    → IsDistinct nat_eq (keys_of (rows.finish number end new).entries)
+    → IsDistinct nat_eq (keys_of (rows.finish_entry number end new).entries)
 distinct_ended queue new number end begins distinct =
     subst (λ (q : QueueState). IsDistinct nat_eq (keys_of q.entries)) (sym (ended_is queue new number end begins))
     (subst (λ ks. IsDistinct nat_eq ks) (sym (keys-set_value (nat_eq number) queue.entries (record begins.entry { status = status_at_end end; begun = true }))) distinct)
 
 pub IsSound-given_up : (queue new : QueueState) (works : List (ℕ × Work)) (number : ℕ) (end : End) → IsDistinct nat_eq (keys_of queue.entries) → IsBegun queue new number → IsSound queue works
-    → IsSound (rows.finish number end new) (landed_works number works)
+    → IsSound (rows.finish_entry number end new) (landed_works number works)
 IsSound-given_up queue new works number end distinct begins sound =
     let ended = record begins.entry { status = status_at_end end; begun = true } in
     let after = rows.with_entries (with_entry number ended queue.entries) queue in
@@ -215,7 +215,7 @@ IsSound-given_up queue new works number end distinct begins sound =
 
 pub begins_given_up : (world : World) (number : ℕ) (new after : QueueState) (works : List (ℕ × Work)) (error : AllocError) → rows.running world.queue ≡ None
     → IsDistinct nat_eq (keys_of world.queue.entries) → IsSound world.queue world.works → (new, Some number) ≡ rows.begin world.queue
-    → after ≡ rows.finish number Aborted new → works ≡ landed_works number world.works → Begins world (Err error) (record { queue = after; paused = world.paused; works = works })
+    → after ≡ rows.finish_entry number Aborted new → works ≡ landed_works number world.works → Begins world (Err error) (record { queue = after; paused = world.paused; works = works })
 begins_given_up world number new after works error none distinct sound is ends lands = at_work (lookup (nat_eq number) world.works) refl
   where
     begins : IsBegun world.queue new number
@@ -230,8 +230,8 @@ begins_given_up world number new after works error none distinct sound is ends l
           work,
           ap (λ r. r.1) same,
           there,
-          ap (λ q. record { queue = q; paused = world.paused; works = works }) (ends ∙ sym (ap (λ r. rows.finish number Aborted r.0) same))
-              ∙ ap (λ ws. record { queue = rows.finish number Aborted (turned world.queue).0; paused = world.paused; works = ws }) works_are,
+          ap (λ q. record { queue = q; paused = world.paused; works = works }) (ends ∙ sym (ap (λ r. rows.finish_entry number Aborted r.0) same))
+              ∙ ap (λ ws. record { queue = rows.finish_entry number Aborted (at_turn world.queue).0; paused = world.paused; works = ws }) works_are,
         )
 
 -- a work that is given up after another stood for it
@@ -244,44 +244,44 @@ landed_set number works old work there =
 -- ---- the entry that runs ends
 
 -- the entry ends, and its work is what its steps left of it, given up
-pub IsSound-ended : (number : ℕ) (end : End) (queue : QueueState) (works : List (ℕ × Work)) (work : Work) → IsTrue (rows.runs number queue) → IsDistinct nat_eq (keys_of queue.entries)
-    → IsSound queue works → IsSound (rows.finish number end queue) (set_value (nat_eq number) works work)
+pub IsSound-ended : (number : ℕ) (end : End) (queue : QueueState) (works : List (ℕ × Work)) (work : Work) → IsTrue (rows.entry_runs number queue) → IsDistinct nat_eq (keys_of queue.entries)
+    → IsSound queue works → IsSound (rows.finish_entry number end queue) (set_value (nat_eq number) works work)
 IsSound-ended number end queue works work runs distinct sound = at_entry (entry_numbered number queue.entries) refl
   where
-    at_entry : (o : Option Entry) → entry_numbered number queue.entries ≡ o → IsSound (rows.finish number end queue) (set_value (nat_eq number) works work)
+    at_entry : (o : Option Entry) → entry_numbered number queue.entries ≡ o → IsSound (rows.finish_entry number end queue) (set_value (nat_eq number) works work)
     at_entry None is = absurd (true≢false (sym runs ∙ ap (λ o. option_map_or (λ entry. is_running entry.status) o false) is))
     at_entry (Some entry) is =
         let new = rows.set_status number (status_at_end end) entry queue in
-        subst (λ o. IsSound (rows.finish_at o number end queue) (set_value (nat_eq number) works work)) (sym is)
+        subst (λ o. IsSound (rows.finish_entry_at o number end queue) (set_value (nat_eq number) works work)) (sym is)
         (IsSound-set number new works work (none_runs_after number (status_at_end end) entry queue (still_at_end end) is distinct)
         (IsSound-kept queue new works (set_status_keeps number (status_at_end end) entry queue (still_at_end end)) sound))
 
 -- ---- steps
 
 -- what steps leave, where the job goes on, is at its end, or met a fault
-pub leaves_going : (world : World) (number steps : ℕ) (old new : Work) (sheets : List Sides) (commands : List Token) → new ≡ at_place (Some (place_of old + steps)) (with_sheets sheets old)
-    → nat_eq (place_of new) (length commands) ≡ false → with_work number new world ≡ after_steps number old commands (Ok steps) sheets world
+pub leaves_going : (world : World) (number steps : ℕ) (old new : Work) (sheets : List Sides) (commands : List Token) → new ≡ at_place (Some (place_in_job old + steps)) (with_delivered sheets old)
+    → nat_eq (place_in_job new) (length commands) ≡ false → with_work number new world ≡ after_steps number old commands (Ok steps) sheets world
 leaves_going world number steps old new sheets commands left going =
-    let e : (place_of old + steps == length commands) ≡ false = sym (ap (λ (w : Work). nat_eq (place_of w) (length commands)) left) ∙ going in
+    let e : (place_in_job old + steps == length commands) ≡ false = sym (ap (λ (w : Work). nat_eq (place_in_job w) (length commands)) left) ∙ going in
     rw e (ap (λ (w : Work). with_work number w world) left)
 
-pub leaves_over : (world : World) (number steps : ℕ) (old new : Work) (sheets : List Sides) (commands : List Token) → new ≡ at_place (Some (place_of old + steps)) (with_sheets sheets old)
-    → nat_eq (place_of new) (length commands) ≡ true → completed number new world ≡ after_steps number old commands (Ok steps) sheets world
+pub leaves_over : (world : World) (number steps : ℕ) (old new : Work) (sheets : List Sides) (commands : List Token) → new ≡ at_place (Some (place_in_job old + steps)) (with_delivered sheets old)
+    → nat_eq (place_in_job new) (length commands) ≡ true → completed number new world ≡ after_steps number old commands (Ok steps) sheets world
 leaves_over world number steps old new sheets commands left over =
-    let e : (place_of old + steps == length commands) ≡ true = sym (ap (λ (w : Work). nat_eq (place_of w) (length commands)) left) ∙ over in
+    let e : (place_in_job old + steps == length commands) ≡ true = sym (ap (λ (w : Work). nat_eq (place_in_job w) (length commands)) left) ∙ over in
     rw e (ap (λ (w : Work). completed number w world) left)
 
-pub leaves_fault : (world : World) (number : ℕ) (error : TurnError) (old new : Work) (sheets : List Sides) (commands : List Token) → at_place None new ≡ at_place None (with_sheets sheets old)
+pub leaves_fault : (world : World) (number : ℕ) (error : TurnError) (old new : Work) (sheets : List Sides) (commands : List Token) → at_place None new ≡ at_place None (with_delivered sheets old)
     → aborted number new world ≡ after_steps number old commands (Err error) sheets world
 leaves_fault world number error old new sheets commands left =
-    ap (λ (w : Work). record world { queue = rows.finish number Aborted world.queue; works = set_value (nat_eq number) world.works w }) left
+    ap (λ (w : Work). record world { queue = rows.finish_entry number Aborted world.queue; works = set_value (nat_eq number) world.works w }) left
 
 pub after_ok : (old new : Work) (result : Result ℕ TurnError) (steps : ℕ) (sheets : List Sides) → result ≡ Ok steps → IsAfterSteps old result sheets new
-    → new ≡ at_place (Some (place_of old + steps)) (with_sheets sheets old)
+    → new ≡ at_place (Some (place_in_job old + steps)) (with_delivered sheets old)
 after_ok old new result steps sheets is left = subst (λ r. IsAfterSteps old r sheets new) is left
 
 pub after_err : (old new : Work) (result : Result ℕ TurnError) (error : TurnError) (sheets : List Sides) → result ≡ Err error → IsAfterSteps old result sheets new
-    → at_place None new ≡ at_place None (with_sheets sheets old)
+    → at_place None new ≡ at_place None (with_delivered sheets old)
 after_err old new result error sheets is left = subst (λ r. IsAfterSteps old r sheets new) is left
 
 abbrev pub the_world : QueueState → Bool → List (ℕ × Work) → World
@@ -289,11 +289,11 @@ the_world queue paused works = record { queue = queue; paused = paused; works = 
 
 -- the world after an entry that ran ended, by what its queue and its works are
 pub ended_world : (world : World) (number : ℕ) (end : End) (old new : Work) (queue : QueueState) (works : List (ℕ × Work)) → work_numbered number world ≡ Some old
-    → queue ≡ rows.finish number end world.queue → works ≡ landed_works number (set_value (nat_eq number) world.works new)
-    → record { queue = queue; paused = world.paused; works = works } ≡ with_queue (rows.finish number end world.queue) (with_work number (at_place None new) world)
+    → queue ≡ rows.finish_entry number end world.queue → works ≡ landed_works number (set_value (nat_eq number) world.works new)
+    → record { queue = queue; paused = world.paused; works = works } ≡ with_queue (rows.finish_entry number end world.queue) (with_work number (at_place None new) world)
 ended_world world number end old new queue works there ends lands =
     ap (λ q. record { queue = q; paused = world.paused; works = works }) ends
-    ∙ ap (λ ws. record { queue = rows.finish number end world.queue; paused = world.paused; works = ws }) (lands ∙ landed_set number world.works old new there)
+    ∙ ap (λ ws. record { queue = rows.finish_entry number end world.queue; paused = world.paused; works = ws }) (lands ∙ landed_set number world.works old new there)
 
 -- the steps of an entry, from those of its work
 pub entry_steps : (world : World) (number most : ℕ) (old new : Work) (result : Result ℕ TurnError) (before after : SheetsTold) (next : World) → work_numbered number world ≡ Some old
@@ -324,18 +324,18 @@ ifs false x y v w p q = q
 begun_again : (number : ℕ) (works : List (ℕ × Work)) (work other : Work) → lookup (nat_eq number) works ≡ Some work
     → set_value (nat_eq number) (begun_works number works) other ≡ set_value (nat_eq number) works other
 begun_again number works work other is =
-    ap (λ o. set_value (nat_eq number) (option_map_or (λ w. set_value (nat_eq number) works (begun w)) o works) other) is ∙ set_twice number works (begun work) other
+    ap (λ o. set_value (nat_eq number) (option_map_or (λ w. set_value (nat_eq number) works (begun_work w)) o works) other) is ∙ set_twice number works (begun_work work) other
 
 after_begun : (world : World) (number : ℕ) (work : Work) (commands : List Token) (result : Result ℕ TurnError) (sheets : List Sides) → work_numbered number world ≡ Some work
-    → after_steps number (begun work) commands result sheets (with_begun number world) ≡ after_steps number work commands result sheets world
+    → after_steps number (begun_work work) commands result sheets (with_begun number world) ≡ after_steps number work commands result sheets world
 after_begun world number work commands (Ok steps) sheets is =
-    ifs (place_of work + steps == length commands) _ _ _ _
-    (ap (λ works. record world { queue = rows.finish number Completed world.queue; works = works }) (begun_again number world.works work (at_place None (with_sheets sheets work)) is))
-    (ap (λ works. record world { works = works }) (begun_again number world.works work (at_place (Some (place_of work + steps)) (with_sheets sheets work)) is))
+    ifs (place_in_job work + steps == length commands) _ _ _ _
+    (ap (λ works. record world { queue = rows.finish_entry number Completed world.queue; works = works }) (begun_again number world.works work (at_place None (with_delivered sheets work)) is))
+    (ap (λ works. record world { works = works }) (begun_again number world.works work (at_place (Some (place_in_job work + steps)) (with_delivered sheets work)) is))
 after_begun world number work commands (Err error) sheets is =
-    ap (λ works. record world { queue = rows.finish number Aborted world.queue; works = works }) (begun_again number world.works work (at_place None (with_sheets sheets work)) is)
+    ap (λ works. record world { queue = rows.finish_entry number Aborted world.queue; works = works }) (begun_again number world.works work (at_place None (with_delivered sheets work)) is)
 
-steps_begun : (work : Work) (commands : List Token) (most : ℕ) (result : Result ℕ TurnError) (sheets : List Sides) → StepsTo (begun work) commands most result sheets
+steps_begun : (work : Work) (commands : List Token) (most : ℕ) (result : Result ℕ TurnError) (sheets : List Sides) → StepsTo (begun_work work) commands most result sheets
     → StepsTo work commands most result sheets
 steps_begun work commands most (Ok steps) sheets took = took
 steps_begun work commands most (Err error) sheets took = took
@@ -349,12 +349,12 @@ steps_of_begun world next number most result handed steps = at_work (work_number
   where
     at_work : (o : Option Work) → work_numbered number world ≡ o → EntrySteps world number most result handed next
     at_work None is =
-        let same = ap (λ o. option_map_or (λ w. set_value (nat_eq number) world.works (begun w)) o world.works) is in
+        let same = ap (λ o. option_map_or (λ w. set_value (nat_eq number) world.works (begun_work w)) o world.works) is in
         absurd (true≢false (sym (sym (ap is_some is) ∙ ap (λ works. is_some (lookup (nat_eq number) works)) (sym same) ∙ ap is_some steps.is_work)))
     at_work (Some work) is =
-        let works_are = ap (λ o. option_map_or (λ w. set_value (nat_eq number) world.works (begun w)) o world.works) is in
-        let there = ap (λ works. lookup (nat_eq number) works) works_are ∙ there_set number world.works work (begun work) is in
-        let same : steps.work ≡ begun work = same_some (work_numbered number (with_begun number world)) steps.work (begun work) steps.is_work there in
+        let works_are = ap (λ o. option_map_or (λ w. set_value (nat_eq number) world.works (begun_work w)) o world.works) is in
+        let there = ap (λ works. lookup (nat_eq number) works) works_are ∙ there_set number world.works work (begun_work work) is in
+        let same : steps.work ≡ begun_work work = same_some (work_numbered number (with_begun number world)) steps.work (begun_work work) steps.is_work there in
         record {
           work = work;
           is_work = is;
@@ -372,7 +372,7 @@ steps_of_begun world next number most result handed steps = at_work (work_number
 
 -- a turn that does something
 pub turn_of : (world next : World) (most : ℕ) (result : Result Turn TurnError) (handed : List Delivery) → is_idle most world ≡ false
-    → TurnAt (with_queue (turned world.queue).0 world) (turned world.queue).1 most result handed next → TakesTurn world most result handed next
+    → TurnAt (with_queue (at_turn world.queue).0 world) (at_turn world.queue).1 most result handed next → TakesTurn world most result handed next
 turn_of world next most result handed works turn = rw works turn
 
 -- memory ran out as the entry began
@@ -380,7 +380,7 @@ pub turn_stopped : (world next : World) (most : ℕ) (error : AllocError) → is
 turn_stopped world next most error works (number, work, is, there, after) =
     let some = IsJobOf-some work in
     turn_of world next most (Err NoMemory) [] works
-    (subst (λ o. TurnAt (with_queue (turned world.queue).0 world) o most (Err NoMemory) [] next) (sym is) (
+    (subst (λ o. TurnAt (with_queue (at_turn world.queue).0 world) o most (Err NoMemory) [] next) (sym is) (
       tt,
       record {
         work = work;
@@ -388,7 +388,7 @@ turn_stopped world next most error works (number, work, is, there, after) =
         commands = some.0;
         is_job = some.1;
         sheets = [];
-        steps = (sheets_from (place_of work) (steps_from (place_of work) most some.0) some.0, refl);
+        steps = (sheets_from (place_in_job work) (steps_from (place_in_job work) most some.0) some.0, refl);
         handed_are = refl;
         after = after;
       },
@@ -399,9 +399,9 @@ pub turn_taken : (world begun next : World) (number most : ℕ) (result : Result
     → NamesEntry result number → EntrySteps begun number most (steps_of result) handed next → TakesTurn world most result handed next
 turn_taken world begun next number most result handed works begins names steps =
     turn_of world next most result handed works
-    (subst (λ o. TurnAt (with_queue (turned world.queue).0 world) o most result handed next) (sym begins.0) (
+    (subst (λ o. TurnAt (with_queue (at_turn world.queue).0 world) o most result handed next) (sym begins.0) (
       names,
-      steps_of_begun (with_queue (turned world.queue).0 world) next number most (steps_of result) handed
+      steps_of_begun (with_queue (at_turn world.queue).0 world) next number most (steps_of result) handed
           (subst (λ (w : World). EntrySteps w number most (steps_of result) handed next) begins.1 steps),
     ))
 

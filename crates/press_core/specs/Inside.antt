@@ -11,7 +11,7 @@ use Rattle.press_writer.specs.Fitting.{refusal}
 use Rattle.press_core.specs.declared.work.RunningJob.{RunningJob}
 use Rattle.press_core.specs.declared.work.Work.TheInside.{Inside}
 use Rattle.press_core.specs.Jobs.{IsAt}
-use Rattle.press_core.specs.Turns.{IsJobOf, aborted, place_of, turned}
+use Rattle.press_core.specs.Turns.{IsJobOf, aborted, place_in_job, at_turn}
 use Rattle.press_core.specs.Work.{Work, at_place}
 use Rattle.press_core.specs.World.{World, is_listed, with_queue, work_numbered}
 
@@ -42,12 +42,12 @@ EachRunning P [] = Unit {0}
 EachRunning P (e ∷ entries) = (is_running e.1.status ≡ true → P e.0) × EachRunning P entries
 
 -- a work that has begun: at the place that it had, or at the first
-abbrev pub begun : Work → Work
-begun work = at_place (Some (place_of work)) work
+abbrev pub begun_work : Work → Work
+begun_work work = at_place (Some (place_in_job work)) work
 
 abbrev pub begun_works : ℕ → List (ℕ × Work) → List (ℕ × Work)
 begun_works number works =
-    option_map_or (λ work. set_value (nat_eq number) works (begun work)) (lookup (nat_eq number) works) works
+    option_map_or (λ work. set_value (nat_eq number) works (begun_work work)) (lookup (nat_eq number) works) works
 
 -- the works of a world after that of an entry began
 abbrev pub with_begun : ℕ → World → World
@@ -55,12 +55,12 @@ with_begun number world = record world { works = begun_works number world.works 
 
 -- What a turn begins with: no entry runs; or this one does, and has begun; or memory ran out as it began, and it is aborted.
 abbrev pub Begins : World → Result (Option ℕ) AllocError → World → Type 0
-Begins old (Ok None) new = ((turned old.queue).1 ≡ None) × (new ≡ with_queue (turned old.queue).0 old)
+Begins old (Ok None) new = ((at_turn old.queue).1 ≡ None) × (new ≡ with_queue (at_turn old.queue).0 old)
 Begins old (Ok (Some number)) new =
-    ((turned old.queue).1 ≡ Some number) × (new ≡ with_begun number (with_queue (turned old.queue).0 old))
+    ((at_turn old.queue).1 ≡ Some number) × (new ≡ with_begun number (with_queue (at_turn old.queue).0 old))
 Begins old (Err error) new =
-    (number : ℕ) × (work : Work) × ((turned old.queue).1 ≡ Some number) × (work_numbered number old ≡ Some work)
-    × (new ≡ aborted number work (with_queue (turned old.queue).0 old))
+    (number : ℕ) × (work : Work) × ((at_turn old.queue).1 ≡ Some number) × (work_numbered number old ≡ Some work)
+    × (new ≡ aborted number work (with_queue (at_turn old.queue).0 old))
 
 -- There is a work for each entry of the queue, and for no other; that of an entry that runs has begun.
 pub record IsSound (queue : QueueState) (works : List (ℕ × Work)) : Type 0 where

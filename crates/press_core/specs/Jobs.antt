@@ -7,7 +7,7 @@ use Rattle.press_sink.specs.Sending.{under_tag}
 use Rattle.press_stream.specs.Meaning.{Owes}
 use Rattle.press_stream.specs.State.{JobState, opened, with_piece, input_ended, most_steps}
 use Rattle.press_core.specs.declared.work.RunningJob.{RunningJob}
-use Rattle.press_core.specs.Turns.{IsJobOf, machine_at, sheets_from, place_of}
+use Rattle.press_core.specs.Turns.{IsJobOf, machine_at, sheets_from, place_in_job}
 use Rattle.press_core.specs.Work.{Work, at_place}
 
 -- a job that was handed these bytes and their end, and took no step
@@ -23,7 +23,7 @@ pub record IsAt (commands : List Token) (place : ℕ) (job : JobState) : Type 0 
   pub fits : place + most_steps job ≤ greatest_of_64_bits
 
 -- a job took the next step, and these were its sheets
-pub record GoesOn (commands : List Token) (number : ℕ) (old new : RunningJob) (sheets : List Delivery) : Type 0 where
+pub record JobGoesOn (commands : List Token) (number : ℕ) (old new : RunningJob) (sheets : List Delivery) : Type 0 where
   pub at : IsAt commands new.steps new.job
   pub next : new.steps ≡ old.steps + 1
   pub sheets_are : sheets ≡ under_tag number (sheets_from old.steps 1 commands)
@@ -32,4 +32,4 @@ pub record GoesOn (commands : List Token) (number : ℕ) (old new : RunningJob) 
 abbrev pub Advances : (number : ℕ) (old new : Work) → List Delivery → Type 0
 Advances number old new sheets =
     (commands : List Token) → IsJobOf old commands
-    → (new ≡ at_place (Some (place_of old + 1)) old) × (sheets ≡ under_tag number (sheets_from (place_of old) 1 commands))
+    → (new ≡ at_place (Some (place_in_job old + 1)) old) × (sheets ≡ under_tag number (sheets_from (place_in_job old) 1 commands))

@@ -27,22 +27,22 @@ use Rattle.press_core.specs.Work.{new_work}
 use Rattle.press_core.specs.World.{World, with_queue, with_new_work, without_gone, landed, device}
 
 -- What a message is answered, and the world after it: what the response adds, or why nothing was done.
-abbrev pub Answer : Type 0
-Answer = Result Addition Refused × World
+abbrev pub MessageAnswer : Type 0
+MessageAnswer = Result Addition Refused × World
 
 -- nothing changes
-abbrev pub refusing : Refused → World → Answer
+abbrev pub refusing : Refused → World → MessageAnswer
 refusing refused world = (Err refused, world)
 
 -- the world changes, and the response adds nothing
-abbrev pub done : World → Answer
-done world = (Ok None, world)
+abbrev pub accepting : World → MessageAnswer
+accepting world = (Ok None, world)
 
-abbrev pub telling : Addition → World → Answer
+abbrev pub telling : Addition → World → MessageAnswer
 telling addition world = (Ok addition, world)
 
 -- what follows where a message names what it has to
-abbrev pub with_named : {A : Type 0} → Result A Refused → World → (A → Answer) → Answer
+abbrev pub with_named : {A : Type 0} → Result A Refused → World → (A → MessageAnswer) → MessageAnswer
 with_named (Err refused) world row = refusing refused world
 with_named (Ok value) world row = row value
 
@@ -56,13 +56,13 @@ abbrev pub for_queue : Refusal → Refused
 for_queue refusal = refused_with (return_code_of refusal)
 
 -- what follows where the queue carried a command out, with its value
-abbrev pub with_row : {A : Type 0} → rows.QueueAnswer A → World → (A → World → Answer) → Answer
-with_row (queue, Err refusal) world row = refusing (for_queue refusal) world
-with_row (queue, Ok value) world row = row value (with_queue queue world)
+abbrev pub after_queue_row : {A : Type 0} → rows.QueueAnswer A → World → (A → World → MessageAnswer) → MessageAnswer
+after_queue_row (queue, Err refusal) world row = refusing (for_queue refusal) world
+after_queue_row (queue, Ok value) world row = row value (with_queue queue world)
 
 -- the number of the entry that has this ID: 21 where there is none
-abbrev pub number_of : List ℕ → QueueState → Result ℕ Refused
-number_of id queue = ok_or (number_with_id id queue.entries) (for_queue Unknown)
+abbrev pub entry_number_of : List ℕ → QueueState → Result ℕ Refused
+entry_number_of id queue = ok_or (number_with_id id queue.entries) (for_queue Unknown)
 
 abbrev pub id_parameter : Data → Found (List ℕ)
 id_parameter message = text_parameter (codes "QueueEntryID") message
@@ -70,7 +70,7 @@ id_parameter message = text_parameter (codes "QueueEntryID") message
 -- the entry that a message names
 abbrev pub numbered : Result (List ℕ) Refused → QueueState → Result ℕ Refused
 numbered (Err refused) queue = Err refused
-numbered (Ok id) queue = number_of id queue
+numbered (Ok id) queue = entry_number_of id queue
 
 abbrev pub named_entry : Data → QueueState → Result ℕ Refused
 named_entry message queue = numbered (or_refused (id_parameter message)) queue
@@ -82,23 +82,23 @@ paired (Ok number) value = Ok (number, value)
 
 abbrev pub numbered_with : Result (List ℕ × ℤ) Refused → QueueState → Result (ℕ × ℤ) Refused
 numbered_with (Err refused) queue = Err refused
-numbered_with (Ok both) queue = paired (number_of both.0 queue) both.1
+numbered_with (Ok both) queue = paired (entry_number_of both.0 queue) both.1
 
 abbrev pub named_entry_with : List ℕ → Data → QueueState → Result (ℕ × ℤ) Refused
 named_entry_with key message queue =
     numbered_with (or_refused (both_found (id_parameter message) (whole_parameter key message))) queue
 
 -- a command to one entry: the queue's row, and what follows for the world
-abbrev pub entry_row : Data → World → (ℕ → QueueState → rows.QueueAnswer (Unit {0})) → (ℕ → World → Answer) → Answer
+abbrev pub entry_row : Data → World → (ℕ → QueueState → rows.QueueAnswer (Unit {0})) → (ℕ → World → MessageAnswer) → MessageAnswer
 entry_row message world row next =
     with_named (named_entry message world.queue) world (λ number.
-    with_row (row number world.queue) world (λ _ after. next number after))
+    after_queue_row (row number world.queue) world (λ _ after. next number after))
 
 -- the same with a number beside the entry
-abbrev pub entry_number_row : List ℕ → Data → World → (ℕ → ℤ → QueueState → rows.QueueAnswer (Unit {0})) → Answer
+abbrev pub entry_number_row : List ℕ → Data → World → (ℕ → ℤ → QueueState → rows.QueueAnswer (Unit {0})) → MessageAnswer
 entry_number_row key message world row =
     with_named (named_entry_with key message world.queue) world (λ both.
-    with_row (row both.0 both.1 world.queue) world (λ _ after. done after))
+    after_queue_row (row both.0 both.1 world.queue) world (λ _ after. accepting after))
 
 -- The numbers of the refusals of tickets and of images.
 abbrev pub ticket_fault : TicketError → ℕ
@@ -147,34 +147,34 @@ ticketed images (Ok both) = prioritized (fitting_ticket images (ticket_from both
 abbrev pub submission : Data → List Page → Result (JobTicket × ℤ) Refused
 submission message images = ticketed images (or_refused (submitted_parameters message))
 
-abbrev pub submit_row : Data → List Page → World → Answer
+abbrev pub submit_row : Data → List Page → World → MessageAnswer
 submit_row message images world =
     with_named (submission message images) world (λ both.
-    with_row (rows.submit both.1 world.queue) world (λ number after.
+    after_queue_row (rows.submit both.1 world.queue) world (λ number after.
     telling (adding (codes "QueueEntryID") (string (entry_id number)))
     (with_new_work number (new_work both.0 images) after)))
 
 -- The row of each type of message.
-abbrev pub answered : MessageType → Data → List Page → World → Answer
+abbrev pub answered : MessageType → Data → List Page → World → MessageAnswer
 answered types.SubmitQueueEntry message images world = submit_row message images world
-answered types.HoldQueueEntry message images world = entry_row message world rows.hold (λ number after. done after)
-answered types.ResumeQueueEntry message images world = entry_row message world rows.resume (λ number after. done after)
-answered types.AbortQueueEntry message images world = entry_row message world rows.abort (λ number after. done (landed number after))
+answered types.HoldQueueEntry message images world = entry_row message world rows.hold (λ number after. accepting after)
+answered types.ResumeQueueEntry message images world = entry_row message world rows.resume (λ number after. accepting after)
+answered types.AbortQueueEntry message images world = entry_row message world rows.abort (λ number after. accepting (landed number after))
 answered types.RemoveQueueEntry message images world =
     entry_row message world rows.remove (λ number after.
     telling (adding (codes "Status") (string (codes "Removed"))) (without_gone after))
 answered types.SetQueueEntryPriority message images world = entry_number_row (codes "Priority") message world rows.set_priority
 answered types.SetQueueEntryPosition message images world = entry_number_row (codes "Position") message world rows.set_position
-answered types.HoldQueue message images world = done (with_queue (rows.hold_queue world.queue) world)
-answered types.ResumeQueue message images world = done (with_queue (rows.resume_queue world.queue) world)
-answered types.OpenQueue message images world = done (with_queue (rows.open_queue world.queue) world)
-answered types.CloseQueue message images world = done (with_queue (rows.close_queue world.queue) world)
-answered types.FlushQueue message images world = done (without_gone (with_queue (rows.flush world.queue) world))
+answered types.HoldQueue message images world = accepting (with_queue (rows.hold_queue world.queue) world)
+answered types.ResumeQueue message images world = accepting (with_queue (rows.resume_queue world.queue) world)
+answered types.OpenQueue message images world = accepting (with_queue (rows.open_queue world.queue) world)
+answered types.CloseQueue message images world = accepting (with_queue (rows.close_queue world.queue) world)
+answered types.FlushQueue message images world = accepting (without_gone (with_queue (rows.flush world.queue) world))
 answered types.QueueStatus message images world = telling (adding (codes "Queue") (listed_queue world.queue)) world
 answered types.Status message images world = telling (adding (codes "Device") (listed_device (device world))) world
 
 -- The response to a message of this heading, and the world after it.
-abbrev pub responding : Heading → Answer → List ℕ × World
+abbrev pub responding : Heading → MessageAnswer → List ℕ × World
 responding heading (Ok addition, world) = (accepted_text heading addition, world)
 responding heading (Err refused, world) = (refused_text heading refused, world)
 

@@ -26,8 +26,8 @@ impl Press {
     ghost use Rattle.press_core.specs.Listings.{entry_id, listed_queue, listed_device};
     ghost use Rattle.press_core.specs.Response.{adding, accepted_text};
     ghost use Rattle.press_core.specs.Rows as table;
-    ghost use Rattle.press_core.specs.Shown.{shown};
-    ghost use Rattle.press_core.specs.Stops.{Answers};
+    ghost use Rattle.press_core.specs.Shown.{shown_heading};
+    ghost use Rattle.press_core.specs.Stops.{AnswersMessage};
     ghost use Rattle.press_core.specs.World as world;
 
     /// Carries a message out. The response is made before anything changes.
@@ -38,8 +38,9 @@ impl Press {
         message: &Value,
         images: &[Bitmap],
     ) -> Result<Vec<u8>, Stop>
-        ensures { Answers (table.answered message_type (view message.now) images.now self.old)
-            self.old (shown heading.entry) result self.new }
+        ensures { AnswersMessage
+            (table.answered message_type (view message.now) images.now self.old)
+            self.old (shown_heading heading.entry) result self.new }
     {
         match message_type {
             MessageType::SubmitQueueEntry => self.submit(heading, message, images),
@@ -61,7 +62,7 @@ impl Press {
 
     /// The entry of this ID.
     fn number_of(&self, id: &str) -> Result<u64, Refused>
-        ensures value { result ≡ table.number_of id.now self.now.queue }
+        ensures value { result ≡ table.entry_number_of id.now self.now.queue }
         ensures distinct { IsDistinct nat_eq (keys_of self.now.queue.entries) }
     {
         number_with_id(id, self.queue.status().entries).ok_or(Refused::with_code(
@@ -97,8 +98,8 @@ impl Press {
         message: &Value,
         images: &[Bitmap],
     ) -> Result<Vec<u8>, Stop>
-        ensures { Answers (table.submit_row (view message.now) images.now self.old)
-            self.old (shown heading.entry) result self.new }
+        ensures { AnswersMessage (table.submit_row (view message.now) images.now self.old)
+            self.old (shown_heading heading.entry) result self.new }
     {
         let (ticket, priority) = submission(self.alloc, message, images)?;
         let response = self.entered(heading)?;
@@ -111,7 +112,7 @@ impl Press {
     /// The response to the next submission, where it is taken.
     fn entered(&self, heading: Heading<'_>) -> Result<Vec<u8>, AllocError>
         ensures { IfOk result (λ bytes. nat_eq self.now.queue.last rows.last_number ≡ false
-            → bytes.items ≡ accepted_text (shown heading.entry)
+            → bytes.items ≡ accepted_text (shown_heading heading.entry)
             (adding (codes "QueueEntryID") (string (entry_id (self.now.queue.last + 1))))) }
     {
         let next = self.queue.status().last.saturating_add(1);
@@ -121,8 +122,9 @@ impl Press {
 
     /// Holds an entry that waits.
     fn hold(&mut self, heading: Heading<'_>, message: &Value) -> Result<Vec<u8>, Stop>
-        ensures { Answers (table.entry_row (view message.now) self.old rows.hold
-            (λ number after. table.done after)) self.old (shown heading.entry) result self.new }
+        ensures { AnswersMessage (table.entry_row (view message.now) self.old rows.hold
+            (λ number after. table.accepting after))
+            self.old (shown_heading heading.entry) result self.new }
     {
         let number = self.named_entry(message)?;
         let response = accepted(self.alloc, heading, None)?;
@@ -132,8 +134,9 @@ impl Press {
 
     /// Lets an entry that is held or suspended wait.
     fn resume(&mut self, heading: Heading<'_>, message: &Value) -> Result<Vec<u8>, Stop>
-        ensures { Answers (table.entry_row (view message.now) self.old rows.resume
-            (λ number after. table.done after)) self.old (shown heading.entry) result self.new }
+        ensures { AnswersMessage (table.entry_row (view message.now) self.old rows.resume
+            (λ number after. table.accepting after))
+            self.old (shown_heading heading.entry) result self.new }
     {
         let number = self.named_entry(message)?;
         let response = accepted(self.alloc, heading, None)?;
@@ -143,8 +146,9 @@ impl Press {
 
     /// Aborts an entry that did not end, and its job with it.
     fn abort(&mut self, heading: Heading<'_>, message: &Value) -> Result<Vec<u8>, Stop>
-        ensures { Answers (table.entry_row (view message.now) self.old rows.abort
-            (λ number after. table.done (world.landed number after))) self.old (shown heading.entry) result self.new }
+        ensures { AnswersMessage (table.entry_row (view message.now) self.old rows.abort
+            (λ number after. table.accepting (world.landed number after)))
+            self.old (shown_heading heading.entry) result self.new }
     {
         let number = self.named_entry(message)?;
         let response = accepted(self.alloc, heading, None)?;
@@ -155,9 +159,9 @@ impl Press {
 
     /// Takes an entry that waits, is held or ended off the list.
     fn remove(&mut self, heading: Heading<'_>, message: &Value) -> Result<Vec<u8>, Stop>
-        ensures { Answers (table.entry_row (view message.now) self.old rows.remove
+        ensures { AnswersMessage (table.entry_row (view message.now) self.old rows.remove
             (λ number after. table.telling (adding (codes "Status") (string (codes "Removed")))
-            (world.without_gone after))) self.old (shown heading.entry) result self.new }
+            (world.without_gone after))) self.old (shown_heading heading.entry) result self.new }
     {
         let number = self.named_entry(message)?;
         let removed = text(self.alloc, "Removed")?;
@@ -169,9 +173,10 @@ impl Press {
 
     /// Gives an entry another priority.
     fn set_priority(&mut self, heading: Heading<'_>, message: &Value) -> Result<Vec<u8>, Stop>
-        ensures { Answers
-            (table.entry_number_row (codes "Priority") (view message.now) self.old rows.set_priority)
-            self.old (shown heading.entry) result self.new }
+        ensures { AnswersMessage
+            (table.entry_number_row (codes "Priority") (view message.now)
+            self.old rows.set_priority)
+            self.old (shown_heading heading.entry) result self.new }
     {
         let (number, priority) = self.named_entry_with("Priority", message)?;
         let response = accepted(self.alloc, heading, None)?;
@@ -181,9 +186,10 @@ impl Press {
 
     /// Moves an entry to an index of the list.
     fn set_position(&mut self, heading: Heading<'_>, message: &Value) -> Result<Vec<u8>, Stop>
-        ensures { Answers
-            (table.entry_number_row (codes "Position") (view message.now) self.old rows.set_position)
-            self.old (shown heading.entry) result self.new }
+        ensures { AnswersMessage
+            (table.entry_number_row (codes "Position") (view message.now)
+            self.old rows.set_position)
+            self.old (shown_heading heading.entry) result self.new }
     {
         let (number, position) = self.named_entry_with("Position", message)?;
         let response = accepted(self.alloc, heading, None)?;
@@ -193,7 +199,8 @@ impl Press {
 
     /// Tells the queue.
     fn tell_queue(&self, heading: Heading<'_>) -> Result<Vec<u8>, Stop>
-        ensures tells { IfOk result (λ bytes. bytes.items ≡ accepted_text (shown heading.entry)
+        ensures tells { IfOk result (λ bytes.
+            bytes.items ≡ accepted_text (shown_heading heading.entry)
             (adding (codes "Queue") (listed_queue self.now.queue))) }
         ensures err { IfErr result (λ stop. stop ≡ NoMemory) }
     {
@@ -203,7 +210,8 @@ impl Press {
 
     /// Tells what the press does.
     fn tell_device(&self, heading: Heading<'_>) -> Result<Vec<u8>, Stop>
-        ensures tells { IfOk result (λ bytes. bytes.items ≡ accepted_text (shown heading.entry)
+        ensures tells { IfOk result (λ bytes.
+            bytes.items ≡ accepted_text (shown_heading heading.entry)
             (adding (codes "Device") (listed_device (world.device self.now)))) }
         ensures err { IfErr result (λ stop. stop ≡ NoMemory) }
     {
@@ -213,8 +221,9 @@ impl Press {
 
     /// From now on no entry begins.
     fn hold_queue(&mut self, heading: Heading<'_>) -> Result<Vec<u8>, Stop>
-        ensures { Answers (table.done (world.with_queue (rows.hold_queue self.old.queue) self.old))
-            self.old (shown heading.entry) result self.new }
+        ensures { AnswersMessage
+            (table.accepting (world.with_queue (rows.hold_queue self.old.queue) self.old))
+            self.old (shown_heading heading.entry) result self.new }
     {
         let response = accepted(self.alloc, heading, None)?;
         self.queue.hold_queue();
@@ -223,9 +232,9 @@ impl Press {
 
     /// Entries begin again.
     fn resume_queue(&mut self, heading: Heading<'_>) -> Result<Vec<u8>, Stop>
-        ensures { Answers
-            (table.done (world.with_queue (rows.resume_queue self.old.queue) self.old))
-            self.old (shown heading.entry) result self.new }
+        ensures { AnswersMessage
+            (table.accepting (world.with_queue (rows.resume_queue self.old.queue) self.old))
+            self.old (shown_heading heading.entry) result self.new }
     {
         let response = accepted(self.alloc, heading, None)?;
         self.queue.resume_queue();
@@ -234,8 +243,9 @@ impl Press {
 
     /// New entries are taken again.
     fn open_queue(&mut self, heading: Heading<'_>) -> Result<Vec<u8>, Stop>
-        ensures { Answers (table.done (world.with_queue (rows.open_queue self.old.queue) self.old))
-            self.old (shown heading.entry) result self.new }
+        ensures { AnswersMessage
+            (table.accepting (world.with_queue (rows.open_queue self.old.queue) self.old))
+            self.old (shown_heading heading.entry) result self.new }
     {
         let response = accepted(self.alloc, heading, None)?;
         self.queue.open_queue();
@@ -244,8 +254,9 @@ impl Press {
 
     /// From now on no new entry is taken.
     fn close_queue(&mut self, heading: Heading<'_>) -> Result<Vec<u8>, Stop>
-        ensures { Answers (table.done (world.with_queue (rows.close_queue self.old.queue) self.old))
-            self.old (shown heading.entry) result self.new }
+        ensures { AnswersMessage
+            (table.accepting (world.with_queue (rows.close_queue self.old.queue) self.old))
+            self.old (shown_heading heading.entry) result self.new }
     {
         let response = accepted(self.alloc, heading, None)?;
         self.queue.close_queue();
@@ -254,9 +265,10 @@ impl Press {
 
     /// Takes every entry that does not run off the list.
     fn flush(&mut self, heading: Heading<'_>) -> Result<Vec<u8>, Stop>
-        ensures { Answers
-            (table.done (world.without_gone (world.with_queue (rows.flush self.old.queue) self.old)))
-            self.old (shown heading.entry) result self.new }
+        ensures { AnswersMessage
+            (table.accepting (world.without_gone
+            (world.with_queue (rows.flush self.old.queue) self.old)))
+            self.old (shown_heading heading.entry) result self.new }
     {
         let response = accepted(self.alloc, heading, None)?;
         self.queue.flush();

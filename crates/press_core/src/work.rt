@@ -7,9 +7,9 @@ ghost use Rattle.press_sink.specs.Kept.{deliveries};
 ghost use Rattle.press_sink.specs.Told.{most_faults};
 ghost use Rattle.press_writer.specs.Job.{job_bytes};
 ghost use Rattle.press_core.specs.Handing.{TakesSteps};
-ghost use Rattle.press_core.specs.Inside.{begun};
-ghost use Rattle.press_core.specs.Jobs.{IsAt, GoesOn, Advances, job_at_start};
-ghost use Rattle.press_core.specs.Turns.{IsJobOf, place_of};
+ghost use Rattle.press_core.specs.Inside.{begun_work};
+ghost use Rattle.press_core.specs.Jobs.{IsAt, JobGoesOn, Advances, job_at_start};
+ghost use Rattle.press_core.specs.Turns.{IsJobOf, place_in_job};
 ghost use Rattle.press_writer.specs.Fitting.{refusal};
 ghost use Rattle.press_core.specs.Work.{new_work, at_place};
 
@@ -84,7 +84,7 @@ impl RunningJob {
             × IsAt commands self.old.steps self.old.job × (self.old.steps < length commands) }
         ensures { IfOk result (λ sink.
             (commands : List Token) → IsAt commands self.old.steps self.old.job
-            → GoesOn commands number self.old self.new (deliveries sink)) }
+            → JobGoesOn commands number self.old self.new (deliveries sink)) }
     {
         let mut sheets = ListSink::new(alloc);
         match self.job.step(number, &mut sheets, &mut NoReplies) {
@@ -134,7 +134,7 @@ impl Work {
 
     /// Its job begins, unless it did.
     pub fn begin(&mut self, alloc: Global) -> Result<(), AllocError>
-        ensures ok { OnOk result (self.new ≡ begun self.old) }
+        ensures ok { OnOk result (self.new ≡ begun_work self.old) }
         ensures err { OnErr result (self.new ≡ self.old) }
     {
         if self.running.is_some() {
@@ -148,9 +148,9 @@ impl Work {
     /// Whether no step of its job is left.
     pub fn is_over(&self) -> bool
         ensures over { IsSome self.now.place → (commands : List Token) → IsJobOf self.now commands
-            → result ≡ nat_eq (place_of self.now) (length commands) }
+            → result ≡ nat_eq (place_in_job self.now) (length commands) }
         ensures within { IsSome self.now.place → (commands : List Token) → IsJobOf self.now commands
-            → place_of self.now ≤ length commands }
+            → place_in_job self.now ≤ length commands }
     {
         match &self.running {
             Some(running) => running.job.ended(),
@@ -162,7 +162,7 @@ impl Work {
     pub fn advance(&mut self, alloc: Global, number: u64) -> Result<ListSink, AllocError>
         requires begun { IsSome self.old.place }
         requires going { (commands : List Token) → IsJobOf self.old commands
-            → place_of self.old < length commands }
+            → place_in_job self.old < length commands }
         ensures ok { IfOk result (λ sink. Advances number self.old self.new (deliveries sink)) }
         ensures err { OnErr result (self.new ≡ at_place None self.old) }
     {

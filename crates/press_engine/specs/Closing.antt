@@ -38,8 +38,8 @@ with_sheets copies state = record state {
 }
 
 -- A finished sheet goes out in the copies of now, each followed by its reply, and is counted in each.
-abbrev pub finish : sheets.Sides → State → Outcome
-finish sheet state =
+abbrev pub finish_sheet : sheets.Sides → State → Outcome
+finish_sheet sheet state =
     let copies = state.environment.settings.copies in
     record { state = with_sheets copies state; outputs = copies_out sheet copies (status_count state) }
 
@@ -47,19 +47,19 @@ finish sheet state =
 abbrev pub close_duplex : Option Page → Page → State → Outcome
 close_duplex None page state = done (record state { pending = Some page })
 close_duplex (Some front) page state =
-    finish (record { front = front; back = Some page }) (record state { pending = None })
+    finish_sheet (record { front = front; back = Some page }) (record state { pending = None })
 
 -- A page closes, and raster graphics ends; the next page is blank and has no mark.
 abbrev pub close : State → Outcome
 close state =
     let next = record (ended_raster state) { page = None } in
     if state.environment.media.duplex then close_duplex state.pending (page_now state) next
-    else finish (record { front = page_now state; back = None }) next
+    else finish_sheet (record { front = page_now state; back = None }) next
 
 -- A front that waits for its back goes out alone.
 abbrev pub alone : Option Page → State → Outcome
 alone None state = done state
-alone (Some front) state = finish (record { front = front; back = None }) (record state { pending = None })
+alone (Some front) state = finish_sheet (record { front = front; back = None }) (record state { pending = None })
 
 abbrev pub front_alone : State → Outcome
 front_alone state = alone state.pending state

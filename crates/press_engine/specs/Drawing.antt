@@ -10,13 +10,13 @@ use Rattle.press_engine.specs.Rectangle.{no_rectangle, size_of}
 use Rattle.press_engine.specs.declared.drawing.Drawing.{Drawing}
 
 -- solid black, which has no ID
-abbrev pub solid_black : Pattern
-solid_black = record { kind = kinds.Black; id = 0 }
+abbrev pub solid_black_pattern : Pattern
+solid_black_pattern = record { kind = kinds.Black; id = 0 }
 
 -- After power on and a reset: no rectangle, pattern ID 0, solid black, both white dots transparent; raster
 -- graphics of 75 dots per inch by method 0, without source width and height.
 abbrev pub initial_drawing : Drawing
-initial_drawing = record { rectangle = no_rectangle; pattern_id = 0; pattern = solid_black; mode = both_transparent; raster = initial }
+initial_drawing = record { rectangle = no_rectangle; pattern_id = 0; pattern = solid_black_pattern; mode = both_transparent; raster = initial }
 
 -- ESC*c#A and ESC*c#B, horizontal and vertical rectangle size in PCL units, and ESC*c#H and ESC*c#V, in decipoints; a negative
 -- value has no effect (this profile)

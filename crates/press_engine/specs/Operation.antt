@@ -151,14 +151,14 @@ group_rows =
     ∷ ((code "*", code "v"), star_v_rows)
     ∷ []
 
-abbrev pub rows_of : (character group : ℕ) → List ((ℕ × ℕ) × List (ℕ × Operation)) → List (ℕ × Operation)
-rows_of character group [] = []
-rows_of character group (rows ∷ others) =
-    if character == rows.0.0 && group == rows.0.1 then rows.1 else rows_of character group others
+abbrev pub rows_at : (character group : ℕ) → List ((ℕ × ℕ) × List (ℕ × Operation)) → List (ℕ × Operation)
+rows_at character group [] = []
+rows_at character group (rows ∷ others) =
+    if character == rows.0.0 && group == rows.0.1 then rows.1 else rows_at character group others
 
 -- the sequences of a parameterized character, a group character and a termination character
 abbrev pub grouped_operation : (character group end : ℕ) → Operation
-grouped_operation character group end = row_at end (rows_of character group group_rows)
+grouped_operation character group end = row_at end (rows_at character group group_rows)
 
 -- those of a parameterized character and a termination character
 abbrev pub parameter_operation : (character : ℕ) → (group : Option ℕ) → (end : ℕ) → Operation

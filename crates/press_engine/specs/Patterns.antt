@@ -11,7 +11,7 @@ use Rattle.press_pattern.specs.declared.pattern.Pattern.{Pattern}
 use Rattle.press_engine.specs.declared.pattern_control.PatternControl.{PatternControl}
 use Rattle.press_engine.specs.declared.pattern_control.PatternControl.TheVariants as controls
 use Rattle.press_engine.specs.declared.state.State.{State}
-use Rattle.press_engine.specs.Drawing.{solid_black}
+use Rattle.press_engine.specs.Drawing.{solid_black_pattern}
 use Rattle.press_engine.specs.Outcome.{Effect, Changes, Makes}
 
 -- the kind of pattern that a number names, of ESC*v#T and ESC*c#P
@@ -25,7 +25,7 @@ exists pattern state = is_some (tile_of state.patterns pattern.kind pattern.id)
 
 -- the pattern of a kind under the pattern ID of now; the solid ones have none
 abbrev pub pattern_of_kind : Kind → State → Pattern
-pattern_of_kind kinds.Black state = solid_black
+pattern_of_kind kinds.Black state = solid_black_pattern
 pattern_of_kind kinds.White state = record { kind = kinds.White; id = 0 }
 pattern_of_kind kinds.Shading state = record { kind = kinds.Shading; id = state.drawing.pattern_id }
 pattern_of_kind kinds.CrossHatch state = record { kind = kinds.CrossHatch; id = state.drawing.pattern_id }
@@ -33,7 +33,7 @@ pattern_of_kind kinds.User state = record { kind = kinds.User; id = state.drawin
 
 -- The pattern that marks are painted with: the current one; where that is a user-defined one that is gone, solid black.
 abbrev pub pattern_now : State → Pattern
-pattern_now state = if exists state.drawing.pattern state then state.drawing.pattern else solid_black
+pattern_now state = if exists state.drawing.pattern state then state.drawing.pattern else solid_black_pattern
 
 -- ESC*v#T, select current pattern; one that does not exist is not selected
 abbrev pub select : Pattern → State → State

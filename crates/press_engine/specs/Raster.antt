@@ -54,16 +54,16 @@ rows_down rows state =
     record state { cursor = moved_y (pos distance) true (bounds state) state.cursor }
 
 -- ESC*b#Y, raster Y offset
-abbrev pub rows_of : ℤ → Option ℕ
-rows_of (pos n) = above 0 n
-rows_of (negsuc n) = None
+abbrev pub asked_offset : ℤ → Option ℕ
+asked_offset (pos n) = above 0 n
+asked_offset (negsuc n) = None
 
 abbrev pub offset_by : Option ℕ → State → State
 offset_by None state = state
 offset_by (Some rows) state = record (rows_down rows state) { graphics = moved_down rows state.graphics }
 
 abbrev pub offset_raster : (number : ℤ) → State → State
-offset_raster number state = if is_some state.graphics then offset_by (rows_of number) state else state
+offset_raster number state = if is_some state.graphics then offset_by (asked_offset number) state else state
 
 -- what rows are painted with: the pattern of now is always there
 abbrev pub ink_now : State → Ink

@@ -26,8 +26,8 @@ use Rattle.press_engine.specs.Raster.{with_raster, while_off, start_raster, end_
 abbrev pub value_of : Token → ℤ
 value_of command = tenthousandths_of (field_of command)
 
-abbrev pub number_of : Token → ℤ
-number_of command = whole_part (value_of command)
+abbrev pub whole_part_of : Token → ℤ
+whole_part_of command = whole_part (value_of command)
 
 abbrev pub is_relative : Token → Bool
 is_relative command = is_signed (field_of command)
@@ -52,10 +52,10 @@ row source MoveColumns command = λ state. Changes (move_along (column state) (v
 row source MoveRows command = λ state. Changes (move_rows (value_of command) (is_relative command) state)
 row source MoveHorizontally command = λ state. Changes (move_along decipoint (value_of command) (is_relative command) state)
 row source MoveVertically command = λ state. Changes (move_down decipoint (value_of command) (is_relative command) state)
-row source SelectSide command = select_side (number_of command)
+row source SelectSide command = select_side (whole_part_of command)
 row source LeftMargin command = λ state. Changes (change_left_margin (value_of command) state)
 row source RightMargin command = λ state. Changes (change_right_margin (value_of command) state)
-row source PushOrPop command = λ state. Changes (push_or_pop (number_of command) state)
+row source PushOrPop command = λ state. Changes (push_or_pop (whole_part_of command) state)
 row source LineTermination command = λ state. Changes (with_environment (set_line_termination (value_of command)) state)
 row source HorizontalMotion command = λ state. Changes (with_environment (set_horizontal_motion (value_of command)) state)
 row source SelectPageSize command = select_page_size (value_of command)
@@ -70,28 +70,28 @@ row source SelectSides command = select_sides (value_of command)
 row source Copies command = λ state. Changes (with_environment (set_copies (value_of command)) state)
 row source RectangleWidth command = λ state. Changes (with_drawing (set_rectangle_width (value_of command) (pcl_unit_of state)) state)
 row source RectangleHeight command = λ state. Changes (with_drawing (set_rectangle_height (value_of command) (pcl_unit_of state)) state)
-row source PatternId command = λ state. Changes (with_drawing (set_pattern_id (number_of command)) state)
+row source PatternId command = λ state. Changes (with_drawing (set_pattern_id (whole_part_of command)) state)
 row source RectangleWidthInDecipoints command = λ state. Changes (with_drawing (set_rectangle_width (value_of command) decipoint) state)
-row source Fill command = fill (number_of command)
-row source ControlPatterns command = λ state. Changes (control_patterns (number_of command) state)
+row source Fill command = fill (whole_part_of command)
+row source ControlPatterns command = λ state. Changes (control_patterns (whole_part_of command) state)
 row source RectangleHeightInDecipoints command = λ state. Changes (with_drawing (set_rectangle_height (value_of command) decipoint) state)
 row source DefinePattern command = define_pattern (data_of command)
-row source SourceTransparency command = λ state. Changes (with_drawing (set_source_transparency (number_of command)) state)
-row source PatternTransparency command = λ state. Changes (with_drawing (set_pattern_transparency (number_of command)) state)
-row source SelectPattern command = λ state. Changes (select_pattern (number_of command) state)
+row source SourceTransparency command = λ state. Changes (with_drawing (set_source_transparency (whole_part_of command)) state)
+row source PatternTransparency command = λ state. Changes (with_drawing (set_pattern_transparency (whole_part_of command)) state)
+row source SelectPattern command = λ state. Changes (select_pattern (whole_part_of command) state)
 row source RasterResolution command = λ state. Changes (while_off (set_resolution (value_of command)) state)
-row source StartRaster command = λ state. Changes (start_raster (number_of command) state)
+row source StartRaster command = λ state. Changes (start_raster (whole_part_of command) state)
 row source EndRaster command = λ state. Changes (ended_raster state)
 row source EndRasterAndMethod command = λ state. Changes (end_raster_and_method state)
 row source SourceWidth command = λ state. Changes (while_off (set_source_width (value_of command)) state)
 row source SourceHeight command = λ state. Changes (while_off (set_source_height (value_of command)) state)
 row source SetMethod command = λ state. Changes (with_raster (set_method (value_of command)) state)
 row source TransferRow command = transfer (data_of command)
-row source OffsetRaster command = λ state. Changes (offset_raster (number_of command) state)
+row source OffsetRaster command = λ state. Changes (offset_raster (whole_part_of command) state)
 row source MoveX command = λ state. Changes (move_along (pcl_unit_of state) (value_of command) (is_relative command) state)
 row source MoveY command = λ state. Changes (move_down (pcl_unit_of state) (value_of command) (is_relative command) state)
-row source MacroId command = λ state. Changes (set_macro_id (number_of command) state)
-row source ControlMacro command = control_macro source (number_of command)
+row source MacroId command = λ state. Changes (set_macro_id (whole_part_of command) state)
+row source ControlMacro command = control_macro source (whole_part_of command)
 row source JobLanguage command = job_language (line_of command)
 
 -- what has effect while HP-GL/2 is on
@@ -121,7 +121,7 @@ passes_definition other number = false
 -- whether a command is recorded
 abbrev pub is_recorded : Token → State → Bool
 is_recorded command state =
-    recording state && not (passes_definition (operation_of (kind_of command)) (number_of command))
+    recording state && not (passes_definition (operation_of (kind_of command)) (whole_part_of command))
 
 -- whether a command has no effect where it stands
 abbrev pub is_skipped : Source → Operation → State → Bool

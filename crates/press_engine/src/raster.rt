@@ -2,7 +2,7 @@
 
 ghost use Rattle.std.specs.Prelude.{◌≡◌};
 ghost use Rattle.press_units.specs.Value.{whole_part};
-ghost use Rattle.press_engine.specs.Raster.{start_of, rows_of};
+ghost use Rattle.press_engine.specs.Raster.{start_of, asked_offset};
 
 use crate::canvas::RESOLUTION;
 use crate::effect::Effect;
@@ -26,7 +26,7 @@ fn start_of(number: i64, x: u32) -> Option<u32>
 
 /// How many rows the number of `ESC * b # Y` leaves out, at least one.
 fn rows_of(value: Value) -> Option<u16>
-    ensures { result ≡ rows_of (whole_part value.tenthousandths) }
+    ensures { result ≡ asked_offset (whole_part value.tenthousandths) }
 {
     u16::try_from(value.whole()).ok().filter(|rows| *rows > 0)
 }

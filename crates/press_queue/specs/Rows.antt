@@ -172,16 +172,16 @@ abbrev pub begin : QueueState → QueueState × Option ℕ
 begin queue = begin_with (if queue.held then None else first_waiting queue.entries) queue
 
 -- A running entry ends.
-abbrev pub finish_at : Option Entry → ℕ → End → QueueState → QueueState
-finish_at None number end queue = queue
-finish_at (Some entry) number end queue = set_status number (status_at_end end) entry queue
+abbrev pub finish_entry_at : Option Entry → ℕ → End → QueueState → QueueState
+finish_entry_at None number end queue = queue
+finish_entry_at (Some entry) number end queue = set_status number (status_at_end end) entry queue
 
-abbrev pub finish : ℕ → End → QueueState → QueueState
-finish number end queue = finish_at (entry_numbered number queue.entries) number end queue
+abbrev pub finish_entry : ℕ → End → QueueState → QueueState
+finish_entry number end queue = finish_entry_at (entry_numbered number queue.entries) number end queue
 
 -- whether the entry of this number runs
-abbrev pub runs : ℕ → QueueState → Bool
-runs number queue = option_map_or (λ entry. is_running entry.status) (entry_numbered number queue.entries) false
+abbrev pub entry_runs : ℕ → QueueState → Bool
+entry_runs number queue = option_map_or (λ entry. is_running entry.status) (entry_numbered number queue.entries) false
 
 -- the number of the first entry that runs
 abbrev pub running : QueueState → Option ℕ

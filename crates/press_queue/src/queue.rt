@@ -267,8 +267,8 @@ impl Queue {
 
     /// An entry that runs ends.
     pub fn finish(&mut self, number: u64, end: End)
-        requires { IsTrue (rows.runs number self.old) }
-        ensures { self.new ≡ rows.finish number end self.old }
+        requires { IsTrue (rows.entry_runs number self.old) }
+        ensures { self.new ≡ rows.finish_entry number end self.old }
     {
         if let Some(entry) = entries::entry_numbered(&self.entries, number) {
             self.set_status(number, entry, end.status());
@@ -318,7 +318,7 @@ impl Queue {
 
     /// Whether the entry of this number runs.
     pub fn is_running(&self, number: u64) -> bool
-        ensures { result ≡ rows.runs number self.now }
+        ensures { result ≡ rows.entry_runs number self.now }
     {
         match entries::entry_numbered(&self.entries, number) {
             Some(entry) => entry.status.is_running(),

@@ -6,12 +6,18 @@ use Rattle.std.specs.Io.KnownBytes.{Appends}
 use Rattle.press_sink.specs.Sides.{Sides}
 use Rattle.press_sink.specs.declared.sheet.Delivery.{Delivery}
 use Rattle.press_sink.specs.Told.{Told}
-use Rattle.press_sink.specs.Sending.{Output, Deliver, Reply, Ending, Complete, AtSheet, AtReply, ForMemory, sheets_of, under_tag, reply_bytes_of, TookAll, WentOut}
+use Rattle.press_sink.specs.Sending.{Output, Deliver, Reply, Ending, Complete, AtSheet, AtReply, ForMemory, sheets_of, sheets_in, under_tag, reply_bytes_of, TookAll, WentOut}
 
-sheets_of-append : (outputs others : List Output) → sheets_of (outputs ++ others) ≡ sheets_of outputs ++ sheets_of others
+-- the sheets of outputs, and of others behind them
+pub sheets_of-append : (outputs others : List Output) → sheets_of (outputs ++ others) ≡ sheets_of outputs ++ sheets_of others
 sheets_of-append [] others = refl
 sheets_of-append (Deliver sheet ∷ outputs) others = ap (λ (all : List Sides). sheet ∷ all) (sheets_of-append outputs others)
 sheets_of-append (Reply bytes ∷ outputs) others = sheets_of-append outputs others
+
+-- the sheets of deliveries under one tag
+pub sheets_in-tagged : (tag : ℕ) (sheets : List Sides) → sheets_in (under_tag tag sheets) ≡ sheets
+sheets_in-tagged tag [] = refl
+sheets_in-tagged tag (sheet ∷ sheets) = ap (λ (all : List Sides). sheet ∷ all) (sheets_in-tagged tag sheets)
 
 tagged-append : (tag : ℕ) (outputs others : List Output) → under_tag tag (sheets_of (outputs ++ others)) ≡ under_tag tag (sheets_of outputs) ++ under_tag tag (sheets_of others)
 tagged-append tag outputs others = ap (under_tag tag) (sheets_of-append outputs others) ∙ map-append _ (sheets_of outputs) (sheets_of others)

@@ -19,7 +19,7 @@ use Rattle.press_engine.specs.declared.effect.Source.TheVariants.{Stream}
 use Rattle.press_engine.specs.declared.machine.Machine.{Machine}
 use Rattle.press_engine.specs.declared.operation.Operation.TheVariants as operations
 use Rattle.press_engine.specs.declared.state.State.{State}
-use Rattle.press_engine.specs.Closing.{page_now, finish, close, close_duplex, alone, ended, select_side, then_change}
+use Rattle.press_engine.specs.Closing.{page_now, finish_sheet, close, close_duplex, alone, ended, select_side, then_change}
 use Rattle.press_engine.specs.Machine.{settled_state, taken}
 use Rattle.press_engine.specs.Macros.{recording}
 use Rattle.press_engine.specs.Motion.{returned, to_left_margin, to_first_line}
@@ -29,12 +29,12 @@ use Rattle.press_engine.specs.Outputs.{copies_out}
 use Rattle.press_engine.specs.Table.{row}
 use Rattle.press_ticket.specs.Ticket.{JobTicket}
 use Rattle.press_writer.specs.declared.sequence.Sequence.TheVariants.{Copies, SideSelection}
-use Rattle.press_writer.specs.Job.{form_feed, front_side}
+use Rattle.press_writer.specs.Job.{form_feed_command, front_side}
 use Rattle.press_writer.specs.Medium.{medium}
 use Rattle.press_writer.specs.Sequences.{command}
 use Rattle.press_writer.proofs.Between.{Ready, Between, Painted}
 use Rattle.press_writer.proofs.CommandLemmas.{Gives, gives-one, gives-change, gives-close, row_of, run-row}
-use Rattle.press_writer.proofs.NumberLemmas.{number_of-command}
+use Rattle.press_writer.proofs.NumberLemmas.{whole_part_of-command}
 
 -- one command that does what it does after a close, where the page has no mark
 pub gives-goes : (outputs : List Output) (P : State → Type 0) (token : Token) (machine : Machine) (closer : Closer) (before : State) (outcome : Outcome)
@@ -56,28 +56,28 @@ one_sided front = record { front = front; back = None }
 abbrev pub two_sided : Page → Page → Sides
 two_sided front back = record { front = front; back = Some back }
 
-close-simplex : (side : Page) (state : State) → state.environment.media.duplex ≡ false → page_now state ≡ side → close state ≡ finish (one_sided side) (next_page state)
+close-simplex : (side : Page) (state : State) → state.environment.media.duplex ≡ false → page_now state ≡ side → close state ≡ finish_sheet (one_sided side) (next_page state)
 close-simplex side state simplex page =
-    λ j. if simplex j then close_duplex state.pending (page j) (next_page state) else finish (one_sided (page j)) (next_page state)
+    λ j. if simplex j then close_duplex state.pending (page j) (next_page state) else finish_sheet (one_sided (page j)) (next_page state)
 
 close-front : (side : Page) (state : State) → state.environment.media.duplex ≡ true → state.pending ≡ None → page_now state ≡ side
     → close state ≡ done (record (next_page state) { pending = Some side })
 close-front side state duplex pending page =
-    λ j. if duplex j then close_duplex (pending j) (page j) (next_page state) else finish (one_sided (page j)) (next_page state)
+    λ j. if duplex j then close_duplex (pending j) (page j) (next_page state) else finish_sheet (one_sided (page j)) (next_page state)
 
 close-back : (front side : Page) (state : State) → state.environment.media.duplex ≡ true → state.pending ≡ Some front → page_now state ≡ side
-    → close state ≡ finish (two_sided front side) (record (next_page state) { pending = None })
+    → close state ≡ finish_sheet (two_sided front side) (record (next_page state) { pending = None })
 close-back front side state duplex pending page =
-    λ j. if duplex j then close_duplex (pending j) (page j) (next_page state) else finish (one_sided (page j)) (next_page state)
+    λ j. if duplex j then close_duplex (pending j) (page j) (next_page state) else finish_sheet (one_sided (page j)) (next_page state)
 
 -- without status replies the copies of a sheet go out one after another
 copies_out-plain : (sheet : Sides) (copies : ℕ) → copies_out sheet copies None ≡ replicate copies (Deliver sheet)
 copies_out-plain sheet zero = refl
 copies_out-plain sheet (suc copies) = ap (λ outputs. Deliver sheet ∷ outputs) (copies_out-plain sheet copies)
 
-finish-outputs : (sheet : Sides) (copies : ℕ) (state : State) → state.environment.settings.copies ≡ copies → state.language.page_status ≡ false
-    → (finish sheet state).outputs ≡ replicate copies (Deliver sheet)
-finish-outputs sheet copies state same status =
+finish_sheet-outputs : (sheet : Sides) (copies : ℕ) (state : State) → state.environment.settings.copies ≡ copies → state.language.page_status ≡ false
+    → (finish_sheet sheet state).outputs ≡ replicate copies (Deliver sheet)
+finish_sheet-outputs sheet copies state same status =
     (λ j. copies_out sheet (same j) (if status j then Some state.since_job else None)) ∙ copies_out-plain sheet copies
 
 -- ---- from page to page
@@ -122,27 +122,27 @@ module _ (ticket : JobTicket) where
   -- a form feed
   feeds : (copies : ℕ) (waiting next : Option Page) (side : Page) (outputs : List Output) (machine : Machine) (outcome : Outcome)
       → Painted ticket copies waiting side machine.state → close (returned machine.state) ≡ outcome → outcome.outputs ≡ outputs
-      → Between ticket copies next (to_first_line outcome.state) → Gives outputs (Between ticket copies next) (form_feed ∷ []) machine
+      → Between ticket copies next (to_first_line outcome.state) → Gives outputs (Between ticket copies next) (form_feed_command ∷ []) machine
   feeds copies waiting next side outputs machine outcome painted closing out between =
-      gives-close outputs (Between ticket copies next) form_feed machine closers.Feed (returned machine.state) outcome painted.ready.hp_gl painted.ready.definition refl
+      gives-close outputs (Between ticket copies next) form_feed_command machine closers.Feed (returned machine.state) outcome painted.ready.hp_gl painted.ready.definition refl
       (painted-returned copies waiting side machine.state painted).ready.overlay closing (append-nil outcome.outputs ∙ out) between
 
   -- in simplex, the copies of the sheet go out
-  pub form_feed-simplex : (copies : ℕ) (side : Page) (machine : Machine) → (medium ticket).duplex ≡ false → Painted ticket copies None side machine.state
-      → Gives (replicate copies (Deliver (one_sided side))) (Between ticket copies None) (form_feed ∷ []) machine
-  form_feed-simplex copies side machine simplex painted =
+  pub form_feed_command-simplex : (copies : ℕ) (side : Page) (machine : Machine) → (medium ticket).duplex ≡ false → Painted ticket copies None side machine.state
+      → Gives (replicate copies (Deliver (one_sided side))) (Between ticket copies None) (form_feed_command ∷ []) machine
+  form_feed_command-simplex copies side machine simplex painted =
       let state : State = returned machine.state in
       let is : Painted ticket copies None side state = painted-returned copies None side machine.state painted in
-      let outcome : Outcome = finish (one_sided side) (next_page state) in
+      let outcome : Outcome = finish_sheet (one_sided side) (next_page state) in
       feeds copies None None side (replicate copies (Deliver (one_sided side))) machine outcome painted
       (close-simplex side state ((λ j. (is.ready.media j).duplex) ∙ simplex) is.page)
-      (finish-outputs (one_sided side) copies (next_page state) is.ready.copies is.ready.status)
+      (finish_sheet-outputs (one_sided side) copies (next_page state) is.ready.copies is.ready.status)
       (record { ready = ready-along copies None None state (to_first_line outcome.state) refl refl refl refl refl refl is.ready.pending is.ready; page = refl; method = is.method })
 
   -- in duplex, a front waits
-  pub form_feed-front : (copies : ℕ) (side : Page) (machine : Machine) → (medium ticket).duplex ≡ true → Painted ticket copies None side machine.state
-      → Gives [] (Between ticket copies (Some side)) (form_feed ∷ []) machine
-  form_feed-front copies side machine duplex painted =
+  pub form_feed_command-front : (copies : ℕ) (side : Page) (machine : Machine) → (medium ticket).duplex ≡ true → Painted ticket copies None side machine.state
+      → Gives [] (Between ticket copies (Some side)) (form_feed_command ∷ []) machine
+  form_feed_command-front copies side machine duplex painted =
       let state : State = returned machine.state in
       let is : Painted ticket copies None side state = painted-returned copies None side machine.state painted in
       let outcome : Outcome = done (record (next_page state) { pending = Some side }) in
@@ -151,15 +151,15 @@ module _ (ticket : JobTicket) where
       (record { ready = ready-along copies None (Some side) state (to_first_line outcome.state) refl refl refl refl refl refl refl is.ready; page = refl; method = is.method })
 
   -- and behind it the copies of the sheet with its back go out
-  pub form_feed-back : (copies : ℕ) (front side : Page) (machine : Machine) → (medium ticket).duplex ≡ true → Painted ticket copies (Some front) side machine.state
-      → Gives (replicate copies (Deliver (two_sided front side))) (Between ticket copies None) (form_feed ∷ []) machine
-  form_feed-back copies front side machine duplex painted =
+  pub form_feed_command-back : (copies : ℕ) (front side : Page) (machine : Machine) → (medium ticket).duplex ≡ true → Painted ticket copies (Some front) side machine.state
+      → Gives (replicate copies (Deliver (two_sided front side))) (Between ticket copies None) (form_feed_command ∷ []) machine
+  form_feed_command-back copies front side machine duplex painted =
       let state : State = returned machine.state in
       let is : Painted ticket copies (Some front) side state = painted-returned copies (Some front) side machine.state painted in
-      let outcome : Outcome = finish (two_sided front side) (record (next_page state) { pending = None }) in
+      let outcome : Outcome = finish_sheet (two_sided front side) (record (next_page state) { pending = None }) in
       feeds copies (Some front) None side (replicate copies (Deliver (two_sided front side))) machine outcome painted
       (close-back front side state ((λ j. (is.ready.media j).duplex) ∙ duplex) is.ready.pending is.page)
-      (finish-outputs (two_sided front side) copies (record (next_page state) { pending = None }) is.ready.copies is.ready.status)
+      (finish_sheet-outputs (two_sided front side) copies (record (next_page state) { pending = None }) is.ready.copies is.ready.status)
       (record { ready = ready-along copies (Some front) None state (to_first_line outcome.state) refl refl refl refl refl refl refl is.ready; page = refl; method = is.method })
 
   -- ---- the front is selected
@@ -167,7 +167,7 @@ module _ (ticket : JobTicket) where
   select-front : (copies : ℕ) (waiting : Option Page) (state : State) → Between ticket copies waiting state
       → row_of (command SideSelection front_side) state ≡ Goes (closers.Side selections.Front) state
   select-front copies waiting state is =
-      ap (λ (n : ℤ). select_side n state) (number_of-command SideSelection 1 (omega arith))
+      ap (λ (n : ℤ). select_side n state) (whole_part_of-command SideSelection 1 (omega arith))
       ∙ ap (λ (page : Option _). if is_some page then Closes (closers.Side selections.Front) state else Goes (closers.Side selections.Front) state) is.page
 
   -- no front waits
@@ -182,10 +182,10 @@ module _ (ticket : JobTicket) where
       → Gives (replicate copies (Deliver (one_sided front))) (Between ticket copies None) (command SideSelection front_side ∷ []) machine
   turn-front copies front machine is =
       let free : State = record machine.state { pending = None } in
-      let outcome : Outcome = finish (one_sided front) free in
+      let outcome : Outcome = finish_sheet (one_sided front) free in
       gives-goes (replicate copies (Deliver (one_sided front))) (Between ticket copies None) (command SideSelection front_side) machine (closers.Side selections.Front)
       machine.state outcome is.ready.hp_gl is.ready.definition (select-front copies (Some front) machine.state is)
-      (ap (λ (waiting : Option Page). alone waiting machine.state) is.ready.pending) (finish-outputs (one_sided front) copies free is.ready.copies is.ready.status)
+      (ap (λ (waiting : Option Page). alone waiting machine.state) is.ready.pending) (finish_sheet-outputs (one_sided front) copies free is.ready.copies is.ready.status)
       (record { ready = ready-along copies (Some front) None machine.state outcome.state refl refl refl refl refl refl refl is.ready; page = is.page; method = is.method })
 
   -- ---- copies
@@ -204,7 +204,7 @@ module _ (ticket : JobTicket) where
       → Gives [] (Between ticket copies waiting) (command Copies copies ∷ []) machine
   copies-set before copies waiting machine some most is =
       gives-change (Between ticket copies waiting) (command Copies copies) machine (set_to (Some copies) machine.state) is.ready.hp_gl is.ready.definition
-      (ap (λ (asked : Option ℕ). Changes (set_to asked machine.state)) (ap settings.copies_of (number_of-command Copies copies (omega arith)) ∙ copies_asked copies some most))
+      (ap (λ (asked : Option ℕ). Changes (set_to asked machine.state)) (ap settings.copies_of (whole_part_of-command Copies copies (omega arith)) ∙ copies_asked copies some most))
       (record {
         ready = record {
           hp_gl = is.ready.hp_gl;

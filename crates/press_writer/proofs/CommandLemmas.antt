@@ -14,7 +14,7 @@ use Rattle.press_engine.specs.Machine.{Run, run, run_at, run_all, carried, close
 use Rattle.press_engine.specs.Macros.{recording, record_command}
 use Rattle.press_engine.specs.Operation.{operation_of}
 use Rattle.press_engine.specs.Outcome.{Effect, Changes, Makes, Closes, Outcome}
-use Rattle.press_engine.specs.Table.{effect_on, row, row_unless_skipped, number_of, passes_definition, works_in_hp_gl, works_in_overlay}
+use Rattle.press_engine.specs.Table.{effect_on, row, row_unless_skipped, whole_part_of, passes_definition, works_in_hp_gl, works_in_overlay}
 use Rattle.press_engine.specs.Motion.{in_overlay}
 use Rattle.press_engine.proofs.Runs.{run_all-none, run_all-append, run_all-one}
 use Rattle.press_writer.proofs.Between.{Leaves}
@@ -26,7 +26,7 @@ row_of command state = row Stream (operation_of (kind_of command)) command state
 -- where no definition is open and HP-GL/2 is off, a command does what its row says
 pub effect-row : (command : Token) (state : State) → state.hp_gl ≡ false → recording state ≡ false → effect_on Stream command state ≡ row_of command state
 effect-row command state off none =
-    ap (λ (b : Bool). if b && not (passes_definition (operation_of (kind_of command)) (number_of command)) then Makes (record_command command state)
+    ap (λ (b : Bool). if b && not (passes_definition (operation_of (kind_of command)) (whole_part_of command)) then Makes (record_command command state)
     else row_unless_skipped Stream (operation_of (kind_of command)) command state) none
     ∙ ap (λ (b : Bool). if (b && not (works_in_hp_gl (operation_of (kind_of command)))) || (in_overlay Stream && not (works_in_overlay (operation_of (kind_of command))))
     then Changes state else row_of command state) off

@@ -10,9 +10,9 @@ use Rattle.press_ticket.specs.declared.media.Sides.TheVariants.{OneSidedFront, T
 use Rattle.press_writer.specs.declared.checking.Direction.TheVariants.{Across, Down}
 use Rattle.press_writer.specs.declared.sheet.SheetPages.{SheetPages}
 use Rattle.press_writer.specs.Fitting.{IsImage, first_fault, is_beyond, refusal}
-use Rattle.press_writer.specs.Job.{batches, most_copies, run_of, runs_of, runs, goes_by_sets}
+use Rattle.press_writer.specs.Job.{batches, most_copies, run_of, runs_of, print_runs, goes_by_sets}
 use Rattle.press_writer.specs.Medium.{medium, room}
-use Rattle.press_writer.specs.Sheets.{on_fronts, on_both_sides, sheets_of, set_of}
+use Rattle.press_writer.specs.Sheets.{on_fronts, on_both_sides, on_sheets, set_of}
 use Rattle.press_writer.specs.Wanted.{image_of}
 use Rattle.press_writer.proofs.Between.{Fits}
 use Rattle.press_writer.proofs.EachLemmas.{Each, each-append, each-flat_map, each-map, each-replicate}
@@ -85,7 +85,7 @@ module _ (ticket : JobTicket) (images : List Page) where
   both-are (page ∷ other ∷ pages) duplex fit =
       (record { front = fit.0; back = fit.1.0; alone = λ simplex. absurd (let wrong : true ≡ false = sym duplex ∙ simplex in cc) }, both-are pages duplex fit.1.1)
 
-  sheets-are : (sides : Sides) (pages : List ℕ) → ticket.sides ≡ sides → Each (λ page. Fits ticket (image_of images page)) pages → Each (IsSheet ticket images) (sheets_of sides pages)
+  sheets-are : (sides : Sides) (pages : List ℕ) → ticket.sides ≡ sides → Each (λ page. Fits ticket (image_of images page)) pages → Each (IsSheet ticket images) (on_sheets sides pages)
   sheets-are OneSidedFront pages is fit = fronts-are pages fit
   sheets-are TwoSidedHeadToHead pages is fit = both-are pages (λ j. (medium (record ticket { sides = is j })).duplex) fit
   sheets-are TwoSidedHeadToFoot pages is fit = both-are pages (λ j. (medium (record ticket { sides = is j })).duplex) fit
@@ -120,6 +120,6 @@ module _ (ticket : JobTicket) (images : List Page) where
       (λ sheet is. each-map (λ copies. (1 ≤ copies) × (copies ≤ 999)) (IsRun ticket images) (run_of sheet) (λ copies few. run-is sheet copies is few) (batches amount) (batches-are amount))
       set are
 
-  pub runs-are : refusal ticket images ≡ None → Each (λ page. IsImage (image_of images page)) (page_order ticket.run_list) → Each (IsRun ticket images) (runs ticket)
-  runs-are none are =
+  pub print_runs-are : refusal ticket images ≡ None → Each (λ page. IsImage (image_of images page)) (page_order ticket.run_list) → Each (IsRun ticket images) (print_runs ticket)
+  print_runs-are none are =
       runs-are-of (goes_by_sets ticket) ticket.amount (set_of ticket) (sheets-are ticket.sides (page_order ticket.run_list) refl (images-fit ticket images none are))

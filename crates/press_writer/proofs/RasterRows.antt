@@ -12,7 +12,7 @@ use Rattle.press_ticket.specs.Ticket.{JobTicket}
 use Rattle.press_engine.specs.declared.machine.Machine.{Machine}
 use Rattle.press_engine.specs.declared.state.State.{State}
 use Rattle.press_writer.specs.Medium.{side_extent, left_offset}
-use Rattle.press_writer.specs.Picture.{is_white, left_out, method_change, row_commands, row_before, raster_rows, sent}
+use Rattle.press_writer.specs.Picture.{is_white_row, left_out, method_change, row_commands, row_before, raster_rows, sent}
 use Rattle.press_writer.specs.Wanted.{printed_side}
 use Rattle.press_writer.proofs.AtRow.{AtRow, AtEnd}
 use Rattle.press_writer.proofs.Between.{Leaves, Fits}
@@ -31,7 +31,7 @@ leaves-same P commands others machine same leaves = subst (λ c. Leaves P c mach
 
 module _ (ticket : JobTicket) (copies : ℕ) (waiting : Option Page) (image : Page) (fits : Fits ticket image) where
   -- a white line: nothing is sent
-  white_next : (y white : ℕ) (method : Method) (state : State) → is_white (line_bytes image y) ≡ true
+  white_next : (y white : ℕ) (method : Method) (state : State) → is_white_row (line_bytes image y) ≡ true
       → AtRow ticket copies waiting image y white method state → AtRow ticket copies waiting image (y + 1) (suc white) method state
   white_next y white method state is at = record {
     ready = at.ready;
@@ -74,7 +74,7 @@ module _ (ticket : JobTicket) (copies : ℕ) (waiting : Option Page) (image : Pa
   rows_below n y = map (line_bytes image) (range_with_len (y + 1) n)
 
   -- a step of the induction over the rows: a white row, and another row
-  white-step : (n y white : ℕ) (method : Method) (machine : Machine) → is_white (line_bytes image y) ≡ true
+  white-step : (n y white : ℕ) (method : Method) (machine : Machine) → is_white_row (line_bytes image y) ≡ true
       → Done (raster_rows method (row_before image (y + 1)) (suc white) (rows_below n y)) machine
       → Done (raster_rows method (row_before image y) white (line_bytes image y ∷ rows_below n y)) machine
   white-step n y white method machine is rest =
@@ -84,7 +84,7 @@ module _ (ticket : JobTicket) (copies : ℕ) (waiting : Option Page) (image : Pa
       ∙ ap (λ before. raster_rows method before (suc white) (rows_below n y)) (sym (row_before-next image y)))
       rest
 
-  row-step : (n y white : ℕ) (method : Method) (machine : Machine) → y + 1 ≤ image.height → is_white (line_bytes image y) ≡ false
+  row-step : (n y white : ℕ) (method : Method) (machine : Machine) → y + 1 ≤ image.height → is_white_row (line_bytes image y) ≡ false
       → AtRow ticket copies waiting image y white method machine.state
       → ((last : Machine) → AtRow ticket copies waiting image (y + 1) 0 (best_method (line_bytes image y) (row_before image y)) last.state
       → Done (raster_rows (best_method (line_bytes image y) (row_before image y)) (row_before image (y + 1)) 0 (rows_below n y)) last)
@@ -110,7 +110,7 @@ module _ (ticket : JobTicket) (copies : ℕ) (waiting : Option Page) (image : Pa
             ∙ all_lines (side_extent ticket).width (side_extent ticket).height (left_offset ticket) image fits.inside;
       }))
   rows-leave (suc n) y white method machine is at =
-      elim (cases_Bool (is_white (line_bytes image y))) [
+      elim (cases_Bool (is_white_row (line_bytes image y))) [
         | inl white_row ↦ white-step n y white method machine white_row
             (rows-leave n (y + 1) (suc white) method machine (omega arith) (white_next y white method machine.state white_row at))
         | inr other ↦ row-step n y white method machine (omega arith) other at

@@ -30,9 +30,9 @@ use Rattle.press_writer.specs.declared.part.Part.TheVariants.{Tail}
 use Rattle.press_writer.specs.declared.plan.PrintRun.{PrintRun}
 use Rattle.press_writer.specs.declared.sequence.Sequence.{Sequence}
 use Rattle.press_writer.specs.declared.sequence.Sequence.TheVariants.{PageSize, Orientation, SimplexDuplex, TopMargin, Copies, SideSelection, VerticalPosition, RasterResolution, RasterWidth, StartRaster, EndRaster, CompressionMethod, RasterOffset, TransferRow}
-use Rattle.press_writer.specs.Job.{printer_reset, form_feed, front_side, size_number, sides_number, page, back_of, part_commands, sides_of, runs, job, job_bytes}
+use Rattle.press_writer.specs.Job.{printer_reset, form_feed_command, front_side, size_number, sides_number, page, back_of, part_commands, sides_of_run, print_runs, job, job_bytes}
 use Rattle.press_writer.specs.Medium.{room}
-use Rattle.press_writer.specs.Picture.{number_of, method_change, left_out, sent, is_white, row_commands, raster_rows, rows_of, white_row, image_rows, picture}
+use Rattle.press_writer.specs.Picture.{method_number, method_change, left_out, sent, is_white_row, row_commands, raster_rows, rows_of_image, white_row, image_rows, picture}
 use Rattle.press_writer.specs.Printing.{is_job_command}
 use Rattle.press_writer.specs.Sequences.{letters, with_data, command, written}
 use Rattle.press_writer.specs.Wanted.{image_of}
@@ -108,7 +108,7 @@ row-written bytes short =
 reset-written : IsWritten printer_reset
 reset-written = record { head = λ following. ((omega arith, omega arith), refl, refl); made_of = refl }
 
-feed-written : IsWritten form_feed
+feed-written : IsWritten form_feed_command
 feed-written = record { head = λ following. ((omega arith, λ e. absurd (omega (arith, e))), refl, refl); made_of = refl }
 
 -- ---- raster graphics
@@ -118,7 +118,7 @@ unfolding Each
 left_out-written zero few = tt
 left_out-written (suc n) few = (sequence-written RasterOffset (suc n) [] (omega arith) refl, tt)
 
-method_number-small : (method : Method) → number_of method < 2 ^ 64
+method_number-small : (method : Method) → method_number method < 2 ^ 64
 method_number-small Unencoded = omega arith
 method_number-small RunLength = omega arith
 method_number-small PackBits = omega arith
@@ -126,11 +126,11 @@ method_number-small DeltaRow = omega arith
 
 method_change-written : (before after : Method) → Each IsWritten (method_change before after)
 unfolding Each
-method_change-written before after = change (number_of before == number_of after)
+method_change-written before after = change (method_number before == method_number after)
   where
-    change : (same : Bool) → Each IsWritten (if same then [] else command CompressionMethod (number_of after) ∷ [])
+    change : (same : Bool) → Each IsWritten (if same then [] else command CompressionMethod (method_number after) ∷ [])
     change true = tt
-    change false = (sequence-written CompressionMethod (number_of after) [] (method_number-small after) refl, tt)
+    change false = (sequence-written CompressionMethod (method_number after) [] (method_number-small after) refl, tt)
 
 row_commands-written : (method : Method) (before row : List ℕ) → length row ≤ 65535 → Each IsWritten (row_commands method before row)
 unfolding Each
@@ -149,7 +149,7 @@ unfolding raster_rows Each
 raster_rows-written method before white [] short few = tt
 raster_rows-written method before white (row ∷ rows) short few =
     let method' : Method = best_method row before in
-    either (raster_rows method row (suc white) rows) (left_out white ++ (row_commands method before row ++ raster_rows method' row 0 rows)) (is_white row)
+    either (raster_rows method row (suc white) rows) (left_out white ++ (row_commands method before row ++ raster_rows method' row 0 rows)) (is_white_row row)
     (raster_rows-written method row (suc white) rows short.1 (omega (arith, few)))
     (each-append IsWritten (left_out white) (row_commands method before row ++ raster_rows method' row 0 rows) (left_out-written white (omega (arith, few)))
     (each-append IsWritten (row_commands method before row) (raster_rows method' row 0 rows) (row_commands-written method before row short.0)
@@ -188,14 +188,14 @@ picture-written ticket image fits =
     let small = room-small ticket ticket.media ticket.sides in
     let narrow : image.width ≤ 65535 = omega (arith, small.0, fits.width.1) in
     let low : image.height ≤ 65535 = omega (arith, small.1, fits.height) in
-    let count : length (rows_of image) ≡ image.height = length-map-range_with_len (line_bytes image) 0 image.height in (
+    let count : length (rows_of_image image) ≡ image.height = length-map-range_with_len (line_bytes image) 0 image.height in (
       sequence-written VerticalPosition 0 [] (omega arith) refl,
       (
         sequence-written RasterWidth image.width [] (omega arith) refl,
         (
           sequence-written StartRaster 0 [] (omega arith) refl,
           each-append IsWritten (image_rows image) (command EndRaster 0 ∷ [])
-              (raster_rows-written Unencoded (white_row image) 0 (rows_of image) (lines-short image 0 image.height narrow) (omega (arith, count, low)))
+              (raster_rows-written Unencoded (white_row image) 0 (rows_of_image image) (lines-short image 0 image.height narrow) (omega (arith, count, low)))
               (sequence-written EndRaster 0 [] (omega arith) refl, tt),
         ),
       ),
@@ -205,14 +205,14 @@ picture-written ticket image fits =
 
 page-written : (ticket : JobTicket) (image : Page) → Fits ticket image → Each IsWritten (page image)
 unfolding Each
-page-written ticket image fits = each-append IsWritten (picture image) (form_feed ∷ []) (picture-written ticket image fits) (feed-written, tt)
+page-written ticket image fits = each-append IsWritten (picture image) (form_feed_command ∷ []) (picture-written ticket image fits) (feed-written, tt)
 
 back-written : (ticket : JobTicket) (images : List Page) (back : Option ℕ) → IfSome back (λ number. Fits ticket (image_of images number)) → Each IsWritten (back_of images back)
 unfolding Each
 back-written ticket images None fits = (sequence-written SideSelection front_side [] (omega arith) refl, tt)
 back-written ticket images (Some number) fits = page-written ticket (image_of images number) fits
 
-run-written : (ticket : JobTicket) (images : List Page) (run : PrintRun) → IsRun ticket images run → Each IsWritten (flat_map (part_commands ticket images) (sides_of run))
+run-written : (ticket : JobTicket) (images : List Page) (run : PrintRun) → IsRun ticket images run → Each IsWritten (flat_map (part_commands ticket images) (sides_of_run run))
 unfolding Each
 run-written ticket images run is = (
   sequence-written Copies run.copies [] (omega (arith, is.most)) refl,
@@ -221,12 +221,12 @@ run-written ticket images run is = (
 )
 
 runs-written : (ticket : JobTicket) (images : List Page) (list : List PrintRun) → Each (IsRun ticket images) list
-    → Each IsWritten (flat_map (part_commands ticket images) (flat_map sides_of list))
+    → Each IsWritten (flat_map (part_commands ticket images) (flat_map sides_of_run list))
 unfolding Each
 runs-written ticket images [] each = tt
 runs-written ticket images (run ∷ list) each =
-    subst (Each IsWritten) (sym (flat_map-append (part_commands ticket images) (sides_of run) (flat_map sides_of list)))
-    (each-append IsWritten (flat_map (part_commands ticket images) (sides_of run)) (flat_map (part_commands ticket images) (flat_map sides_of list))
+    subst (Each IsWritten) (sym (flat_map-append (part_commands ticket images) (sides_of_run run) (flat_map sides_of_run list)))
+    (each-append IsWritten (flat_map (part_commands ticket images) (sides_of_run run)) (flat_map (part_commands ticket images) (flat_map sides_of_run list))
     (run-written ticket images run each.0) (runs-written ticket images list each.1))
 
 size_number-small : (media : names.Media) → size_number media < 2 ^ 64
@@ -265,20 +265,20 @@ settings-written ticket = (
 )
 
 middle : JobTicket → List Page → List Token
-middle ticket images = settings_of ticket ++ (flat_map (part_commands ticket images) (flat_map sides_of (runs ticket)) ++ printer_reset ∷ [])
+middle ticket images = settings_of ticket ++ (flat_map (part_commands ticket images) (flat_map sides_of_run (print_runs ticket)) ++ printer_reset ∷ [])
 
-middle-written : (ticket : JobTicket) (images : List Page) → Each (IsRun ticket images) (runs ticket) → Each IsWritten (middle ticket images)
+middle-written : (ticket : JobTicket) (images : List Page) → Each (IsRun ticket images) (print_runs ticket) → Each IsWritten (middle ticket images)
 unfolding Each middle
 middle-written ticket images each =
-    let sheets : List Token = flat_map (part_commands ticket images) (flat_map sides_of (runs ticket)) in
+    let sheets : List Token = flat_map (part_commands ticket images) (flat_map sides_of_run (print_runs ticket)) in
     each-append IsWritten (settings_of ticket) (sheets ++ printer_reset ∷ []) (settings-written ticket)
-    (each-append IsWritten sheets (printer_reset ∷ []) (runs-written ticket images (runs ticket) each) (reset-written, tt))
+    (each-append IsWritten sheets (printer_reset ∷ []) (runs-written ticket images (print_runs ticket) each) (reset-written, tt))
 
 job-middle : (ticket : JobTicket) (images : List Page) → job ticket images ≡ Uel ∷ printer_reset ∷ (middle ticket images ++ Uel ∷ [])
 unfolding middle settings_of
 job-middle ticket images =
     let commands : Part → List Token = part_commands ticket images in
-    let sides : List Part = flat_map sides_of (runs ticket) in
+    let sides : List Part = flat_map sides_of_run (print_runs ticket) in
     let sheets : List Token = flat_map commands sides in
     ap (λ (c : List Token). Uel ∷ printer_reset ∷ (settings_of ticket ++ c))
     (flat_map-append commands sides (Tail ∷ []) ∙ sym (append_assoc sheets (printer_reset ∷ []) (Uel ∷ [])))
@@ -320,7 +320,7 @@ closed-exits commands each =
       sym (append-nil all),
     )
 
-pub job-closed : (ticket : JobTicket) (images : List Page) → Each (IsRun ticket images) (runs ticket) → Closed (job_bytes ticket images) (job ticket images)
+pub job-closed : (ticket : JobTicket) (images : List Page) → Each (IsRun ticket images) (print_runs ticket) → Closed (job_bytes ticket images) (job ticket images)
 job-closed ticket images each =
     subst (λ (c : List Token). Closed (written c) c) (sym (job-middle ticket images)) (closed-exits (middle ticket images) (middle-written ticket images each))
 
@@ -341,7 +341,7 @@ made_of-append : (commands others : List Token) → list_all is_job_command comm
     → list_all is_job_command (commands ++ others) ≡ true
 made_of-append commands others one other = list_all-append is_job_command commands others ∙ (λ j. one j && other j)
 
-pub job-made_of : (ticket : JobTicket) (images : List Page) → Each (IsRun ticket images) (runs ticket) → list_all is_job_command (job ticket images) ≡ true
+pub job-made_of : (ticket : JobTicket) (images : List Page) → Each (IsRun ticket images) (print_runs ticket) → list_all is_job_command (job ticket images) ≡ true
 job-made_of ticket images each =
     ap (list_all is_job_command) (job-middle ticket images)
     ∙ made_of-append (middle ticket images) (Uel ∷ []) (made_of-each (middle ticket images) (middle-written ticket images each)) refl

@@ -20,7 +20,7 @@ use Rattle.press_engine.specs.Motion.{move_down, pcl_unit_of}
 use Rattle.press_engine.specs.Outcome.{Changes}
 use Rattle.press_engine.specs.Place.{blank_page}
 use Rattle.press_engine.specs.Raster.{with_raster, start_raster, start_at, start_of, end_raster_and_method}
-use Rattle.press_engine.specs.Table.{value_of, number_of}
+use Rattle.press_engine.specs.Table.{value_of, whole_part_of}
 use Rattle.press_writer.specs.Medium.{side_extent, left_offset}
 use Rattle.press_writer.specs.Sequences.{command}
 use Rattle.press_writer.specs.declared.sequence.Sequence.TheVariants.{VerticalPosition, RasterWidth, StartRaster, EndRaster}
@@ -29,7 +29,7 @@ use Rattle.press_writer.proofs.Between.{Between, Painted, Leaves}
 use Rattle.press_writer.proofs.CornerLemmas.{within_page}
 use Rattle.press_writer.proofs.DecodedRow.{no_seed}
 use Rattle.press_writer.proofs.LeavesLemmas.{leaves-change}
-use Rattle.press_writer.proofs.NumberLemmas.{is_relative-command, value_of-command, number_of-command}
+use Rattle.press_writer.proofs.NumberLemmas.{is_relative-command, value_of-command, whole_part_of-command}
 use Rattle.press_writer.proofs.SideLemmas.{no_lines}
 
 -- the top of the logical page, in any unit
@@ -80,7 +80,7 @@ module _ (ticket : JobTicket) (copies : ℕ) (waiting : Option Page) where
     width = refl;
   }
 
-  set_width : (width : ℕ) (settings : RasterSettings) → 1 ≤ width → number_of (command RasterWidth width) ≡ pos width
+  set_width : (width : ℕ) (settings : RasterSettings) → 1 ≤ width → whole_part_of (command RasterWidth width) ≡ pos width
       → set_source_width (value_of (command RasterWidth width)) settings ≡ record settings { source_width = Some width }
   set_width width settings some is =
       ap (λ number. changed_by (side_of number) (λ side (settings : RasterSettings). record settings { source_width = Some side }) settings) is
@@ -92,7 +92,7 @@ module _ (ticket : JobTicket) (copies : ℕ) (waiting : Option Page) where
       leaves-change (AtStart ticket copies waiting width) (command RasterWidth width) machine (as_wide width machine.state)
       at.ready.hp_gl at.ready.definition
       (ap (λ g. Changes (if is_some g then machine.state else with_raster (set_source_width (value_of (command RasterWidth width))) machine.state)) at.off
-      ∙ ap (λ (settings : RasterSettings). Changes (with_raster (λ _. settings) machine.state)) (set_width width machine.state.drawing.raster some (number_of-command RasterWidth width small)))
+      ∙ ap (λ (settings : RasterSettings). Changes (with_raster (λ _. settings) machine.state)) (set_width width machine.state.drawing.raster some (whole_part_of-command RasterWidth width small)))
       (wide width machine.state at)
 
   -- ESC*r0A
@@ -121,7 +121,7 @@ module _ (ticket : JobTicket) (copies : ℕ) (waiting : Option Page) where
   start-leaves image machine at =
       leaves-change (AtRow ticket copies waiting image 0 0 Unencoded) (command StartRaster 0) machine (begun machine.state)
       at.top.ready.hp_gl at.top.ready.definition
-      (ap (λ number. Changes (start_raster number machine.state)) (number_of-command StartRaster 0 (omega arith))
+      (ap (λ number. Changes (start_raster number machine.state)) (whole_part_of-command StartRaster 0 (omega arith))
       ∙ ap (λ g. Changes (if is_some g then machine.state else start_at (start_of (pos 0) machine.state.cursor.x) machine.state)) at.top.off)
       (first image machine.state at)
 

@@ -41,8 +41,8 @@ front_side = 1
 abbrev pub printer_reset : Token
 printer_reset = Escape (code "E")
 
-abbrev pub form_feed : Token
-form_feed = Control (code "\u{c}")
+abbrev pub form_feed_command : Token
+form_feed_command = Control (code "\u{c}")
 
 -- Before the first page: the universal exit, a reset, the medium in portrait, no margin at the top, and the raster resolution.
 abbrev pub head : JobTicket → List Token
@@ -56,7 +56,7 @@ tail = printer_reset ∷ Uel ∷ []
 
 -- a page with an image
 abbrev pub page : Page → List Token
-page image = picture image ++ form_feed ∷ []
+page image = picture image ++ form_feed_command ∷ []
 
 -- the back of a sheet; where there is none, the next page is a front again
 abbrev pub back_of : List Page → Option ℕ → List Token
@@ -103,19 +103,19 @@ runs_of false amount set = flat_map (λ sheet. map (run_of sheet) (batches amoun
 abbrev pub goes_by_sets : JobTicket → Bool
 goes_by_sets ticket = ticket.collate && nat_lt 1 (length (set_of ticket))
 
-abbrev pub runs : JobTicket → List PrintRun
-runs ticket = runs_of (goes_by_sets ticket) ticket.amount (set_of ticket)
+abbrev pub print_runs : JobTicket → List PrintRun
+print_runs ticket = runs_of (goes_by_sets ticket) ticket.amount (set_of ticket)
 
 -- the two sides of a sheet that is sent
-abbrev pub sides_of : PrintRun → List Part
-sides_of run = Front run.sheet.front run.copies ∷ Back run.sheet.back ∷ []
+abbrev pub sides_of_run : PrintRun → List Part
+sides_of_run run = Front run.sheet.front run.copies ∷ Back run.sheet.back ∷ []
 
 -- The parts of the job, in order.
-abbrev pub parts_of : List PrintRun → List Part
-parts_of runs = Head ∷ (flat_map sides_of runs ++ Tail ∷ [])
+abbrev pub parts_of_runs : List PrintRun → List Part
+parts_of_runs runs = Head ∷ (flat_map sides_of_run runs ++ Tail ∷ [])
 
 abbrev pub parts : JobTicket → List Part
-parts ticket = parts_of (runs ticket)
+parts ticket = parts_of_runs (print_runs ticket)
 
 -- The job: its commands, and their bytes.
 abbrev pub job : JobTicket → List Page → List Token

@@ -18,12 +18,10 @@ use crate::plan::Plan;
 use crate::sequence::Sequence;
 use press_bits::Bitmap;
 use press_cmd::{ESCAPE, UEL};
+use press_pbm::write_whole;
 use press_ticket::{Media, Sides, Ticket};
 use std::alloc::{AllocError, Global};
-use std::io::{ErrorKind, Write};
-
-/// The most writes of one part.
-const MOST_WRITES: u32 = u32::MAX;
+use std::io::Write;
 
 /// A printer reset.
 const RESET: [u8; 2] = [ESCAPE, b'E'];
@@ -129,27 +127,15 @@ fn push_part(
     }
 }
 
-/// Writes all the bytes, or a front of them.
+/// Writes all the bytes of a part, or a front of them.
 fn write_bytes<W: Write>(output: &mut W, bytes: &[u8]) -> Result<(), WriterError>
     ensures written { Writes result (W.contents output.old) (W.contents output.new) bytes.now }
     ensures fault { IfErr result (λ error. error ≡ WriteFault) }
 {
-    let mut rest = bytes;
-    for _ in 0..MOST_WRITES {
-        if rest.is_empty() {
-            return Ok(());
-        }
-        match output.write(rest) {
-            Ok(0) => return Err(WriterError::WriteFault),
-            Ok(count) => rest = &rest[count..],
-            Err(error) => {
-                if error.kind() != ErrorKind::Interrupted {
-                    return Err(WriterError::WriteFault);
-                }
-            }
-        }
+    match write_whole(output, bytes) {
+        Ok(()) => Ok(()),
+        Err(_) => Err(WriterError::WriteFault),
     }
-    Err(WriterError::WriteFault)
 }
 
 /// Writes the parts of a job one after another, each from memory of its own.

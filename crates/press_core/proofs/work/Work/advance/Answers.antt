@@ -3,7 +3,7 @@ use Rattle.press_cmd.specs.Token.{Token}
 use Rattle.press_sink.specs.Kept.{deliveries}
 use Rattle.press_core.specs.Inside.{work_of}
 use Rattle.press_core.specs.Jobs.{Advances}
-use Rattle.press_core.specs.Turns.{IsJobOf, place_of}
+use Rattle.press_core.specs.Turns.{IsJobOf, place_in_job}
 use Rattle.press_core.specs.Work.{Work, at_place}
 use Rattle.press_core.proofs.StandLemmas.{may_go_on, advances, on_err}
 use Rattle.press_core.proofs.work.Work.advance.Goals as goal
@@ -11,7 +11,7 @@ use Rattle.press_core.proofs.work.Work.advance.Goals as goal
 pub step-requires : goal.step-requires
 step-requires c = record {
   at = may_go_on (work_of c.self.inside) c.self.inside.running c.in-Some.running (sym c.take.ensures.value ∙ c.in-Some.is) refl c.self.invariant.stands
-      (subst (λ (w : Work). (commands : List Token) → IsJobOf w commands → place_of w < length commands) (sym c.self.view_is) c.requires.going);
+      (subst (λ (w : Work). (commands : List Token) → IsJobOf w commands → place_in_job w < length commands) (sym c.self.view_is) c.requires.going);
 }
 
 pub returns-in_err-sheets-clause-err : goal.returns-in_err-sheets-clause-err
