@@ -4,7 +4,7 @@ use Rattle.std.proofs.lemmas.List.{append_assoc, append-nil, take_more}
 use Rattle.press_main.specs.declared.entry_sheets.EntrySheet.{EntrySheet}
 use Rattle.press_main.specs.EntryListing.{entry_sheet_lines, entry_lines, entry_listing_after}
 use Rattle.press_main.specs.EntrySheets.{entries_of, numbers_of, entry_deliveries_of}
-use Rattle.press_main.specs.Numbering.{count_of, numbers_after}
+use Rattle.press_main.specs.Numbering.{occurrences_of, numbers_after}
 
 abbrev lines_of : EntrySheet → List ℕ
 lines_of one = entry_sheet_lines one.sheet.tag one.number one.sheet.sheet.value
@@ -25,7 +25,7 @@ pub entry_lines-listing : (before : List ℕ) (sheets : List EntrySheet) → num
 entry_lines-listing before [] numbered = refl
 entry_lines-listing before (one ∷ sheets) numbered =
     let entry = one.sheet.tag in
-    let number : one.number ≡ count_of entry before + 1 = cc in
+    let number : one.number ≡ occurrences_of entry before + 1 = cc in
     let others : numbers_of sheets ≡ numbers_after (entry ∷ before) (entries_of sheets) = cc in
     ap (λ (n : ℕ). entry_sheet_lines entry n one.sheet.sheet.value ++ entry_lines sheets) number
-    ∙ ap (λ rest. entry_sheet_lines entry (count_of entry before + 1) one.sheet.sheet.value ++ rest) (entry_lines-listing (entry ∷ before) sheets others)
+    ∙ ap (λ rest. entry_sheet_lines entry (occurrences_of entry before + 1) one.sheet.sheet.value ++ rest) (entry_lines-listing (entry ∷ before) sheets others)

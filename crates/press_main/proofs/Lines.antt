@@ -8,6 +8,7 @@ use Rattle.press_sink.specs.Sides.{Sides}
 use Rattle.press_sink.specs.declared.sheet.Delivery.{Delivery}
 use Rattle.press_sink.specs.Told.{Told}
 use Rattle.press_sink.specs.Sending.{sheets_of, sheets_in, under_tag, reply_bytes_of}
+use Rattle.press_sink.proofs.SendingLemmas.{sheets_in-tagged}
 use Rattle.press_stream.specs.declared.fault.JobError.{JobError}
 use Rattle.press_stream.specs.State.{JobState}
 use Rattle.press_stream.specs.Meaning.{meaning_of, with_exit}
@@ -53,10 +54,6 @@ lines_from-more listed i one inside is =
     ∙ ap (lines_from 1) (sheets_in-listed-push front one)
     ∙ lines_from-push 1 before one.sheet.value
     ∙ ap (λ (n : ℕ). lines_from 1 before ++ sheet_lines n one.sheet.value) place
-
-sheets_in-tagged : (tag : ℕ) (sheets : List Sides) → sheets_in (under_tag tag sheets) ≡ sheets
-sheets_in-tagged tag [] = refl
-sheets_in-tagged tag (sheet ∷ sheets) = ap (λ (all : List Sides). sheet ∷ all) (sheets_in-tagged tag sheets)
 
 -- the list that was told
 same_list : {X : Type 0} (one other : List X) → Some one ≡ Some other → one ≡ other

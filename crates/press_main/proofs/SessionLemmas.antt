@@ -7,7 +7,7 @@ use Rattle.press_sink.specs.declared.sheet.Delivery.{Delivery}
 use Rattle.press_core.specs.Events.{Event, EventAnswer, Happening, Happens, Leads}
 use Rattle.press_core.specs.World.{World}
 use Rattle.press_main.specs.EntryListing.{entry_listing}
-use Rattle.press_main.specs.Sessions.{answer_text, line_text, answers_to, happenings_in, handed_in, Goes, Ends}
+use Rattle.press_main.specs.Sessions.{answer_text, answer_to, answers_to, happenings_in, handed_in, PlaysLines, PlaysToItsEnd}
 
 Leads-join : (world middle last : World) (happenings others : List Happening) → Leads world happenings middle → Leads middle others last → Leads world (happenings ++ others) last
 Leads-join world middle last [] others first second = subst (λ (w : World). Leads w others last) first second
@@ -32,8 +32,8 @@ answers-join (Some happening ∷ lines) others =
     ap (λ (all : List ℕ). answer_text happening.answer ++ all) (answers-join lines others) ∙ sym (append_assoc (answer_text happening.answer) (answers_to lines) (answers_to others))
 
 -- lines, and then others
-pub Goes-then : (world middle last : World) (had between has : List Delivery) (old written new : Option (List ℕ)) → Goes world had old middle between written → Goes middle between written last has new → Goes world had old last has new
-Goes-then world middle last had between has old written new first second = record {
+pub PlaysLines-then : (world middle last : World) (had between has : List Delivery) (old written new : Option (List ℕ)) → PlaysLines world had old middle between written → PlaysLines middle between written last has new → PlaysLines world had old last has new
+PlaysLines-then world middle last had between has old written new first second = record {
   lines = first.lines ++ second.lines;
   leads = subst (λ (all : List Happening). Leads world all last) (sym (happenings-join first.lines second.lines)) (Leads-join world middle last (happenings_in first.lines) (happenings_in second.lines) first.leads second.leads);
   handed =
@@ -44,17 +44,17 @@ Goes-then world middle last had between has old written new first second = recor
 }
 
 -- a line that is no event
-pub Goes-none : (world : World) (had : List Delivery) (old new : Option (List ℕ)) → Appends old new (line_text None) → Goes world had old world had new
-Goes-none world had old new written = record {
+pub PlaysLines-none : (world : World) (had : List Delivery) (old new : Option (List ℕ)) → Appends old new (answer_to None) → PlaysLines world had old world had new
+PlaysLines-none world had old new written = record {
   lines = None ∷ [];
   leads = refl;
   handed = sym (append-nil had);
-  written = subst (λ (all : List ℕ). Appends old new all) (sym (append-nil (line_text None))) written;
+  written = subst (λ (all : List ℕ). Appends old new all) (sym (append-nil (answer_to None))) written;
 }
 
 -- a line that is an event
-pub Goes-event : (world next : World) (had has handed : List Delivery) (old new : Option (List ℕ)) (event : Event) (answer : EventAnswer) → Happens world event answer handed next → has ≡ had ++ handed → Appends old new (answer_text answer) → Goes world had old next has new
-Goes-event world next had has handed old new event answer happens is written =
+pub PlaysLines-event : (world next : World) (had has handed : List Delivery) (old new : Option (List ℕ)) (event : Event) (answer : EventAnswer) → Happens world event answer handed next → has ≡ had ++ handed → Appends old new (answer_text answer) → PlaysLines world had old next has new
+PlaysLines-event world next had has handed old new event answer happens is written =
     let happening : Happening = record { event = event; answer = answer; handed = handed } in
     record {
       lines = Some happening ∷ [];
@@ -64,8 +64,8 @@ Goes-event world next had has handed old new event answer happens is written =
     }
 
 -- lines, and then all others
-pub Ends-then : (world middle : World) (had between : List Delivery) (old written new : Option (List ℕ)) → Goes world had old middle between written → Ends middle between written new → Ends world had old new
-Ends-then world middle had between old written new first second =
+pub PlaysToItsEnd-then : (world middle : World) (had between : List Delivery) (old written new : Option (List ℕ)) → PlaysLines world had old middle between written → PlaysToItsEnd middle between written new → PlaysToItsEnd world had old new
+PlaysToItsEnd-then world middle had between old written new first second =
     let joined : had ++ handed_in (happenings_in (first.lines ++ second.lines)) ≡ between ++ handed_in (happenings_in second.lines) =
     ap (λ (all : List Happening). had ++ handed_in all) (happenings-join first.lines second.lines)
     ∙ ap (λ (all : List Delivery). had ++ all) (handed-join (happenings_in first.lines) (happenings_in second.lines))
@@ -88,8 +88,8 @@ pub same_deliveries : (has had handed : List Delivery) → Some has ≡ option_m
 same_deliveries has had handed told = cc
 
 -- lines, and then nothing is written
-pub Goes-kept : (world next : World) (had has : List Delivery) (old written new : Option (List ℕ)) → Goes world had old next has written → Keeps written new → Goes world had old next has new
-Goes-kept world next had has old written new first keeps = record {
+pub PlaysLines-kept : (world next : World) (had has : List Delivery) (old written new : Option (List ℕ)) → PlaysLines world had old next has written → Keeps written new → PlaysLines world had old next has new
+PlaysLines-kept world next had has old written new first keeps = record {
   lines = first.lines;
   leads = first.leads;
   handed = first.handed;
@@ -97,6 +97,6 @@ Goes-kept world next had has old written new first keeps = record {
 }
 
 -- where the end of a session had no fault
-pub ends_on_ok : {X E : Type 0} (result : Result X E) (world middle : World) (had between : List Delivery) (old written new : Option (List ℕ)) → Goes world had old middle between written → OnOk result (Ends middle between written new) → OnOk result (Ends world had old new)
-ends_on_ok (Ok value) world middle had between old written new first second = Ends-then world middle had between old written new first second
+pub ends_on_ok : {X E : Type 0} (result : Result X E) (world middle : World) (had between : List Delivery) (old written new : Option (List ℕ)) → PlaysLines world had old middle between written → OnOk result (PlaysToItsEnd middle between written new) → OnOk result (PlaysToItsEnd world had old new)
+ends_on_ok (Ok value) world middle had between old written new first second = PlaysToItsEnd-then world middle had between old written new first second
 ends_on_ok (Err error) world middle had between old written new first second = tt

@@ -8,7 +8,7 @@ use Rattle.press_main.specs.declared.entry_sheets.EntrySheet.{EntrySheet}
 use Rattle.press_main.specs.declared.measures.Measures.{Measures}
 use Rattle.press_main.specs.Listing.{measured_line}
 use Rattle.press_main.specs.Measured.{measures_of}
-use Rattle.press_main.specs.Numbering.{count_of}
+use Rattle.press_main.specs.Numbering.{occurrences_of}
 
 -- The ID of an entry, and a space.
 abbrev pub entry_mark : ℕ → List ℕ
@@ -36,7 +36,7 @@ entry_lines (one ∷ sheets) = entry_sheet_lines one.sheet.tag one.number one.sh
 abbrev pub entry_listing_after : (before : List ℕ) → List Delivery → List ℕ
 entry_listing_after before [] = []
 entry_listing_after before (one ∷ deliveries) =
-    entry_sheet_lines one.tag (count_of one.tag before + 1) one.sheet ++ entry_listing_after (one.tag ∷ before) deliveries
+    entry_sheet_lines one.tag (occurrences_of one.tag before + 1) one.sheet ++ entry_listing_after (one.tag ∷ before) deliveries
 
 -- The listing of deliveries: the lines of each sheet, in the order of delivery, numbered among the sheets of its entry.
 abbrev pub entry_listing : List Delivery → List ℕ

@@ -1,4 +1,4 @@
--- Jobs of tickets, over readers and writers.
+-- Jobs of tickets, over readers, named inputs and writers.
 use Rattle.std.specs.Prelude.{◌≡◌, ℕ, List, [], ◌∷◌, Option, Ok, ⊤}
 use Rattle.std.specs.Io.KnownBytes.{Consumes, Appends}
 use Rattle.press_bits.specs.Page.{Page}
@@ -20,11 +20,15 @@ pub record ImageRead (had left : Option (List ℕ)) (image : Page) : Type 0 wher
   pub image_of_file : IsFile image file
   pub read : Consumes had left file
 
--- Each reader had an image, and these are the images in the order of the readers.
-abbrev pub ImagesRead : (had left : List (Option (List ℕ))) → List Page → Type 0
-ImagesRead [] [] [] = ⊤
-ImagesRead (had ∷ all_had) (left ∷ all_left) (image ∷ images) = ImageRead had left image × ImagesRead all_had all_left images
-ImagesRead _ _ _ = ⊥
+-- What an input had begins with a P4 file of this image.
+abbrev pub HasImage : (had : Option (List ℕ)) → Page → Type 0
+HasImage had image = (left : Option (List ℕ)) × ImageRead had left image
+
+-- Each input had an image, and these are the images in the order of the inputs.
+abbrev pub HaveImages : (had : List (Option (List ℕ))) → List Page → Type 0
+HaveImages [] [] = ⊤
+HaveImages (had ∷ others) (image ∷ images) = HasImage had image × HaveImages others images
+HaveImages _ _ = ⊥
 
 -- What was written prints a ticket with these images.
 pub record WritesAJob (ticket : JobTicket) (images : List Page) (old new : Option (List ℕ)) : Type 0 where
@@ -32,10 +36,10 @@ pub record WritesAJob (ticket : JobTicket) (images : List Page) (old new : Optio
   pub written : Appends old new job
   pub prints : PrintsTheTicket ticket images job
 
--- What was written prints the ticket that the first reader had, with the images that the others had in their order.
-pub record WritesTheTicket (had left : Option (List ℕ)) (images_had images_left : List (Option (List ℕ))) (old new : Option (List ℕ)) : Type 0 where
+-- What was written prints the ticket that a reader had, with the images that the inputs had in their order.
+pub record WritesTheTicket (had left : Option (List ℕ)) (inputs : List (Option (List ℕ))) (old new : Option (List ℕ)) : Type 0 where
   pub ticket : JobTicket
   pub images : List Page
   pub ticket_read : TicketRead had left ticket
-  pub images_read : ImagesRead images_had images_left images
+  pub images_read : HaveImages inputs images
   pub job : WritesAJob ticket images old new

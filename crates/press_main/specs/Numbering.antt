@@ -2,11 +2,11 @@
 use Rattle.std.specs.Prelude.{ℕ, ◌+◌, List, [], ◌∷◌, nat_eq, if◌then◌else◌}
 
 -- how often an entry stands in a list of entries
-abbrev pub count_of : (entry : ℕ) → List ℕ → ℕ
-count_of entry [] = 0
-count_of entry (one ∷ entries) = (if nat_eq entry one then 1 else 0) + count_of entry entries
+abbrev pub occurrences_of : (entry : ℕ) → List ℕ → ℕ
+occurrences_of entry [] = 0
+occurrences_of entry (one ∷ entries) = (if nat_eq entry one then 1 else 0) + occurrences_of entry entries
 
 -- The number of each sheet among those of its entry, from 1, by the entries of the sheets and by those of the sheets before them.
 abbrev pub numbers_after : (before entries : List ℕ) → List ℕ
 numbers_after before [] = []
-numbers_after before (entry ∷ entries) = (count_of entry before + 1) ∷ numbers_after (entry ∷ before) entries
+numbers_after before (entry ∷ entries) = (occurrences_of entry before + 1) ∷ numbers_after (entry ∷ before) entries

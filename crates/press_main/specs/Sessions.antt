@@ -22,14 +22,14 @@ answer_text Nothing = codes "ok" ++ 10 ∷ []
 answer_text answer = []
 
 -- A line is an event with what came of it, or none.
-abbrev pub line_text : Option Happening → List ℕ
-line_text None = codes "what?" ++ 10 ∷ []
-line_text (Some happening) = answer_text happening.answer
+abbrev pub answer_to : Option Happening → List ℕ
+answer_to None = codes "what?" ++ 10 ∷ []
+answer_to (Some happening) = answer_text happening.answer
 
 -- what is written for lines
 abbrev pub answers_to : List (Option Happening) → List ℕ
 answers_to [] = []
-answers_to (line ∷ lines) = line_text line ++ answers_to lines
+answers_to (line ∷ lines) = answer_to line ++ answers_to lines
 
 -- the events among lines
 abbrev pub happenings_in : List (Option Happening) → List Happening
@@ -43,7 +43,7 @@ handed_in [] = []
 handed_in (happening ∷ happenings) = happening.handed ++ handed_in happenings
 
 -- Lines were carried out, from one world to another: what their events handed out was delivered, and their answers were written.
-pub record Goes (world : World) (had : List Delivery) (old : Option (List ℕ)) (next : World) (has : List Delivery) (new : Option (List ℕ)) : Type 0 where
+pub record PlaysLines (world : World) (had : List Delivery) (old : Option (List ℕ)) (next : World) (has : List Delivery) (new : Option (List ℕ)) : Type 0 where
   pub lines : List (Option Happening)
   pub leads : Leads world (happenings_in lines) next
   pub handed : has ≡ had ++ handed_in (happenings_in lines)
@@ -53,11 +53,11 @@ pub record Goes (world : World) (had : List Delivery) (old : Option (List ℕ)) 
 abbrev pub delivered_by : Session → List Delivery
 delivered_by session = entry_deliveries_of (kept session.sheets)
 
-abbrev pub GoesOn : Session → Option (List ℕ) → Session → Option (List ℕ) → Type 0
-GoesOn before old after new = Goes before.press (delivered_by before) old after.press (delivered_by after) new
+abbrev pub PlaysOn : Session → Option (List ℕ) → Session → Option (List ℕ) → Type 0
+PlaysOn before old after new = PlaysLines before.press (delivered_by before) old after.press (delivered_by after) new
 
 -- Lines were carried out to the end: their answers were written, and then the listing of all that was delivered.
-pub record Ends (world : World) (had : List Delivery) (old new : Option (List ℕ)) : Type 0 where
+pub record PlaysToItsEnd (world : World) (had : List Delivery) (old new : Option (List ℕ)) : Type 0 where
   pub lines : List (Option Happening)
   pub last : World
   pub leads : Leads world (happenings_in lines) last
@@ -66,4 +66,4 @@ pub record Ends (world : World) (had : List Delivery) (old new : Option (List �
 -- A session was played: some run of events from a press at its beginning, and between them lines that are none. The answers of
 -- the events were written, each in its place, and at the end the listing of all that the events handed out; and nothing else.
 abbrev pub Plays : Option (List ℕ) → Option (List ℕ) → Type 0
-Plays old new = Ends empty_world [] old new
+Plays old new = PlaysToItsEnd empty_world [] old new

@@ -1,7 +1,7 @@
 //! The sheets of the entries of a press, of which the listing keeps what it tells.
 ghost use Rattle.std.specs.Prelude.{◌≡◌, ℕ, [], map, nat_eq, unwrap_or};
 ghost use Rattle.std.specs.Map.{lookup};
-ghost use Rattle.press_main.specs.Numbering.{count_of, numbers_after};
+ghost use Rattle.press_main.specs.Numbering.{occurrences_of, numbers_after};
 
 use crate::listing_sink::ListedSheet;
 use indexmap::IndexMap;
@@ -25,7 +25,7 @@ pub struct EntrySheets {
     ghost numbered: { map (λ one. one.number) sheets.items
         ≡ numbers_after [] (map (λ one. one.sheet.tag) sheets.items) },
     ghost counted: { (entry : ℕ) → unwrap_or (lookup (nat_eq entry) counts.entries) 0
-        ≡ count_of entry (map (λ one. one.sheet.tag) sheets.items) },
+        ≡ occurrences_of entry (map (λ one. one.sheet.tag) sheets.items) },
 }
 
 impl EntrySheets {
@@ -53,7 +53,7 @@ impl EntrySheets {
 
     /// How many sheets an entry delivered.
     fn delivered(&self, entry: u64) -> usize
-        ensures { result ≡ count_of entry (entries_of (kept self.now)) }
+        ensures { result ≡ occurrences_of entry (entries_of (kept self.now)) }
     {
         self.counts.get(&entry).copied().unwrap_or(0)
     }

@@ -1,13 +1,16 @@
-//! Jobs of tickets, over readers and writers and over files.
+//! Jobs of tickets, over named inputs and writers, and over files.
 use crate::file_tests::{new_folder, path};
+use crate::inputs::InputError;
 use crate::jobs::write_files;
 use crate::listing::print_list;
+use crate::named_inputs::{NamedFile, NamedInputs};
 use crate::program::run_words;
 use crate::tests::{Failing, Full};
 use press_bits::Bitmap;
-use press_pbm::write_pbm;
+use press_pbm::{FuseRead, write_pbm};
 use std::alloc::Global;
 use std::fs::{self, Files};
+use std::io::Cursor;
 use std::process::Abort;
 use std::test::Fail;
 
@@ -21,7 +24,7 @@ const ONE_DOT: &[u8] = b"\x1b%-12345X\x1bE\x1b&l2A\x1b&l0O\x1b&l0S\x1b&l0E\x1b*t
     \x1b&l1X\x1b*p0Y\x1b*r1S\x1b*r0A\x1b*b1W\x80\x1b*r0C\x0c\x1b&a1G\x1bE\x1b%-12345X";
 
 /// Members of a ticket, the files of its images by the names below, and the fault; none where the job above is written.
-const INPUTS: [(&str, &str, &str); 17] = [
+const INPUTS: [(&str, &str, &str); 19] = [
     (ONE, "dot", ""),
     (ONE, "dot wide", ""),
     ("5", "no-image", "fault 601"),
@@ -50,6 +53,8 @@ const INPUTS: [(&str, &str, &str); 17] = [
     (ONE, "wide no-size no-image", "fault 112"),
     (ONE, "cut", "fault 113"),
     (ONE, "empty", "fault 113"),
+    (ONE, "failing no-image", "fault 114"),
+    (ONE, "dot none no-image", "fault 304"),
     (TWO, "wide", "fault 611"),
     (ONE, "wide", "fault 612"),
     (TWO, "tall wide", "fault 612"),
@@ -57,47 +62,81 @@ const INPUTS: [(&str, &str, &str); 17] = [
     (TWO, "dot tall", "fault 613"),
 ];
 
-/// A file of this name.
-fn file_named(alloc: Global, name: &str) -> Result<Vec<u8>, Fail> {
+/// The images of the tests, by their names. That named "failing" cannot be read, and that named "none" cannot be opened.
+#[derive(Drop)]
+struct Images {
+    alloc: Global,
+}
+
+impl NamedInputs for Images {
+    ghost use Rattle.std.specs.Prelude.{None};
+
+    ghost bytes = { λ _ _. None };
+
+    type Input = NamedFile<FuseRead<Cursor<Vec<u8>>>>;
+
+    fn open(&self, name: &str) -> Result<Self::Input, InputError> {
+        let Some(bytes) = file_named(self.alloc, name) else {
+            return Err(InputError::ReadFault);
+        };
+        let calls = if name == "failing" { 0 } else { u64::MAX };
+        let file = FuseRead::new(Cursor::new(bytes), calls);
+        Ok(NamedFile { file })
+    }
+}
+
+/// The file of this name, if there is one.
+fn file_named(alloc: Global, name: &str) -> Option<Vec<u8>> {
     let mut file = Vec::new(alloc);
+    let bytes: &[u8] = match name {
+        "dot" => b"P4 1 1\n\x80",
+        "2-dots" => b"P4 2 1\n\xc0",
+        "3-dots" => b"P4 3 1\n\xe0",
+        "4-dots" => b"P4 4 1\n\xf0",
+        "no-image" => b"P5 1 1\n\x80",
+        "no-size" => b"P4 0 1\n",
+        "cut" => b"P4 9 1\n\x80",
+        "none" => return None,
+        _ => b"",
+    };
+    file.extend_from_slice(bytes).ok()?;
     match name {
-        "dot" => file.extend_from_slice(b"P4 1 1\n\x80")?,
-        "wide" => write_pbm(&Bitmap::blank(alloc, 2401, 1)?, &mut file)?,
-        "tall" => write_pbm(&Bitmap::blank(alloc, 1, 3301)?, &mut file)?,
-        "no-image" => file.extend_from_slice(b"P5 1 1\n\x80")?,
-        "no-size" => file.extend_from_slice(b"P4 0 1\n")?,
-        "cut" => file.extend_from_slice(b"P4 9 1\n\x80")?,
+        "wide" => write_pbm(&Bitmap::blank(alloc, 2401, 1).ok()?, &mut file).ok()?,
+        "tall" => write_pbm(&Bitmap::blank(alloc, 1, 3301).ok()?, &mut file).ok()?,
         _ => {}
     }
-    Ok(file)
+    Some(file)
+}
+
+/// The words of a text.
+fn words_of(alloc: Global, text: &str) -> Result<Vec<&[u8]>, Fail> {
+    Ok(
+        text.split(' ')
+            .map(|word| word.as_bytes())
+            .collect::<Vec<&[u8]>>(alloc)?,
+    )
 }
 
 #[test]
 fn tickets_are_written_or_refused(rt: HostRuntime) -> Result<(), Fail> {
+    let inputs = Images { alloc: rt.alloc() };
     for (members, names, fault) in &INPUTS {
         let text = format!(in rt.alloc(); "{{{members}}}")?;
         let mut ticket = text.as_bytes();
-        let mut files = Vec::new(rt.alloc());
-        for name in names.split(' ') {
-            files.push(file_named(rt.alloc(), name)?)?;
-        }
-        let mut images = Vec::new(rt.alloc());
-        for file in &files {
-            images.push(file.as_slice())?;
-        }
+        let names = words_of(rt.alloc(), names)?;
         let mut out = Vec::new(rt.alloc());
         let mut err = Vec::new(rt.alloc());
-        let status = write_files(rt.alloc(), &mut ticket, &mut images, &mut out, &mut err);
+        let status = write_files(rt.alloc(), &mut ticket, &inputs, &names, &mut out, &mut err);
         let is_job = fault.is_empty();
-        assert_eq!(rt; status, u8::from(!is_job), "{members} {names}");
+        assert_eq!(rt; status, u8::from(!is_job), "{text} {fault}");
         assert_eq!(rt;
             out.as_slice(),
             if is_job { ONE_DOT } else { b"" },
-            "{members} {names}"
+            "{text} {fault}"
         );
         let end = if is_job { "" } else { "\n" };
         let wanted = format!(in rt.alloc(); "{fault}{end}")?;
-        assert_eq!(rt; err.as_slice(), wanted.as_bytes(), "{members} {names}");
+        assert_eq!(rt; err.as_slice(), wanted.as_bytes(), "{text} {fault}");
     }
     Ok(())
 }
@@ -105,28 +144,21 @@ fn tickets_are_written_or_refused(rt: HostRuntime) -> Result<(), Fail> {
 #[test]
 fn readers_and_a_writer_that_fail_are_told(rt: HostRuntime) -> Result<(), Fail> {
     let text = format!(in rt.alloc(); "{{{ONE}}}")?;
+    let mut ticket = text.as_bytes();
     let mut out = Vec::new(rt.alloc());
     let mut err = Vec::new(rt.alloc());
     let alloc = rt.alloc();
-    let dot: &[u8] = b"P4 1 1\n\x80";
+    let inputs = Images { alloc };
+    let dot = words_of(alloc, "dot")?;
     assert_eq!(rt;
-        write_files(alloc, &mut Failing, &mut [dot], &mut out, &mut err),
-        1
-    );
-    let mut ticket = text.as_bytes();
-    assert_eq!(rt;
-        write_files(alloc, &mut ticket, &mut [Failing], &mut out, &mut err),
-        1
-    );
-    let mut ticket = text.as_bytes();
-    assert_eq!(rt;
-        write_files(alloc, &mut ticket, &mut [dot], &mut Full, &mut err),
+        write_files(alloc, &mut Failing, &inputs, &dot, &mut out, &mut err),
         1
     );
     assert_eq!(rt;
-        err.as_slice(),
-        b"fault 304\nfault 114\nfault 614\n".as_slice()
+        write_files(alloc, &mut ticket, &inputs, &dot, &mut Full, &mut err),
+        1
     );
+    assert_eq!(rt; err.as_slice(), b"fault 304\nfault 614\n".as_slice());
     assert_eq!(rt; out.len(), 0);
     Ok(())
 }
@@ -157,7 +189,7 @@ fn a_job_is_written_to_a_file(rt: HostRuntime) -> Result<(), Fail> {
         ticket.as_bytes(),
     )?;
     for name in ["dot", "wide", "no-image"] {
-        let file = file_named(rt.alloc(), name)?;
+        let file = file_named(rt.alloc(), name).ok_or("no file")?;
         fs::write(&rt, path(&rt, &folder, name)?.as_str(), &file)?;
     }
     rt.symlink("/dev/full", path(&rt, &folder, "full")?.as_str())?;
@@ -240,17 +272,12 @@ fn listed(
     let text = format!(in alloc;
         "{{\"Amount\":{amount},\"Collate\":{collate},\"JobID\":\"J\",\"Media\":\"Executive\",\"NPage\":{pages},\"Sides\":\"{sides}\",\"Type\":\"DigitalPrinting\",\"Version\":\"1.5\"}}"
     )?;
-    let files: [&[u8]; 4] = [
-        b"P4 1 1\n\x80",
-        b"P4 2 1\n\xc0",
-        b"P4 3 1\n\xe0",
-        b"P4 4 1\n\xf0",
-    ];
-    let mut images = files;
+    let images = words_of(alloc, "dot 2-dots 3-dots 4-dots")?;
     let mut ticket = text.as_bytes();
     let mut job = Vec::new(alloc);
     let mut err = Vec::new(alloc);
-    write_files(alloc, &mut ticket, &mut images, &mut job, &mut err);
+    let inputs = Images { alloc };
+    write_files(alloc, &mut ticket, &inputs, &images, &mut job, &mut err);
     let mut out = Vec::new(alloc);
     print_list(alloc, &mut job.as_slice(), &mut out, &mut err);
     if !err.is_empty() {

@@ -1,11 +1,12 @@
-//! Jobs of tickets, over readers and writers.
+//! Jobs of tickets, over readers, named inputs and writers.
 ghost use Rattle.std.specs.Prelude.{◌≡◌, ◌≤◌, map, IfOk, OnOk};
 ghost use Rattle.std.specs.Io.KnownBytes.{Appends};
 ghost use Rattle.press_writer.specs.Printing.{PrintsTheTicket};
-ghost use Rattle.press_main.specs.Jobs.{TicketRead, ImageRead, ImagesRead, WritesTheTicket, WritesAJob};
+ghost use Rattle.press_main.specs.Jobs.{TicketRead, ImageRead, HaveImages, WritesTheTicket, WritesAJob};
 
 use crate::assembly::told;
 use crate::inputs::{InputError, read_all};
+use crate::named_inputs::{NamedInputs, open_named};
 use press_bits::Bitmap;
 use press_pbm::{ReadPbmError, read_pbm};
 use press_ticket::{Ticket, TicketError, read_ticket};
@@ -59,69 +60,77 @@ pub fn image_in<R: Read>(alloc: Global, reader: &mut R) -> Result<Bitmap, JobFil
     Ok(read_pbm(alloc, reader)?)
 }
 
-/// The images that readers have, in their order.
-fn images_in<R: Read>(alloc: Global, readers: &mut [R]) -> Result<Vec<Bitmap>, JobFileError>
+/// The images of the inputs of these names, each of which is opened when the one before it is read.
+///
+/// # Errors
+///
+/// 304 where an input cannot be opened; 111 to 113 where it has no image; 114 where it cannot be read.
+pub fn images_named<I: NamedInputs>(
+    alloc: Global,
+    inputs: &I,
+    names: &[&[u8]],
+) -> Result<Vec<Bitmap>, JobFileError>
     ensures { IfOk result (λ images.
-        ImagesRead (map R.remaining readers.old) (map R.remaining readers.new) images.items) }
+        HaveImages (map (λ name. I.bytes inputs.now name.now) names.now) images.items) }
 {
     let mut images = Vec::new(alloc);
-    for index in 0..readers.len() {
-        images.push(image_in(alloc, &mut readers[index])?)?;
+    for name in names {
+        let mut input = open_named(inputs, name)?;
+        images.push(image_in(alloc, &mut input)?)?;
     }
     Ok(images)
 }
 
 /// Writes the job of a ticket with these images.
-///
-/// # Errors
-///
-/// 611 to 613 where the ticket is not printed with the images; 614 where the job cannot be written.
-pub fn write_to<W: Write>(
+fn write_to<W: Write>(
     alloc: Global,
     ticket: &Ticket,
     images: &[Bitmap],
     out: &mut W,
-) -> Result<(), JobFileError>
+) -> Result<(), WriterError>
     ensures { OnOk result
         (WritesAJob ticket.now images.now (W.contents out.old) (W.contents out.new)) }
 {
     write_job(alloc, ticket, images, out)?;
-    out.flush().map_err(|_| WriterError::WriteFault)?;
-    Ok(())
+    out.flush().map_err(|_| WriterError::WriteFault)
 }
 
-/// Writes the job of the ticket that a reader has, with the images that the others have, to `out`.
-fn write_from<T: Read, I: Read, W: Write>(
+/// Writes the job of the ticket that a reader has, with the images of these inputs, to `out`.
+fn write_from<T: Read, I: NamedInputs, W: Write>(
     alloc: Global,
     ticket: &mut T,
-    images: &mut [I],
+    inputs: &I,
+    names: &[&[u8]],
     out: &mut W,
 ) -> Result<(), JobFileError>
     ensures { OnOk result (WritesTheTicket (T.remaining ticket.old) (T.remaining ticket.new)
-        (map I.remaining images.old) (map I.remaining images.new)
+        (map (λ name. I.bytes inputs.now name.now) names.now)
         (W.contents out.old) (W.contents out.new)) }
 {
     let ticket = ticket_in(alloc, ticket)?;
-    let images = images_in(alloc, images)?;
-    write_to(alloc, &ticket, &images, out)
+    let images = images_named(alloc, inputs, names)?;
+    write_to(alloc, &ticket, &images, out)?;
+    Ok(())
 }
 
-/// Writes the job of the ticket that a reader has, with the images that the others have in the order of its pages, to `out`,
-/// and a fault to `err`. The answer is the status: 0, or 1 after a fault.
-pub fn write_files<T: Read, I: Read, W: Write, E: Write>(
+/// Writes the job of the ticket that a reader has, with the images of the inputs of these names in the order of its pages, to
+/// `out`, and a fault to `err`. Nothing is written to `out` before the images fit. The answer is the status: 0, or 1 after a
+/// fault.
+pub fn write_files<T: Read, I: NamedInputs, W: Write, E: Write>(
     alloc: Global,
     ticket: &mut T,
-    images: &mut [I],
+    inputs: &I,
+    names: &[&[u8]],
     out: &mut W,
     err: &mut E,
 ) -> u8
     ensures status { result ≤ 1 }
     ensures written { result ≡ 0 →
         WritesTheTicket (T.remaining ticket.old) (T.remaining ticket.new)
-        (map I.remaining images.old) (map I.remaining images.new)
+        (map (λ name. I.bytes inputs.now name.now) names.now)
         (W.contents out.old) (W.contents out.new) }
 {
-    match write_from(alloc, ticket, images, out) {
+    match write_from(alloc, ticket, inputs, names, out) {
         Ok(()) => 0,
         Err(error) => told(&error, err),
     }

@@ -14,6 +14,7 @@ mod job_tests;
 mod jobs;
 mod listing;
 mod listing_sink;
+mod made_file;
 mod measures;
 mod named_inputs;
 mod program;

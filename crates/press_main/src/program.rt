@@ -1,14 +1,13 @@
-use crate::assembly::{TextError, assembled, disasm_bytes, told, write_whole};
+use crate::assembly::{asm_text, disasm_bytes, told};
 use crate::files::print_files;
 use crate::inputs::InputError;
-use crate::jobs::{JobFileError, image_in, ticket_in, write_to};
+use crate::jobs::write_files;
 use crate::listing::print_list;
+use crate::made_file::MadeFile;
 use crate::named_inputs::NamedFiles;
 use crate::sessions::press_lines;
 use crate::words::{Input, Output, Refusal, Request, request_of};
-use press_bits::Bitmap;
 use press_units::NO_MEMORY;
-use press_writer::{WriterError, check};
 use std::alloc::Global;
 use std::fs;
 use std::fs::Files;
@@ -81,61 +80,28 @@ fn print_from<F: Files, R: Read, W: Write + Drop, E: Write>(
         Output::Files(template) => print_files(alloc, files, reader, template, out, err).status,
         Output::Session => press_lines(alloc, &NamedFiles { files }, reader, &mut out, err),
         Output::Text => disasm_bytes(alloc, reader, &mut out, err),
-        Output::Assembled(name) => assemble_to(alloc, files, reader, name, err),
-        Output::Job(name, images) => match job_to(alloc, files, reader, name, images) {
-            Ok(()) => 0,
-            Err(error) => told(&error, err),
-        },
+        Output::Assembled(name) => asm_text(alloc, reader, &mut MadeFile::new(files, name), err),
+        Output::Job(name, images) => write_named(alloc, files, reader, name, images, err),
     }
 }
 
-/// Makes the file of this name of the assembly text that a reader has. The file is made once the text is assembled.
-fn assemble_to<F: Files, R: Read, E: Write>(
-    alloc: Global,
-    files: &F,
-    reader: &mut R,
-    name: &str,
-    err: &mut E,
-) -> u8 {
-    let bytes = match assembled(alloc, reader) {
-        Ok(bytes) => bytes,
-        Err(error) => return told(&error, err),
-    };
-    let Ok(mut file) = fs::create(files, name) else {
-        return told(&TextError::WriteFault, err);
-    };
-    match write_whole(&mut file, &bytes) {
-        Ok(()) => 0,
-        Err(_) => told(&TextError::WriteFault, err),
-    }
-}
-
-/// The images of the files of these names. Each file is opened when the one before it is read.
-fn images_of<F: Files>(
-    alloc: Global,
-    files: &F,
-    names: &[&str],
-) -> Result<Vec<Bitmap>, JobFileError> {
-    let mut images = Vec::new(alloc);
-    for name in names {
-        let mut file = fs::open(files, name).map_err(|_| InputError::ReadFault)?;
-        images.push(image_in(alloc, &mut file)?)?;
-    }
-    Ok(images)
-}
-
-/// Makes the file of this name of the ticket that a reader has, with the images of these files. The file is made once the
-/// images are found to fit.
-fn job_to<F: Files, R: Read>(
+/// Writes the job of the ticket that a reader has, with the images of these files, to the file of this name. The file is made
+/// once the images are found to fit.
+fn write_named<F: Files, R: Read, E: Write>(
     alloc: Global,
     files: &F,
     reader: &mut R,
     name: &str,
     images: &[&str],
-) -> Result<(), JobFileError> {
-    let ticket = ticket_in(alloc, reader)?;
-    let images = images_of(alloc, files, images)?;
-    check(&ticket, &images)?;
-    let mut file = fs::create(files, name).map_err(|_| WriterError::WriteFault)?;
-    write_to(alloc, &ticket, &images, &mut file)
+    err: &mut E,
+) -> u8 {
+    let Ok(words) = images
+        .iter()
+        .map(|image| image.as_bytes())
+        .collect::<Vec<&[u8]>>(alloc)
+    else {
+        return told(&NO_MEMORY, err);
+    };
+    let mut out = MadeFile::new(files, name);
+    write_files(alloc, reader, &NamedFiles { files }, &words, &mut out, err)
 }

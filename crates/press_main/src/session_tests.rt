@@ -26,6 +26,10 @@ impl Read for ShelfInput {
 }
 
 impl NamedInputs for Shelf {
+    ghost use Rattle.std.specs.Prelude.{None};
+
+    ghost bytes = { λ _ _. None };
+
     type Input = ShelfInput;
 
     fn open(&self, name: &str) -> Result<ShelfInput, InputError> {

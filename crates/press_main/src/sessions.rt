@@ -1,16 +1,15 @@
 //! Sessions with a press: lines of events, and what each is answered.
 ghost use Rattle.std.specs.Prelude.{◌≡◌, ◌≤◌, ◌++◌, ◌∷◌, [], OnOk};
 ghost use Rattle.std.specs.Io.KnownBytes.{Appends};
-ghost use Rattle.press_main.specs.Sessions.{turn_text, GoesOn, Ends, Plays, delivered_by};
+ghost use Rattle.press_main.specs.Sessions.{turn_text, PlaysOn, PlaysToItsEnd, Plays, delivered_by};
 
 use crate::assembly::told;
 use crate::entry_sheets::EntrySheets;
 use crate::event_lines::{LineEvent, event_of, words_of};
 use crate::inputs::{InputError, MOST_READS, PIECE, read_all};
-use crate::jobs::{JobFileError, image_in};
+use crate::jobs::{JobFileError, images_named};
 use crate::listing::list_delivered;
 use crate::named_inputs::{NamedInputs, open_named};
-use press_bits::Bitmap;
 use press_core::{OperatorCommand, Press, Turn, TurnError};
 use press_units::NO_MEMORY;
 use std::alloc::{AllocError, Global};
@@ -105,7 +104,7 @@ impl Session {
         reader: &mut R,
         out: &mut W,
     ) -> Result<(), SessionError>
-        ensures { OnOk result (Ends self.old.press (delivered_by self.old)
+        ensures { OnOk result (PlaysToItsEnd self.old.press (delivered_by self.old)
             (W.contents out.old) (W.contents out.new)) }
     {
         let mut piece = [0; PIECE];
@@ -132,7 +131,8 @@ impl Session {
         line: &mut Vec<u8>,
         out: &mut W,
     ) -> Result<(), SessionError>
-        ensures { OnOk result (GoesOn self.old (W.contents out.old) self.new (W.contents out.new)) }
+        ensures { OnOk result (PlaysOn self.old (W.contents out.old)
+            self.new (W.contents out.new)) }
     {
         for byte in piece {
             if *byte == LINE_END {
@@ -152,7 +152,7 @@ impl Session {
         line: &[u8],
         out: &mut W,
     ) -> Result<(), SessionError>
-        ensures { OnOk result (Ends self.old.press (delivered_by self.old)
+        ensures { OnOk result (PlaysToItsEnd self.old.press (delivered_by self.old)
             (W.contents out.old) (W.contents out.new)) }
     {
         if line.is_empty() {
@@ -164,7 +164,7 @@ impl Session {
 
     /// Lists the sheets.
     fn list<W: Write>(&self, out: &mut W) -> Result<(), SessionError>
-        ensures { OnOk result (Ends self.now.press (delivered_by self.now)
+        ensures { OnOk result (PlaysToItsEnd self.now.press (delivered_by self.now)
             (W.contents out.old) (W.contents out.new)) }
     {
         list_delivered(out, &self.sheets)?;
@@ -178,7 +178,8 @@ impl Session {
         line: &[u8],
         out: &mut W,
     ) -> Result<(), SessionError>
-        ensures { OnOk result (GoesOn self.old (W.contents out.old) self.new (W.contents out.new)) }
+        ensures { OnOk result (PlaysOn self.old (W.contents out.old)
+            self.new (W.contents out.new)) }
     {
         self.answer(inputs, line, out)?;
         out.flush()?;
@@ -192,7 +193,8 @@ impl Session {
         line: &[u8],
         out: &mut W,
     ) -> Result<(), SessionError>
-        ensures { OnOk result (GoesOn self.old (W.contents out.old) self.new (W.contents out.new)) }
+        ensures { OnOk result (PlaysOn self.old (W.contents out.old)
+            self.new (W.contents out.new)) }
     {
         let words = words_of(self.alloc, line)?;
         match event_of(&words) {
@@ -211,7 +213,8 @@ impl Session {
         images: &[&[u8]],
         out: &mut W,
     ) -> Result<(), SessionError>
-        ensures { OnOk result (GoesOn self.old (W.contents out.old) self.new (W.contents out.new)) }
+        ensures { OnOk result (PlaysOn self.old (W.contents out.old)
+            self.new (W.contents out.new)) }
     {
         let mut input = open_named(inputs, file)?;
         let text = read_all(self.alloc, &mut input)?;
@@ -223,7 +226,8 @@ impl Session {
 
     /// Takes a turn, and writes what it did.
     fn turn<W: Write>(&mut self, most: u64, out: &mut W) -> Result<(), SessionError>
-        ensures { OnOk result (GoesOn self.old (W.contents out.old) self.new (W.contents out.new)) }
+        ensures { OnOk result (PlaysOn self.old (W.contents out.old)
+            self.new (W.contents out.new)) }
     {
         let turn = self.press.turn(most, &mut self.sheets)?;
         write_turn(out, turn)?;
@@ -236,7 +240,8 @@ impl Session {
         command: OperatorCommand,
         out: &mut W,
     ) -> Result<(), SessionError>
-        ensures { OnOk result (GoesOn self.old (W.contents out.old) self.new (W.contents out.new)) }
+        ensures { OnOk result (PlaysOn self.old (W.contents out.old)
+            self.new (W.contents out.new)) }
     {
         self.press.operator(command);
         write_line(out, b"ok")?;
@@ -245,7 +250,8 @@ impl Session {
 
     /// Asks what a line means that is no event.
     fn ask<W: Write>(&self, out: &mut W) -> Result<(), SessionError>
-        ensures { OnOk result (GoesOn self.now (W.contents out.old) self.now (W.contents out.new)) }
+        ensures { OnOk result (PlaysOn self.now (W.contents out.old)
+            self.now (W.contents out.new)) }
     {
         write_line(out, b"what?")?;
         Ok(())
@@ -270,18 +276,4 @@ fn write_turn<W: Write>(out: &mut W, turn: Turn) -> io::Result<()>
         Some(number) => writeln!(out, "turn Q{number} {steps}"),
         None => writeln!(out, "turn - {steps}"),
     }
-}
-
-/// The images of the inputs of these names, each of which is opened when the one before it is read.
-fn images_named<I: NamedInputs>(
-    alloc: Global,
-    inputs: &I,
-    names: &[&[u8]],
-) -> Result<Vec<Bitmap>, JobFileError> {
-    let mut images = Vec::new(alloc);
-    for name in names {
-        let mut input = open_named(inputs, name)?;
-        images.push(image_in(alloc, &mut input)?)?;
-    }
-    Ok(images)
 }
