@@ -1,16 +1,17 @@
 -- A value field cut at its sign and its point, and its digits.
-use Rattle.std.proofs.Common.{◌≡◌, ◌<◌, ◌≤◌, ◌+◌, ◌-◌, ◌*◌, ◌∙◌, ℕ, List, [], ◌∷◌, ◌++◌, length, take, drop, Bool, true, false, Option, Some, None, IfSome, option_to_list, position, cond, eqb, nat_lt, get_or, inl, inr, refl, sym, ap, subst, arith}
+use Rattle.std.proofs.Common.{◌≡◌, ◌<◌, ◌≤◌, ◌+◌, ◌-◌, ◌*◌, ◌∙◌, ℕ, List, [], ◌∷◌, ◌++◌, length, take, drop, Bool, true, false, Option, Some, None, IfSome, option_to_list, position, cond, eqb, nat_lt, get_or, refl, sym, ap, subst, arith}
 use Rattle.std.specs.Prelude.{unwrap_or, is_some, ℤ}
 use Rattle.std.specs.Option.{option_map}
 use Rattle.std.specs.List.{All, AllByRecursion, before_first, after_first, position_or_len}
 use Rattle.std.specs.Char.{IsAsciiDigit}
-use Rattle.std.proofs.lemmas.Bool.{ltb-false, ltb-true, lt-ltb, le-ltb, ne_eqb, eqb-true, or_cases}
+use Rattle.std.proofs.lemmas.Bool.{ltb-false, ltb-true, lt-ltb, le-ltb, ne_eqb, eqb-true}
 use Rattle.std.proofs.lemmas.Bool.Decides.{nat_tests}
 use Rattle.std.proofs.lemmas.List.{take_all, drop_all, take_rest, take_at, drop_at, drop-drop, append-nil}
 use Rattle.std.proofs.lemmas.List.Elements.{recursion_from_All, All-nil}
 use Rattle.std.proofs.lemmas.List.Sums.{split_at_first, passes_at_first}
 use Rattle.press_units.specs.Field.{Parts, AreParts, IsSign, spelling, fraction_bytes, longest_field, IsField, is_sign, is_point}
 use Rattle.press_units.specs.Value.{sign_of, unsigned_part, fraction_of, parts_of, number_of_parts, tenthousandths_of, is_signed, IsNumberOf, number_of, four_digits}
+use Rattle.press_units.proofs.FieldTest.{sign-true, sign-from}
 
 -- what stands round the first element that passes
 module _ {X : Type 0} (p : X → Bool) (xs : List X) where
@@ -84,12 +85,9 @@ no_sign_of (digit ∷ digits) fraction h =
     let no_minus : eqb digit 45 ≡ false = ne_eqb digit 45 (λ e. omega (arith, h.0)) in
     rw (no_plus, no_minus) refl
 
-is_sign-true : (byte : ℕ) → IsSign byte → is_sign byte ≡ true
-is_sign-true byte h = grind (arith, nat_tests)
-
 sign_of-spelling : (sign : Option ℕ) (whole : List ℕ) (fraction : Option (List ℕ)) → IfSome sign IsSign → AllByRecursion IsAsciiDigit whole → sign_of (option_to_list sign ++ (whole ++ fraction_bytes fraction)) ≡ sign
 sign_of-spelling None whole fraction is_one digits = no_sign_of whole fraction digits
-sign_of-spelling (Some sign) whole fraction is_one digits = ap (λ b. cond b (Some sign) None) (is_sign-true sign is_one)
+sign_of-spelling (Some sign) whole fraction is_one digits = ap (λ b. cond b (Some sign) None) (sign-from sign is_one)
 
 -- what follows the point
 drop_point : (whole fraction : List ℕ) → drop (length whole + 1) (whole ++ (46 ∷ fraction)) ≡ fraction
@@ -162,15 +160,12 @@ fraction-All field is =
     subst P (sym (ap parts_of is.2 ∙ parts_of-spelling is.0 is.1)) (fraction_digits is.0.fraction is.1.fraction)
 
 -- Every text is spelled by its parts.
-one_or_other : (byte : ℕ) → is_sign byte ≡ true → IsSign byte
-one_or_other byte h = elim (or_cases (eqb byte 43) (eqb byte 45) h) [ inl e ↦ inl (eqb-true byte 43 e) | inr e ↦ inr (eqb-true byte 45 e) ]
-
 at_sign : (byte : ℕ) (bytes : List ℕ) (b : Bool) → is_sign byte ≡ b → byte ∷ bytes ≡ option_to_list (cond b (Some byte) None) ++ cond b bytes (byte ∷ bytes)
 at_sign byte bytes true h = refl
 at_sign byte bytes false h = refl
 
 at_sign-IsSign : (byte : ℕ) (b : Bool) → is_sign byte ≡ b → IfSome (cond b (Some byte) None) IsSign
-at_sign-IsSign byte true h = one_or_other byte h
+at_sign-IsSign byte true h = sign-true byte h
 at_sign-IsSign byte false h = tt
 
 sign-unsigned_part : (text : List ℕ) → text ≡ option_to_list (sign_of text) ++ unsigned_part text

@@ -10,7 +10,8 @@ use Rattle.press_units.specs.Field.{Parts, AreParts, IsSign, spelling, fraction_
 digit-true : (b : ℕ) → is_ascii_digit b ≡ true → IsAsciiDigit b
 digit-true b h = grind (arith, nat_tests)
 
-digit-from : (b : ℕ) → IsAsciiDigit b → is_ascii_digit b ≡ true
+-- What is a digit passes the test for one.
+pub digit-from : (b : ℕ) → IsAsciiDigit b → is_ascii_digit b ≡ true
 digit-from b h = grind (arith, nat_tests)
 
 digits-true : (bs : List ℕ) → list_all is_ascii_digit bs ≡ true → AllByRecursion IsAsciiDigit bs
@@ -54,10 +55,11 @@ unsigned-from [] None d f = refl
 unsigned-from [] (Some bs) d f = digits-from bs (recursion_from_All IsAsciiDigit bs f)
 unsigned-from (b ∷ bs) fraction d f = rw (digit-from b d.0) (unsigned-from bs fraction d.1 f)
 
-sign-true : (b : ℕ) → is_sign b ≡ true → IsSign b
+-- The test for a sign, and what it says.
+pub sign-true : (b : ℕ) → is_sign b ≡ true → IsSign b
 sign-true b h = grind (arith, nat_tests)
 
-sign-from : (b : ℕ) → IsSign b → is_sign b ≡ true
+pub sign-from : (b : ℕ) → IsSign b → is_sign b ≡ true
 sign-from b h = grind (arith, nat_tests)
 
 digit-no_sign : (b : ℕ) → IsAsciiDigit b → is_sign b ≡ false

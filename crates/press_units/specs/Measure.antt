@@ -1,6 +1,6 @@
 -- Units: how many positions, of which an inch has 7200, a unit has
 -- (PCL 5 Printer Language Technical Reference Manual, units of movement within the PCL coordinate system).
-use Rattle.std.specs.Prelude.{◌≡◌, ◌≤◌, ◌%◌, ◌/◌, ◌*◌, ℕ}
+use Rattle.std.specs.Prelude.{◌≡◌, ◌≤◌, ◌%◌, ◌/◌, ◌*◌, ◌==◌, ◌&&◌, ℕ, Bool, nat_le}
 
 -- positions of an inch (this profile's internal unit)
 abbrev pub positions_per_inch : ℕ
@@ -24,6 +24,11 @@ pub record IsMeasure (units_per_inch : ℕ) : Type 0 where
   pub least : 96 ≤ units_per_inch
   pub most : units_per_inch ≤ positions_per_inch
   pub divides : positions_per_inch % units_per_inch ≡ 0
+
+-- The test for a unit of measure. The contract of `UnitOfMeasure::new` says that it is `IsMeasure`.
+abbrev pub is_measure : ℕ → Bool
+is_measure units_per_inch =
+    nat_le 96 units_per_inch && nat_le units_per_inch positions_per_inch && (positions_per_inch % units_per_inch == 0)
 
 -- a PCL unit under a unit of measure
 abbrev pub pcl_unit : ℕ → ℕ

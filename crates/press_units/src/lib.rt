@@ -10,6 +10,7 @@ mod value;
 
 pub use fault::NO_MEMORY;
 pub use position::{
-    POSITIONS_PER_DOT, Pos, Resolution, Unit, UnitOfMeasure, dot, position_of, to_pos,
+    POSITIONS_PER_DOT, POSITIONS_PER_INCH, Pos, Resolution, Unit, UnitOfMeasure, dot, position_of,
+    to_pos,
 };
-pub use value::{LONGEST_FIELD, Value, is_field, read_value};
+pub use value::{GREATEST_VALUE, LONGEST_FIELD, Value, is_field, read_value};

@@ -1,5 +1,5 @@
-ghost use Rattle.std.specs.Prelude.{◌≡◌, ◌<◌, ◌≤◌, ◌*◌, ◌^◌, ◌↔◌, IsSome, IfSome, unsigned_abs};
-ghost use Rattle.press_units.specs.Measure.{IsMeasure, decipoint, horizontal_motion_unit, vertical_motion_unit, pcl_unit};
+ghost use Rattle.std.specs.Prelude.{◌≡◌, ◌<◌, ◌≤◌, ◌*◌, ◌^◌, ◌↔◌, IsSome, IfSome, is_some, unsigned_abs};
+ghost use Rattle.press_units.specs.Measure.{IsMeasure, is_measure, decipoint, horizontal_motion_unit, vertical_motion_unit, pcl_unit};
 ghost use Rattle.press_units.specs.Position.{position_of, dot_of, positions_per_dot};
 
 use crate::value::Value;
@@ -16,7 +16,7 @@ pub struct Unit {
 }
 
 /// The positions of an inch.
-const POSITIONS_PER_INCH: u16 = 7200;
+pub const POSITIONS_PER_INCH: u16 = 7200;
 
 /// The positions of a dot at 300 dots per inch.
 pub const POSITIONS_PER_DOT: u16 = POSITIONS_PER_INCH / 300;
@@ -101,6 +101,7 @@ impl UnitOfMeasure {
     /// The unit of measure of so many units per inch: one of the 26 divisors of 7200 from 96 on.
     pub fn new(units_per_inch: u16) -> Option<Self>
         ensures legal { IsSome result ↔ IsMeasure units_per_inch }
+        ensures test { is_some result ≡ is_measure units_per_inch }
         ensures value { IfSome result (λ measure. measure ≡ units_per_inch) }
     {
         if 96 <= units_per_inch

@@ -7,13 +7,14 @@ ghost use Rattle.press_units.specs.Value.{IsNumberOf, is_signed, sign_of, unsign
 /// The most bytes that a value field has.
 pub const LONGEST_FIELD: usize = 32;
 
-/// The least value, -32767, by its magnitude, and the greatest.
+/// The least value, -32767, by its magnitude.
 const LEAST: u32 = 32_767;
 
-const GREATEST: u32 = 65_535;
+/// The greatest value.
+pub const GREATEST_VALUE: u32 = 65_535;
 
 /// One above the greatest whole number that a value keeps.
-const CEILING: u32 = GREATEST + 1;
+const CEILING: u32 = GREATEST_VALUE + 1;
 
 /// The number of a value field, in ten-thousandths, from -32767 to 65535, and whether a sign stood in it.
 #[derive(Clone, Copy, Debug)]
@@ -104,7 +105,7 @@ fn with_sign(sign: Option<u8>, magnitude: u32) -> i64
     if sign == Some(b'-') {
         -i64::from(magnitude.min(10_000 * LEAST))
     } else {
-        i64::from(magnitude.min(10_000 * GREATEST))
+        i64::from(magnitude.min(10_000 * GREATEST_VALUE))
     }
 }
 
