@@ -1,17 +1,14 @@
 -- How commands measure, where lines end, and how many copies go out (PCL 5 Printer Language Technical Reference Manual:
 -- Unit of Measure, Horizontal and Vertical Motion Index, Line Spacing, Line Termination, Perforation Skip and Number of
 -- Copies commands; the ranges of the motion indices are this profile's).
-use Rattle.std.specs.Prelude.{◌==◌, ◌&&◌, ℕ, ◌*◌, ◌/◌, ◌%◌, ℤ, pos, negsuc, Bool, true, false, nat_le, nat_lt, min, if◌then◌else◌, [], ◌∷◌, Option, Some, None, unsigned_abs}
-use Rattle.press_units.specs.Measure.{positions_per_inch, horizontal_motion_unit, vertical_motion_unit}
+use Rattle.std.specs.Prelude.{ℕ, ◌*◌, ◌/◌, ℤ, pos, negsuc, Bool, true, false, nat_le, nat_lt, min, if◌then◌else◌, [], ◌∷◌, Option, Some, None, unsigned_abs}
+use Rattle.press_units.specs.Measure.{positions_per_inch, is_measure, horizontal_motion_unit, vertical_motion_unit}
 use Rattle.press_units.specs.Position.{position_of}
 use Rattle.press_page.specs.Numbers.{named}
 use Rattle.press_page.specs.declared.settings.LineTermination.{LineTermination}
 use Rattle.press_page.specs.declared.settings.Settings.{Settings}
 
--- ESC&u#D, the unit of measure: of so many units to the inch, each has a whole number of positions
-abbrev pub is_measure : ℕ → Bool
-is_measure n = nat_le 96 n && nat_le n positions_per_inch && (positions_per_inch % n == 0)
-
+-- ESC&u#D, the unit of measure
 abbrev pub measure_of : ℤ → Option ℕ
 measure_of (pos n) = if is_measure n then Some n else None
 measure_of (negsuc n) = None

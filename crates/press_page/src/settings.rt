@@ -1,7 +1,7 @@
 ghost use Rattle.std.specs.Prelude.{◌≡◌, ◌<◌, ◌^◌};
 ghost use Rattle.press_page.specs.Settings.{measure_of, line_termination_of, terminated, horizontal_motion_of, vertical_motion_of, line_spacing_of, skip_change_of, copies_of, half_line, default_settings};
 
-use press_units::{Unit, UnitOfMeasure, Value, to_pos};
+use press_units::{POSITIONS_PER_INCH, Unit, UnitOfMeasure, Value, to_pos};
 
 /// The greatest horizontal motion index, in its unit.
 const GREATEST_HORIZONTAL_MOTION: i64 = 840;
@@ -48,7 +48,7 @@ pub struct Settings {
 pub(crate) fn measure_of(number: i64) -> Option<UnitOfMeasure>
     ensures { result ≡ measure_of number }
 {
-    if number < 0 || number > 7200 {
+    if number < 0 || number > i64::from(POSITIONS_PER_INCH) {
         return None;
     }
     UnitOfMeasure::new(number as u16)
