@@ -25,7 +25,7 @@ row_dot-slice rows start bytes x within =
     ∙ ap (byte_dot (get_or rows ((8 * start + x) / 8) 0)) bit
 
 -- past the last byte all is white
-row_dot-past : (bytes : List ℕ) (x : ℕ) → 8 * length bytes ≤ x → row_dot bytes x ≡ false
+pub row_dot-past : (bytes : List ℕ) (x : ℕ) → 8 * length bytes ≤ x → row_dot bytes x ≡ false
 unfolding row_dot byte_dot
 row_dot-past bytes x past =
     let outside : length bytes ≤ x / 8 = omega arith in

@@ -9,7 +9,7 @@ use Rattle.std.proofs.lemmas.Bool.Decides.{nat_tests}
 use Rattle.press_bits.specs.DotRows.{mixed_dot}
 use Rattle.press_bits.specs.Mark.{Row, row_dot, byte_dot, repeated}
 use Rattle.press_bits.specs.declared.mode.Mode.{Mode}
-use Rattle.press_bits.proofs.ByteLemmas.{byte_dot-and, byte_dot-or, byte_dot-not, byte_dot-ones, row_dot-set_same, row_dot-set_other, row_dot-of_byte, shifted, shifted_in, cut_kept, cut_off}
+use Rattle.press_bits.proofs.ByteLemmas.{byte_dot-and, byte_dot-or, byte_dot-not, byte_dot-ones, row_dot-set_same, row_dot-set_other, row_dot-of_byte, same_bit, shifted, shifted_in, cut_kept, cut_off}
 
 -- ---- one dot
 
@@ -33,6 +33,10 @@ mixed_is false true true false p true = refl
 mixed_is false false true false p true = refl
 mixed_is true po true false p false = refl
 mixed_is false po true false p false = refl
+
+-- a dot before the last counts
+pub nat_lt-and : (q p : ℕ) (b : Bool) → q < p → (nat_lt q p && b) ≡ b
+nat_lt-and q p b before = grind (arith, nat_tests)
 
 -- dots outside do not count
 pub mixed_when : (inside : Bool) (mode : Mode) (source source' pattern pattern' before : Bool) → (inside ≡ true → source ≡ source') → (inside ≡ true → pattern ≡ pattern') →
@@ -275,7 +279,8 @@ pub record PaintedAbove (old rows : List ℕ) (source tile : ℕ → Bool) (mode
   pub dots : (n c : ℕ) → c < 8 * bytes → row_dot rows (8 * (n * bytes) + c)
       ≡ mixed_dot ((nat_eq c column && nat_le first n) && nat_lt n end) mode (source n) (tile n) (row_dot old (8 * (n * bytes) + c))
 
-line_before : (b m n : ℕ) → m < n → m * b + b ≤ n * b
+-- a line ends before a later one begins
+pub line_before : (b m n : ℕ) → m < n → m * b + b ≤ n * b
 line_before b m n before = omega (arith, mul-le-mul_right {m = suc m} {n = n} b before)
 
 -- lines of b bytes have no byte in common
@@ -293,9 +298,6 @@ mask_test : (c column first n end : ℕ) → c / 8 ≡ column / 8 → first ≤ 
 mask_test c column first n end same from before =
     same_bit c column same ∙ with_lines (nat_eq c column) first n end from before
   where
-    same_bit : (c column : ℕ) → c / 8 ≡ column / 8 → nat_eq (c % 8) (column % 8) ≡ nat_eq c column
-    same_bit c column same = grind (arith, nat_tests)
-
     with_lines : (t : Bool) (first n end : ℕ) → first ≤ n → n < end → t ≡ ((t && nat_le first n) && nat_lt n end)
     with_lines t first n end from before = grind (arith, nat_tests)
 

@@ -1,7 +1,6 @@
 -- A row or a column that is painted into the bytes of a page is its mark.
-use Rattle.std.proofs.Common.{◌≡◌, ℕ, ◌+◌, ◌-◌, ◌*◌, ◌<◌, ◌≤◌, ◌⊎◌, min, suc, Bool, true, ◌&&◌, List, sym, ap, ◌∙◌, subst, inl, inr, arith}
+use Rattle.std.proofs.Common.{◌≡◌, ℕ, ◌+◌, ◌-◌, ◌*◌, ◌<◌, ◌≤◌, ◌⊎◌, min, Bool, true, ◌&&◌, List, sym, ap, ◌∙◌, subst, inl, inr, arith}
 use Rattle.std.specs.Prelude.{nat_lt, nat_le, nat_eq, ℤ, pos, ◌+ℤ◌}
-use Rattle.std.proofs.Math.Nat.{mul-le-mul_right}
 use Rattle.std.proofs.lemmas.Bool.{cases_order}
 use Rattle.std.proofs.lemmas.Bool.Decides.{nat_tests}
 use Rattle.press_bits.specs.Page.{Page, black_at}
@@ -12,10 +11,7 @@ use Rattle.press_bits.specs.DotRows.{page_of_rows, mixed_dot}
 use Rattle.press_bits.specs.Lines.{bytes_per_line}
 use Rattle.press_bits.proofs.DotRowsLemmas.{width-page_of_rows, height-page_of_rows, page_of_rows-HasNoDotOutside, black_at-page_of_rows}
 use Rattle.press_bits.proofs.MarkLemmas.{painted_by_effects, row_lands, effect_at-column_mark, mixed_effect}
-use Rattle.press_bits.proofs.MixLemmas.{mixed_when}
-
-line_before : (b m n : ℕ) → m < n → m * b + b ≤ n * b
-line_before b m n before = omega (arith, mul-le-mul_right {m = suc m} {n = n} b before)
+use Rattle.press_bits.proofs.MixLemmas.{mixed_when, line_before}
 
 same_line : (b m n left column count : ℕ) → n ≡ m → (nat_le (8 * (m * b) + left) (8 * (n * b) + column) && nat_lt (8 * (n * b) + column) (8 * (m * b) + left + count)) ≡ ((nat_eq n m && nat_le left column) && nat_lt column (left + count))
 same_line b m n left column count same =
