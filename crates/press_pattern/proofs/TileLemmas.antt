@@ -5,11 +5,11 @@ use Rattle.std.specs.List.{range_with_len}
 use Rattle.std.proofs.Math.Nat.{mod-mod, mod-lt, mul-le-mul_right}
 use Rattle.std.proofs.lemmas.Nat.{div-mul-add, mod-mul-add}
 use Rattle.std.proofs.lemmas.Nat.Bits.{shr_and_one}
-use Rattle.std.proofs.lemmas.Bool.Decides.{nat_tests}
 use Rattle.std.proofs.lemmas.List.{get_or-take, get_or-drop}
 use Rattle.std.proofs.lemmas.List.FromFn.{get_or-map-range_with_len, map-range_with_len_more, length-map-range_with_len}
 use Rattle.press_bits.specs.Mark.{row_dot, byte_dot}
 use Rattle.press_bits.specs.Lines.{bytes_per_line}
+use Rattle.press_bits.proofs.MixLemmas.{nat_lt-and}
 use Rattle.press_pattern.specs.Tiling.{Tiling, tile_row, tile_dot, tiling_where, byte_where, dots_from, transposed, HasLines}
 use Rattle.press_pattern.proofs.ByteLemmas.{byte_dot-byte_where}
 
@@ -58,9 +58,6 @@ row_dot-byte : (row : List ℕ) (x : ℕ) → row_dot row x ≡ byte_dot (get_or
 unfolding row_dot
 row_dot-byte row x = refl
 
-inside_width : (x w : ℕ) (b : Bool) → x < w → (nat_lt x w && b) ≡ b
-inside_width x w b within = grind (arith, nat_tests)
-
 -- the dots of the tile of a rule are the rule's
 pub tile_dot-tiling_where : (w h : ℕ) (rule : ℕ → ℕ → Bool) (a b : ℕ) → 1 ≤ w → 1 ≤ h
     → tile_dot (tiling_where w h rule) a b ≡ rule (a % w) (b % h)
@@ -76,7 +73,7 @@ tile_dot-tiling_where w h rule a b some_w some_h =
     ∙ ap (λ byte. byte_dot byte (x % 8)) (get_or-tile_row w h rule b (x / 8) some_h byte_within)
     ∙ byte_dot-byte_where (dots_from w rule (8 * (x / 8)) (b % h)) (x % 8) (omega arith)
     ∙ ap (λ c. nat_lt c w && rule c (b % h)) place
-    ∙ inside_width x w (rule x (b % h)) within
+    ∙ nat_lt-and x w (rule x (b % h)) within
 
 -- the tile repeats
 pub tile_dot-mod : (t : Tiling) (a b : ℕ) → tile_dot t (a % t.width) (b % t.height) ≡ tile_dot t a b

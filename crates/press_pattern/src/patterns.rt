@@ -161,7 +161,8 @@ impl Patterns {
 
     /// The bytes of a pattern's tile for line `y` of the frame, if the pattern exists; see [`Tile::row`].
     pub fn row_of(&self, kind: Kind, id: u16, y: u32) -> Option<&[u8]>
-        ensures { option_copied result ≡ option_map (λ tile. tile_row tile y) (tile_of self.now kind id) }
+        ensures { option_copied result
+            ≡ option_map (λ tile. tile_row tile y) (tile_of self.now kind id) }
     {
         let tile = self.tile(Pattern { kind, id })?;
         Some(tile.row(y))
