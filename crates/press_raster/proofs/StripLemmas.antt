@@ -1,14 +1,13 @@
 -- What a strip of the frame leaves, line by line.
-use Rattle.std.proofs.Common.{◌≡◌, ℕ, ◌+◌, ◌-◌, ◌*◌, ◌/◌, ◌<◌, ◌≤◌, min, Bool, true, false, ◌&&◌, ◌||◌, Some, None, refl, sym, ap, ◌∙◌, arith, inr}
+use Rattle.std.proofs.Common.{◌≡◌, ℕ, ◌+◌, ◌-◌, ◌*◌, ◌/◌, ◌<◌, ◌≤◌, min, Bool, true, false, ◌&&◌, ◌||◌, refl, sym, ap, ◌∙◌, arith, inr}
 use Rattle.std.specs.Prelude.{nat_lt, nat_le, nat_eq, pos, if◌then◌else◌}
-use Rattle.std.specs.Option.{option_map_or}
 use Rattle.std.proofs.lemmas.Bool.Decides.{nat_tests}
 use Rattle.press_bits.specs.DotRule.{DotEffect, dot_rule, dot_after}
 use Rattle.press_bits.specs.DotRule.DotEffect.{Unchanged}
 use Rattle.press_bits.specs.Mark.{Row, effect_at, painted, row_dot, repeated, row_mark}
 use Rattle.press_bits.specs.Page.{Page, HasNoDotOutside}
 use Rattle.press_bits.specs.declared.mode.Mode.{Mode}
-use Rattle.press_bits.proofs.MarkLemmas.{painted_same_effects, painted_joined, unmarked, effect_where, effect_when, joined, in_box, row_lands, width-painted, height-painted}
+use Rattle.press_bits.proofs.MarkLemmas.{painted_same_effects, painted_joined, unmarked, effect_where, chosen, effect_when, joined, in_box, box_none, cut_tests, row_lands, width-painted, height-painted}
 use Rattle.press_page.specs.Media.{turned}
 use Rattle.press_page.specs.Place.{placed_dot}
 use Rattle.press_page.specs.declared.media.Orientation.{Orientation}
@@ -19,11 +18,6 @@ use Rattle.press_pattern.specs.Tiling.{Tiling, tile_dot}
 use Rattle.press_pattern.specs.declared.ink.Ink.{Ink}
 use Rattle.press_raster.specs.Along.{along, along_mark}
 use Rattle.press_raster.specs.Mark.{strip_source, strip_mark, raster_mark}
-
-chosen : (inside source pattern : Bool) (mode : Mode) →
-    option_map_or (λ dot. dot_rule mode dot pattern) (if inside then Some source else None) Unchanged ≡ effect_where inside mode source pattern
-chosen true source pattern mode = refl
-chosen false source pattern mode = refl
 
 -- the frame of a page of these sizes
 abbrev pub frame_of : Orientation → (width height : ℕ) → Extent
@@ -85,12 +79,6 @@ module _ (orientation : Orientation) (width height : ℕ) where
 no_columns : (x y h column line : ℕ) → in_box x y 0 h column line ≡ false
 no_columns x y h column line = grind (arith, nat_tests)
 
-no_lines : (x y w column line : ℕ) → in_box x y w 0 column line ≡ false
-no_lines x y w column line = grind (arith, nat_tests)
-
-cut_test : (x w v side column : ℕ) → min (x + w) side ≡ min (x + v) side → column < side → nat_lt column (x + w) ≡ nat_lt column (x + v)
-cut_test x w v side column same within = grind (arith, nat_tests)
-
 columns_of : (x y w h column line : ℕ) → in_box x y w h column line ≡ true → (x ≤ column) × (column < x + w)
 columns_of x y w h column line inside = grind (arith, nat_tests)
 
@@ -112,7 +100,7 @@ module _ (orientation : Orientation) (page : Page) where
       (λ x y _ _.
       let dot = placed_dot orientation page.width page.height x y in
       effect_at-strip_mark orientation page.width page.height left top columns 0 dots tile mode x y
-      ∙ ap (λ t. effect_where t mode (dots (dot.0 - left)) (tile_dot tile dot.0 dot.1)) (no_lines left top columns dot.0 dot.1))
+      ∙ ap (λ t. effect_where t mode (dots (dot.0 - left)) (tile_dot tile dot.0 dot.1)) (box_none left top columns dot.0 dot.1))
 
   -- what lies outside the frame may be cut off a strip
   pub painted_strip_cut : (left top columns lines columns' lines' : ℕ) (dots : ℕ → Bool) (tile : Tiling) (mode : Mode) →
@@ -126,8 +114,8 @@ module _ (orientation : Orientation) (page : Page) where
       (strip_mark orientation page.width page.height left top columns' lines' dots tile mode)
       (λ x y right low.
       let dot = placed_dot orientation page.width page.height x y in
-      let across = cut_test left columns columns' (frame_of orientation page.width page.height).width dot.0 wide (column_within orientation page.width page.height x y right low) in
-      let down = cut_test top lines lines' (frame_of orientation page.width page.height).height dot.1 high (line_within orientation page.width page.height x y right low) in
+      let across = cut_tests left columns columns' (frame_of orientation page.width page.height).width dot.0 wide (column_within orientation page.width page.height x y right low) in
+      let down = cut_tests top lines lines' (frame_of orientation page.width page.height).height dot.1 high (line_within orientation page.width page.height x y right low) in
       effect_at-strip_mark orientation page.width page.height left top columns lines dots tile mode x y
       ∙ (λ i. effect_where (((nat_le left dot.0 && across i) && nat_le top dot.1) && down i) mode (dots (dot.0 - left)) (tile_dot tile dot.0 dot.1))
       ∙ sym (effect_at-strip_mark orientation page.width page.height left top columns' lines' dots tile mode x y))

@@ -2,6 +2,7 @@
 -- Raster Y Offset, End Raster Graphics and Set Compression Method commands).
 use Rattle.std.specs.Prelude.{ℕ, ◌+◌, Bool, true, false, nat_lt, min, List, [], Option, Some, None, option_map, refl}
 use Rattle.std.specs.Coded.{Coded, code_by, coded×, coded_ℕ, coded_list, coded_option}
+use Rattle.press_units.specs.Value.{greatest}
 use Rattle.press_raster.specs.declared.raster.RasterPosition.{RasterPosition}
 use Rattle.press_raster.specs.declared.settings.RasterSettings.{RasterSettings}
 
@@ -20,9 +21,9 @@ graphics_code =
     (λ s. record { left = s.0; rows = s.1.0; seed = s.1.1 })
     (λ _. refl))
 
--- the most rows that are counted (this profile)
+-- the most rows that are counted: the greatest value (this profile)
 abbrev pub most_rows : ℕ
-most_rows = 65535
+most_rows = greatest
 
 -- raster graphics by where it stands, if it is on, and its seed row
 abbrev pub graphics : Option RasterPosition → List ℕ → Option RasterGraphics

@@ -11,12 +11,12 @@ use press_bits::{Bitmap, DotRow};
 use press_cursor::CursorPosition;
 use press_page::{Dot, Media, PageEnv};
 use press_pattern::Ink;
-use press_units::Resolution;
+use press_units::{GREATEST_VALUE, Resolution};
 use std::alloc::{AllocError, Global};
 use std::marker::Model;
 
-/// The most rows that are counted.
-const MOST_ROWS: u32 = 65_535;
+/// The most rows that are counted: the greatest value.
+const MOST_ROWS: u32 = GREATEST_VALUE;
 
 /// Where raster graphics that is on stands.
 #[derive(Clone, Copy, Debug, PartialEq, Eq)]
@@ -107,6 +107,7 @@ impl Raster {
         })
     }
 
+    /// Whether it is on.
     pub fn is_on(&self) -> bool
         ensures { result ≡ is_some self.now }
     {

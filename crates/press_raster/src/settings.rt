@@ -4,10 +4,7 @@ ghost use Rattle.press_raster.specs.Transfer.{dots_of_row};
 ghost use Rattle.press_units.specs.Value.{whole_part};
 
 use press_rows::Method;
-use press_units::{Resolution, Value};
-
-/// The positions of an inch.
-const POSITIONS_PER_INCH: u16 = 7200;
+use press_units::{POSITIONS_PER_INCH, Resolution, Value};
 
 /// The resolutions of raster graphics, by "Raster Graphics Resolution" (`ESC * t # R`).
 ///

@@ -66,8 +66,8 @@ fn paint_mirrored(
         (record { width = page.old.width; height = page.old.height })).width - 1))
         (tile_line ink.now.tile line) i }
     ensures { page.new ≡ painted page.old (strip_mark orientation page.old.width page.old.height
-        left line (row source.entry).dots 1 (dots_along (is_backward orientation) (row source.entry))
-        ink.now.tile ink.now.mode) }
+        left line (row source.entry).dots 1
+        (dots_along (is_backward orientation) (row source.entry)) ink.now.tile ink.now.mode) }
 {
     let side = frame(page, orientation).width;
     let start = side - left - source.dots as u32;
@@ -107,8 +107,8 @@ fn paint_line(
     requires room { is_backward orientation ≡ true → ink.now.tile.width ≤ 8 * length room.old }
     requires small { length room.old < 2 ^ 32 }
     ensures { page.new ≡ painted page.old (strip_mark orientation page.old.width page.old.height
-        left line (row source.entry).dots 1 (dots_along (is_backward orientation) (row source.entry))
-        ink.now.tile ink.now.mode) }
+        left line (row source.entry).dots 1
+        (dots_along (is_backward orientation) (row source.entry)) ink.now.tile ink.now.mode) }
 {
     if is_backward(orientation) {
         let last = frame(page, orientation).width - 1;
