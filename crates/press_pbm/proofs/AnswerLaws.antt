@@ -6,6 +6,7 @@ use Rattle.press_bits.specs.Lines.{bytes_per_line}
 use Rattle.press_bits.specs.DotRows.{page_of_rows}
 use Rattle.press_pbm.specs.Header.{HeaderParts, AreHeaderParts, header_spelling, width_of, height_of, IsHeader, IsHeaderFront}
 use Rattle.press_pbm.specs.File.{IsFile, IsBadHeader, IsNoHeader, IsFileFront}
+use Rattle.press_pbm.specs.Reading.{past_longest}
 use Rattle.press_pbm.specs.Answer.{PageOf, NoHeader, BadHeader, CutShort, HasOneAnswer}
 use Rattle.press_pbm.specs.declared.place.Place.TheVariants as at
 use Rattle.press_pbm.proofs.HeaderLemmas.{run, run-append, run-spelling, end_sizes}
@@ -27,7 +28,7 @@ compare (h ∷ a) (k ∷ b) x y same =
       | inr (c, longer, rest) ↦ inr (c, (λ i. sym head i ∷ longer i), rest)
     ]
 
-runs : (bytes : List ℕ) (parts : HeaderParts) → AreHeaderParts parts → bytes ≡ header_spelling parts → run at.Start bytes ≡ Some (at.End (min (width_of parts) 16385) (min (height_of parts) 16385))
+runs : (bytes : List ℕ) (parts : HeaderParts) → AreHeaderParts parts → bytes ≡ header_spelling parts → run at.Start bytes ≡ Some (at.End (min (width_of parts) past_longest) (min (height_of parts) past_longest))
 runs bytes parts are is = ap (run at.Start) is ∙ run-spelling parts are
 
 nothing_behind : (width height : ℕ) (more : List ℕ) (w h : ℕ) → run (at.End width height) more ≡ Some (at.End w h) → more ≡ []
@@ -37,7 +38,7 @@ nothing_behind width height (byte ∷ more) w h is = cc
 -- no header begins another
 no_more : (bytes more : List ℕ) → IsHeader bytes → IsHeader (bytes ++ more) → more ≡ []
 no_more bytes more (parts, are, is) (longer, long_are, long_is) =
-    nothing_behind (min (width_of parts) 16385) (min (height_of parts) 16385) more (min (width_of longer) 16385) (min (height_of longer) 16385)
+    nothing_behind (min (width_of parts) past_longest) (min (height_of parts) past_longest) more (min (width_of longer) past_longest) (min (height_of longer) past_longest)
     (ap (option_and_then (λ next. run next more)) (sym (runs bytes parts are is)) ∙ sym (run-append at.Start bytes more) ∙ runs (bytes ++ more) longer long_are long_is)
 
 -- an input begins with one header
@@ -51,12 +52,12 @@ same_header a b x y is_a is_b same =
 -- the parts of one header have one size, as far as it is a page's
 same_size : (parts others : HeaderParts) → AreHeaderParts parts → AreHeaderParts others → header_spelling parts ≡ header_spelling others → is_page_size (width_of parts) (height_of parts) ≡ is_page_size (width_of others) (height_of others)
 same_size parts others are others_are same =
-    let ends = end_sizes (min (width_of parts) 16385) (min (height_of parts) 16385) (min (width_of others) 16385) (min (height_of others) 16385) (sym (run-spelling parts are) ∙ runs (header_spelling parts) others others_are same) in
+    let ends = end_sizes (min (width_of parts) past_longest) (min (height_of parts) past_longest) (min (width_of others) past_longest) (min (height_of others) past_longest) (sym (run-spelling parts are) ∙ runs (header_spelling parts) others others_are same) in
     sym (cut_size (width_of parts) (height_of parts)) ∙ (λ i. is_page_size (ends.0 i) (ends.1 i)) ∙ cut_size (width_of others) (height_of others)
 
 same_sides : (parts others : HeaderParts) → AreHeaderParts parts → AreHeaderParts others → header_spelling parts ≡ header_spelling others → is_page_size (width_of parts) (height_of parts) ≡ true → (width_of parts ≡ width_of others) × (height_of parts ≡ height_of others)
 same_sides parts others are others_are same size =
-    let ends = end_sizes (min (width_of parts) 16385) (min (height_of parts) 16385) (min (width_of others) 16385) (min (height_of others) 16385) (sym (run-spelling parts are) ∙ runs (header_spelling parts) others others_are same) in
+    let ends = end_sizes (min (width_of parts) past_longest) (min (height_of parts) past_longest) (min (width_of others) past_longest) (min (height_of others) past_longest) (sym (run-spelling parts are) ∙ runs (header_spelling parts) others others_are same) in
     let one = not_cut (width_of parts) (height_of parts) size in
     let other = not_cut (width_of others) (height_of others) (sym (same_size parts others are others_are same) ∙ size) in
     (sym one.0 ∙ ends.0 ∙ other.0, sym one.1 ∙ ends.1 ∙ other.1)

@@ -12,15 +12,15 @@ use Rattle.press_bits.specs.declared.bitmap.BlankError.{BlankError}
 use Rattle.press_bits.specs.declared.bitmap.BlankError.TheVariants as blanks
 use Rattle.press_pbm.specs.Header.{header_spelling, width_of, height_of}
 use Rattle.press_pbm.specs.File.{IsFile, Refused}
-use Rattle.press_pbm.specs.Reading.{ReadHeader, StopsShort}
+use Rattle.press_pbm.specs.Reading.{past_longest, ReadHeader, StopsShort}
 use Rattle.press_pbm.specs.declared.fault.ReadPbmError.{ReadPbmError}
 use Rattle.press_pbm.specs.declared.fault.ReadPbmError.TheVariants.{NotPbm, BadSize, Truncated, ReadFault, NoMemory}
 
 -- a size that is cut is a page's exactly where the whole one is
-pub cut_size : (m n : ℕ) → is_page_size (min m 16385) (min n 16385) ≡ is_page_size m n
+pub cut_size : (m n : ℕ) → is_page_size (min m past_longest) (min n past_longest) ≡ is_page_size m n
 cut_size m n = grind (arith, nat_tests)
 
-pub not_cut : (m n : ℕ) → is_page_size m n ≡ true → (min m 16385 ≡ m) × (min n 16385 ≡ n)
+pub not_cut : (m n : ℕ) → is_page_size m n ≡ true → (min m past_longest ≡ m) × (min n past_longest ≡ n)
 not_cut m n is = (grind (arith, nat_tests), grind (arith, nat_tests))
 
 either : (b : Bool) → (b ≡ false → ⊥) → b ≡ true

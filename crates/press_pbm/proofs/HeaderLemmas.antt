@@ -3,10 +3,11 @@ use Rattle.std.proofs.Common.{◌≡◌, ℕ, ◌+◌, ◌-◌, ◌*◌, ◌<◌
 use Rattle.std.specs.Prelude.{nat_eq, option_and_then, if◌then◌else◌}
 use Rattle.std.specs.List.{AllByRecursion, fold}
 use Rattle.std.specs.Char.{is_ascii_digit}
+use Rattle.std.proofs.lemmas.Bool.{eqb-true}
 use Rattle.std.proofs.lemmas.Bool.Decides.{nat_tests}
 use Rattle.press_units.specs.Value.{number_of}
 use Rattle.press_pbm.specs.Header.{is_white_space, is_line_end, Piece, White, Comment, IsPiece, piece_bytes, gap_bytes, IsGap, IsNumber, HeaderParts, header_spelling, AreHeaderParts, width_of, height_of, IsHeader, BeginsHeader, IsHeaderFront}
-use Rattle.press_pbm.specs.Reading.{with_digit, place_in_gap, place_after, least_behind_gap, least_behind}
+use Rattle.press_pbm.specs.Reading.{past_longest, with_digit, place_in_gap, place_after, least_behind_gap, least_behind}
 use Rattle.press_pbm.specs.declared.place.Side.{Side}
 use Rattle.press_pbm.specs.declared.place.Side.TheVariants.{Width, Height}
 use Rattle.press_pbm.specs.declared.place.Place.{Place}
@@ -83,22 +84,22 @@ one_more_digit Width number byte is = ap (λ t. if t then Some (at.Number Width 
 one_more_digit (Height width) number byte is =
     ap (λ t. if t then Some (at.Number (Height width) (with_digit number byte)) else (if is_white_space byte then Some (at.End width number) else None)) is
 
-cut_digit : (number digit : ℕ) → with_digit (min number 16385) digit ≡ min (10 * number + (digit - 48)) 16385
+cut_digit : (number digit : ℕ) → with_digit (min number past_longest) digit ≡ min (10 * number + (digit - 48)) past_longest
 cut_digit number digit = omega arith
 
 -- the digits of a side, behind a number that is cut
 run-digits : (side : Side) (number : ℕ) (digits : List ℕ) → AllByRecursion (λ byte. is_ascii_digit byte ≡ true) digits →
-    run (at.Number side (min number 16385)) digits ≡ Some (at.Number side (min (fold (λ n digit. 10 * n + (digit - 48)) number digits) 16385))
+    run (at.Number side (min number past_longest)) digits ≡ Some (at.Number side (min (fold (λ n digit. 10 * n + (digit - 48)) number digits) past_longest))
 run-digits side number [] are = refl
 run-digits side number (digit ∷ digits) (is, are) =
-    run-byte (at.Number side (min number 16385)) (at.Number side (min (10 * number + (digit - 48)) 16385)) _ digit digits
-    (one_more_digit side (min number 16385) digit is ∙ ap (λ n. Some (at.Number side n)) (cut_digit number digit))
+    run-byte (at.Number side (min number past_longest)) (at.Number side (min (10 * number + (digit - 48)) past_longest)) _ digit digits
+    (one_more_digit side (min number past_longest) digit is ∙ ap (λ n. Some (at.Number side n)) (cut_digit number digit))
     (run-digits side (10 * number + (digit - 48)) digits are)
 
-run-number : (side : Side) (digits : List ℕ) → IsNumber digits → run (at.Gap side) digits ≡ Some (at.Number side (min (number_of digits) 16385))
+run-number : (side : Side) (digits : List ℕ) → IsNumber digits → run (at.Gap side) digits ≡ Some (at.Number side (min (number_of digits) past_longest))
 run-number side [] (some, are) = absurd (omega arith)
 run-number side (digit ∷ digits) (some, (is, are)) =
-    run-byte (at.Gap side) (at.Number side (min (10 * 0 + (digit - 48)) 16385)) _ digit digits
+    run-byte (at.Gap side) (at.Number side (min (10 * 0 + (digit - 48)) past_longest)) _ digit digits
     (ap (λ t. if t then Some (at.Number side (with_digit 0 digit)) else place_in_gap side digit) is)
     (run-digits side (10 * 0 + (digit - 48)) digits are)
 
@@ -110,7 +111,7 @@ run-last width height byte is =
     refl
 
 -- a header is read to its end, with its sizes cut
-pub run-spelling : (parts : HeaderParts) → AreHeaderParts parts → run at.Start (header_spelling parts) ≡ Some (at.End (min (width_of parts) 16385) (min (height_of parts) 16385))
+pub run-spelling : (parts : HeaderParts) → AreHeaderParts parts → run at.Start (header_spelling parts) ≡ Some (at.End (min (width_of parts) past_longest) (min (height_of parts) past_longest))
 run-spelling parts are =
     run-then at.Magic (at.Gap Width) _ (gap_bytes parts.before_width) _ (run-gap at.Magic Width parts.before_width opens-magic are.before_width)
     (run-then (at.Gap Width) (at.Number Width w) _ parts.width _ (run-number Width parts.width are.width)
@@ -119,10 +120,10 @@ run-spelling parts are =
     (run-last w h parts.last are.last))))
   where
     w : ℕ
-    w = min (width_of parts) 16385
+    w = min (width_of parts) past_longest
 
     h : ℕ
-    h = min (height_of parts) 16385
+    h = min (height_of parts) past_longest
 
 -- ---- what is read to its end is a header
 
@@ -193,9 +194,6 @@ chosen false place next other is = inr (refl, is)
 never : (next : Place) (P : Type 0) → None ≡ Some next → P
 never next P is = cc
 
-is_byte : (byte n : ℕ) → nat_eq byte n ≡ true → byte ≡ n
-is_byte byte n is = grind (arith, nat_tests)
-
 -- a byte of white space before pieces, and a comment before pieces
 white_before : (Rest : List ℕ → Type 0) (byte : ℕ) (bytes : List ℕ) → is_white_space byte ≡ true → Pieces Rest bytes → GapOf Rest (byte ∷ bytes)
 white_before Rest byte bytes white pieces = record {
@@ -230,7 +228,7 @@ gap_before side next byte bytes is behind =
       | inr (_, other) ↦
           elim (chosen (nat_eq byte 35) (at.Comment side) next None other) [
             | inl (sign, same) ↦
-                subst (λ b. GapOf (Num (BehindNumber side)) (b ∷ bytes)) (sym (is_byte byte 35 sign)) (comment_before (Num (BehindNumber side)) bytes (subst (λ p. Behind p bytes) (sym same) behind))
+                subst (λ b. GapOf (Num (BehindNumber side)) (b ∷ bytes)) (sym (eqb-true byte 35 sign)) (comment_before (Num (BehindNumber side)) bytes (subst (λ p. Behind p bytes) (sym same) behind))
             | inr (_, none) ↦ never next (GapOf (Num (BehindNumber side)) (byte ∷ bytes)) none
           ]
     ]
@@ -267,12 +265,12 @@ no_digit Rest bytes rest = record { digits = []; are = tt; rest = bytes; follows
 step : (place next : Place) (byte : ℕ) (bytes : List ℕ) → place_after place byte ≡ Some next → Behind next bytes → Behind place (byte ∷ bytes)
 step at.Start next byte bytes is behind =
     elim (chosen (nat_eq byte 80) at.Letter next None is) [
-      | inl (letter, same) ↦ (bytes, ap (λ b. b ∷ bytes) (is_byte byte 80 letter), subst (λ p. Behind p bytes) (sym same) behind)
+      | inl (letter, same) ↦ (bytes, ap (λ b. b ∷ bytes) (eqb-true byte 80 letter), subst (λ p. Behind p bytes) (sym same) behind)
       | inr (_, none) ↦ never next (Behind at.Start (byte ∷ bytes)) none
     ]
 step at.Letter next byte bytes is behind =
     elim (chosen (nat_eq byte 52) at.Magic next None is) [
-      | inl (letter, same) ↦ (bytes, ap (λ b. b ∷ bytes) (is_byte byte 52 letter), subst (λ p. Behind p bytes) (sym same) behind)
+      | inl (letter, same) ↦ (bytes, ap (λ b. b ∷ bytes) (eqb-true byte 52 letter), subst (λ p. Behind p bytes) (sym same) behind)
       | inr (_, none) ↦ never next (Behind at.Letter (byte ∷ bytes)) none
     ]
 step at.Magic next byte bytes is behind = gap_before Width next byte bytes is behind
@@ -331,8 +329,8 @@ pub record Found (bytes : List ℕ) (width height : ℕ) : Type 0 where
   pub parts : HeaderParts
   pub are : AreHeaderParts parts
   pub is : bytes ≡ header_spelling parts
-  pub width_is : width ≡ min (width_of parts) 16385
-  pub height_is : height ≡ min (height_of parts) 16385
+  pub width_is : width ≡ min (width_of parts) past_longest
+  pub height_is : height ≡ min (height_of parts) past_longest
 
 pub end_sizes : (a b c d : ℕ) → Some (at.End a b) ≡ Some (at.End c d) → (a ≡ c) × (b ≡ d)
 end_sizes a b c d is = (cc, cc)
@@ -357,7 +355,7 @@ found bytes width height is short =
       last = second.follows.follows.white;
       long = subst (λ l. length l ≤ 65536) whole short;
     } in
-    let sizes = end_sizes width height (min (width_of parts) 16385) (min (height_of parts) 16385) (sym is ∙ ap (run at.Start) whole ∙ run-spelling parts are) in
+    let sizes = end_sizes width height (min (width_of parts) past_longest) (min (height_of parts) past_longest) (sym is ∙ ap (run at.Start) whole ∙ run-spelling parts are) in
     record { parts = parts; are = are; is = whole; width_is = sizes.0; height_is = sizes.1 }
 
 -- ---- how many bytes complete a header
@@ -430,8 +428,8 @@ cut_header read place is short some =
 -- where a header begins with them, it is completed from their place
 completed : (read more : List ℕ) (after : Option Place) → run at.Start read ≡ after → IsHeader (read ++ more) → (width height : ℕ) × (option_and_then (λ place. run place more) after ≡ Some (at.End width height)) × (length (read ++ more) ≤ 65536)
 completed read more after is (parts, are, spelled) = (
-  min (width_of parts) 16385,
-  min (height_of parts) 16385,
+  min (width_of parts) past_longest,
+  min (height_of parts) past_longest,
   ap (option_and_then (λ place. run place more)) (sym is) ∙ sym (run-append at.Start read more) ∙ ap (run at.Start) spelled ∙ run-spelling parts are,
   subst (λ l. length l ≤ 65536) (sym spelled) are.long,
 )

@@ -7,6 +7,7 @@ use Rattle.std.proofs.lemmas.Bool.Decides.{nat_tests}
 use Rattle.std.proofs.lemmas.Fmt.{decimal_nonempty, length-decimal-le}
 use Rattle.std.proofs.lemmas.List.FromFn.{length-map-range_with_len, get_or-map-range_with_len}
 use Rattle.press_units.proofs.DecimalLemmas.{decimal-digits, number_of-decimal}
+use Rattle.press_units.proofs.FieldTest.{digit-from}
 use Rattle.press_bits.specs.Page.{Page, black_at, is_page_size, HasNoDotOutside}
 use Rattle.press_bits.specs.Mark.{row_dot, byte_dot}
 use Rattle.press_bits.specs.Lines.{bytes_per_line}
@@ -20,12 +21,9 @@ use Rattle.press_pbm.proofs.RowsLemmas.{row_dot-front, row_dot-behind}
 
 -- ---- a number in decimal
 
-is_digit : (digit : ℕ) → IsAsciiDigit digit → is_ascii_digit digit ≡ true
-is_digit digit is = grind (arith, nat_tests)
-
 are_digits : (digits : List ℕ) → AllByRecursion IsAsciiDigit digits → AllByRecursion (λ d. is_ascii_digit d ≡ true) digits
 are_digits [] are = tt
-are_digits (first ∷ digits) (one, are) = (is_digit first one, are_digits digits are)
+are_digits (first ∷ digits) (one, are) = (digit-from first one, are_digits digits are)
 
 decimal-IsNumber : (n : ℕ) → n < 2 ^ 64 → IsNumber (decimal n)
 decimal-IsNumber n small = (decimal_nonempty n small, are_digits (decimal n) (decimal-digits n small))

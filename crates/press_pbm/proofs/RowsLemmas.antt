@@ -3,11 +3,9 @@ use Rattle.std.proofs.Common.{◌≡◌, ℕ, ◌+◌, ◌-◌, ◌*◌, ◌/◌
 use Rattle.std.specs.Prelude.{ℤ, nat_eq, nat_le, nat_lt}
 use Rattle.std.specs.Io.KnownBytes.{Consumes}
 use Rattle.std.proofs.KnownBytes.{Consumes-trans}
-use Rattle.std.specs.Int.{bit_at}
-use Rattle.std.proofs.lemmas.Nat.Bits.{bit_at-zero}
 use Rattle.std.proofs.Math.Nat.{mul-le-mul_right}
 use Rattle.std.proofs.lemmas.Bool.{cases_order}
-use Rattle.std.proofs.lemmas.List.{get_or_append_left, get_or-append-add, get_or_past}
+use Rattle.std.proofs.lemmas.List.{get_or_append_left, get_or-append-add}
 use Rattle.std.proofs.lemmas.Bool.Decides.{nat_tests}
 use Rattle.press_bits.specs.DotRule.{dot_after, both_transparent}
 use Rattle.press_bits.specs.Page.{Page, black_at, blank}
@@ -15,6 +13,7 @@ use Rattle.press_bits.specs.Mark.{Row, painted, row_dot, byte_dot, Mark, eight_b
 use Rattle.press_bits.specs.DotRows.{page_of_rows}
 use Rattle.press_bits.specs.Lines.{bytes_per_line}
 use Rattle.press_bits.proofs.DotRowsLemmas.{width-page_of_rows, height-page_of_rows, page_of_rows-HasNoDotOutside, black_at-page_of_rows, white_page_of_rows}
+use Rattle.press_bits.proofs.LineLemmas.{row_dot-past}
 use Rattle.press_bits.proofs.MarkLemmas.{painted_by_effects, row_lands, repeated-eight_black, blackens, effect_where}
 use Rattle.press_pbm.specs.Reading.{StopsShort}
 use Rattle.press_pbm.specs.declared.fault.ReadPbmError.{ReadPbmError}
@@ -23,13 +22,6 @@ use Rattle.press_pbm.specs.declared.fault.ReadPbmError.TheVariants.{NotPbm, BadS
 -- without rows the page is white
 pub no_rows : (width height : ℕ) → blank width height ≡ page_of_rows width height []
 no_rows width height = sym (white_page_of_rows width height 0 [] refl)
-
--- past the last byte all is white
-row_dot-past : (bytes : List ℕ) (x : ℕ) → 8 * length bytes ≤ x → row_dot bytes x ≡ false
-unfolding row_dot byte_dot
-row_dot-past bytes x past =
-    let outside : length bytes ≤ x / 8 = omega arith in
-    ap (λ b. nat_eq (bit_at b (7 - x % 8)) 1) (get_or_past bytes (x / 8) 0 outside) ∙ ap (λ b. nat_eq b 1) (bit_at-zero (7 - x % 8))
 
 -- the dots of the first bytes, and those of the bytes behind them
 pub row_dot-front : (bytes others : List ℕ) (p : ℕ) → p < 8 * length bytes → row_dot (bytes ++ others) p ≡ row_dot bytes p

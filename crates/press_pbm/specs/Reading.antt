@@ -2,6 +2,7 @@
 use Rattle.std.specs.Prelude.{◌≡◌, ℕ, ◌+◌, ◌-◌, ◌*◌, ◌<◌, ◌==◌, min, if◌then◌else◌, List, length, Option, Some, None, ⊤}
 use Rattle.std.specs.Char.{is_ascii_digit}
 use Rattle.std.specs.Io.KnownBytes.{Consumes, IsAtEnd}
+use Rattle.press_bits.specs.Page.{longest_side}
 use Rattle.press_pbm.specs.Header.{is_white_space, is_line_end, HeaderParts, AreHeaderParts, header_spelling, width_of, height_of}
 use Rattle.press_pbm.specs.declared.fault.ReadPbmError.{ReadPbmError}
 use Rattle.press_pbm.specs.declared.fault.ReadPbmError.TheVariants.{NotPbm, BadSize, Truncated, ReadFault, NoMemory}
@@ -10,9 +11,13 @@ use Rattle.press_pbm.specs.declared.place.Side.TheVariants.{Width, Height}
 use Rattle.press_pbm.specs.declared.place.Place.{Place}
 use Rattle.press_pbm.specs.declared.place.Place.TheVariants.{Start, Letter, Magic, Gap, Comment, Number, End}
 
+-- one above the most dots on a side
+abbrev pub past_longest : ℕ
+past_longest = longest_side + 1
+
 -- a number with one more digit, cut to one above the greatest size
 abbrev pub with_digit : ℕ → ℕ → ℕ
-with_digit number digit = min (10 * number + (digit - 48)) 16385
+with_digit number digit = min (10 * number + (digit - 48)) past_longest
 
 -- the place behind a byte that begins a piece of a gap
 abbrev pub place_in_gap : Side → ℕ → Option Place
@@ -52,8 +57,8 @@ pub record ReadHeader (size : ℕ × ℕ) (had left : Option (List ℕ)) : Type 
   pub parts : HeaderParts
   pub header : AreHeaderParts parts
   pub read : Consumes had left (header_spelling parts)
-  pub width : size.0 ≡ min (width_of parts) 16385
-  pub height : size.1 ≡ min (height_of parts) 16385
+  pub width : size.0 ≡ min (width_of parts) past_longest
+  pub height : size.1 ≡ min (height_of parts) past_longest
 
 -- Fewer bytes than were wanted were read: the input ended behind them, or a read failed.
 abbrev pub StopsShort : ReadPbmError → (wanted : ℕ) → Option (List ℕ) → Option (List ℕ) → Type 0

@@ -2,6 +2,9 @@ use press_bits::BlankError;
 use press_units::NO_MEMORY;
 use thiserror::Error;
 
+/// What is told where an output cannot be made or written.
+pub const WRITE_FAULT: &str = "fault 115";
+
 /// Why no bitmap was read.
 #[derive(Debug, Drop, Error)]
 pub enum ReadPbmError {
@@ -40,6 +43,6 @@ impl From<BlankError> for ReadPbmError {
 #[derive(Debug, Drop, Error)]
 pub enum WritePbmError {
     /// A write failed.
-    #[error("fault 115")]
+    #[error("{text}", text = WRITE_FAULT)]
     WriteFault,
 }

@@ -9,7 +9,7 @@ mod place;
 mod reading;
 mod writing;
 
-pub use fault::{ReadPbmError, WritePbmError};
+pub use fault::{ReadPbmError, WRITE_FAULT, WritePbmError};
 pub use fuse_read::FuseRead;
 pub use fuse_write::FuseWrite;
 pub use reading::read_pbm;

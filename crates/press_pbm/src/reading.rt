@@ -8,15 +8,12 @@ ghost use Rattle.press_pbm.specs.Reading.{ReadHeader, StopsShort};
 
 use crate::fault::ReadPbmError;
 use crate::place::Place;
-use press_bits::{Bitmap, DotRow, MAX_SIDE, Mode};
+use press_bits::{Bitmap, DotRow, Mode, WIDEST_ROW};
 use std::alloc::Global;
 use std::io::{ErrorKind, Read};
 
 /// The most bytes of a header.
 const LONGEST_HEADER: u32 = 65_536;
-
-/// The most bytes of a row.
-const LONGEST_ROW: usize = MAX_SIDE as usize / 8;
 
 /// White dots leave the white page as it is.
 const TRANSPARENT: Mode = Mode {
@@ -88,7 +85,7 @@ fn read_rows<R: Read>(input: &mut R, page: &mut Bitmap) -> Result<(), ReadPbmErr
         (R.remaining input.old) (R.remaining input.new)) }
 {
     let width = page.width() as usize;
-    let mut buffer = [0; LONGEST_ROW];
+    let mut buffer = [0; WIDEST_ROW];
     let row = &mut buffer[..width.div_ceil(8)];
     for y in 0..page.height() {
         fill(input, row)?;
