@@ -33,7 +33,8 @@ short-NoHead m x e used left t n cut head =
 
 -- ---- every Head uses a byte
 
-no_end : (f : List ℕ) (b : ℕ) (d : List ℕ) → f ++ (b ∷ d) ≡ [] → ⊥
+-- A list with an element behind others is not empty.
+pub no_end : (f : List ℕ) (b : ℕ) (d : List ℕ) → f ++ (b ∷ d) ≡ [] → ⊥
 no_end [] b d h = cc
 no_end (x ∷ f) b d h = cc
 
@@ -99,7 +100,8 @@ stands-more (Open a g') u v w (Grouped c g f x d) n h = h
 stands-more (Open a g') u v w (Escape b) n h = absurd h
 stands-more (Open a g') u v w _ n h = absurd h
 
-begins-differs : (u v : List ℕ) → BeginsLine u → differs pjl_mark (u ++ v) ≡ false
+-- What begins a line does not differ from its mark.
+pub begins-differs : (u v : List ℕ) → BeginsLine u → differs pjl_mark (u ++ v) ≡ false
 begins-differs u v is = ap (λ w. differs pjl_mark (w ++ v)) is.mark
 
 stands_exit-differs : (u v : List ℕ) (t : Token) (n : Mode) → Stands Exit u v t n → (w : List ℕ) → differs pjl_mark (u ++ w) ≡ false

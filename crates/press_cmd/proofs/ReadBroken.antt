@@ -161,16 +161,16 @@ walked_none Foreign is = absurd is
 
 -- ---- a sequence that breaks
 
+longer : (x : List ℕ) (y : ℕ) → x ++ (y ∷ []) ≡ [] → ⊥
+longer [] y h = cc
+longer (z ∷ x) y h = cc
+
 breaks-at : (m : Mode) (u : List ℕ) (s : State) (b : ℕ) (later : List ℕ) (o : Step) → (u ≡ [] → ⊥) → Walked m u s → step s b ≡ o → Sound m u b o
     → ((more : List ℕ) (t : Token) (n : Mode) → Whole m (u ++ (b ∷ more)) t n → ⊥)
     → after_step o b later (λ k. read_on k later) ≡ Found (broken_in m u) Pcl (b ∷ later)
 breaks-at m u s b later (Goes further) some_ w e sound cannot =
     let on = reached-GoesOn further m (u ++ (b ∷ [])) sound (λ empty. longer u b empty) in
     absurd (cannot (on.0 ∷ on.1) on.2 on.3 (subst (λ (x : List ℕ). Whole m x on.2 on.3) (append_assoc u (b ∷ []) (on.0 ∷ on.1)) on.4))
-  where
-    longer : (x : List ℕ) (y : ℕ) → x ++ (y ∷ []) ≡ [] → ⊥
-    longer [] y h = cc
-    longer (z ∷ x) y h = cc
 breaks-at m u s b later (Gives t n) some_ w e sound cannot = absurd (cannot [] t n sound)
 breaks-at m u s b later (Stops t) some_ w e sound cannot = ap (λ x. Found x Pcl (b ∷ later)) sound.0
 breaks-at m u s b later Nothing some_ w e sound cannot = absurd (some_ sound)
@@ -210,10 +210,6 @@ stops-Breaks m u s b later t some_ w e =
           let same : Found command next [] ≡ Found t Pcl (b ∷ more) = sym read ∙ other in
           cc;
     }
-
-longer : (x : List ℕ) (y : ℕ) → x ++ (y ∷ []) ≡ [] → ⊥
-longer [] y h = cc
-longer (z ∷ x) y h = cc
 
 gave-at : (m : Mode) (u : List ℕ) (s : State) (b : ℕ) (x : List ℕ) (t : Token) (n : Mode) (left : List ℕ) (o : Step) → Walked m u s → step s b ≡ o → Sound m u b o
     → (u ≡ [] → EndsOpen m b → ⊥)

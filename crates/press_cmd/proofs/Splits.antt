@@ -2,6 +2,7 @@
 use Rattle.std.proofs.Common.{◌≡◌, ◌<◌, ◌≤◌, ◌∙◌, ℕ, zero, suc, List, [], ◌∷◌, ◌++◌, length, refl, sym, ap, subst, arith, append_assoc, length-append}
 use Rattle.press_cmd.specs.Token.{Token}
 use Rattle.press_cmd.specs.Mode.{Mode, Exit, Tail, Foreign, Pcl, Open}
+use Rattle.press_cmd.specs.Grammar.{Head}
 use Rattle.press_cmd.specs.Split.{Steps, NoHead, SplitFrom, ClosedFrom, closing}
 use Rattle.press_cmd.proofs.Reading.{Reading, Short, Found, reading}
 use Rattle.press_cmd.proofs.ReadHead.{read_head}
@@ -46,6 +47,19 @@ pub split-append : (m : Mode) (x y : List ℕ) (cs cs' : List Token) (k k' : Mod
     → SplitFrom m x cs k r → SplitFrom k (r ++ y) cs' k' r' → SplitFrom m (x ++ y) (cs ++ cs') k' r'
 split-append m x y cs cs' k k' r r' s s' =
     record { steps = steps-then m (x ++ y) cs cs' k k' (r ++ y) r' (steps-more m x y cs k r s.steps) s'.steps; short = s'.short }
+
+-- ---- closed splits
+
+-- Bytes are closed by one list of commands.
+pub closed_once : (from : Mode) (bytes : List ℕ) (one other : List Token) → ClosedFrom from bytes one → ClosedFrom from bytes other → one ≡ other
+closed_once from bytes one other first second =
+    let same = one_split from bytes first.0 second.0 first.1 second.1 first.2 second.2 first.3 second.3 in
+    first.4 ∙ (λ j. same.0 j ++ closing (same.1 j) (same.2 j)) ∙ sym second.4
+
+-- A command in front of what closes the rest.
+pub closed-cons : (from : Mode) (used left : List ℕ) (command : Token) (next : Mode) (commands : List Token) → Head from used left command next → ClosedFrom next left commands → ClosedFrom from (used ++ left) (command ∷ commands)
+closed-cons from used left command next commands head closed =
+    (command ∷ closed.0, closed.1, closed.2, record { steps = (used, left, next, refl, head, closed.3.steps); short = closed.3.short }, ap (λ more. command ∷ more) closed.4)
 
 -- ---- each list of bytes has a split
 

@@ -1,15 +1,15 @@
 -- Each command of the code is one of some stream.
-use Rattle.std.proofs.Common.{◌≡◌, ◌<◌, ◌≤◌, ◌+◌, ◌∙◌, ℕ, zero, suc, List, [], ◌∷◌, ◌++◌, length, true, false, cond, Option, Some, None, refl, sym, ap, subst, inl, inr, arith, length-append, eqb, replicate, lit<, lit≤}
+use Rattle.std.proofs.Common.{◌≡◌, ◌<◌, ◌≤◌, ◌+◌, ◌∙◌, ℕ, zero, suc, List, [], ◌∷◌, ◌++◌, length, true, cond, Option, Some, None, refl, sym, ap, subst, inl, inr, arith, length-append, eqb, replicate, lit<, lit≤}
 use Rattle.std.specs.Prelude.{codes}
 use Rattle.std.specs.List.{list_all}
 use Rattle.std.proofs.lemmas.List.{append-nil, length-replicate}
 use Rattle.std.proofs.lemmas.Bool.{ne_eqb, le-ltb, cases_eq, cases_lt}
 use mathlib.Core.Logic.{∥∥₁_map}
 use Rattle.press_cmd.specs.Token.{Token, Escape, Grouped, Ungrouped, Control, Text, Broken, Uel, PjlLine, ForeignByte, bytes_of, param_of, broken_of, uel, escape_byte, pjl_mark}
-use Rattle.press_cmd.specs.Mode.{Mode, Exit, Tail, Foreign, Pcl, Open}
+use Rattle.press_cmd.specs.Mode.{Mode, Exit, Tail, Foreign, Pcl}
 use Rattle.press_cmd.specs.Grammar.{Whole, Head, Stands, GoesOn, IsPjlLine, BeginsLine, IsBroken, is_line_byte, differs, longest_line, scanned_in}
 use Rattle.press_cmd.specs.Language.{mode_after}
-use Rattle.press_cmd.specs.Split.{NoHead, closing}
+use Rattle.press_cmd.specs.Split.{closing}
 use Rattle.press_cmd.proofs.Reading.{Reading, Short, Found, reading, read_on, read_line, Start, is_escape}
 use Rattle.press_cmd.specs.Streams.{IsCommand}
 use Rattle.press_cmd.specs.View.{token}
@@ -17,30 +17,17 @@ use Rattle.press_cmd.specs.declared.command.Command.{Command}
 use Rattle.press_cmd.specs.declared.command.Command.TheVariants as commands
 use Rattle.press_cmd.proofs.ReadWhole.{whole_reads, stable}
 use Rattle.press_cmd.proofs.ReadLine.{line_front}
-use Rattle.press_cmd.proofs.Heads.{head-some, short-NoHead}
+use Rattle.press_cmd.proofs.Heads.{no_end, short-NoHead, begins-differs}
+use Rattle.press_cmd.proofs.Splits.{closing-nothing, no_head_of_nothing}
 use Rattle.press_cmd.proofs.LineTest.{IsPjlLine-known}
 use Rattle.press_cmd.proofs.ReadBack.{param-Whole, line-Head}
-
-closing-nil : (m : Mode) → closing m [] ≡ []
-closing-nil Exit = refl
-closing-nil Tail = refl
-closing-nil Foreign = refl
-closing-nil Pcl = refl
-closing-nil (Open c g) = refl
-
-no_front : (u v : List ℕ) → [] ≡ u ++ v → u ≡ []
-no_front [] v h = refl
-no_front (b ∷ u) v h = cc
-
-nil-NoHead : (m : Mode) → NoHead m []
-nil-NoHead m used left t n cut head = head-some m used left t n head (no_front used left cut)
 
 -- a stream of one command, at its front
 one_command : (u : List ℕ) (t : Token) (n : Mode) → Head Exit u [] t n → IsCommand t
 one_command u t n head = (
   u,
   t ∷ [],
-  (t ∷ [], n, [], record { steps = (u, [], n, sym (append-nil u), head, (refl, refl)); short = nil-NoHead n }, ap (λ x. t ∷ x) (sym (closing-nil n))),
+  (t ∷ [], n, [], record { steps = (u, [], n, sym (append-nil u), head, (refl, refl)); short = no_head_of_nothing n }, ap (λ x. t ∷ x) (sym (closing-nothing n))),
   (0, lit< tt, refl),
 )
 
@@ -49,7 +36,7 @@ second_command : (x u : List ℕ) (s t : Token) (m n : Mode) → Head Exit x u s
 second_command x u s t m n first head = (
   x ++ u,
   s ∷ t ∷ [],
-  (s ∷ t ∷ [], n, [], record { steps = (x, u, m, refl, first, (u, [], n, sym (append-nil u), head, (refl, refl))); short = nil-NoHead n }, ap (λ y. s ∷ t ∷ y) (sym (closing-nil n))),
+  (s ∷ t ∷ [], n, [], record { steps = (x, u, m, refl, first, (u, [], n, sym (append-nil u), head, (refl, refl))); short = no_head_of_nothing n }, ap (λ y. s ∷ t ∷ y) (sym (closing-nothing n))),
   (1, lit< tt, refl),
 )
 
@@ -113,9 +100,6 @@ foreign-IsCommand b =
 -- ---- broken bytes
 
 -- a line that is cut off where 4,096 bytes of it stand, or where the stream ends
-begins-differs : (u v : List ℕ) → BeginsLine u → differs pjl_mark (u ++ v) ≡ false
-begins-differs u v is = ap (λ w. differs pjl_mark (w ++ v)) is.mark
-
 full-Head : (u : List ℕ) → BeginsLine u → length u ≡ longest_line → (v : List ℕ) → Head Exit u v (Broken u) Tail
 full-Head u is full v =
     subst (λ (k : Mode). Stands k u v (Broken u) Tail) (ap (λ d. cond d Pcl Exit) (sym (begins-differs u v is))) (refl, (is, inr (full, refl)))
@@ -172,20 +156,12 @@ pub goes_on-escape : (b : ℕ) (u : List ℕ) (x : ℕ) (more : List ℕ) (t : T
 goes_on-escape b u x more (Escape e) n w = cc (w.1)
 goes_on-escape b u x more (Grouped c g f e d) n w = cc (w.spelled)
 goes_on-escape b u x more (Ungrouped c f e d) n w = cc (w.0.spelled)
-goes_on-escape b u x more (Control c) n w = absurd (longer u x more (tail_of w.1))
+goes_on-escape b u x more (Control c) n w = absurd (no_end u x more (tail_of w.1))
   where
-    longer : (y : List ℕ) (z : ℕ) (rest : List ℕ) → y ++ (z ∷ rest) ≡ [] → ⊥
-    longer [] z rest h = cc
-    longer (a ∷ y) z rest h = cc
-
     tail_of : b ∷ (u ++ (x ∷ more)) ≡ c ∷ [] → u ++ (x ∷ more) ≡ []
     tail_of h = cc
-goes_on-escape b u x more (Text c) n w = absurd (longer u x more (tail_of w.1))
+goes_on-escape b u x more (Text c) n w = absurd (no_end u x more (tail_of w.1))
   where
-    longer : (y : List ℕ) (z : ℕ) (rest : List ℕ) → y ++ (z ∷ rest) ≡ [] → ⊥
-    longer [] z rest h = cc
-    longer (a ∷ y) z rest h = cc
-
     tail_of : b ∷ (u ++ (x ∷ more)) ≡ c ∷ [] → u ++ (x ∷ more) ≡ []
     tail_of h = cc
 goes_on-escape b u x more (Broken c) n w = absurd w

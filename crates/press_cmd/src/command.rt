@@ -56,7 +56,11 @@ pub fn kind(command: &Command) -> Kind
     }
 }
 
-/// Appends the command's bytes. An error leaves the vector as it was.
+/// Appends the command's bytes.
+///
+/// # Errors
+///
+/// Where memory ran out; the vector is then as it was.
 pub fn write_command(command: &Command, out: &mut Vec<u8>) -> Result<(), AllocError>
     ensures ok { OnOk result (out.new.items ≡ out.old.items ++ bytes_of (token command.now)) }
     ensures err { OnErr result (out.new.items ≡ out.old.items) }

@@ -39,6 +39,10 @@ impl Owned {
     ghost use Rattle.press_cmd.specs.View.{token};
 
     /// The command, with its bytes copied.
+    ///
+    /// # Errors
+    ///
+    /// Where memory ran out.
     pub fn of(alloc: Global, command: &Command) -> Result<Owned, AllocError>
         ensures { IfOk result (λ owned. owned ≡ token command.now) }
     {
