@@ -11,7 +11,7 @@ use Rattle.press_cmd.specs.declared.variant.Kind.TheVariants as kinds
 use Rattle.press_cmd.specs.View.{token}
 use Rattle.press_cmd.specs.Grammar.{Head, IsText, scanned_in, differs}
 use Rattle.press_cmd.specs.Split.{Steps, NoHead, ClosedFrom, closing_in}
-use Rattle.press_cmd.proofs.Splits.{one_split, closing-nothing, no_head_of_nothing, nothing_closed}
+use Rattle.press_cmd.proofs.Splits.{one_split, closed-cons, closing-nothing, no_head_of_nothing, nothing_closed}
 use Rattle.press_scan.specs.declared.reading.Found.{Found}
 use Rattle.press_scan.specs.Modes.{mode_of}
 use Rattle.press_scan.specs.Stands.{IsFound, IsShort, IsRest}
@@ -19,11 +19,6 @@ use Rattle.press_scan.specs.Closings.{IsClosing}
 use Rattle.press_scan.specs.Gives.{ClosesAs, IsDone}
 use Rattle.press_scan.specs.Peeks.{scanner_state, IsNextFound, Peeks}
 use Rattle.press_cmd.proofs.LineTest.{equal_and}
-
--- a command in front of what closes the rest
-pub closed-cons : (from : Mode) (used left : List ℕ) (command : Token) (next : Mode) (commands : List Token) → Head from used left command next → ClosedFrom next left commands → ClosedFrom from (used ++ left) (command ∷ commands)
-closed-cons from used left command next commands head closed =
-    (command ∷ closed.0, closed.1, closed.2, record { steps = (used, left, next, refl, head, closed.3.steps); short = closed.3.short }, ap (λ more. command ∷ more) closed.4)
 
 -- Before a command that was found.
 pub found_passes : (mode scanned : Mode) (bytes : List ℕ) (ended : Bool) (found : Found) → scanned_in mode bytes ≡ scanned → IsFound scanned bytes found → IsNextFound mode bytes ended found

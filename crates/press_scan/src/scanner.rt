@@ -120,7 +120,11 @@ impl Scanner {
         }
     }
 
-    /// Takes the next piece of the stream. An error leaves what is held as it was.
+    /// Takes the next piece of the stream.
+    ///
+    /// # Errors
+    ///
+    /// Where memory ran out; the scanner is then as it was.
     pub fn feed(&mut self, piece: &[u8]) -> Result<(), AllocError>
         requires { self.old.ended ≡ false }
         ensures mode { self.new.mode ≡ self.old.mode }
@@ -134,8 +138,11 @@ impl Scanner {
     }
 
     /// Gives the next command, with its data lent from the buffer; none where what is held begins no whole command,
-    /// and after the end of input where nothing is held. It takes no memory in this representation: the error is
-    /// never answered.
+    /// and after the end of input where nothing is held.
+    ///
+    /// # Errors
+    ///
+    /// None is ever answered: it takes no memory in this representation.
     pub fn next(&mut self) -> Result<Option<Command<'_>>, AllocError>
         ensures ok { IsOk result }
         ensures some { IfOk result (λ answer. IfSome answer
