@@ -4,7 +4,7 @@ use Rattle.std.specs.Prelude.{codes, bytes_eq, Option, Some, None, Result, Ok, E
 use Rattle.std.specs.Option.{ForSome}
 use Rattle.std.specs.List.{list_all, position_or_len}
 use Rattle.std.specs.Int.{is_in_range}
-use Rattle.std.proofs.lemmas.Bool.{and_parts, eqb-true, ne_eqb, eqb-false, false_from_ne_true, lt-ltb, le-ltb}
+use Rattle.std.proofs.lemmas.Bool.{and_parts, not-true, eqb-true, ne_eqb, eqb-false, false_from_ne_true, lt-ltb, le-ltb}
 use Rattle.std.proofs.lemmas.List.{reverse-append, reverse-reverse, take-append-drop}
 use Rattle.std.proofs.Math.Seq.{drop-append-add, take-append_seam}
 use Rattle.std.proofs.lemmas.List.Folds.{list_all-append}
@@ -183,10 +183,6 @@ record WordRead (w d : List ℕ) (form : Form) : Type 0 where
   spelled : w ≡ word character group field end
   is_word : IsWord character group field end
 
-not_true : (b : Bool) → not b ≡ true → b ≡ false
-not_true true h = cc
-not_true false h = refl
-
 first_group : (f : List ℕ) (e b : ℕ) (rest later : List ℕ) → b ∷ rest ≡ f ++ (e ∷ []) → is_in_range 96 126 b ≡ false → (byte : ℕ) → f ≡ byte ∷ later → IsGroup byte → ⊥
 first_group [] e b rest later whole other byte h is = cc h
 first_group (x ∷ f) e b rest later whole other byte h is =
@@ -218,7 +214,7 @@ ended c g rest (e ∷ f) d w form turned spelled group none plain h =
         no_group = λ byte later. none (reverse f) e back byte later;
         one_word = one.0;
         end_class = range-true 64 94 e ranges.1;
-        no_exit = λ exit. exit_not w (not_true _ tests.0) (whole ∙ exit);
+        no_exit = λ exit. exit_not w (not-true _ tests.0) (whole ∙ exit);
       };
     }
 
@@ -278,7 +274,7 @@ control_sound : (line rest : List ℕ) (b : ℕ) (form : Form) → line ≡ code
 control_sound line rest b form spelled byte h =
     let found = passed (is_in_range 0 31 b && not (eqb b 27)) (ControlForm b) form h in
     let tests = and_parts (is_in_range 0 31 b) (not (eqb b 27)) found.0 in
-    subst (λ (f : Form). HasForm line f) found.1 ((rest, spelled, byte_sound rest b byte), (omega (arith, (range-true 0 31 b tests.0).1), eqb-false b 27 (not_true _ tests.1)))
+    subst (λ (f : Form). HasForm line f) found.1 ((rest, spelled, byte_sound rest b byte), (omega (arith, (range-true 0 31 b tests.0).1), eqb-false b 27 (not-true _ tests.1)))
 
 text_sound : (line rest : List ℕ) (b : ℕ) (form : Form) → line ≡ codes "txt " ++ rest → byte_of rest ≡ Some b → text_form b ≡ Some form → HasForm line form
 text_sound line rest b form spelled byte h =

@@ -1,4 +1,3 @@
-pub mod Answers
 pub mod FormRead
 pub mod Digits
 pub mod ParamLine

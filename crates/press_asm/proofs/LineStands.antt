@@ -6,7 +6,7 @@ use Rattle.std.specs.Prelude.{codes, Option, Some, None}
 use Rattle.std.specs.Option.{ForSome}
 use Rattle.std.specs.List.{list_all}
 use Rattle.std.specs.Int.{IsInRange}
-use Rattle.std.proofs.lemmas.Bool.{and_parts, ne_eqb}
+use Rattle.std.proofs.lemmas.Bool.{and_parts, not-true, ne_eqb}
 use Rattle.std.proofs.lemmas.Bool.Decides.{nat_tests}
 use Rattle.std.proofs.lemmas.List.Folds.{list_all-append}
 use Rattle.std.proofs.lemmas.List.Sums.{list_all-from_AllPass}
@@ -94,17 +94,13 @@ word_printable c (Some g) f e character group field end =
 
 -- ---- parameters
 
-not_true : (b : Bool) → not b ≡ true → b ≡ false
-not_true true h = cc
-not_true false h = refl
-
 -- a word that spells the universal exit is that of no parameter
 spells : (c : ℕ) (f : List ℕ) (e : ℕ) (d : List ℕ) → length d ≡ data_count c None f e → c ∷ (f ++ (e ∷ [])) ≡ codes "%-12345X" → bytes_of (Ungrouped c f e d) ≡ uel
 spells c f e d count h =
     let tail : f ++ (e ∷ []) ≡ codes "-12345X" = cc h in
     let plain = λ (b : ℕ). not (eqb b 87) in
     let all = and_parts (list_all plain f) (plain e && true) (sym (list_all-append plain f (e ∷ [])) ∙ ap (list_all plain) tail) in
-    let other = not_true (eqb e 87) (and_parts (plain e) true all.1).0 in
+    let other = not-true (eqb e 87) (and_parts (plain e) true all.1).0 in
     let none : data_count c None f e ≡ 0 = ap (λ t. cond t (count_of (whole_part (tenthousandths_of f))) 0) other in
     empty d (count ∙ none)
   where

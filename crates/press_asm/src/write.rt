@@ -100,9 +100,13 @@ fn write_text(command: &Command, out: &mut Vec<u8>) -> Result<(), AllocError>
     }
 }
 
-/// Appends the line of a command, with its line feed. An error leaves a front of it.
+/// Appends the line of a command, with its line feed.
 ///
 /// The line stands for the command, whatever command it is, and has printable characters of ASCII alone.
+///
+/// # Errors
+///
+/// Where memory ran out; a front of the line may then have been appended.
 pub fn write_line(command: &Command, out: &mut Vec<u8>) -> Result<(), AllocError>
     ensures ok { OnOk result
         (out.new.items ≡ out.old.items ++ (line_of (token command.now) ++ (10 ∷ []))) }

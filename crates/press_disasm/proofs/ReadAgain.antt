@@ -13,10 +13,10 @@ use Rattle.press_cmd.specs.Grammar.{IsGrouped, IsUngrouped, IsPjlLine, longest_l
 use Rattle.press_cmd.specs.Language.{mode_after, enters_language}
 use Rattle.press_cmd.specs.Split.{Steps, NoHead, closing_in, closing, ClosedFrom, Closed}
 use Rattle.press_cmd.proofs.Reading.{Reading, Short, Found, reading, reading_in, read_on, Start, Pair}
-use Rattle.press_cmd.proofs.Heads.{head-some, short-NoHead}
+use Rattle.press_cmd.proofs.Heads.{head-some, short-NoHead, begins-differs}
 use Rattle.press_cmd.proofs.ReadHead.{stands_reads, read_head}
 use Rattle.press_cmd.proofs.ByteTests.{is_end-above, is_earlier_end-from, is_escape_end-below, is_character-from, extends-past, is_escape-from}
-use Rattle.press_cmd.proofs.Splits.{nothing_closed}
+use Rattle.press_cmd.proofs.Splits.{closed-cons, nothing_closed}
 use Rattle.press_cmd.proofs.StreamsOf.{goes_on-escape}
 use Rattle.press_asm.specs.Text.{all_bytes}
 
@@ -364,9 +364,6 @@ open_short c g x character group is short =
 
 -- ---- a Head again
 
-mark_differs : (u v : List ℕ) → BeginsLine u → differs pjl_mark (u ++ v) ≡ false
-mark_differs u v is = ap (λ w. differs pjl_mark (w ++ v)) is.mark
-
 -- what follows a command in the stream, and what follows it written out
 record Follows (n : Mode) (v w : List ℕ) : Type 0 where
   first : (b : ℕ) (later : List ℕ) → NotOpen (scanned_in n (b ∷ later)) → v ≡ b ∷ later → (z : List ℕ) × (w ≡ b ∷ z)
@@ -447,8 +444,8 @@ exit_again false u v t n others e head after =
     begins : (t' : Token) → Stands Exit u v t' n → differs pjl_mark (bytes_of t' ++ all_bytes others) ≡ false
     begins (PjlLine line) h =
         ap (λ w. differs pjl_mark (w ++ all_bytes others)) h.0 ∙ ap (λ w. differs pjl_mark (w ++ all_bytes others)) h.1.spelled
-        ∙ ap (differs pjl_mark) (append_assoc h.1.front (10 ∷ []) (all_bytes others)) ∙ mark_differs h.1.front (10 ∷ all_bytes others) h.1.begins
-    begins (Broken bytes) h = ap (λ w. differs pjl_mark (w ++ all_bytes others)) h.0 ∙ mark_differs u (all_bytes others) h.1.0
+        ∙ ap (differs pjl_mark) (append_assoc h.1.front (10 ∷ []) (all_bytes others)) ∙ begins-differs h.1.front (10 ∷ all_bytes others) h.1.begins
+    begins (Broken bytes) h = ap (λ w. differs pjl_mark (w ++ all_bytes others)) h.0 ∙ begins-differs u (all_bytes others) h.1.0
     begins (Escape b) h = absurd h
     begins _ h = absurd h
 
@@ -552,10 +549,6 @@ closing_again (Open c g) (a ∷ x) proper short =
 
 -- ---- a stream again
 
-closed_cons : (m : Mode) (u v : List ℕ) (t : Token) (n : Mode) (others : List Token) → Head m u v t n → ClosedFrom n v others → ClosedFrom m (u ++ v) (t ∷ others)
-closed_cons m u v t n others head after =
-    (t ∷ after.0, after.1, after.2, record { steps = (u, v, n, refl, head, after.3.steps); short = after.3.short }, ap (λ c. t ∷ c) after.4)
-
 again-at : (commands : List Token) (m : Mode) (x : List ℕ) (k : Mode) (r : List ℕ) → Proper m → Steps m x commands k r → NoHead k r
     → ClosedFrom (shut m) (all_bytes (commands ++ closing k r)) (commands ++ closing k r)
 again-at [] m x k r proper s short =
@@ -564,7 +557,7 @@ again-at (t ∷ commands) m x k r proper s short =
     let others = commands ++ closing k r in
     let after : ClosedFrom s.2 s.1 others = (commands, k, r, record { steps = s.5; short = short }, refl) in
     let here = head_again m s.0 s.1 t s.2 others proper s.4 after in
-    closed_cons (shut m) (bytes_of t) (all_bytes others) t (shut s.2) others here.0 (again-at commands s.2 s.1 k r here.1 s.5 short)
+    closed-cons (shut m) (bytes_of t) (all_bytes others) t (shut s.2) others here.0 (again-at commands s.2 s.1 k r here.1 s.5 short)
 
 -- The bytes of the commands that close a stream, each by itself, are closed by these commands.
 pub read_again : (bytes : List ℕ) (commands : List Token) → Closed bytes commands → Closed (all_bytes commands) commands

@@ -1,6 +1,6 @@
 use Rattle.std.proofs.Common.{◌∙◌, ◌++◌, ap}
+use Rattle.std.proofs.lemmas.Result.{on_ok_weaker}
 use Rattle.press_asm.proofs.ParamLine.{nothing_spaced, some_spaced}
-use Rattle.press_asm.proofs.Answers.{on_ok}
 use Rattle.press_asm.proofs.write.write_spaced.Goals as goal
 
 pub returns-in-empty : goal.returns-in-empty
@@ -8,4 +8,4 @@ returns-in-empty c = nothing_spaced c.args.out.now.items c.args.payload.now c.in
 
 pub returns-in_default : goal.returns-in_default
 returns-in_default c =
-    on_ok c.write_named.result _ _ (λ written. written ∙ ap (λ d. c.args.out.now.items ++ d) (some_spaced c.args.payload.now c.in_default.len_at_least)) c.write_named.ensures
+    on_ok_weaker c.write_named.result (λ written. written ∙ ap (λ d. c.args.out.now.items ++ d) (some_spaced c.args.payload.now c.in_default.len_at_least)) c.write_named.ensures
