@@ -29,7 +29,7 @@ reply_bytes_of-append (Reply bytes ∷ outputs) others =
     ap (λ all. bytes ++ all) (reply_bytes_of-append outputs others) ∙ sym (append_assoc bytes (reply_bytes_of outputs) (reply_bytes_of others))
 
 -- two additions to what is told are one
-told-twice : {X : Type 0} (told : Option (List X)) (one other : List X) → option_map (λ all. all ++ other) (option_map (λ all. all ++ one) told) ≡ option_map (λ all. all ++ (one ++ other)) told
+pub told-twice : {X : Type 0} (told : Option (List X)) (one other : List X) → option_map (λ all. all ++ other) (option_map (λ all. all ++ one) told) ≡ option_map (λ all. all ++ (one ++ other)) told
 told-twice None one other = refl
 told-twice (Some all) one other = ap Some (append_assoc all one other)
 

@@ -111,7 +111,8 @@ impl<F: Files + Drop> SheetSink for FolderSink<F> {
     fn deliver(&mut self, _tag: u64, sheet: &Sheet) -> Result<(), SinkError>
         requires { file_faults self.old < most_faults }
         ensures delivers { Delivers (nothing_told (file_faults self.old))
-            (record { tag = _tag; sheet = sheet.now }) result (nothing_told (file_faults self.new)) }
+            (record { tag = _tag; sheet = sheet.now }) result
+            (nothing_told (file_faults self.new)) }
         ensures template { name_parts self.new ≡ name_parts self.old }
         ensures numbers { OnOk result
             (next_number self.new ≡ number_after (side_count sheet.now) (next_number self.old)) }

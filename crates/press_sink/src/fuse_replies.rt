@@ -50,12 +50,13 @@ impl<S: ReplySink + Drop> ReplySink for FuseReplies<S> {
 
     /// Passes the reply on to the other sink, or a front of it and then has the one fault.
     fn reply(&mut self, bytes: &[u8]) -> Result<(), ReplyError>
-        requires { (replies_with_own_faults (S.told (inner_replies self.old)) (own_reply_faults self.old)).faults
-            < most_faults }
+        requires { (replies_with_own_faults (S.told (inner_replies self.old))
+            (own_reply_faults self.old)).faults < most_faults }
         ensures replies { Replies
             (replies_with_own_faults (S.told (inner_replies self.old)) (own_reply_faults self.old))
             bytes.now result
-            (replies_with_own_faults (S.told (inner_replies self.new)) (own_reply_faults self.new)) }
+            (replies_with_own_faults (S.told (inner_replies self.new))
+            (own_reply_faults self.new)) }
         ensures blows { replies_left self.old ≡ Some 0 → IsErrOf result ReplyError.ReplyFault }
         ensures front { replies_left self.old ≡ Some 0 → HandsOn (S.told (inner_replies self.old))
             (take (passed_front self.old) bytes.now) (S.told (inner_replies self.new)) }

@@ -46,8 +46,10 @@ impl<S: SheetSink + Drop> SheetSink for FuseSink<S> {
 
     /// Passes the sheet on to the other sink, or has the one fault.
     fn deliver(&mut self, tag: u64, sheet: &Sheet) -> Result<(), SinkError>
-        requires { (with_own_faults (S.told (inner self.old)) (own_faults self.old)).faults < most_faults }
-        ensures delivers { Delivers (with_own_faults (S.told (inner self.old)) (own_faults self.old))
+        requires { (with_own_faults (S.told (inner self.old))
+            (own_faults self.old)).faults < most_faults }
+        ensures delivers { Delivers
+            (with_own_faults (S.told (inner self.old)) (own_faults self.old))
             (record { tag = tag; sheet = sheet.now }) result
             (with_own_faults (S.told (inner self.new)) (own_faults self.new)) }
         ensures blows { left_of self.old ≡ Some 0 → IsErrOf result SinkError.SinkFault }

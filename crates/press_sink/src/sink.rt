@@ -13,8 +13,11 @@ pub trait SheetSink {
     fn faults(&self) -> u64
         ensures { result ≡ (told self.now).faults };
 
-    /// Takes one sheet, under a tag. `SinkFault` (301): nothing was added, and the count of faults rose.
-    /// `NoMemory`: nothing changed.
+    /// Takes one sheet, under a tag.
+    ///
+    /// # Errors
+    ///
+    /// `SinkFault` (301): nothing was added, and the count of faults rose. `NoMemory`: nothing changed.
     fn deliver(&mut self, tag: u64, sheet: &Sheet) -> Result<(), SinkError>
         requires { (told self.old).faults < most_faults }
         ensures { Delivers (told self.old)
@@ -30,8 +33,11 @@ pub trait ReplySink {
     fn faults(&self) -> u64
         ensures { result ≡ (told self.now).faults };
 
-    /// Takes the bytes of one reply. `ReplyFault` (302): a front of them was added, and the count of faults rose.
-    /// `NoMemory`: nothing changed.
+    /// Takes the bytes of one reply.
+    ///
+    /// # Errors
+    ///
+    /// `ReplyFault` (302): a front of them was added, and the count of faults rose. `NoMemory`: nothing changed.
     fn reply(&mut self, bytes: &[u8]) -> Result<(), ReplyError>
         requires { (told self.old).faults < most_faults }
         ensures { Replies (told self.old) bytes.now result (told self.new) };

@@ -29,7 +29,8 @@ impl Template {
     /// The template that a text is.
     pub(crate) fn of(alloc: Global, text: &str) -> Result<Template, TemplateError>
         ensures ok { IfOk result (λ template. IsTemplate text.now (template_parts template)) }
-        ensures bad { IfErr result (λ error. error ≡ TemplateError.BadTemplate → IsNoTemplate text.now) }
+        ensures bad { IfErr result (λ error.
+            error ≡ TemplateError.BadTemplate → IsNoTemplate text.now) }
         ensures exact { IsNoTemplate text.now → IsErrOf result TemplateError.BadTemplate }
     {
         match split(text) {
@@ -40,7 +41,8 @@ impl Template {
 
     /// The name of the side with this number.
     pub(crate) fn name(&self, alloc: Global, number: u64) -> Result<String, AllocError>
-        ensures { IfOk result (λ name. string_bytes name ≡ side_name (template_parts self.now) number) }
+        ensures { IfOk result (λ name.
+            string_bytes name ≡ side_name (template_parts self.now) number) }
     {
         let front = self.front.as_str();
         let back = self.back.as_str();
