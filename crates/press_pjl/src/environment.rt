@@ -144,7 +144,8 @@ impl PjlEnv {
     /// SET: another value of a variable, until the job ends.
     fn set(&mut self, alloc: Global, line: &[u8]) -> PjlEffect
         ensures { (self.new, result) ≡ where_known
-            (assigned (name_of line.now) (assigned_value line.now) self.old.current) sets_current self.old }
+            (assigned (name_of line.now) (assigned_value line.now) self.old.current)
+            sets_current self.old }
     {
         let (name, value) = pjl::assignment_of(line);
         match assigned(name, value, self.current) {
@@ -159,7 +160,8 @@ impl PjlEnv {
     /// DEFAULT: another value of a variable from the next job on.
     fn set_default(&mut self, alloc: Global, line: &[u8]) -> PjlEffect
         ensures { (self.new, result) ≡ where_known
-            (assigned (name_of line.now) (assigned_value line.now) self.old.default) sets_default self.old }
+            (assigned (name_of line.now) (assigned_value line.now) self.old.default)
+            sets_default self.old }
     {
         let (name, value) = pjl::assignment_of(line);
         if let Some(values) = assigned(name, value, self.default) {

@@ -16,12 +16,14 @@ pub enum Status {
 }
 
 impl Status {
+    /// Whether the entry waits, to begin or to go on.
     pub fn is_waiting(self) -> bool
         ensures { result ≡ is_waiting self }
     {
         matches!(self, Status::Waiting)
     }
 
+    /// Whether the entry runs.
     pub fn is_running(self) -> bool
         ensures { result ≡ is_running self }
     {

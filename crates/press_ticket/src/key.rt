@@ -20,6 +20,10 @@ impl Key {
     ghost use Rattle.std.specs.Prelude.{◌≡◌, IfOk};
 
     /// The key of this name.
+    ///
+    /// # Errors
+    ///
+    /// Where memory ran out.
     pub fn new(alloc: Global, name: &str) -> Result<Self, AllocError>
         ensures { IfOk result (λ key. key ≡ name.now) }
     {

@@ -141,6 +141,10 @@ impl Ticket {
     }
 
     /// The pages of a set, in order: at most 999 of them, each one of the job's pages, counted from 0.
+    ///
+    /// # Errors
+    ///
+    /// Where memory ran out.
     pub fn page_order(&self, alloc: Global) -> Result<Vec<u16>, AllocError>
         ensures pages { IfOk result (λ pages. pages.items ≡ page_order self.now.run_list) }
         ensures bound { length (page_order self.now.run_list) ≤ 999 }
