@@ -16,7 +16,7 @@ use Rattle.press_engine.specs.declared.machine.Machine.{Machine}
 use Rattle.press_engine.specs.declared.state.State.{State}
 use Rattle.press_engine.specs.Effects.{effect_of}
 use Rattle.press_engine.specs.Engine.{Performs, Sends}
-use Rattle.press_engine.specs.Machine.{Run, quiet, then_run, with_state, taken, state_of, entered, left, change_each, carried_over, run_over, run_overlay, settled_state, settled, run_each, ended, carried, source_at, run_at}
+use Rattle.press_engine.specs.Machine.{Run, quiet, then_run, with_state, taken, state_of, entered, left, change_each, carried_over, run_over, run_overlay, settled_state, settled, run_each, body_ended, carried, source_at, run_at}
 use Rattle.press_engine.specs.Closing.{settle}
 use Rattle.press_engine.specs.Outcome as rows
 use Rattle.press_engine.specs.Outputs.{outputs_of}
@@ -150,31 +150,31 @@ module _ (command : Token) (old new : Machine) (is_taken : new ≡ with_state ne
   run-stays (suc levels) body end none gives = absurd (omega (arith, none))
 
   -- one whose body starts
-  pub run-starts : (levels : ℕ) (body : List Token) (end : BodyEnd) → 0 < levels → rows.Starts body end new.state ≡ effect_on (source_at levels) command old.state → ended end new.depth (run_each (run_at (levels - 1)) body (entered end new.state new)) ≡ run_at levels command old
+  pub run-starts : (levels : ℕ) (body : List Token) (end : BodyEnd) → 0 < levels → rows.Starts body end new.state ≡ effect_on (source_at levels) command old.state → body_ended end new.depth (run_each (run_at (levels - 1)) body (entered end new.state new)) ≡ run_at levels command old
   run-starts zero body end some gives = absurd (omega (arith, some))
   run-starts (suc levels) body end some gives =
       let down : suc levels - 1 ≡ levels = omega arith in
-      ap (λ n. ended end new.depth (run_each (run_at n) body (entered end new.state new))) down
-      ∙ ap (λ (machine : Machine). ended end machine.depth (run_each (run_at levels) body (entered end new.state machine))) is_taken
+      ap (λ n. body_ended end new.depth (run_each (run_at n) body (entered end new.state new))) down
+      ∙ ap (λ (machine : Machine). body_ended end machine.depth (run_each (run_at levels) body (entered end new.state machine))) is_taken
       ∙ carried-taken levels (rows.Starts body end new.state) gives
 
 -- The commands of a body, one after another.
 module _ (one : Token → Machine → Run) (end : BodyEnd) (depth : ℕ) (command : Token) (old : Machine) (tag : ℕ) (before between : Told) where
-  ended-next : (body : List Token) → Some command ≡ slice_get body 0 → then_run (one command old).outputs (ended end depth (run_each one (drop 1 body) (one command old).machine)) ≡ ended end depth (run_each one body old)
+  ended-next : (body : List Token) → Some command ≡ slice_get body 0 → then_run (one command old).outputs (body_ended end depth (run_each one (drop 1 body) (one command old).machine)) ≡ body_ended end depth (run_each one body old)
   ended-next body first =
       let is : body ≡ command ∷ drop 1 body = body-of-one body command first in
-      ap (ended end depth) (sym (run_each-next one command (drop 1 body) old) ∙ ap (λ commands. run_each one commands old) (sym is))
+      ap (body_ended end depth) (sym (run_each-next one command (drop 1 body) old) ∙ ap (λ commands. run_each one commands old) (sym is))
 
-  pub body-next : (body : List Token) (new : Machine) (result : Result (Unit {0}) EngineError) (last : Machine) (after : Told) → Some command ≡ slice_get body 0 → new ≡ (one command old).machine → TookAll tag (one command old).outputs before between → Performs (ended end depth (run_each one (drop 1 body) new)) tag result last between after → Performs (ended end depth (run_each one body old)) tag result last before after
+  pub body-next : (body : List Token) (new : Machine) (result : Result (Unit {0}) EngineError) (last : Machine) (after : Told) → Some command ≡ slice_get body 0 → new ≡ (one command old).machine → TookAll tag (one command old).outputs before between → Performs (body_ended end depth (run_each one (drop 1 body) new)) tag result last between after → Performs (body_ended end depth (run_each one body old)) tag result last before after
   body-next body new result last after first moves took performs =
-      let P : Machine → Type 0 = λ at. Performs (ended end depth (run_each one (drop 1 body) at)) tag result last between after in
+      let P : Machine → Type 0 = λ at. Performs (body_ended end depth (run_each one (drop 1 body) at)) tag result last between after in
       let there = subst P moves performs in
       Performs-of _ _ tag result last before after (ended-next body first)
       (record { left = there.left; sends = Sends-then tag _ _ result before between after took there.sends })
 
-  pub body-stopped : (body : List Token) (first_answer result : Result (Unit {0}) EngineError) (error : EngineError) (last : Machine) → Some command ≡ slice_get body 0 → Sends tag (one command old).outputs first_answer before between → first_answer ≡ Err error → result ≡ Err error → Performs (ended end depth (run_each one body old)) tag result last before between
+  pub body-stopped : (body : List Token) (first_answer result : Result (Unit {0}) EngineError) (error : EngineError) (last : Machine) → Some command ≡ slice_get body 0 → Sends tag (one command old).outputs first_answer before between → first_answer ≡ Err error → result ≡ Err error → Performs (body_ended end depth (run_each one body old)) tag result last before between
   body-stopped body first_answer result error last first sends stops exits =
-      let all = ended end depth (run_each one (drop 1 body) (one command old).machine) in
+      let all = body_ended end depth (run_each one (drop 1 body) (one command old).machine) in
       let Q : Result (Unit {0}) EngineError → Type 0 = λ answer. OnOk answer (last ≡ all.machine) in
       Performs-of (then_run (one command old).outputs all) _ tag result last before between (ended-next body first)
       (record {
@@ -186,6 +186,6 @@ run_each-left : (one : Token → Machine → Run) (body : List Token) (old : Mac
 run_each-left one [] old none = sym (run_each-none one old)
 run_each-left one (head ∷ rest) old none = absurd cc
 
-pub body-none : (one : Token → Machine → Run) (end : BodyEnd) (depth : ℕ) (body : List Token) (old last : Machine) (tag : ℕ) (told : Told) → None ≡ slice_get body 0 → last ≡ left end depth old → Performs (ended end depth (run_each one body old)) tag (Ok tt) last told told
+pub body-none : (one : Token → Machine → Run) (end : BodyEnd) (depth : ℕ) (body : List Token) (old last : Machine) (tag : ℕ) (told : Told) → None ≡ slice_get body 0 → last ≡ left end depth old → Performs (body_ended end depth (run_each one body old)) tag (Ok tt) last told told
 body-none one end depth body old last tag told none is =
-    run-quiet _ tag last told (ap quiet is ∙ ap (ended end depth) (run_each-left one body old none))
+    run-quiet _ tag last told (ap quiet is ∙ ap (body_ended end depth) (run_each-left one body old none))

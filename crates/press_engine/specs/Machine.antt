@@ -128,13 +128,13 @@ run_each one (command ∷ commands) machine =
     then_run (one command machine).outputs (run_each one commands (one command machine).machine)
 
 -- what comes at the end of a body
-abbrev pub ended : BodyEnd → (depth : ℕ) → Run → Run
-ended end depth run = record { machine = left end depth run.machine; outputs = run.outputs }
+abbrev pub body_ended : BodyEnd → (depth : ℕ) → Run → Run
+body_ended end depth run = record { machine = left end depth run.machine; outputs = run.outputs }
 
 -- What an effect leaves; bodies that start run by what is given.
 abbrev pub carried : (Token → Machine → Run) → Machine → Effect → Run
 carried one machine (Starts commands end state) =
-    ended end machine.depth (run_each one commands (entered end state machine))
+    body_ended end machine.depth (run_each one commands (entered end state machine))
 carried one machine effect = settled machine effect
 
 -- two macros may run, one in the other; where all may still start, the stream gives the commands

@@ -55,23 +55,23 @@ define_pattern bytes state =
     else Changes state
 
 -- ESC*c#Q, pattern control
-abbrev pub control_of : ℤ → Option PatternControl
-control_of =
+abbrev pub pattern_control_of : ℤ → Option PatternControl
+pattern_control_of =
     named
     ((0, controls.DeleteAll) ∷ (1, controls.DeleteTemporary) ∷ (2, controls.Delete) ∷ (4, controls.MakeTemporary) ∷ (5, controls.MakePermanent)
     ∷ [])
 
-abbrev pub controlled : PatternControl → (id : ℕ) → UserPatterns → UserPatterns
-controlled controls.DeleteAll id patterns = maps.empty
-controlled controls.DeleteTemporary id patterns = permanent_only patterns
-controlled controls.Delete id patterns = maps.remove patterns id
-controlled controls.MakeTemporary id patterns = made patterns id false
-controlled controls.MakePermanent id patterns = made patterns id true
+abbrev pub pattern_controlled : PatternControl → (id : ℕ) → UserPatterns → UserPatterns
+pattern_controlled controls.DeleteAll id patterns = maps.empty
+pattern_controlled controls.DeleteTemporary id patterns = permanent_only patterns
+pattern_controlled controls.Delete id patterns = maps.remove patterns id
+pattern_controlled controls.MakeTemporary id patterns = made patterns id false
+pattern_controlled controls.MakePermanent id patterns = made patterns id true
 
-abbrev pub control_with : Option PatternControl → State → State
-control_with None state = state
-control_with (Some control) state =
-    record state { patterns = controlled control state.drawing.pattern_id state.patterns }
+abbrev pub pattern_control_with : Option PatternControl → State → State
+pattern_control_with None state = state
+pattern_control_with (Some control) state =
+    record state { patterns = pattern_controlled control state.drawing.pattern_id state.patterns }
 
 abbrev pub control_patterns : (number : ℤ) → State → State
-control_patterns number state = control_with (control_of number) state
+control_patterns number state = pattern_control_with (pattern_control_of number) state

@@ -217,7 +217,8 @@ impl State {
         closer: Closer,
         closed: bool,
     ) -> Result<Option<FinishedSheet>, AllocError>
-        ensures ended { IfOk result (λ alone. record { state = self.new; outputs = finished_of alone }
+        ensures ended { IfOk result (λ alone.
+            record { state = self.new; outputs = finished_of alone }
             ≡ ended closed closer self.old) }
         ensures memory { IsErr result
             → (ended closed closer self.old).state.pending ≢ self.old.pending }
@@ -234,7 +235,8 @@ impl State {
 
     /// What a row leaves: where it closes the page, the close and then what the closing command does after it.
     pub fn settle(&mut self, alloc: Global, effect: Effect) -> Result<Sent, AllocError>
-        ensures settled { IfOk result (λ sent. record { state = self.new; outputs = outputs_of sent }
+        ensures settled { IfOk result (λ sent.
+            record { state = self.new; outputs = outputs_of sent }
             ≡ settle (effect_of self.old effect)) }
         ensures memory { IsErr result → TakesMemory (effect_of self.old effect) }
     {

@@ -58,7 +58,8 @@ impl Engine {
     ) -> Result<(), EngineError>
         requires { CanCount (both (S.told sheets.old) (R.told replies.old)) }
         ensures runs { Runs (live self.old) (token command.entry) tag result (live self.new)
-            (both (S.told sheets.old) (R.told replies.old)) (both (S.told sheets.new) (R.told replies.new)) }
+            (both (S.told sheets.old) (R.told replies.old))
+            (both (S.told sheets.new) (R.told replies.new)) }
         ensures failed { IsErrOf result EngineError.Failed ↔ (live self.old ≡ None) }
         ensures memory { IsErrOf result EngineError.NoMemory →
             NeedsMemory (live self.old) (token command.entry) }

@@ -57,7 +57,7 @@ impl Machine {
     ghost use Rattle.press_cmd.specs.View.{token};
     ghost use Rattle.press_engine.specs.Effects.{effect_of};
     ghost use Rattle.press_engine.specs.Engine.{Performs, TakesMemory};
-    ghost use Rattle.press_engine.specs.Machine.{power_on, with_state, taken, deeper, entered, left, change_each, run_over, overlay_entered, overlay_left, run_overlay, settled, run_each, ended, source_at, run_at};
+    ghost use Rattle.press_engine.specs.Machine.{power_on, with_state, taken, deeper, entered, left, change_each, run_over, overlay_entered, overlay_left, run_overlay, settled, run_each, body_ended, source_at, run_at};
     ghost use Rattle.press_engine.specs.Outputs.{outputs_of};
     ghost use Rattle.press_engine.specs.Table.{effect_on};
 
@@ -182,7 +182,8 @@ impl Machine {
 
     /// What an effect leaves where no body starts: before a page closes, the overlay runs.
     fn settle(&mut self, alloc: Global, effect: Effect) -> Result<Sent, AllocError>
-        ensures settled { IfOk result (λ sent. record { machine = self.new; outputs = outputs_of sent }
+        ensures settled { IfOk result (λ sent.
+            record { machine = self.new; outputs = outputs_of sent }
             ≡ settled self.old (effect_of self.old.state effect)) }
         ensures memory { IsErr result → TakesMemory (effect_of self.old.state effect) }
     {
@@ -205,8 +206,10 @@ impl Machine {
         replies: &mut R,
     ) -> Result<(), EngineError>
         requires { CanCount (both (S.told sheets.old) (R.told replies.old)) }
-        ensures performs { Performs (settled self.old (effect_of self.old.state effect)) tag result self.new
-            (both (S.told sheets.old) (R.told replies.old)) (both (S.told sheets.new) (R.told replies.new)) }
+        ensures performs { Performs
+            (settled self.old (effect_of self.old.state effect)) tag result self.new
+            (both (S.told sheets.old) (R.told replies.old))
+            (both (S.told sheets.new) (R.told replies.new)) }
         ensures memory { IsErrOf result EngineError.NoMemory
             → TakesMemory (effect_of self.old.state effect) }
     {
@@ -228,8 +231,10 @@ impl Machine {
         replies: &mut R,
     ) -> Result<(), EngineError>
         requires { CanCount (both (S.told sheets.old) (R.told replies.old)) }
-        ensures performs { Performs (run_at levels (token command.entry) self.old) tag result self.new
-            (both (S.told sheets.old) (R.told replies.old)) (both (S.told sheets.new) (R.told replies.new)) }
+        ensures performs { Performs
+            (run_at levels (token command.entry) self.old) tag result self.new
+            (both (S.told sheets.old) (R.told replies.old))
+            (both (S.told sheets.new) (R.told replies.new)) }
         ensures memory { IsErrOf result EngineError.NoMemory
             → TakesMemory (effect_on (source_at levels) (token command.entry) self.old.state) }
     {
@@ -260,9 +265,11 @@ impl Machine {
         replies: &mut R,
     ) -> Result<(), EngineError>
         requires { CanCount (both (S.told sheets.old) (R.told replies.old)) }
-        ensures { Performs (ended end self.old.depth
-            (run_each (run_at levels) body (entered end self.old.state self.old))) tag result self.new
-            (both (S.told sheets.old) (R.told replies.old)) (both (S.told sheets.new) (R.told replies.new)) }
+        ensures { Performs (body_ended end self.old.depth
+            (run_each (run_at levels) body (entered end self.old.state self.old)))
+            tag result self.new
+            (both (S.told sheets.old) (R.told replies.old))
+            (both (S.told sheets.new) (R.told replies.new)) }
     {
         let depth = self.depth;
         self.enter(&end);

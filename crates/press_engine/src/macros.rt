@@ -99,7 +99,8 @@ impl State {
 
     /// The body of the macro under the macro ID starts, if there is such a macro.
     fn run_macro(&self, end: BodyEnd) -> Result<Effect, AllocError>
-        ensures effect { IfOk result (λ effect. effect_of self.now effect ≡ run_macro end self.now) }
+        ensures effect { IfOk result (λ effect.
+            effect_of self.now effect ≡ run_macro end self.now) }
         ensures memory { IsErr result → TakesMemory (run_macro end self.now) }
     {
         match self.macros.body(self.macro_id)? {

@@ -1,5 +1,5 @@
 ghost use Rattle.std.specs.Prelude.{◌≡◌};
-ghost use Rattle.press_engine.specs.Patterns.{control_of, controlled};
+ghost use Rattle.press_engine.specs.Patterns.{pattern_control_of, pattern_controlled};
 
 use press_pattern::Patterns;
 
@@ -16,7 +16,7 @@ pub enum PatternControl {
 impl PatternControl {
     /// What `ESC * c # Q` does by its number.
     pub fn of_number(number: i64) -> Option<Self>
-        ensures { result ≡ control_of number }
+        ensures { result ≡ pattern_control_of number }
     {
         match number {
             0 => Some(PatternControl::DeleteAll),
@@ -30,7 +30,7 @@ impl PatternControl {
 
     /// Does it.
     pub fn apply(self, id: u16, patterns: &mut Patterns)
-        ensures { patterns.new ≡ controlled self id patterns.old }
+        ensures { patterns.new ≡ pattern_controlled self id patterns.old }
     {
         match self {
             PatternControl::DeleteAll => patterns.delete_all(),

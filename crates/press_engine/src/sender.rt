@@ -21,7 +21,8 @@ pub fn send<S: SheetSink, R: ReplySink>(
 ) -> Result<(), EngineError>
     requires { CanCount (both (S.told sheets.old) (R.told replies.old)) }
     ensures sends { Sends tag (outputs_of sent.now) result
-        (both (S.told sheets.old) (R.told replies.old)) (both (S.told sheets.new) (R.told replies.new)) }
+        (both (S.told sheets.old) (R.told replies.old))
+        (both (S.told sheets.new) (R.told replies.new)) }
     ensures memory { IsErrOf result EngineError.NoMemory → outputs_of sent.now ≢ [] }
 {
     match sent {
@@ -44,7 +45,8 @@ fn send_finished<S: SheetSink, R: ReplySink>(
 ) -> Result<(), EngineError>
     requires { CanCount (both (S.told sheets.old) (R.told replies.old)) }
     ensures sends { Sends tag (finished_of finished.now) result
-        (both (S.told sheets.old) (R.told replies.old)) (both (S.told sheets.new) (R.told replies.new)) }
+        (both (S.told sheets.old) (R.told replies.old))
+        (both (S.told sheets.new) (R.told replies.new)) }
     ensures memory { IsErrOf result EngineError.NoMemory → finished_of finished.now ≢ [] }
 {
     match finished {
@@ -70,7 +72,8 @@ fn send_copies<S: SheetSink, R: ReplySink>(
 ) -> Result<(), EngineError>
     requires { CanCount (both (S.told sheets.old) (R.told replies.old)) }
     ensures sends { Sends tag (finished_of (Some finished.now)) result
-        (both (S.told sheets.old) (R.told replies.old)) (both (S.told sheets.new) (R.told replies.new)) }
+        (both (S.told sheets.old) (R.told replies.old))
+        (both (S.told sheets.new) (R.told replies.new)) }
     ensures memory { IsErrOf result EngineError.NoMemory → finished_of (Some finished.now) ≢ [] }
 {
     let mut count = finished.since_job;
@@ -92,7 +95,8 @@ fn send_copy<S: SheetSink, R: ReplySink>(
 ) -> Result<(), EngineError>
     requires { CanCount (both (S.told sheets.old) (R.told replies.old)) }
     ensures { Sends tag (copy_out sheet.now count) result
-        (both (S.told sheets.old) (R.told replies.old)) (both (S.told sheets.new) (R.told replies.new)) }
+        (both (S.told sheets.old) (R.told replies.old))
+        (both (S.told sheets.new) (R.told replies.new)) }
 {
     deliver(sheet, tag, sheets, replies)?;
     match count {
@@ -111,7 +115,8 @@ fn reply_status<S: SheetSink, R: ReplySink>(
 ) -> Result<(), EngineError>
     requires { CanCount (both (S.told sheets.old) (R.told replies.old)) }
     ensures { Sends tag (Reply (page_reply since_job) ∷ []) result
-        (both (S.told sheets.old) (R.told replies.old)) (both (S.told sheets.new) (R.told replies.new)) }
+        (both (S.told sheets.old) (R.told replies.old))
+        (both (S.told sheets.new) (R.told replies.new)) }
 {
     let mut bytes = Vec::new(alloc);
     if write_reply(since_job, &mut bytes).is_err() {
@@ -129,7 +134,8 @@ fn deliver<S: SheetSink, R: ReplySink>(
 ) -> Result<(), EngineError>
     requires { CanCount (both (S.told sheets.old) (R.told replies.old)) }
     ensures { Sends tag (Deliver sheet.now ∷ []) result
-        (both (S.told sheets.old) (R.told replies.old)) (both (S.told sheets.new) (R.told replies.new)) }
+        (both (S.told sheets.old) (R.told replies.old))
+        (both (S.told sheets.new) (R.told replies.new)) }
 {
     match sheets.deliver(tag, sheet) {
         Ok(()) => Ok(()),
@@ -147,7 +153,8 @@ fn reply<S: SheetSink, R: ReplySink>(
 ) -> Result<(), EngineError>
     requires { CanCount (both (S.told sheets.old) (R.told replies.old)) }
     ensures { Sends tag (Reply bytes.now ∷ []) result
-        (both (S.told sheets.old) (R.told replies.old)) (both (S.told sheets.new) (R.told replies.new)) }
+        (both (S.told sheets.old) (R.told replies.old))
+        (both (S.told sheets.new) (R.told replies.new)) }
 {
     match replies.reply(bytes) {
         Ok(()) => Ok(()),

@@ -6,7 +6,7 @@ use Rattle.press_sink.specs.Told.{both}
 use Rattle.press_engine.specs.declared.machine.Machine.{Machine}
 use Rattle.press_engine.specs.Effects.{effect_of}
 use Rattle.press_engine.specs.Engine.{Performs, TakesMemory}
-use Rattle.press_engine.specs.Machine.{ended, run_each, run_at}
+use Rattle.press_engine.specs.Machine.{body_ended, run_each, run_at}
 use Rattle.press_engine.specs.Table.{effect_on}
 use Rattle.press_engine.proofs.SendsLemmas.{can_count-then}
 use Rattle.press_engine.proofs.MachineLemmas.{run-stopped, run-quiet, run-stays, run-starts, run-done, Performs-of, body-next, body-stopped, body-none, drop-shorter}
@@ -44,7 +44,7 @@ pub run_body-loop-command-init : goal.run_body-loop-command-init
 run_body-loop-command-init g t c = record {
   can_count = c.requires;
   rest = λ result new after performs.
-      let P : Machine → Type 0 = λ machine. Performs (ended c.args.end c.args.self.now.depth (run_each (run_at c.args.levels) c.args.body machine)) c.args.tag result new (both (g.S.SheetSink.told c.args.sheets.now) (g.R.ReplySink.told c.args.replies.now)) after in
+      let P : Machine → Type 0 = λ machine. Performs (body_ended c.args.end c.args.self.now.depth (run_each (run_at c.args.levels) c.args.body machine)) c.args.tag result new (both (g.S.SheetSink.told c.args.sheets.now) (g.R.ReplySink.told c.args.replies.now)) after in
       subst P c.enter.ensures performs;
 }
 
@@ -58,7 +58,7 @@ run_body-loop-command-preserved g t c =
     record {
       can_count = can_count-then c.args.tag (one command c.loop-command.self).outputs _ _ performed.sends c.loop-command.invariant.can_count;
       rest = λ result new after performs.
-          let P : List Token → Type 0 = λ body. Performs (ended c.args.end depth (run_each one body c.run.new.self)) c.args.tag result new (both (g.S.SheetSink.told c.run.new.sheets) (g.R.ReplySink.told c.run.new.replies)) after in
+          let P : List Token → Type 0 = λ body. Performs (body_ended c.args.end depth (run_each one body c.run.new.self)) c.args.tag result new (both (g.S.SheetSink.told c.run.new.sheets) (g.R.ReplySink.told c.run.new.replies)) after in
           c.loop-command.invariant.rest result new after (body-next one c.args.end depth command c.loop-command.self c.args.tag _ _ c.loop-command.body c.run.new.self result new after first performed.left performed.sends (subst P c.next.follows.holds-at-none performs));
     }
 
