@@ -24,7 +24,8 @@ fn carry<S: SheetSink, P: ReplySink>(
 ) -> Result<Kind, JobError>
     requires can_count { CanCount (both (S.told sheets.old) (P.told replies.old)) }
     ensures { CarriesOne (token command.entry) (live engine.old) tag result (live engine.new)
-        (both (S.told sheets.old) (P.told replies.old)) (both (S.told sheets.new) (P.told replies.new)) }
+        (both (S.told sheets.old) (P.told replies.old))
+        (both (S.told sheets.new) (P.told replies.new)) }
 {
     let kind = kind(&command);
     engine.run_command(command, tag, sheets, replies)?;
@@ -41,7 +42,8 @@ fn carry_next<S: SheetSink, P: ReplySink>(
 ) -> Result<Option<Kind>, JobError>
     requires can_count { CanCount (both (S.told sheets.old) (P.told replies.old)) }
     ensures { CarriesNext scanner.old (live engine.old) tag result scanner.new (live engine.new)
-        (both (S.told sheets.old) (P.told replies.old)) (both (S.told sheets.new) (P.told replies.new)) }
+        (both (S.told sheets.old) (P.told replies.old))
+        (both (S.told sheets.new) (P.told replies.new)) }
 {
     match scanner.next()? {
         Some(command) => Ok(Some(carry(engine, command, tag, sheets, replies)?)),
@@ -64,7 +66,8 @@ pub fn take<S: SheetSink, P: ReplySink>(
     requires can_count { CanCount (both (S.told sheets.old) (P.told replies.old)) }
     ensures takes { Takes (job_state scanner.old engine.old Running) tag result
         (job_state scanner.new engine.new phase.new)
-        (both (S.told sheets.old) (P.told replies.old)) (both (S.told sheets.new) (P.told replies.new)) }
+        (both (S.told sheets.old) (P.told replies.old))
+        (both (S.told sheets.new) (P.told replies.new)) }
     ensures fits { IsOk result → Fits scanner.new engine.new phase.new }
     ensures memory { IsErrOf result JobError.NoMemory
         → WantsMemory (job_state scanner.old engine.old Running) }

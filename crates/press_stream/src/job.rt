@@ -100,7 +100,8 @@ impl Job {
     ) -> Result<Step, JobError>
         requires { CanCount (both (S.told sheets.old) (P.told replies.old)) }
         ensures takes { Takes self.old tag result self.new
-            (both (S.told sheets.old) (P.told replies.old)) (both (S.told sheets.new) (P.told replies.new)) }
+            (both (S.told sheets.old) (P.told replies.old))
+            (both (S.told sheets.new) (P.told replies.new)) }
         ensures memory { IsErrOf result JobError.NoMemory → WantsMemory self.old }
     {
         match self.phase {
@@ -156,7 +157,8 @@ impl Job {
     ) -> Result<(), JobError>
         requires { CanCount (both (S.told sheets.old) (P.told replies.old)) }
         ensures { Feeds self.old piece.now tag result self.new
-            (both (S.told sheets.old) (P.told replies.old)) (both (S.told sheets.new) (P.told replies.new)) }
+            (both (S.told sheets.old) (P.told replies.old))
+            (both (S.told sheets.new) (P.told replies.new)) }
     {
         self.push(piece)?;
         self.drain(tag, sheets, replies)
@@ -175,9 +177,11 @@ impl Job {
     ) -> Result<(), JobError>
         requires { CanCount (both (S.told sheets.old) (P.told replies.old)) }
         ensures finishes { Finishes self.old tag result self.new
-            (both (S.told sheets.old) (P.told replies.old)) (both (S.told sheets.new) (P.told replies.new)) }
+            (both (S.told sheets.old) (P.told replies.old))
+            (both (S.told sheets.new) (P.told replies.new)) }
         ensures memory { IsErrOf result JobError.NoMemory
-            → ComesToWant (input_ended self.old) tag (both (S.told sheets.old) (P.told replies.old)) }
+            → ComesToWant (input_ended self.old) tag
+            (both (S.told sheets.old) (P.told replies.old)) }
     {
         if matches!(self.phase, Phase::Failed) {
             return Err(JobError::Failed);
@@ -204,7 +208,8 @@ impl Job {
         requires { CanCount (both (S.told sheets.old) (P.told replies.old)) }
         ensures runs { RunsReader self.old (R.remaining reader.old)
             (R.remaining reader.new) tag result self.new
-            (both (S.told sheets.old) (P.told replies.old)) (both (S.told sheets.new) (P.told replies.new)) }
+            (both (S.told sheets.old) (P.told replies.old))
+            (both (S.told sheets.new) (P.told replies.new)) }
         ensures unread { IsEarly result → reader.new ≡ reader.old }
     {
         self.check_going()?;
@@ -237,7 +242,8 @@ impl Job {
         requires running { IsSome self.old.machine }
         requires can_count { CanCount (both (S.told sheets.old) (P.told replies.old)) }
         ensures drains { Drains self.old tag result self.new
-            (both (S.told sheets.old) (P.told replies.old)) (both (S.told sheets.new) (P.told replies.new)) }
+            (both (S.told sheets.old) (P.told replies.old))
+            (both (S.told sheets.new) (P.told replies.new)) }
         ensures memory { IsErrOf result JobError.NoMemory
             → ComesToWant self.old tag (both (S.told sheets.old) (P.told replies.old)) }
     {
@@ -260,7 +266,8 @@ impl Job {
         requires can_count { CanCount (both (S.told sheets.old) (P.told replies.old)) }
         ensures runs { RunsReader self.old (R.remaining reader.old)
             (R.remaining reader.new) tag result self.new
-            (both (S.told sheets.old) (P.told replies.old)) (both (S.told sheets.new) (P.told replies.new)) }
+            (both (S.told sheets.old) (P.told replies.old))
+            (both (S.told sheets.new) (P.told replies.new)) }
         ensures bound { count.new.reads ≤ most_reads }
         ensures fault { IsErrOf result JobError.ReadFault
             → (count.new.failed ≡ true) ⊎ (count.new.reads ≡ most_reads) }
