@@ -1,12 +1,13 @@
 -- A job at its place, and its next step.
 use Rattle.std.proofs.Common.{◌≡◌, ◌∙◌, ◌+◌, ◌<◌, ◌≤◌, ◌++◌, ℕ, zero, suc, List, [], ◌∷◌, length, take, drop, Bool, true, false, Option, Some, option_map, MatchBool, Ok, refl, sym, ap, subst, arith, rules}
 use Rattle.std.proofs.lemmas.List.{append-nil}
+use Rattle.std.proofs.lemmas.Option.{same_Some}
 use Rattle.press_units.specs.Limits.{greatest_of_64_bits}
-use Rattle.press_cmd.specs.Mode.{Mode, Exit}
+use Rattle.press_cmd.specs.Mode.{Exit}
 use Rattle.press_cmd.specs.Split.{ClosedFrom, closing}
 use Rattle.press_cmd.specs.Token.{Token}
 use Rattle.press_cmd.specs.declared.variant.Kind.{Kind}
-use Rattle.press_cmd.proofs.Splits.{one_split, some_split}
+use Rattle.press_cmd.proofs.Splits.{closed_once, some_split}
 use Rattle.press_engine.specs.declared.machine.Machine.{Machine}
 use Rattle.press_engine.specs.Machine.{Run, run_all, power_on}
 use Rattle.press_engine.proofs.Runs.{run_all-none, run_all-append}
@@ -27,14 +28,9 @@ use Rattle.press_core.specs.Work.{Work}
 
 -- ---- the commands of a job are one list
 
-closed_one : (mode : Mode) (bytes : List ℕ) (all others : List Token) → ClosedFrom mode bytes all → ClosedFrom mode bytes others → all ≡ others
-closed_one mode bytes all others (cs, m, r, split, is) (ds, n, q, other, are) =
-    let one = one_split mode bytes cs ds m n r q split other in
-    is ∙ ap (λ c. c ++ closing m r) one.0 ∙ ap (λ k. ds ++ closing k r) one.1 ∙ ap (λ x. ds ++ closing n x) one.2 ∙ sym are
-
 pub IsJobOf-one : (work : Work) (commands others : List Token) → IsJobOf work commands → IsJobOf work others → commands ≡ others
 IsJobOf-one work commands others (c, closed, is) (d, other, are) =
-    is ∙ ap with_exit (closed_one Exit (job_bytes work.ticket work.images) c d closed other) ∙ sym are
+    is ∙ ap with_exit (closed_once Exit (job_bytes work.ticket work.images) c d closed other) ∙ sym are
 
 pub IsJobOf-some : (work : Work) → (commands : List Token) × IsJobOf work commands
 IsJobOf-some work =
@@ -50,7 +46,7 @@ Owes-one job bytes commands others owes other = at_exit job.exited owes.1 other.
         → MatchBool exited (others ≡ []) ((closed : List Token) × ClosedFrom job.held.mode (job.held.bytes ++ bytes) closed × (others ≡ with_exit closed))
         → commands ≡ others
     at_exit true is are = is ∙ sym are
-    at_exit false (c, closed, is) (d, other, are) = is ∙ ap with_exit (closed_one job.held.mode (job.held.bytes ++ bytes) c d closed other) ∙ sym are
+    at_exit false (c, closed, is) (d, other, are) = is ∙ ap with_exit (closed_once job.held.mode (job.held.bytes ++ bytes) c d closed other) ∙ sym are
 
 -- ---- the beginning
 
@@ -162,9 +158,6 @@ sheets_listed : (tag : ℕ) (outputs : List Output) (before after : Told) → be
     → after.sheets.delivered ≡ Some (under_tag tag (sheets_of outputs))
 sheets_listed tag outputs before after none went = went.delivered ∙ ap (λ told. option_map (λ all. all ++ under_tag tag (sheets_of outputs)) told) none
 
-same_list : {X : Type 0} (one other : List X) → Some one ≡ Some other → one ≡ other
-same_list one other is = cc
-
 pub goes_on : (commands : List Token) (number : ℕ) (kind : Kind) (old new : RunningJob) (before after : Told) (sheets : List Delivery) → IsAt commands old.steps old.job
     → RanOne old.job number kind new.job before after → new.steps ≡ old.steps + 1 → before.sheets.delivered ≡ Some [] → after.sheets.delivered ≡ Some sheets
     → JobGoesOn commands number old new sheets
@@ -173,7 +166,7 @@ goes_on commands number kind old new before after sheets at ran next none listed
     record {
       at = subst (λ n. IsAt commands n new.job) (sym next) on.at;
       next = next;
-      sheets_are = same_list sheets _ (sym listed ∙ sheets_listed number _ before after none on.went);
+      sheets_are = same_Some sheets _ (sym listed ∙ sheets_listed number _ before after none on.went);
     }
 
 -- by what the step was

@@ -167,7 +167,8 @@ aborted_none number queue new is distinct = at_found (rows.legal_entry commands.
         subst (λ q. EachRunning (λ n. nat_eq n number ≡ false) q.entries) (sym (ap (λ r. r.0) e))
         (none_runs_after number statuses.Aborted entry queue refl (legal_of commands.Abort number queue.entries (entry_numbered number queue.entries) entry refl found).there distinct)
 
-still_at_end : (end : End) → is_running (status_at_end end) ≡ false
+-- an entry that ended does not run
+pub still_at_end : (end : End) → is_running (status_at_end end) ≡ false
 still_at_end Completed = refl
 still_at_end Aborted = refl
 

@@ -4,6 +4,7 @@ use Rattle.std.specs.declared.alloc.AllocError.{AllocError}
 use Rattle.std.specs.List.{IsDistinct}
 use Rattle.std.specs.Map.{keys_of, lookup, set_value}
 use Rattle.std.specs.Option.{option_map_or}
+use Rattle.std.proofs.lemmas.Bool.{eqb-true}
 use Rattle.std.proofs.lemmas.Cmp.{nat_eq_equiv}
 use Rattle.std.proofs.lemmas.Map.{keys-set_value, lookup-set_value}
 use Rattle.std.proofs.lemmas.Map.Steps.{set_value_same}
@@ -28,16 +29,16 @@ use Rattle.press_core.specs.Inside.{Begins, EachRunning, HasPlace, IsSound, begu
 use Rattle.press_core.specs.Turns.{EntrySteps, FaultsAfter, IsJobOf, NamesEntry, StepsTo, TakesTurn, TurnAt, WereHandedOut, aborted, after_steps, completed, is_idle, place_in_job, sheets_from, steps_from, steps_of, at_turn, at_turn_with}
 use Rattle.press_core.specs.Work.{Work, at_place, with_delivered}
 use Rattle.press_core.specs.World.{World, landed_works, with_queue, with_work, work_numbered}
-use Rattle.press_core.proofs.EntryLemmas.{listed_set, none_runs, first_is_numbered, running_more, running_set, same_number}
+use Rattle.press_core.proofs.EntryLemmas.{listed_set, none_runs, first_is_numbered, running_more, running_set}
 use Rattle.press_core.proofs.JobLemmas.{IsJobOf-some}
-use Rattle.press_core.proofs.SoundLemmas.{Keeps, IsSound-kept, set_status_keeps}
+use Rattle.press_core.proofs.SoundLemmas.{Keeps, IsSound-kept, set_status_keeps, still_at_end}
 use Rattle.press_core.proofs.WorkLemmas.{IsSound-landed, IsSound-set, none_runs_after, there_set}
 
 -- ---- a value set under a number
 
 set_lookup : {X : Type 0} (n number : ℕ) (es : List (ℕ × X)) (w : X) → IsSome (lookup (nat_eq number) es)
     → lookup (nat_eq n) (set_value (nat_eq number) es w) ≡ cond (nat_eq number n) (Some w) (lookup (nat_eq n) es)
-set_lookup n number es w some = lookup-set_value nat_eq_equiv (nat_eq number) (λ x y same. ap (λ m. nat_eq m y) (same_number number x same)) n w es some
+set_lookup n number es w some = lookup-set_value nat_eq_equiv (nat_eq number) (λ x y same. ap (λ m. nat_eq m y) (eqb-true number x same)) n w es some
 
 set_twice : {X : Type 0} (number : ℕ) (es : List (ℕ × X)) (v w : X) → set_value (nat_eq number) (set_value (nat_eq number) es v) w ≡ set_value (nat_eq number) es w
 set_twice number [] v w = refl
@@ -70,7 +71,7 @@ each_cond P false xs ys p q = q
 running_begun : (P : ℕ → Type 0) (number : ℕ) (es : List (ℕ × Entry)) (e : Entry) → P number → EachRunning P es → EachRunning P (set_value (nat_eq number) es e)
 running_begun P number [] e p all = all
 running_begun P number (x ∷ es) e p all =
-    each_cond P (nat_eq number x.0) _ _ (λ same. (λ runs. subst P (same_number number x.0 same) p, all.1)) (all.0, running_begun P number es e p all.1)
+    each_cond P (nat_eq number x.0) _ _ (λ same. (λ runs. subst P (eqb-true number x.0 same) p, all.1)) (all.0, running_begun P number es e p all.1)
 
 -- The entry of this number, which waited, runs.
 pub record IsBegun (queue new : QueueState) (number : ℕ) : Type 0 where
@@ -131,7 +132,7 @@ running_has P number [] runs all = absurd (true≢false (sym runs))
 running_has P number (x ∷ es) runs all = at_head (nat_eq number x.0) refl (λ below. running_has P number es below all.1)
   where
     at_head : (b : Bool) → nat_eq number x.0 ≡ b → (option_map_or (λ entry. is_running entry.status) (lookup (nat_eq number) es) false ≡ true → P number) → P number
-    at_head true is below = subst P (sym (same_number number x.0 is)) (all.0 (grind (arith, rules, is, runs)))
+    at_head true is below = subst P (sym (eqb-true number x.0 is)) (all.0 (grind (arith, rules, is, runs)))
     at_head false is below = below (grind (arith, rules, is, runs))
 
 pub runs_placed : (number : ℕ) (queue : QueueState) (works : List (ℕ × Work)) → IsTrue (rows.entry_runs number queue) → IsSound queue works → HasPlace works number
@@ -172,10 +173,6 @@ begins_at : (world : World) (new : QueueState) (number : ℕ) → rows.running w
 begins_at world new number none is = ap (λ o. at_turn_with o world.queue) none ∙ sym is
 
 -- ---- an entry that ends as it begins
-
-still_at_end : (end : End) → is_running (status_at_end end) ≡ false
-still_at_end Completed = refl
-still_at_end Aborted = refl
 
 ended_is : (queue new : QueueState) (number : ℕ) (end : End) → (begins : IsBegun queue new number)
     → rows.finish_entry number end new ≡ rows.with_entries (with_entry number (record begins.entry { status = status_at_end end; begun = true }) queue.entries) queue

@@ -16,13 +16,13 @@ use Rattle.press_queue.specs.Status.{is_running, new_entry}
 use Rattle.press_core.specs.Inside.{EachRunning, HasPlace, IsSound}
 use Rattle.press_core.specs.Work.{Work, at_place}
 use Rattle.press_core.specs.World.{is_listed, landed_works, works_listed}
-use Rattle.press_core.proofs.EntryLemmas.{listed_set, listed_insert, listed_append, listed_less, listed_filter, same_number, running_insert, running_remove, running_filter, running_more, running_both, none_runs}
+use Rattle.press_core.proofs.EntryLemmas.{listed_set, listed_insert, listed_append, listed_less, listed_filter, running_insert, running_remove, running_filter, running_more, running_both, none_runs}
 
 -- ---- works of entries that are gone
 
 kept_work : (new : QueueState) (works : List (ℕ × Work)) (n : ℕ) → lookup (nat_eq n) (works_listed new works) ≡ cond (is_listed n new) (lookup (nat_eq n) works) None
 kept_work new works n =
-    lookup-filter-keys (nat_eq n) (λ k. is_listed k new) (is_listed n new) (λ k same. ap (λ m. is_listed m new) (sym (same_number n k same))) works
+    lookup-filter-keys (nat_eq n) (λ k. is_listed k new) (is_listed n new) (λ k same. ap (λ m. is_listed m new) (sym (eqb-true n k same))) works
 
 pub IsSound-gone : (old new : QueueState) (works : List (ℕ × Work)) → ((n : ℕ) → is_listed n new ≡ true → is_listed n old ≡ true)
     → ((P : ℕ → Type 0) → EachRunning P old.entries → EachRunning P new.entries) → IsSound old works → IsSound new (works_listed new works)

@@ -184,7 +184,8 @@ impl Work {
     ) -> Result<u64, TurnError>
         requires begun { IsSome self.old.place }
         requires can_count { (S.told sink.old).faults < most_faults }
-        ensures { TakesSteps number most self.old result self.new (S.told sink.old) (S.told sink.new) }
+        ensures { TakesSteps number most self.old result self.new
+            (S.told sink.old) (S.told sink.new) }
     {
         let mut taken = 0;
         while taken < most && !self.is_over() {
