@@ -2,6 +2,7 @@
 use Rattle.std.proofs.Common.{◌≡◌, ◌∙◌, ◌<◌, ℕ, ◌+◌, List, [], ◌∷◌, ◌++◌, length, take, get_or, Option, Some, None, option_map, Result, Ok, Err, is_err, IfSome, OnOk, false, refl, sym, ap, subst, arith, suc}
 use Rattle.std.specs.Io.KnownBytes.{Appends}
 use Rattle.std.proofs.lemmas.List.{append_assoc, append-nil, take_more, length-take}
+use Rattle.std.proofs.lemmas.Option.{same_Some}
 use Rattle.std.proofs.lemmas.Bool.{true≢false}
 use Rattle.press_cmd.specs.Split.{Closed}
 use Rattle.press_sink.specs.Sides.{Sides}
@@ -55,10 +56,6 @@ lines_from-more listed i one inside is =
     ∙ lines_from-push 1 before one.sheet.value
     ∙ ap (λ (n : ℕ). lines_from 1 before ++ sheet_lines n one.sheet.value) place
 
--- the list that was told
-same_list : {X : Type 0} (one other : List X) → Some one ≡ Some other → one ≡ other
-same_list one other e = cc
-
 -- a reader that had no fault was read to its end
 read_all : (bytes : List ℕ) (left : Option (List ℕ)) (read : List ℕ) → Reads (Some bytes) left None read → read ≡ bytes
 read_all bytes None read reads = absurd reads.lost
@@ -72,7 +69,7 @@ lists-printed (Ok job) (Some bytes) left old new tag before after deliveries rep
     let went = prints.printed.went in
     let outputs = (meaning_of (with_exit commands)).outputs in
     let sheets = sheets_of outputs in
-    let told : deliveries ≡ under_tag tag sheets = same_list deliveries (under_tag tag sheets) (sym r ∙ went.delivered ∙ ap (λ one. option_map (λ all. all ++ under_tag tag sheets) one) p) in
+    let told : deliveries ≡ under_tag tag sheets = same_Some deliveries (under_tag tag sheets) (sym r ∙ went.delivered ∙ ap (λ one. option_map (λ all. all ++ under_tag tag sheets) one) p) in
     let all_sheets : sheets_in deliveries ≡ sheets = ap sheets_in told ∙ sheets_in-tagged tag sheets in
     let P : Option (List ℕ) → Type 0 = λ one. Appends one (Some replies) (reply_bytes_of outputs) in
     let Q : Option (List ℕ) → Type 0 = λ one. Appends before.replies.replied one (reply_bytes_of outputs) in

@@ -1,7 +1,7 @@
 -- What some words ask for.
 use Rattle.std.specs.Prelude.{◌≡◌, [], ◌∷◌, Some, None, codes, refl}
 use Rattle.clap.proofs.OnLiterals.{clap_on_literals}
-use Rattle.press_main.specs.Words.{Standard, FileNamed, Listed, FilesBy, Answered, Disassembled, AssembledTo, JobTo, asked}
+use Rattle.press_main.specs.Words.{Standard, FileNamed, Listed, FilesBy, Answered, AsText, StreamTo, JobTo, asked}
 
 nothing : asked (codes "press" ∷ []) ≡ Some (record { source = Standard; made = Listed })
 nothing = refl
@@ -26,7 +26,7 @@ no_input : asked (codes "press" ∷ codes "print" ∷ []) ≡ None
 unfolding clap_on_literals
 no_input = refl
 
-assembling : asked (codes "press" ∷ codes "asm" ∷ codes "a" ∷ codes "b" ∷ []) ≡ Some (record { source = FileNamed (codes "a"); made = AssembledTo (codes "b") })
+assembling : asked (codes "press" ∷ codes "asm" ∷ codes "a" ∷ codes "b" ∷ []) ≡ Some (record { source = FileNamed (codes "a"); made = StreamTo (codes "b") })
 unfolding clap_on_literals
 assembling = refl
 
@@ -34,7 +34,7 @@ no_output : asked (codes "press" ∷ codes "asm" ∷ codes "a" ∷ []) ≡ None
 unfolding clap_on_literals
 no_output = refl
 
-disassembling : asked (codes "press" ∷ codes "disasm" ∷ codes "-" ∷ []) ≡ Some (record { source = Standard; made = Disassembled })
+disassembling : asked (codes "press" ∷ codes "disasm" ∷ codes "-" ∷ []) ≡ Some (record { source = Standard; made = AsText })
 unfolding clap_on_literals
 disassembling = refl
 

@@ -1,18 +1,33 @@
 -- Jobs of tickets, over readers, named inputs and writers.
-use Rattle.std.specs.Prelude.{◌≡◌, ℕ, List, [], ◌∷◌, Option, Ok, ⊤}
+use Rattle.std.specs.Prelude.{◌≡◌, ℕ, List, [], ◌∷◌, ◌++◌, Option, None, Some, Ok, Err, ◌⊎◌, ⊤}
 use Rattle.std.specs.Io.KnownBytes.{Consumes, Appends}
 use Rattle.press_bits.specs.Page.{Page}
-use Rattle.press_pbm.specs.File.{IsFile}
+use Rattle.press_pbm.specs.File.{IsFile, Refused}
+use Rattle.press_pbm.specs.Spelling.{AppendsFront}
 use Rattle.press_ticket.specs.Reading.{ticket_in}
 use Rattle.press_ticket.specs.Ticket.{JobTicket}
+use Rattle.press_ticket.specs.declared.fault.TicketError.{TicketError}
+use Rattle.press_ticket.specs.declared.fault.TicketError.TheVariants as ticket_fault
+use Rattle.press_writer.specs.Fitting.{refusal}
+use Rattle.press_writer.specs.Job.{job_bytes}
 use Rattle.press_writer.specs.Printing.{PrintsTheTicket}
+use Rattle.press_writer.specs.declared.fault.WriterError.{WriterError}
+use Rattle.press_writer.specs.declared.fault.WriterError.TheVariants.{WriteFault, NoMemory}
 use Rattle.press_main.specs.Assembly.{ReadWhole}
+use Rattle.press_main.specs.declared.jobs.JobFileError.{JobFileError}
+use Rattle.press_main.specs.declared.jobs.JobFileError.TheVariants as fault
 
 -- What a reader had, to its end, is this ticket.
 pub record TicketRead (had left : Option (List ℕ)) (ticket : JobTicket) : Type 0 where
   pub text : List ℕ
   pub read : ReadWhole had left text
   pub ticket_of_text : ticket_in text ≡ Ok ticket
+
+-- What a reader had, to its end, is no ticket, and this is why.
+pub record NoTicketRead (had left : Option (List ℕ)) (why : TicketError) : Type 0 where
+  pub text : List ℕ
+  pub read : ReadWhole had left text
+  pub refused : ticket_in text ≡ Err why
 
 -- What was read of a reader is a P4 file of this image.
 pub record ImageRead (had left : Option (List ℕ)) (image : Page) : Type 0 where
@@ -30,16 +45,83 @@ HaveImages [] [] = ⊤
 HaveImages (had ∷ others) (image ∷ images) = HasImage had image × HaveImages others images
 HaveImages _ _ = ⊥
 
--- What was written prints a ticket with these images.
+-- The ticket fits these images, and its job with them was written, which prints it.
 pub record WritesAJob (ticket : JobTicket) (images : List Page) (old new : Option (List ℕ)) : Type 0 where
-  pub job : List ℕ
-  pub written : Appends old new job
-  pub prints : PrintsTheTicket ticket images job
+  pub fits : refusal ticket images ≡ None
+  pub written : Appends old new (job_bytes ticket images)
+  pub prints : PrintsTheTicket ticket images (job_bytes ticket images)
 
--- What was written prints the ticket that a reader had, with the images that the inputs had in their order.
+-- The ticket fits these images, and a front of its job with them was written.
+pub record WritesAFront (ticket : JobTicket) (images : List Page) (old new : Option (List ℕ)) : Type 0 where
+  pub fits : refusal ticket images ≡ None
+  pub written : AppendsFront old new (job_bytes ticket images)
+
+-- What was written of a job that was not written whole: a front of it, where a write failed or memory ran out; else nothing, and
+-- this is why the ticket does not fit the images.
+abbrev pub WritesNoJob : JobTicket → List Page → (old new : Option (List ℕ)) → WriterError → Type 0
+WritesNoJob ticket images old new WriteFault = WritesAFront ticket images old new
+WritesNoJob ticket images old new NoMemory = WritesAFront ticket images old new
+WritesNoJob ticket images old new why = (refusal ticket images ≡ Some why) × Appends old new []
+
+-- The job of the ticket that a reader had was written, with the images that the inputs had in their order.
 pub record WritesTheTicket (had left : Option (List ℕ)) (inputs : List (Option (List ℕ))) (old new : Option (List ℕ)) : Type 0 where
   pub ticket : JobTicket
   pub images : List Page
   pub ticket_read : TicketRead had left ticket
   pub images_read : HaveImages inputs images
   pub job : WritesAJob ticket images old new
+
+-- Why a reader gave no ticket, by the fault: what it had is none; else it cannot be read, or memory ran out.
+abbrev pub TicketRefused : (had left : Option (List ℕ)) → JobFileError → Type 0
+TicketRefused had left (fault.Ticket ticket_fault.NoMemory) = ⊤
+TicketRefused had left (fault.Ticket why) = NoTicketRead had left why
+TicketRefused had left (fault.Input why) = ⊤
+TicketRefused had left other = ⊥
+
+-- Why an input gave no image, by the fault: what it had begins with no P4 file; else it cannot be opened.
+abbrev pub ImageRefused : (had : Option (List ℕ)) → JobFileError → Type 0
+ImageRefused had (fault.Image why) = (left : Option (List ℕ)) × Refused why had left
+ImageRefused had (fault.Input why) = ⊤
+ImageRefused had other = ⊥
+
+-- The first inputs had images, and the one after them gave none.
+pub record LacksAnImage (inputs : List (Option (List ℕ))) (why : JobFileError) : Type 0 where
+  pub first : List (Option (List ℕ))
+  pub had : Option (List ℕ)
+  pub others : List (Option (List ℕ))
+  pub in_order : inputs ≡ first ++ had ∷ others
+  pub images : List Page
+  pub images_read : HaveImages first images
+  pub refused : ImageRefused had why
+
+-- Why inputs gave no images: one gave none, or memory ran out.
+abbrev pub ImagesRefused : (inputs : List (Option (List ℕ))) → JobFileError → Type 0
+ImagesRefused inputs why = LacksAnImage inputs why ⊎ (why ≡ fault.NoMemory)
+
+-- The reader gave no ticket, and nothing was written.
+pub record StopsAtTheTicket (had left old new : Option (List ℕ)) (why : JobFileError) : Type 0 where
+  pub refused : TicketRefused had left why
+  pub unwritten : new ≡ old
+
+-- The reader had a ticket, the inputs gave no images, and nothing was written.
+pub record StopsAtAnImage (had left : Option (List ℕ)) (inputs : List (Option (List ℕ))) (old new : Option (List ℕ)) (why : JobFileError) : Type 0 where
+  pub ticket : JobTicket
+  pub ticket_read : TicketRead had left ticket
+  pub refused : ImagesRefused inputs why
+  pub unwritten : new ≡ old
+
+-- The reader had a ticket and the inputs had images, and its job with them was not written whole.
+pub record StopsAtTheJob (had left : Option (List ℕ)) (inputs : List (Option (List ℕ))) (old new : Option (List ℕ)) (why : JobFileError) : Type 0 where
+  pub ticket : JobTicket
+  pub images : List Page
+  pub error : WriterError
+  pub ticket_read : TicketRead had left ticket
+  pub images_read : HaveImages inputs images
+  pub told : why ≡ fault.Writer error
+  pub job : WritesNoJob ticket images old new error
+
+-- Why no job was written whole, and what was written then: the ticket is asked first, then the images in their order, and then
+-- whether they fit.
+abbrev pub StopsWriting : (had left : Option (List ℕ)) (inputs : List (Option (List ℕ))) (old new : Option (List ℕ)) → JobFileError → Type 0
+StopsWriting had left inputs old new why =
+    StopsAtTheTicket had left old new why ⊎ StopsAtAnImage had left inputs old new why ⊎ StopsAtTheJob had left inputs old new why

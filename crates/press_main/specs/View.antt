@@ -10,7 +10,7 @@ use Rattle.press_main.specs.declared.words.Output.TheVariants as outputs
 use Rattle.press_main.specs.declared.words.Request.{Request}
 use Rattle.press_main.specs.declared.words.Refusal.{Refusal}
 use Rattle.press_main.specs.declared.words.Refusal.TheVariants.{Words, NoTemplate}
-use Rattle.press_main.specs.Words.{Source, Standard, FileNamed, Made, Listed, FilesBy, Answered, Disassembled, AssembledTo, JobTo, Asked}
+use Rattle.press_main.specs.Words.{Source, Standard, FileNamed, Made, Listed, FilesBy, Answered, AsText, StreamTo, JobTo, Asked}
 
 -- an input by the text of its name
 abbrev pub source_seen : Input → Source
@@ -22,8 +22,8 @@ abbrev pub made_seen : Output → Made
 made_seen outputs.Listing = Listed
 made_seen (outputs.Files template) = FilesBy template.now
 made_seen outputs.Session = Answered
-made_seen outputs.Text = Disassembled
-made_seen (outputs.Assembled name) = AssembledTo name.now
+made_seen outputs.Text = AsText
+made_seen (outputs.Assembled name) = StreamTo name.now
 made_seen (outputs.Job name images) = JobTo name.now (map (λ image. image.now) images.items)
 
 -- a request by its texts

@@ -17,8 +17,8 @@ pub data Made : Type 0 where
   Listed : Made
   FilesBy : Text → Made
   Answered : Made
-  Disassembled : Made
-  AssembledTo : Text → Made
+  AsText : Made
+  StreamTo : Text → Made
   JobTo : (name : Text) (images : List Text) → Made
 
 -- What the program is asked to do.
@@ -86,8 +86,8 @@ made_of rows = if is_set (codes "list") rows then Some Listed else option_map Fi
 -- what the values of the words of a subcommand ask to be made
 abbrev pub made_by : Text → List Row → Option Made
 made_by subcommand rows =
-    if bytes_eq subcommand (codes "asm") then option_map AssembledTo (first_of (codes "out") rows)
-    else if bytes_eq subcommand (codes "disasm") then Some Disassembled
+    if bytes_eq subcommand (codes "asm") then option_map StreamTo (first_of (codes "out") rows)
+    else if bytes_eq subcommand (codes "disasm") then Some AsText
     else made_of rows
 
 -- the images that `write` names, in the order of the words

@@ -7,12 +7,16 @@ ghost use Rattle.press_main.specs.Assembly.{ReadWhole, Assembled, AssembledTo, D
 use crate::inputs::{InputError, read_all};
 use press_asm::{AssembleError, assemble};
 use press_disasm::disassemble;
+use press_pbm::WRITE_FAULT;
 use press_units::NO_MEMORY;
 use std::alloc::{AllocError, Global};
 use std::fmt::Display;
 use std::io::{self, Read, Write};
 use std::str;
 use thiserror::Error;
+
+/// What is told where an answer or a listing cannot be written.
+pub const NO_OUTPUT: &str = "fault output";
 
 /// Why an input was not assembled or disassembled.
 #[derive(Debug, Drop, Error)]
@@ -24,7 +28,7 @@ pub enum TextError {
     #[error("{0}")]
     Refused(AssembleError),
     /// The output cannot be made or written.
-    #[error("fault 115")]
+    #[error("{text}", text = WRITE_FAULT)]
     WriteFault,
     #[error("{text}", text = NO_MEMORY)]
     NoMemory,
@@ -77,8 +81,8 @@ pub fn assembled<R: Read>(alloc: Global, reader: &mut R) -> Result<Vec<u8>, Text
     }
 }
 
-/// Writes bytes whole.
-pub fn write_whole<W: Write>(out: &mut W, bytes: &[u8]) -> io::Result<()>
+/// Writes bytes whole, and flushes.
+pub fn write_flushed<W: Write>(out: &mut W, bytes: &[u8]) -> io::Result<()>
     ensures { OnOk result (Appends (W.contents out.old) (W.contents out.new) bytes.now) }
 {
     out.write_all(bytes)?;
@@ -98,7 +102,7 @@ pub fn asm_text<R: Read, W: Write, E: Write>(
         (W.contents out.old) (W.contents out.new) }
 {
     match assembled(alloc, reader) {
-        Ok(bytes) => match write_whole(out, &bytes) {
+        Ok(bytes) => match write_flushed(out, &bytes) {
             Ok(()) => 0,
             Err(_) => told(&TextError::WriteFault, err),
         },
@@ -119,10 +123,10 @@ pub fn disasm_bytes<R: Read, W: Write, E: Write>(
         (R.remaining reader.new) (W.contents out.old) (W.contents out.new) }
 {
     match disassembled(alloc, reader) {
-        Ok(text) => match write_whole(out, text.as_bytes()) {
+        Ok(text) => match write_flushed(out, text.as_bytes()) {
             Ok(()) => 0,
             Err(_) => {
-                let _ = writeln!(err, "fault output");
+                let _ = writeln!(err, "{NO_OUTPUT}");
                 1
             }
         },

@@ -76,7 +76,8 @@ impl SheetSink for EntrySheets {
     ghost use Rattle.std.specs.Prelude.{Some};
     ghost use Rattle.press_main.specs.EntrySheets.{kept, entry_deliveries_of};
 
-    ghost told = { λ sink. record { delivered = Some (entry_deliveries_of (kept sink)); faults = 0 } };
+    ghost told = { λ sink.
+        record { delivered = Some (entry_deliveries_of (kept sink)); faults = 0 } };
 
     fn faults(&self) -> u64 {
         0

@@ -1,18 +1,13 @@
 //! Inputs that are read whole.
-ghost use Rattle.std.specs.Prelude.{IfOk};
+ghost use Rattle.std.specs.Prelude.{◌≡◌, ◌≤◌, ◌⊎◌, true, IfOk, IsErrOf};
+ghost use Rattle.press_stream.specs.Pieces.{most_reads};
 ghost use Rattle.press_main.specs.Assembly.{ReadWhole};
 
-use press_stream::READ_FAULT;
+use press_stream::{MOST_READS, PIECE, Piece, READ_FAULT, ReadCount, read_piece};
 use press_units::NO_MEMORY;
 use std::alloc::{AllocError, Global};
-use std::io::{ErrorKind, Read};
+use std::io::Read;
 use thiserror::Error;
-
-/// The most reads of one input.
-pub const MOST_READS: u32 = u32::MAX;
-
-/// How many bytes are read at once.
-pub const PIECE: usize = 16_384;
 
 /// Why an input was not read to its end.
 #[derive(Debug, Drop, Error)]
@@ -25,6 +20,11 @@ pub enum InputError {
 }
 
 impl From<AllocError> for InputError {
+    ghost use Rattle.std.specs.Prelude.{◌≡◌};
+    ghost use Rattle.press_main.specs.declared.inputs.InputError.TheVariants.{NoMemory};
+
+    ghost from_gives = { λ _ error. error ≡ NoMemory };
+
     fn from(_error: AllocError) -> InputError {
         InputError::NoMemory
     }
@@ -39,17 +39,34 @@ pub fn read_all<R: Read>(alloc: Global, reader: &mut R) -> Result<Vec<u8>, Input
     ensures { IfOk result (λ all.
         ReadWhole (R.remaining reader.old) (R.remaining reader.new) all.items) }
 {
+    let mut count = ReadCount {
+        reads: 0,
+        failed: false,
+    };
+    read_counted(alloc, reader, &mut count)
+}
+
+/// The same, with a count of the reads.
+fn read_counted<R: Read>(
+    alloc: Global,
+    reader: &mut R,
+    count: &mut ReadCount,
+) -> Result<Vec<u8>, InputError>
+    requires { count.old.reads ≡ 0 }
+    ensures all { IfOk result (λ all.
+        ReadWhole (R.remaining reader.old) (R.remaining reader.new) all.items) }
+    ensures bound { count.new.reads ≤ most_reads }
+    ensures fault { IsErrOf result InputError.ReadFault
+        → (count.new.failed ≡ true) ⊎ (count.new.reads ≡ most_reads) }
+{
     let mut piece = [0; PIECE];
     let mut all = Vec::new(alloc);
-    for _ in 0..MOST_READS {
-        match reader.read(&mut piece) {
-            Ok(0) => return Ok(all),
-            Ok(count) => all.extend_from_slice(&piece[..count])?,
-            Err(error) => {
-                if error.kind() != ErrorKind::Interrupted {
-                    return Err(InputError::ReadFault);
-                }
-            }
+    while count.reads < MOST_READS {
+        match read_piece(reader, &mut piece, count) {
+            Piece::Bytes(0) => return Ok(all),
+            Piece::Bytes(length) => all.extend_from_slice(&piece[..length])?,
+            Piece::Interrupted => {}
+            Piece::Failed => return Err(InputError::ReadFault),
         }
     }
     Err(InputError::ReadFault)

@@ -108,6 +108,39 @@ fn file_named(alloc: Global, name: &str) -> Option<Vec<u8>> {
     Some(file)
 }
 
+/// Inputs that all have the same bytes, and tell them.
+#[derive(Drop)]
+struct SameBytes<'a> {
+    bytes: &'a [u8],
+}
+
+impl<'a> NamedInputs for SameBytes<'a> {
+    ghost use Rattle.std.specs.Prelude.{Some};
+
+    ghost bytes = { λ inputs _. Some inputs.bytes.now };
+
+    type Input = &'a [u8];
+
+    fn open(&self, _name: &str) -> Result<&'a [u8], InputError> {
+        Ok(self.bytes)
+    }
+}
+
+#[test]
+fn images_of_known_bytes_are_printed(rt: HostRuntime) -> Result<(), Fail> {
+    let text = format!(in rt.alloc(); "{{{ONE}}}")?;
+    let mut ticket = text.as_bytes();
+    let inputs = SameBytes {
+        bytes: b"P4 1 1\n\x80",
+    };
+    let names = words_of(rt.alloc(), "one two")?;
+    let mut out = Vec::new(rt.alloc());
+    let mut err = Vec::new(rt.alloc());
+    let status = write_files(rt.alloc(), &mut ticket, &inputs, &names, &mut out, &mut err);
+    assert_eq!(rt; (status, out.as_slice()), (0, ONE_DOT));
+    Ok(())
+}
+
 /// The words of a text.
 fn words_of(alloc: Global, text: &str) -> Result<Vec<&[u8]>, Fail> {
     Ok(

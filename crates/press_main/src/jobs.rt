@@ -1,8 +1,18 @@
 //! Jobs of tickets, over readers, named inputs and writers.
-ghost use Rattle.std.specs.Prelude.{◌≡◌, ◌≤◌, map, IfOk, OnOk};
-ghost use Rattle.std.specs.Io.KnownBytes.{Appends};
-ghost use Rattle.press_writer.specs.Printing.{PrintsTheTicket};
-ghost use Rattle.press_main.specs.Jobs.{TicketRead, ImageRead, HaveImages, WritesTheTicket, WritesAJob};
+ghost use Rattle.std.specs.Prelude.{◌≡◌, ◌≢◌, ◌≤◌, map, IfOk, IfErr, OnOk};
+ghost use Rattle.press_main.specs.Jobs.{
+  TicketRead,
+  HasImage,
+  HaveImages,
+  WritesTheTicket,
+  WritesAJob,
+  WritesNoJob,
+  TicketRefused,
+  ImageRefused,
+  ImagesRefused,
+  StopsWriting,
+};
+ghost use Rattle.press_main.specs.declared.jobs.JobFileError.{JobFileError};
 
 use crate::assembly::told;
 use crate::inputs::{InputError, read_all};
@@ -12,7 +22,7 @@ use press_pbm::{ReadPbmError, read_pbm};
 use press_ticket::{Ticket, TicketError, read_ticket};
 use press_units::NO_MEMORY;
 use press_writer::{WriterError, write_job};
-use std::alloc::{AllocError, Global};
+use std::alloc::Global;
 use std::io::{Read, Write};
 use thiserror::Error;
 
@@ -21,18 +31,29 @@ use thiserror::Error;
 pub enum JobFileError {
     /// The ticket or an image cannot be opened, or the ticket cannot be read.
     #[error("{0}")]
-    Input(#[from] InputError),
+    Input(InputError),
     /// The ticket is refused.
     #[error("{0}")]
-    Ticket(#[from] TicketError),
+    Ticket(TicketError),
     /// An image is refused, or cannot be read.
     #[error("{0}")]
-    Image(#[from] ReadPbmError),
+    Image(ReadPbmError),
     /// The ticket is not printed with the images, or the job cannot be made or written.
     #[error("{0}")]
-    Writer(#[from] WriterError),
+    Writer(WriterError),
     #[error("{text}", text = NO_MEMORY)]
-    NoMemory(#[from(alloc)] AllocError),
+    NoMemory,
+}
+
+impl From<InputError> for JobFileError {
+    ghost use Rattle.std.specs.Prelude.{◌≡◌};
+    ghost use Rattle.press_main.specs.declared.jobs.JobFileError.TheVariants.{Input};
+
+    ghost from_gives = { λ fault error. error ≡ Input fault };
+
+    fn from(fault: InputError) -> JobFileError {
+        JobFileError::Input(fault)
+    }
 }
 
 /// The ticket that a reader has, to its end.
@@ -41,23 +62,26 @@ pub enum JobFileError {
 ///
 /// 304 where it cannot be read; 601 to 605 where it has no ticket.
 pub fn ticket_in<R: Read>(alloc: Global, reader: &mut R) -> Result<Ticket, JobFileError>
-    ensures { IfOk result (λ ticket.
+    ensures ticket { IfOk result (λ ticket.
         TicketRead (R.remaining reader.old) (R.remaining reader.new) ticket) }
+    ensures refused { IfErr result (λ why.
+        TicketRefused (R.remaining reader.old) (R.remaining reader.new) why) }
 {
     let text = read_all(alloc, reader)?;
-    Ok(read_ticket(alloc, &text)?)
+    read_ticket(alloc, &text).map_err(JobFileError::Ticket)
 }
 
-/// The image that a reader has. What stands behind its P4 file is left unread.
-///
-/// # Errors
-///
-/// 111 to 113 where it has no image; 114 where it cannot be read.
-pub fn image_in<R: Read>(alloc: Global, reader: &mut R) -> Result<Bitmap, JobFileError>
-    ensures { IfOk result (λ image.
-        ImageRead (R.remaining reader.old) (R.remaining reader.new) image) }
+/// The image that the input of this name has. What stands behind its P4 file is left unread.
+fn image_named<I: NamedInputs>(
+    alloc: Global,
+    inputs: &I,
+    name: &[u8],
+) -> Result<Bitmap, JobFileError>
+    ensures image { IfOk result (λ image. HasImage (I.bytes inputs.now name.now) image) }
+    ensures refused { IfErr result (λ why. ImageRefused (I.bytes inputs.now name.now) why) }
 {
-    Ok(read_pbm(alloc, reader)?)
+    let mut input = open_named(inputs, name)?;
+    read_pbm(alloc, &mut input).map_err(JobFileError::Image)
 }
 
 /// The images of the inputs of these names, each of which is opened when the one before it is read.
@@ -70,13 +94,15 @@ pub fn images_named<I: NamedInputs>(
     inputs: &I,
     names: &[&[u8]],
 ) -> Result<Vec<Bitmap>, JobFileError>
-    ensures { IfOk result (λ images.
+    ensures images { IfOk result (λ images.
         HaveImages (map (λ name. I.bytes inputs.now name.now) names.now) images.items) }
+    ensures refused { IfErr result (λ why.
+        ImagesRefused (map (λ name. I.bytes inputs.now name.now) names.now) why) }
 {
     let mut images = Vec::new(alloc);
     for name in names {
-        let mut input = open_named(inputs, name)?;
-        images.push(image_in(alloc, &mut input)?)?;
+        let image = image_named(alloc, inputs, name)?;
+        images.push(image).map_err(|_| JobFileError::NoMemory)?;
     }
     Ok(images)
 }
@@ -88,8 +114,10 @@ fn write_to<W: Write>(
     images: &[Bitmap],
     out: &mut W,
 ) -> Result<(), WriterError>
-    ensures { OnOk result
+    ensures ok { OnOk result
         (WritesAJob ticket.now images.now (W.contents out.old) (W.contents out.new)) }
+    ensures err { IfErr result (λ why.
+        WritesNoJob ticket.now images.now (W.contents out.old) (W.contents out.new) why) }
 {
     write_job(alloc, ticket, images, out)?;
     out.flush().map_err(|_| WriterError::WriteFault)
@@ -103,19 +131,22 @@ fn write_from<T: Read, I: NamedInputs, W: Write>(
     names: &[&[u8]],
     out: &mut W,
 ) -> Result<(), JobFileError>
-    ensures { OnOk result (WritesTheTicket (T.remaining ticket.old) (T.remaining ticket.new)
+    ensures ok { OnOk result (WritesTheTicket (T.remaining ticket.old) (T.remaining ticket.new)
         (map (λ name. I.bytes inputs.now name.now) names.now)
         (W.contents out.old) (W.contents out.new)) }
+    ensures err { IfErr result (λ why.
+        StopsWriting (T.remaining ticket.old) (T.remaining ticket.new)
+        (map (λ name. I.bytes inputs.now name.now) names.now)
+        (W.contents out.old) (W.contents out.new) why) }
 {
     let ticket = ticket_in(alloc, ticket)?;
     let images = images_named(alloc, inputs, names)?;
-    write_to(alloc, &ticket, &images, out)?;
-    Ok(())
+    write_to(alloc, &ticket, &images, out).map_err(JobFileError::Writer)
 }
 
 /// Writes the job of the ticket that a reader has, with the images of the inputs of these names in the order of its pages, to
-/// `out`, and a fault to `err`. Nothing is written to `out` before the images fit. The answer is the status: 0, or 1 after a
-/// fault.
+/// `out`, and a fault to `err`. Nothing is written to `out` before the images are found to fit. The answer is the status: 0, or
+/// 1 after a fault.
 pub fn write_files<T: Read, I: NamedInputs, W: Write, E: Write>(
     alloc: Global,
     ticket: &mut T,
@@ -129,6 +160,10 @@ pub fn write_files<T: Read, I: NamedInputs, W: Write, E: Write>(
         WritesTheTicket (T.remaining ticket.old) (T.remaining ticket.new)
         (map (λ name. I.bytes inputs.now name.now) names.now)
         (W.contents out.old) (W.contents out.new) }
+    ensures refused { result ≢ 0 → (why : JobFileError) ×
+        StopsWriting (T.remaining ticket.old) (T.remaining ticket.new)
+        (map (λ name. I.bytes inputs.now name.now) names.now)
+        (W.contents out.old) (W.contents out.new) why }
 {
     match write_from(alloc, ticket, inputs, names, out) {
         Ok(()) => 0,

@@ -6,6 +6,7 @@ ghost use Rattle.press_main.specs.EntryListing.{entry_mark, entry_measured_line,
 ghost use Rattle.press_main.specs.EntrySheets.{kept, entry_deliveries_of};
 ghost use Rattle.press_sink.specs.Sending.{sheets_in};
 
+use crate::assembly::NO_OUTPUT;
 use crate::entry_sheets::{EntrySheet, EntrySheets};
 use crate::listing_sink::{ListedSheet, ListingSink};
 use crate::measures::Measures;
@@ -34,7 +35,7 @@ pub fn print_list<R: Read, W: Write, E: Write>(
     let listed = list(out, sheets.sheets(), replies.bytes());
     let status = told_status(&printed, err);
     if listed.is_err() {
-        let _ = writeln!(err, "fault output");
+        let _ = writeln!(err, "{NO_OUTPUT}");
         return 1;
     }
     status

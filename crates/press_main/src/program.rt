@@ -1,3 +1,7 @@
+//! What the words ask for, done.
+ghost use Rattle.std.specs.Prelude.{◌≡◌};
+ghost use Rattle.press_main.specs.View.{status_of};
+
 use crate::assembly::{asm_text, disasm_bytes, told};
 use crate::files::print_files;
 use crate::inputs::InputError;
@@ -37,7 +41,9 @@ pub fn run_words<F: Files, S: Read, W: Write + Drop, E: Write>(
 }
 
 /// Tells why the words ask for nothing: help on `out`, all else on `err`. The answer is the status.
-fn refuse<W: Write, E: Write>(refusal: &Refusal, out: &mut W, err: &mut E) -> u8 {
+fn refuse<W: Write, E: Write>(refusal: &Refusal, out: &mut W, err: &mut E) -> u8
+    ensures { result ≡ status_of refusal.now }
+{
     let status = refusal.status();
     if status == 0 {
         let _ = write!(out, "{refusal}");

@@ -3,14 +3,15 @@ ghost use Rattle.std.specs.Prelude.{◌≡◌, ◌≤◌, ◌++◌, ◌∷◌, [
 ghost use Rattle.std.specs.Io.KnownBytes.{Appends};
 ghost use Rattle.press_main.specs.Sessions.{turn_text, PlaysOn, PlaysToItsEnd, Plays, delivered_by};
 
-use crate::assembly::told;
+use crate::assembly::{NO_OUTPUT, told};
 use crate::entry_sheets::EntrySheets;
 use crate::event_lines::{LineEvent, event_of, words_of};
-use crate::inputs::{InputError, MOST_READS, PIECE, read_all};
+use crate::inputs::{InputError, read_all};
 use crate::jobs::{JobFileError, images_named};
 use crate::listing::list_delivered;
 use crate::named_inputs::{NamedInputs, open_named};
 use press_core::{OperatorCommand, Press, Turn, TurnError};
+use press_stream::{MOST_READS, PIECE};
 use press_units::NO_MEMORY;
 use std::alloc::{AllocError, Global};
 use std::io::{self, ErrorKind, Read, Write};
@@ -29,7 +30,7 @@ pub enum SessionError {
     #[error("{0}")]
     Turn(#[from] TurnError),
     /// An answer or the listing cannot be written.
-    #[error("fault output")]
+    #[error("{text}", text = NO_OUTPUT)]
     Output(io::Error),
     #[error("{text}", text = NO_MEMORY)]
     NoMemory(#[from(alloc)] AllocError),
@@ -260,7 +261,8 @@ impl Session {
 
 /// Writes a line.
 fn write_line<W: Write>(out: &mut W, text: &[u8]) -> io::Result<()>
-    ensures { OnOk result (Appends (W.contents out.old) (W.contents out.new) (text.now ++ 10 ∷ [])) }
+    ensures { OnOk result
+        (Appends (W.contents out.old) (W.contents out.new) (text.now ++ 10 ∷ [])) }
 {
     out.write_all(text)?;
     out.write_all(&[LINE_END])

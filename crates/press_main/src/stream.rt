@@ -25,7 +25,8 @@ pub fn print_stream<R: Read, S: SheetSink, P: ReplySink>(
     requires { CanCount (both (S.told sheets.old) (P.told replies.old)) }
     ensures { Printed (R.remaining reader.old) (R.remaining reader.new) tag (fault_of result)
         (machine_of result)
-        (both (S.told sheets.old) (P.told replies.old)) (both (S.told sheets.new) (P.told replies.new)) }
+        (both (S.told sheets.old) (P.told replies.old))
+        (both (S.told sheets.new) (P.told replies.new)) }
 {
     let mut job = Job::open(alloc)?;
     job.run(reader, tag, sheets, replies)?;

@@ -261,7 +261,8 @@ fn command<'a>(alloc: Global) -> Result<Command<'a>, AllocError>
 /// The matches of words, the program's name among them.
 fn parse<'a>(alloc: Global, words: &'a [&'a str]) -> Result<ArgMatches<'a>, Error>
     ensures rows { IfOk result (λ matches.
-        subcommand_rows_of matches ≡ subcommand_of press_app (map (λ word. word.now) words.entry.now)) }
+        subcommand_rows_of matches
+        ≡ subcommand_of press_app (map (λ word. word.now) words.entry.now)) }
     ensures fault { FailsBy (fault_of press_app (map (λ word. word.now) words.entry.now)) result }
 {
     command(alloc)?.try_get_matches_from(words)

@@ -133,25 +133,25 @@ fn images_have_room_on_the_logical_page(rt: HostRuntime) -> Result<(), Fail> {
     Ok(())
 }
 
-/// Members of a ticket, and the black dots of each side that it prints with the three images, in order; a sheet without back
-/// has none there.
+/// Members of a ticket, and the black dots of each side that it prints with three images of 1, 16 and 3 black dots, in order; a
+/// sheet without back has none there.
 const PRINTED: [(&str, &[(u32, Option<u32>)]); 6] = [
-    (ON_A4, &[(1, None), (16, None), (0, None)]),
+    (ON_A4, &[(1, None), (16, None), (3, None)]),
     (
         r#""Amount":2,"Collate":true,"Sides":"TwoSidedHeadToHead""#,
-        &[(1, Some(16)), (0, None), (1, Some(16)), (0, None)],
+        &[(1, Some(16)), (3, None), (1, Some(16)), (3, None)],
     ),
     (
         r#""Amount":2,"Collate":false,"Sides":"TwoSidedHeadToHead""#,
-        &[(1, Some(16)), (1, Some(16)), (0, None), (0, None)],
+        &[(1, Some(16)), (1, Some(16)), (3, None), (3, None)],
     ),
     (
         r#""Amount":2,"RunList":[[-1,-1]],"Sides":"TwoSidedHeadToHead""#,
-        &[(0, None), (0, None)],
+        &[(3, None), (3, None)],
     ),
     (
         r#""Amount":1,"RunList":[[-1,0],[1,1]],"Sides":"TwoSidedHeadToFoot""#,
-        &[(0, Some(16)), (1, Some(16))],
+        &[(3, Some(16)), (1, Some(16))],
     ),
     (
         r#""Amount":2,"Collate":false,"Media":"A3""#,
@@ -160,8 +160,8 @@ const PRINTED: [(&str, &[(u32, Option<u32>)]); 6] = [
             (1, None),
             (16, None),
             (16, None),
-            (0, None),
-            (0, None),
+            (3, None),
+            (3, None),
         ],
     ),
 ];
@@ -189,7 +189,9 @@ fn job_of(alloc: Global, members: &str, images: &[Bitmap]) -> Result<Vec<u8>, Fa
 
 #[test]
 fn sets_are_printed_in_order(rt: HostRuntime) -> Result<(), Fail> {
-    let images = images(rt.alloc())?;
+    let mut images = images(rt.alloc())?;
+    images[2] = Bitmap::blank(rt.alloc(), 3, 1)?;
+    black_line(&mut images[2], 0)?;
     for (members, wanted) in &PRINTED {
         let job = job_of(rt.alloc(), members, &images)?;
         let sheets = printed(rt.alloc(), &job)?;
