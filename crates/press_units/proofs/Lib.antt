@@ -1,3 +1,4 @@
+pub mod EntryLemmas
 pub mod FieldLemmas
 pub mod FieldTest
 pub mod DecimalLemmas

@@ -1,6 +1,6 @@
 use Rattle.std.proofs.Common.{ap, ◌∙◌}
 use Rattle.press_macros.specs.Macros.{without}
-use Rattle.press_macros.proofs.StoreLemmas.{removed}
+use Rattle.press_units.proofs.EntryLemmas.{removed}
 use Rattle.press_macros.proofs.macro_store.MacroStore.delete.Goals as goal
 
 pub returns : goal.returns

@@ -1,6 +1,6 @@
 use Rattle.std.proofs.Common.{ap, ◌∙◌, false}
 use Rattle.std.specs.FinMap as maps
-use Rattle.press_pattern.proofs.StoreLemmas.{inserted}
+use Rattle.press_units.proofs.EntryLemmas.{inserted}
 use Rattle.press_pattern.proofs.patterns.Patterns.define.Goals as goal
 
 pub returns-in-Ok-clause-defined : goal.returns-in-Ok-clause-defined

@@ -1,6 +1,6 @@
 use Rattle.std.proofs.Common.{ap, ◌∙◌}
 use Rattle.std.specs.FinMap as maps
-use Rattle.press_pattern.proofs.StoreLemmas.{removed}
+use Rattle.press_units.proofs.EntryLemmas.{removed}
 use Rattle.press_pattern.proofs.patterns.Patterns.delete.Goals as goal
 
 pub returns : goal.returns
