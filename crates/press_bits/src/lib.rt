@@ -7,6 +7,6 @@ mod dot_row;
 mod mode;
 mod painting;
 
-pub use bitmap::{Bitmap, BlankError, MAX_SIDE, WIDEST_ROW};
+pub use bitmap::{Bitmap, BlankError, MAX_SIDE, WIDEST_ROW, white_bytes};
 pub use dot_row::DotRow;
 pub use mode::Mode;

@@ -1,15 +1,9 @@
-ghost use Rattle.std.specs.Prelude.{◌≡◌, IfOk, length, replicate};
+ghost use Rattle.std.specs.Prelude.{◌≡◌, IfOk, length};
 ghost use Rattle.press_rows.specs.Row.{raster_row};
 
+use press_bits::white_bytes;
 use press_rows::{Method, decode};
 use std::alloc::{AllocError, Global};
-
-/// Bytes without a black dot.
-pub(crate) fn white_bytes(alloc: Global, count: usize) -> Result<Vec<u8>, AllocError>
-    ensures { IfOk result (λ v. v.items ≡ replicate count 0) }
-{
-    vec![in alloc; 0u8; count]
-}
 
 /// The row of so many bytes that the data of a transfer stands for, after a seed row of any width.
 pub(crate) fn decoded(

@@ -9,9 +9,8 @@ ghost use Rattle.press_raster.specs.Along.{is_backward, dots_along};
 ghost use Rattle.press_raster.specs.Mark.{strip_mark, raster_mark};
 
 use crate::along::{frame, is_backward, paint_along};
-use crate::decoding::white_bytes;
 use crate::reading::Reading;
-use press_bits::{Bitmap, DotRow};
+use press_bits::{Bitmap, DotRow, white_bytes};
 use press_page::{Dot, Orientation};
 use press_pattern::{Ink, Tile};
 use std::alloc::{AllocError, Global};
