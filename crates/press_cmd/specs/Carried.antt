@@ -1,4 +1,5 @@
 -- The data that follows a parameter.
+use Prim.Native.Char.{code}
 use Rattle.std.specs.Prelude.{ℕ, ℤ, pos, negsuc, Bool, ◌==◌, ◌&&◌, ◌||◌, if◌then◌else◌, List, Option, Some, None}
 use Rattle.press_units.specs.Value.{greatest, tenthousandths_of, whole_part}
 
@@ -10,9 +11,10 @@ count_of (negsuc _) = 0
 -- Whether data follows: after every end W, after ESC*b#V and after ESC&p#X
 -- (PCL 5 Printer Language Technical Reference Manual, transfer of raster data and transparent print data).
 abbrev pub carries_data : ℕ → Option ℕ → ℕ → Bool
-carries_data character None end = end == 87
+carries_data character None end = end == code "W"
 carries_data character (Some group) end =
-    (end == 87) || (((character == 42) && ((group == 98) && (end == 86))) || ((character == 38) && ((group == 112) && (end == 88))))
+    (end == code "W") || (((character == code "*") && ((group == code "b") && (end == code "V")))
+    || ((character == code "&") && ((group == code "p") && (end == code "X"))))
 
 -- how many bytes of data follow: the whole part of the value, none where it is negative or no data is carried
 abbrev pub data_count : ℕ → Option ℕ → List ℕ → ℕ → ℕ

@@ -1,4 +1,5 @@
 -- The language that a PJL line enters (PJL Technical Reference Manual, the ENTER command).
+use Prim.Native.Char.{code}
 use Rattle.std.specs.Prelude.{ℕ, ◌-◌, Bool, false, ◌==◌, ◌&&◌, ◌||◌, not, if◌then◌else◌, List, [], ◌∷◌, length, map, take, drop, codes, bytes_eq}
 use Rattle.std.specs.List.{prefix_len, suffix_len, before_first, after_first, ends_with}
 use Rattle.std.specs.Bool.{nat_eq}
@@ -8,7 +9,7 @@ use Rattle.press_cmd.specs.Mode.{Mode, Exit, Foreign, Pcl}
 
 -- a space or a tab
 abbrev pub is_white : ℕ → Bool
-is_white byte = (byte == 32) || (byte == 9)
+is_white byte = (byte == code " ") || (byte == code "\t")
 
 -- without the white space at the front
 abbrev pub trimmed_front : List ℕ → List ℕ
@@ -49,7 +50,7 @@ command_rest line = after_first is_white (trimmed_front (line_text line))
 
 -- an equals sign
 abbrev pub is_equals : ℕ → Bool
-is_equals byte = byte == 61
+is_equals byte = byte == code "="
 
 -- the name before the first equals sign, and the value after it, both without white space round them
 abbrev pub name_of : List ℕ → List ℕ

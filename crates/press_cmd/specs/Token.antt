@@ -1,5 +1,5 @@
 -- A command as a value, with nothing of where it lies in memory.
-use Rattle.std.specs.Prelude.{ℕ, List, [], ◌∷◌, ◌++◌, Option, Some, None}
+use Rattle.std.specs.Prelude.{ℕ, List, [], ◌∷◌, ◌++◌, Option, Some, None, codes}
 
 -- The commands of a PCL 5 and PJL stream (PCL 5 Printer Language Technical Reference Manual, the syntax of
 -- escape sequences; PJL Technical Reference Manual, the universal exit and PJL commands; Broken and Foreign
@@ -25,11 +25,11 @@ escape_byte = 27
 
 -- the universal exit: ESC%-12345X
 abbrev pub uel : List ℕ
-uel = 27 ∷ 37 ∷ 45 ∷ 49 ∷ 50 ∷ 51 ∷ 52 ∷ 53 ∷ 88 ∷ []
+uel = escape_byte ∷ codes "%-12345X"
 
 -- the text that a PJL line begins with, `@PJL`
 abbrev pub pjl_mark : List ℕ
-pjl_mark = 64 ∷ 80 ∷ 74 ∷ 76 ∷ []
+pjl_mark = codes "@PJL"
 
 -- The bytes of a command by itself. A parameter is spelled as a sequence of its own: the escape character,
 -- the character, the group if there is one, the field, the end in upper case, and the data.
