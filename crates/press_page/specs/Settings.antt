@@ -51,9 +51,13 @@ abbrev pub skip_change_of : ℤ → (held : Bool) → Option Bool
 skip_change_of n true = named ((0, false) ∷ []) n
 skip_change_of n false = named ((1, true) ∷ []) n
 
--- ESC&l#X, copies: at least 1, and at most 999 are taken
+-- the most copies
+abbrev pub most_copies : ℕ
+most_copies = 999
+
+-- ESC&l#X, copies: at least 1, and at most the most are taken
 abbrev pub copies_of : ℤ → Option ℕ
-copies_of (pos n) = if nat_lt 0 n then Some (min n 999) else None
+copies_of (pos n) = if nat_lt 0 n then Some (min n most_copies) else None
 copies_of (negsuc n) = None
 
 -- half a line, as a half-line feed moves

@@ -15,4 +15,4 @@ pub use environment::PageEnv;
 pub use margins::Margins;
 pub use media::{Binding, Media, Orientation, PageSize, Sides};
 pub use place::{Dot, Extent, placement_is_inverse};
-pub use settings::{LineTermination, Settings};
+pub use settings::{LineTermination, MOST_COPIES, Settings};

@@ -9,8 +9,8 @@ const GREATEST_HORIZONTAL_MOTION: i64 = 840;
 /// The greatest vertical motion index, in its unit.
 const GREATEST_VERTICAL_MOTION: i64 = 336;
 
-/// The most copies that are taken.
-const MOST_COPIES: i64 = 999;
+/// The most copies of a page: 999 (PCL 5 Printer Language Technical Reference Manual, job control commands).
+pub const MOST_COPIES: u16 = 999;
 
 /// The vertical motion index of six lines to the inch.
 pub(crate) const DEFAULT_VERTICAL_MOTION: u16 = 1200;
@@ -136,7 +136,7 @@ pub(crate) fn copies_of(number: i64) -> Option<u16>
     if number < 1 {
         None
     } else {
-        Some(number.min(MOST_COPIES) as u16)
+        Some(number.min(i64::from(MOST_COPIES)) as u16)
     }
 }
 

@@ -5,6 +5,7 @@ use Rattle.std.specs.Prelude.{ℕ, ◌<◌, ⊤, IfSome, ◌/◌, ◌%◌, ◌&&
 use Rattle.std.specs.List.{flat_map}
 use Rattle.press_bits.specs.Page.{Page}
 use Rattle.press_cmd.specs.Token.{Token, Escape, Control, Uel}
+use Rattle.press_page.specs.Settings.{most_copies}
 use Rattle.press_ticket.specs.Ticket.{JobTicket}
 use Rattle.press_ticket.specs.declared.media.Media as names
 use Rattle.press_ticket.specs.declared.media.Media.TheVariants.{Letter, Legal, A4, Executive, Ledger, A3}
@@ -79,11 +80,7 @@ FitsPart count (Front number copies) = number < count
 FitsPart count (Back back) = IfSome back (λ number. number < count)
 FitsPart count other = ⊤
 
--- the most copies that are asked for at once
-abbrev pub most_copies : ℕ
-most_copies = 999
-
--- so many copies of a sheet: as many as go at once, again and again, and what is left
+-- so many copies of a sheet: as many as one sheet may have, again and again, and what is left
 abbrev pub batches : ℕ → List ℕ
 batches amount =
     replicate (amount / most_copies) most_copies

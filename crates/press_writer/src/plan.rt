@@ -5,11 +5,9 @@ ghost use Rattle.press_writer.specs.Plan.{IsPlan, IsSmall, plan_runs, plan_parts
 
 use crate::part::Part;
 use crate::sheet::{SheetPages, sheets_of};
+use press_page::MOST_COPIES;
 use press_ticket::Ticket;
 use std::alloc::{AllocError, Global};
-
-/// The most copies that are asked for at once.
-const MOST_COPIES: u16 = 999;
 
 /// A sheet that is sent once, and printed in so many copies.
 #[derive(Clone, Copy)]
