@@ -6,7 +6,7 @@ use Rattle.press_page.specs.declared.media.PageSize.TheVariants.{A4}
 use Rattle.press_page.specs.declared.media.Orientation.TheVariants.{Landscape}
 use Rattle.press_pjl.specs.Variables.{entry_of, all_variables}
 use Rattle.press_pjl.specs.Replies.{page_reply}
-use Rattle.press_pjl.specs.Lines.{Done, effect, power_on, nothing, replies, sets_current, sets_default, switches, after_line}
+use Rattle.press_pjl.specs.Lines.{Done, effect, power_on_language, nothing, replies, sets_current, sets_default, switches, after_line}
 use Rattle.press_pjl.specs.declared.effect.Facts.{Facts}
 use Rattle.press_pjl.specs.declared.environment.PjlEnv.{PjlEnv}
 
@@ -16,7 +16,7 @@ facts = record { total = 12; since_job = 5 }
 
 -- an environment after SET COPIES=3
 abbrev three : PjlEnv
-three = record power_on { current = record factory { copies = 3 } }
+three = record power_on_language { current = record factory { copies = 3 } }
 
 abbrev done : (text : List ℕ) → Done
 done text = after_line (text ++ 10 ∷ []) facts three
@@ -64,13 +64,13 @@ no_copies = refl
 another_resolution : done (codes "@PJL SET RESOLUTION=0300") ≡ nothing three
 another_resolution = refl
 
-job : done (codes "@PJL JOB NAME=\"x\"") ≡ (power_on, effect true true [])
+job : done (codes "@PJL JOB NAME=\"x\"") ≡ (power_on_language, effect true true [])
 job = refl
 
-end_of_job : done (codes "@PJL EOJ") ≡ (power_on, effect true false [])
+end_of_job : done (codes "@PJL EOJ") ≡ (power_on_language, effect true false [])
 end_of_job = refl
 
-initialize : done (codes "@PJL INITIALIZE ") ≡ (power_on, effect true false [])
+initialize : done (codes "@PJL INITIALIZE ") ≡ (power_on_language, effect true false [])
 initialize = refl
 
 initialize_with_more : done (codes "@PJL INITIALIZE x") ≡ nothing three

@@ -6,7 +6,7 @@ use Rattle.press_cmd.specs.Token.{pjl_mark}
 use Rattle.press_cmd.specs.Language.{begins_white, raised, trimmed, line_text, command_word, command_rest, name_of, assigned_value}
 use Rattle.press_page.specs.Environment.{factory}
 use Rattle.press_page.specs.declared.defaults.Defaults.{Defaults}
-use Rattle.press_pjl.specs.Names.{named, switch_name}
+use Rattle.press_pjl.specs.Names.{of_name, switch_name}
 use Rattle.press_pjl.specs.Variables.{assigned, value_text}
 use Rattle.press_pjl.specs.Replies.{reply_of, unknown, echo_of, fact_named, fact_text}
 use Rattle.press_pjl.specs.declared.command.Command.{Command}
@@ -40,7 +40,7 @@ all_commands =
 abbrev pub command_of : (line : List ℕ) → Option Command
 command_of line =
     if starts_with nat_eq line pjl_mark && begins_white (line_text line)
-    then named command_name all_commands (command_word line)
+    then of_name command_name all_commands (command_word line)
     else None
 
 -- What a line does: the environment after it, and its effect.
@@ -51,8 +51,8 @@ abbrev pub effect : (resets job : Bool) → (reply : List ℕ) → PjlEffect
 effect resets job reply = record { resets = resets; job = job; reply = reply }
 
 -- the environment after power on: factory values, and no replies after sheets
-abbrev pub power_on : PjlEnv
-power_on = record { default = factory; current = factory; page_status = false }
+abbrev pub power_on_language : PjlEnv
+power_on_language = record { default = factory; current = factory; page_status = false }
 
 -- nothing
 abbrev pub nothing : PjlEnv → Done
@@ -113,30 +113,30 @@ informed line facts =
 abbrev pub asked_switch : (line : List ℕ) → Option Bool
 asked_switch line =
     if bytes_eq (raised (name_of line)) (codes "PAGE")
-    then named switch_name (false ∷ true ∷ []) (assigned_value line)
+    then of_name switch_name (false ∷ true ∷ []) (assigned_value line)
     else None
 
 -- The table of lines: what each command does.
-abbrev pub row : Command → (line : List ℕ) → Facts → PjlEnv → Done
-row commands.Job line facts env = starts_job env
-row commands.EndOfJob line facts env = sets_current env.default env
-row commands.Reset line facts env = sets_current env.default env
-row commands.Initialize line facts env = where_alone line initializes env
-row commands.Set line facts env =
+abbrev pub language_row : Command → (line : List ℕ) → Facts → PjlEnv → Done
+language_row commands.Job line facts env = starts_job env
+language_row commands.EndOfJob line facts env = sets_current env.default env
+language_row commands.Reset line facts env = sets_current env.default env
+language_row commands.Initialize line facts env = where_alone line initializes env
+language_row commands.Set line facts env =
     where_known (assigned (name_of line) (assigned_value line) env.current) sets_current env
-row commands.Default line facts env =
+language_row commands.Default line facts env =
     where_known (assigned (name_of line) (assigned_value line) env.default) sets_default env
-row commands.Inquire line facts env = replies (inquired commands.Inquire line env.current) env
-row commands.InquireDefault line facts env = replies (inquired commands.InquireDefault line env.default) env
-row commands.Echo line facts env = replies (echo_of (command_rest line)) env
-row commands.Info line facts env = replies (informed line facts) env
-row commands.Status line facts env = where_known (asked_switch line) switches env
-row commands.StatusOff line facts env = where_alone line (switches false) env
+language_row commands.Inquire line facts env = replies (inquired commands.Inquire line env.current) env
+language_row commands.InquireDefault line facts env = replies (inquired commands.InquireDefault line env.default) env
+language_row commands.Echo line facts env = replies (echo_of (command_rest line)) env
+language_row commands.Info line facts env = replies (informed line facts) env
+language_row commands.Status line facts env = where_known (asked_switch line) switches env
+language_row commands.StatusOff line facts env = where_alone line (switches false) env
 
 -- A line: what its command does; without a command it has no effect.
 abbrev pub row_of : Option Command → (line : List ℕ) → Facts → PjlEnv → Done
 row_of None line facts env = nothing env
-row_of (Some command) line facts env = row command line facts env
+row_of (Some command) line facts env = language_row command line facts env
 
 abbrev pub after_line : (line : List ℕ) → Facts → PjlEnv → Done
 after_line line facts env = row_of (command_of line) line facts env

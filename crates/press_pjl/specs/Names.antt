@@ -13,8 +13,8 @@ use Rattle.press_units.specs.declared.position.Resolution.{Resolution}
 use Rattle.press_units.specs.declared.position.Resolution.TheVariants as resolutions
 
 -- the first of some things whose name a text is, in letters of either case
-abbrev pub named : {A : Type 0} → (name : A → List ℕ) → List A → (text : List ℕ) → Option A
-named name things text = find (λ thing. bytes_eq (raised text) (name thing)) things
+abbrev pub of_name : {A : Type 0} → (name : A → List ℕ) → List A → (text : List ℕ) → Option A
+of_name name things text = find (λ thing. bytes_eq (raised text) (name thing)) things
 
 -- the names of page sizes
 abbrev pub size_name : PageSize → List ℕ

@@ -1,7 +1,7 @@
 -- What the press replies (PJL Technical Reference Manual, the replies of status readback commands).
 use Rattle.std.specs.Prelude.{ℕ, List, [], ◌∷◌, ◌++◌, Option, codes, decimal}
 use Rattle.press_cmd.specs.Language.{raised}
-use Rattle.press_pjl.specs.Names.{named}
+use Rattle.press_pjl.specs.Names.{of_name}
 use Rattle.press_pjl.specs.declared.effect.Facts.{Facts}
 use Rattle.press_pjl.specs.declared.fact.Fact.{Fact}
 use Rattle.press_pjl.specs.declared.fact.Fact.TheVariants as facts
@@ -43,4 +43,4 @@ fact_text known facts.Id = codes "\"DIGITAL PRESS\""
 fact_text known facts.PageCount = decimal known.total
 
 abbrev pub fact_named : (name : List ℕ) → Option Fact
-fact_named name = named fact_name (facts.Id ∷ facts.PageCount ∷ []) name
+fact_named name = of_name fact_name (facts.Id ∷ facts.PageCount ∷ []) name

@@ -9,7 +9,8 @@ use Rattle.press_page.specs.declared.defaults.Defaults.{Defaults}
 use Rattle.press_page.specs.declared.media.Binding.TheVariants.{LongEdge, ShortEdge}
 use Rattle.press_page.specs.declared.media.Orientation.TheVariants.{Portrait, Landscape}
 use Rattle.press_page.specs.declared.media.PageSize.TheVariants.{Letter, Legal, A4, Executive, Ledger, A3}
-use Rattle.press_pjl.specs.Names.{named, size_name, orientation_name, switch_name, binding_name, resolution_name}
+use Rattle.press_page.specs.Settings.{most_copies}
+use Rattle.press_pjl.specs.Names.{of_name, size_name, orientation_name, switch_name, binding_name, resolution_name}
 use Rattle.press_pjl.specs.declared.variable.Variable.{Variable}
 use Rattle.press_pjl.specs.declared.variable.Variable.TheVariants as variables
 
@@ -26,7 +27,7 @@ abbrev pub of_names :
     (held : Defaults → V) (with : V → Defaults → Defaults) → Entry
 of_names name values value_name held with = record {
   name = name;
-  with_text = λ text defaults. option_map (λ value. with value defaults) (named value_name values text);
+  with_text = λ text defaults. option_map (λ value. with value defaults) (of_name value_name values text);
   text = λ defaults. value_name (held defaults);
 }
 
@@ -35,12 +36,12 @@ abbrev pub is_number : (text : List ℕ) → Bool
 is_number text = not (length text == 0) && list_all is_ascii_digit text
 
 -- a number from the least to the most
-abbrev pub within : (least most : ℕ) → ℕ → Option ℕ
-within least most n = if nat_le least n && nat_le n most then Some n else None
+abbrev pub between : (least most : ℕ) → ℕ → Option ℕ
+between least most n = if nat_le least n && nat_le n most then Some n else None
 
 -- the number that a text of digits spells, if it is one from the least to the most
 abbrev pub number_within : (least most : ℕ) (text : List ℕ) → Option ℕ
-number_within least most text = if is_number text then within least most (number_of text) else None
+number_within least most text = if is_number text then between least most (number_of text) else None
 
 -- a variable whose values are numbers
 abbrev pub of_numbers :
@@ -54,7 +55,7 @@ of_numbers name least most held with = record {
 -- The variables: name, and values, of which the factory value is the first.
 abbrev pub entry_of : Variable → Entry
 entry_of variables.Copies =
-    of_numbers (codes "COPIES") 1 999
+    of_numbers (codes "COPIES") 1 most_copies
     (λ (all : Defaults). all.copies) (λ copies (all : Defaults). record all { copies = copies })
 entry_of variables.Paper =
     of_names (codes "PAPER") (Letter ∷ Legal ∷ A4 ∷ Executive ∷ Ledger ∷ A3 ∷ []) size_name
@@ -80,7 +81,7 @@ all_variables =
 
 -- the variable of a name
 abbrev pub variable_named : (name : List ℕ) → Option Variable
-variable_named name = named (λ variable. (entry_of variable).name) all_variables name
+variable_named name = of_name (λ variable. (entry_of variable).name) all_variables name
 
 -- the values of all variables after an assignment to one, if there is a variable of that name, which knows the value
 abbrev pub assigned_to : Option Variable → (value : List ℕ) → Defaults → Option Defaults

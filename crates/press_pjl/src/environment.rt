@@ -116,11 +116,11 @@ impl PjlEnv {
     ghost use Rattle.std.specs.Prelude.{◌≡◌, ◌≢◌, [], false, IfOk, OnErr, IsErr};
     ghost use Rattle.press_cmd.specs.Language.{name_of, assigned_value};
     ghost use Rattle.press_pjl.specs.Variables.{assigned};
-    ghost use Rattle.press_pjl.specs.Lines.{power_on, asked_switch, sets_current, sets_default, initializes, switches, where_known, where_alone, row, after_line};
+    ghost use Rattle.press_pjl.specs.Lines.{power_on_language, asked_switch, sets_current, sets_default, initializes, switches, where_known, where_alone, language_row, after_line};
 
     /// The environment after power on: factory values, and no replies after sheets.
     pub fn power_on() -> Self
-        ensures { result ≡ power_on }
+        ensures { result ≡ power_on_language }
     {
         PjlEnv {
             default: Defaults::factory(),
@@ -199,9 +199,10 @@ impl PjlEnv {
         facts: &Facts,
     ) -> Result<PjlEffect, AllocError>
         ensures ok { IfOk result (λ effect.
-            (self.new, effect) ≡ row command line.now facts.now self.old) }
+            (self.new, effect) ≡ language_row command line.now facts.now self.old) }
         ensures err { OnErr result (self.new ≡ self.old) }
-        ensures memory { IsErr result → (row command line.now facts.now self.old).1.reply ≢ [] }
+        ensures memory { IsErr result
+            → (language_row command line.now facts.now self.old).1.reply ≢ [] }
     {
         match command {
             Command::Job => {

@@ -1,5 +1,5 @@
 ghost use Rattle.std.specs.Prelude.{◌≡◌, List, ℕ};
-ghost use Rattle.press_pjl.specs.Names.{named, size_name, orientation_name, switch_name, binding_name, resolution_name};
+ghost use Rattle.press_pjl.specs.Names.{of_name, size_name, orientation_name, switch_name, binding_name, resolution_name};
 
 use press_cmd::pjl::is_word;
 use press_page::{Binding, Orientation, PageSize};
@@ -16,7 +16,7 @@ pub(crate) trait Named: Copy {
 
 /// The first of some things whose name a text is, in letters of either case.
 pub(crate) fn find_named<N: Named>(things: &[N], text: &[u8]) -> Option<N>
-    ensures { result ≡ named N.spelled things.now text.now }
+    ensures { result ≡ of_name N.spelled things.now text.now }
 {
     things
         .iter()

@@ -2,11 +2,11 @@ ghost use Rattle.std.specs.Prelude.{◌≡◌, ◌++◌, min, OnOk, IsTrue};
 ghost use Rattle.std.specs.List.{All, list_all};
 ghost use Rattle.std.specs.Char.{IsAsciiDigit, is_ascii_digit};
 ghost use Rattle.press_units.specs.Value.{number_of};
-ghost use Rattle.press_pjl.specs.Variables.{is_number, within, number_within, assigned};
+ghost use Rattle.press_pjl.specs.Variables.{is_number, between, number_within, assigned};
 
 use crate::named::{Named, find_named};
 use itoa::Buffer;
-use press_page::{Binding, Defaults, Orientation, PageSize};
+use press_page::{Binding, Defaults, MOST_COPIES, Orientation, PageSize};
 use press_units::Resolution;
 use std::alloc::AllocError;
 
@@ -50,9 +50,6 @@ const BINDINGS: [Binding; 2] = [Binding::LongEdge, Binding::ShortEdge];
 
 const RESOLUTIONS: [Resolution; 1] = [Resolution::Dpi300];
 
-/// The most copies.
-const MOST_COPIES: u16 = 999;
-
 /// The number that digits spell, or 1,000 where it is not below that.
 fn number_to_a_thousand(digits: &[u8]) -> u16
     requires { All IsAsciiDigit digits.now }
@@ -83,7 +80,7 @@ fn is_number(text: &[u8]) -> bool
 
 /// A number of copies, from 1 to 999.
 fn copies_of(number: u16) -> Option<u16>
-    ensures { result ≡ within 1 999 number }
+    ensures { result ≡ between 1 MOST_COPIES number }
 {
     if 1 <= number && number <= MOST_COPIES {
         Some(number)
@@ -95,7 +92,7 @@ fn copies_of(number: u16) -> Option<u16>
 /// The number of copies that a text of digits spells, if it is one from 1 to 999.
 #[tactic(auto, using(crate::proofs::NumberLemmas::within_cut))]
 fn copies_in(text: &[u8]) -> Option<u16>
-    ensures { result ≡ number_within 1 999 text.now }
+    ensures { result ≡ number_within 1 MOST_COPIES text.now }
 {
     if is_number(text) {
         copies_of(number_to_a_thousand(text))
