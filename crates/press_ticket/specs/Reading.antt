@@ -14,7 +14,7 @@ use Rattle.press_ticket.specs.declared.media.Sides.TheVariants.{OneSidedFront}
 use Rattle.press_ticket.specs.declared.page_range.PageRange.{PageRange}
 use Rattle.press_ticket.specs.Members.{least_unknown, as_whole, as_version, as_job_id, as_run_list, as_media, as_sides}
 use Rattle.press_ticket.specs.Pages.{page_at, page_order}
-use Rattle.press_ticket.specs.Ticket.{JobTicket}
+use Rattle.press_ticket.specs.Ticket.{JobTicket, max_pages, max_amount}
 
 abbrev pub Read : Type 0 → Type 0
 Read A = Result A TicketError
@@ -87,17 +87,17 @@ ranges_of page_count [] = Some []
 ranges_of page_count (pair ∷ pairs) =
     option_and_then (λ range. option_map (λ ranges. range ∷ ranges) (ranges_of page_count pairs)) (range_of page_count pair)
 
--- at most 999 pages in all
+-- no more pages in all than the most
 abbrev pub if_few : List PageRange → Option (List PageRange)
-if_few ranges = if nat_le (length (page_order ranges)) 999 then Some ranges else None
+if_few ranges = if nat_le (length (page_order ranges)) max_pages then Some ranges else None
 
 -- The process, then the pages, then the amount.
 abbrev pub in_range : Required → Optional → Read JobTicket
 in_range required optional =
     if bytes_eq required.process (codes "DigitalPrinting") then
-    then_read (ok_or (up_to 999 required.page_count) BadRange) (λ page_count.
+    then_read (ok_or (up_to max_pages required.page_count) BadRange) (λ page_count.
     then_read (ok_or (option_and_then if_few (ranges_of page_count optional.run_list)) BadRange) (λ run_list.
-    then_read (ok_or (up_to 9999 required.amount) BadAmount) (λ amount.
+    then_read (ok_or (up_to max_amount required.amount) BadAmount) (λ amount.
     Ok (record {
       job_id = required.job_id;
       page_count = page_count;

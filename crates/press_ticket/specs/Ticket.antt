@@ -22,10 +22,19 @@ pub record JobTicket : Type 0 where
 abbrev pub is_within : ℕ → PageRange → Bool
 is_within page_count range = nat_lt range.first page_count && nat_lt range.last page_count
 
--- Whether it keeps the limits: 1 to 999 pages, 1 to 9,999 sets, each page of the set one of the pages, at most 999 of them,
--- and a name of 1 to 63 printable bytes.
+-- the most pages of a job, and of a set
+abbrev pub max_pages : ℕ
+max_pages = 999
+
+-- the most sets of a job
+abbrev pub max_amount : ℕ
+max_amount = 9999
+
+-- Whether it keeps the limits: from 1 to the most pages and sets, each page of the set one of the pages, no more of them than
+-- the most, and a name of 1 to 63 printable bytes.
 abbrev pub is_in_range : JobTicket → Bool
 is_in_range ticket =
-    nat_le 1 ticket.page_count && nat_le ticket.page_count 999 && nat_le 1 ticket.amount && nat_le ticket.amount 9999
-    && list_all (is_within ticket.page_count) ticket.run_list && nat_le (length (page_order ticket.run_list)) 999
+    nat_le 1 ticket.page_count && nat_le ticket.page_count max_pages
+    && nat_le 1 ticket.amount && nat_le ticket.amount max_amount
+    && list_all (is_within ticket.page_count) ticket.run_list && nat_le (length (page_order ticket.run_list)) max_pages
     && is_job_id ticket.job_id

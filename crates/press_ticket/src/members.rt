@@ -74,10 +74,7 @@ pub fn least_unknown(members: &Map<String, Value>) -> Option<&str>
 pub fn whole(value: &Value) -> Option<i128>
     ensures { result ≡ as_whole (view value.now) }
 {
-    match value.as_i64() {
-        Some(number) => Some(i128::from(number)),
-        None => value.as_u64().map(i128::from),
-    }
+    value.as_number()?.as_i128()
 }
 
 /// The version that this profile takes.

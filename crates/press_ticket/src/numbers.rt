@@ -7,7 +7,7 @@ ghost use Rattle.press_ticket.specs.Ticket.{is_within};
 ghost use Rattle.press_ticket.specs.Reading.{up_to, range_of, ranges_of, if_few};
 
 use crate::page_range;
-use crate::page_range::PageRange;
+use crate::page_range::{MAX_PAGES, PageRange};
 use std::alloc::{AllocError, Global};
 
 /// A number from 1 to the most.
@@ -52,7 +52,7 @@ fn ranges_of(
     Ok(Some(found))
 }
 
-/// The pages of pairs, of so many, at most 999 in all.
+/// The pages of pairs, of so many, at most [`MAX_PAGES`] in all.
 pub fn few_ranges_of(
     alloc: Global,
     page_count: u16,
@@ -63,7 +63,7 @@ pub fn few_ranges_of(
     ensures within { IfOk result (λ found. IfSome found
         (λ ranges. list_all (is_within page_count) ranges.items ≡ true)) }
     ensures few { IfOk result (λ found. IfSome found
-        (λ ranges. nat_le (length (page_order ranges.items)) 999 ≡ true)) }
+        (λ ranges. nat_le (length (page_order ranges.items)) MAX_PAGES ≡ true)) }
 {
     let found = ranges_of(alloc, page_count, pairs)?;
     Ok(found.filter(|ranges| page_range::are_few(ranges)))

@@ -13,7 +13,7 @@ pub struct PageRange {
 }
 
 /// The most pages of a set.
-pub const MAX_PAGES: usize = 999;
+pub const MAX_PAGES: u16 = 999;
 
 impl PageRange {
     /// How many pages it has.
@@ -62,7 +62,7 @@ pub fn are_few(ranges: &[PageRange]) -> bool
     let mut total = 0;
     for range in ranges {
         total += range.count();
-        if total > MAX_PAGES {
+        if total > usize::from(MAX_PAGES) {
             return false;
         }
     }

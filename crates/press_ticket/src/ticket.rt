@@ -1,6 +1,6 @@
 use crate::fault::TicketError;
 use crate::media::{Media, Sides};
-use crate::page_range::PageRange;
+use crate::page_range::{MAX_PAGES, PageRange};
 use crate::parts::{Optional, Required};
 use crate::{numbers, page_range};
 use std::alloc::{AllocError, Global};
@@ -8,8 +8,6 @@ use std::marker::Model;
 
 /// The process that this press carries out.
 const PROCESS: &str = "DigitalPrinting";
-/// The most pages of a job.
-const MAX_PAGE_COUNT: u16 = 999;
 /// The most sets of a job.
 const MAX_AMOUNT: u16 = 9_999;
 
@@ -65,7 +63,7 @@ impl Ticket {
         if required.process != PROCESS {
             return Err(TicketError::WrongProcess);
         }
-        let Some(page_count) = numbers::up_to(MAX_PAGE_COUNT, required.page_count) else {
+        let Some(page_count) = numbers::up_to(MAX_PAGES, required.page_count) else {
             return Err(TicketError::BadRange);
         };
         let Some(run_list) = numbers::few_ranges_of(alloc, page_count, &optional.run_list)? else {
@@ -97,7 +95,7 @@ impl Ticket {
     pub fn page_count(&self) -> u16
         ensures value { result ≡ self.now.page_count }
         ensures some { 1 ≤ result }
-        ensures bound { result ≤ 999 }
+        ensures bound { result ≤ MAX_PAGES }
     {
         self.page_count
     }
@@ -106,7 +104,7 @@ impl Ticket {
     pub fn amount(&self) -> u16
         ensures value { result ≡ self.now.amount }
         ensures some { 1 ≤ result }
-        ensures bound { result ≤ 9999 }
+        ensures bound { result ≤ MAX_AMOUNT }
     {
         self.amount
     }
@@ -147,7 +145,7 @@ impl Ticket {
     /// Where memory ran out.
     pub fn page_order(&self, alloc: Global) -> Result<Vec<u16>, AllocError>
         ensures pages { IfOk result (λ pages. pages.items ≡ page_order self.now.run_list) }
-        ensures bound { length (page_order self.now.run_list) ≤ 999 }
+        ensures bound { length (page_order self.now.run_list) ≤ MAX_PAGES }
         ensures within { All (λ page. page < self.now.page_count) (page_order self.now.run_list) }
     {
         page_range::page_order(alloc, &self.run_list)
