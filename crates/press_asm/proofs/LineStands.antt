@@ -25,7 +25,7 @@ use Rattle.press_cmd.specs.declared.payload.Param.{Param}
 use Rattle.press_cmd.specs.declared.payload.Broken.{Broken as BrokenBytes}
 use Rattle.press_cmd.proofs.ByteTests.{range-from}
 use Rattle.press_asm.specs.Form.{ExitForm, EscapeForm, ParamForm, ControlForm, TextForm, ForeignForm, BrokenForm, LineForm, is_no_space, word, spaced, IsWord}
-use Rattle.press_asm.specs.Written.{line_of, IsWritten, beginning}
+use Rattle.press_asm.specs.Written.{written_line, IsWritten, beginning}
 use Rattle.press_asm.proofs.Digits.{digits_first}
 
 -- ---- bytes of a field, and digits
@@ -113,7 +113,7 @@ no_exit-word : (c : ℕ) (g : Option ℕ) (f : List ℕ) (e : ℕ) (d : List ℕ
 no_exit-word c None f e d group count other h = other (spells c f e d count h)
 no_exit-word c (Some g) f e d group count other h = let same : g ≡ 45 = cc h in omega (arith, group g refl, same)
 
-param_line : (c : ℕ) (g : Option ℕ) (f : List ℕ) (e : ℕ) (d : List ℕ) → line_of (param_of c g f e d) ≡ codes "par " ++ (word c g f e ++ spaced (encode_upper d))
+param_line : (c : ℕ) (g : Option ℕ) (f : List ℕ) (e : ℕ) (d : List ℕ) → written_line (param_of c g f e d) ≡ codes "par " ++ (word c g f e ++ spaced (encode_upper d))
 param_line c None f e d = refl
 param_line c (Some g) f e d = refl
 

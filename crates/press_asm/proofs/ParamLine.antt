@@ -6,18 +6,18 @@ use Rattle.press_cmd.specs.Token.{param_of, broken_of, field_of, end_of, data_of
 use Rattle.press_cmd.specs.View.{param_token}
 use Rattle.press_cmd.specs.declared.payload.Param.{Param}
 use Rattle.press_asm.specs.Form.{spaced}
-use Rattle.press_asm.specs.Written.{line_of, front_of, beginning}
+use Rattle.press_asm.specs.Written.{written_line, front_of, beginning}
 use Rattle.press_asm.proofs.Digits.{digits-append, digits-nil, digits_first}
 
 -- the line of a parameter, from the left
 pub param_line : (c : ℕ) (g : Option ℕ) (f : List ℕ) (e : ℕ) (d : List ℕ)
-    → let t = param_of c g f e d in line_of t ≡ front_of t ++ (field_of t ++ ((end_of t ∷ []) ++ spaced (encode_upper (data_of t))))
+    → let t = param_of c g f e d in written_line t ≡ front_of t ++ (field_of t ++ ((end_of t ∷ []) ++ spaced (encode_upper (data_of t))))
 param_line c None f e d = ap (λ x. codes "par " ++ (c ∷ x)) (append_assoc f (e ∷ []) (spaced (encode_upper d)))
 param_line c (Some g) f e d = ap (λ x. codes "par " ++ (c ∷ g ∷ x)) (append_assoc f (e ∷ []) (spaced (encode_upper d)))
 
 -- the same of a parameter, from what its parts are told to be
 pub param_from : (p : Param) (f : List ℕ) (e : ℕ) (d : List ℕ) → f ≡ field_of (param_token p) → e ≡ end_of (param_token p) → d ≡ data_of (param_token p)
-    → line_of (param_token p) ≡ front_of (param_token p) ++ (f ++ ((e ∷ []) ++ spaced (encode_upper d)))
+    → written_line (param_token p) ≡ front_of (param_token p) ++ (f ++ ((e ∷ []) ++ spaced (encode_upper d)))
 param_from p f e d hf he hd =
     param_line p.character p.group p.field.now p.end p.payload.now
     ∙ ap (λ x. front_of (param_token p) ++ (x ++ ((end_of (param_token p) ∷ []) ++ spaced (encode_upper (data_of (param_token p)))))) (sym hf)
@@ -25,7 +25,7 @@ param_from p f e d hf he hd =
     ∙ ap (λ x. front_of (param_token p) ++ (f ++ ((e ∷ []) ++ spaced (encode_upper x)))) (sym hd)
 
 -- the line of a broken sequence, from the left
-pub broken_line : (s : Option (ℕ × ℕ)) (bytes : List ℕ) → line_of (broken_of s bytes) ≡ codes "brk " ++ (encode_upper (beginning s) ++ encode_upper bytes)
+pub broken_line : (s : Option (ℕ × ℕ)) (bytes : List ℕ) → written_line (broken_of s bytes) ≡ codes "brk " ++ (encode_upper (beginning s) ++ encode_upper bytes)
 broken_line None bytes = ap (λ x. codes "brk " ++ x) (digits-append [] bytes)
 broken_line (Some s) bytes = ap (λ x. codes "brk " ++ x) (digits-append (27 ∷ s.0 ∷ s.1 ∷ []) bytes)
 

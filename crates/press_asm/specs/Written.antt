@@ -7,21 +7,21 @@ use Rattle.press_cmd.specs.Token.{Token, Escape, Grouped, Ungrouped, Control, Te
 use Rattle.press_asm.specs.Form.{word, spaced, StandsFor}
 
 -- the line of a command, with digits in upper case
-abbrev pub line_of : Token → List ℕ
-line_of (Escape byte) = codes "esc " ++ (byte ∷ [])
-line_of (Grouped character group field end payload) = codes "par " ++ (word character (Some group) field end ++ spaced (encode_upper payload))
-line_of (Ungrouped character field end payload) = codes "par " ++ (word character None field end ++ spaced (encode_upper payload))
-line_of (Control byte) = codes "ctl " ++ encode_upper (byte ∷ [])
-line_of (Text byte) = codes "txt " ++ encode_upper (byte ∷ [])
-line_of (Broken bytes) = codes "brk " ++ encode_upper bytes
-line_of Uel = codes "uel"
-line_of (PjlLine line) = codes "pjl " ++ encode_upper line
-line_of (ForeignByte byte) = codes "for " ++ encode_upper (byte ∷ [])
+abbrev pub written_line : Token → List ℕ
+written_line (Escape byte) = codes "esc " ++ (byte ∷ [])
+written_line (Grouped character group field end payload) = codes "par " ++ (word character (Some group) field end ++ spaced (encode_upper payload))
+written_line (Ungrouped character field end payload) = codes "par " ++ (word character None field end ++ spaced (encode_upper payload))
+written_line (Control byte) = codes "ctl " ++ encode_upper (byte ∷ [])
+written_line (Text byte) = codes "txt " ++ encode_upper (byte ∷ [])
+written_line (Broken bytes) = codes "brk " ++ encode_upper bytes
+written_line Uel = codes "uel"
+written_line (PjlLine line) = codes "pjl " ++ encode_upper line
+written_line (ForeignByte byte) = codes "for " ++ encode_upper (byte ∷ [])
 
 -- the lines of commands as a text, each with its line feed
 abbrev pub text_of : List Token → List ℕ
 text_of [] = []
-text_of (command ∷ commands) = line_of command ++ (10 ∷ text_of commands)
+text_of (command ∷ commands) = written_line command ++ (10 ∷ text_of commands)
 
 -- the name of a parameter's line, its character, and its group if it has one
 abbrev pub front_of : Token → List ℕ
@@ -34,8 +34,8 @@ beginning (Some sequence) = escape_byte ∷ sequence.0 ∷ sequence.1 ∷ []
 
 -- The command's line stands for it, and is printable.
 pub record IsWritten (command : Token) : Type 0 where
-  pub stands : StandsFor (line_of command) command
-  pub printable : IsTrue (list_all is_printable (line_of command))
+  pub stands : StandsFor (written_line command) command
+  pub printable : IsTrue (list_all is_printable (written_line command))
 
 -- the line of each of the commands stands for it
 abbrev pub AreWritten : List Token → Type 0

@@ -3,7 +3,7 @@ ghost use Rattle.std.specs.Prelude.{◌≡◌, ◌∷◌, [], ◌++◌, OnOk};
 ghost use Rattle.hex.specs.Hex.{encode_upper};
 ghost use Rattle.press_cmd.specs.View.{token, param_token, broken_token};
 ghost use Rattle.press_asm.specs.Form.{spaced};
-ghost use Rattle.press_asm.specs.Written.{line_of, front_of, beginning, IsWritten};
+ghost use Rattle.press_asm.specs.Written.{written_line, front_of, beginning, IsWritten};
 
 use crate::written::is_written;
 use press_cmd::{Broken, Command, ESCAPE, LINE_FEED, Param};
@@ -56,7 +56,7 @@ fn write_front(param: &Param, out: &mut Vec<u8>) -> Result<(), AllocError>
 
 /// Appends the line of a parameter.
 fn write_param(param: &Param, out: &mut Vec<u8>) -> Result<(), AllocError>
-    ensures { OnOk result (out.new.items ≡ out.old.items ++ line_of (param_token param.now)) }
+    ensures { OnOk result (out.new.items ≡ out.old.items ++ written_line (param_token param.now)) }
 {
     write_front(param, out)?;
     out.extend_from_slice(param.field())?;
@@ -76,7 +76,8 @@ fn write_sequence(sequence: Option<(u8, u8)>, out: &mut Vec<u8>) -> Result<(), A
 
 /// Appends the line of a broken command.
 fn write_broken(broken: &Broken, out: &mut Vec<u8>) -> Result<(), AllocError>
-    ensures { OnOk result (out.new.items ≡ out.old.items ++ line_of (broken_token broken.now)) }
+    ensures { OnOk result
+        (out.new.items ≡ out.old.items ++ written_line (broken_token broken.now)) }
 {
     let (sequence, bytes) = broken.parts();
     out.extend_from_slice(b"brk ")?;
@@ -86,7 +87,7 @@ fn write_broken(broken: &Broken, out: &mut Vec<u8>) -> Result<(), AllocError>
 
 /// Appends the line of a command, without a line feed.
 fn write_text(command: &Command, out: &mut Vec<u8>) -> Result<(), AllocError>
-    ensures { OnOk result (out.new.items ≡ out.old.items ++ line_of (token command.now)) }
+    ensures { OnOk result (out.new.items ≡ out.old.items ++ written_line (token command.now)) }
 {
     match command {
         Command::Escape(escape) => out.extend_from_slice(&[b'e', b's', b'c', b' ', escape.byte]),
@@ -109,7 +110,7 @@ fn write_text(command: &Command, out: &mut Vec<u8>) -> Result<(), AllocError>
 /// Where memory ran out; a front of the line may then have been appended.
 pub fn write_line(command: &Command, out: &mut Vec<u8>) -> Result<(), AllocError>
     ensures ok { OnOk result
-        (out.new.items ≡ out.old.items ++ (line_of (token command.now) ++ (10 ∷ []))) }
+        (out.new.items ≡ out.old.items ++ (written_line (token command.now) ++ (10 ∷ []))) }
     ensures written { IsWritten (token command.now) }
 {
     is_written(command);

@@ -19,7 +19,7 @@ use Rattle.press_scan.specs.Gives.{Passes, IsDone, Leaves}
 use Rattle.press_scan.specs.Reached.{Reached, Remains}
 use Rattle.press_scan.proofs.ReachedLaws.{feeds_reach, end_reaches}
 use Rattle.press_asm.specs.Text.{is_feed, in_front, lines_of, all_bytes, LinesStand}
-use Rattle.press_asm.specs.Written.{line_of, text_of, IsWritten, AreWritten}
+use Rattle.press_asm.specs.Written.{written_line, text_of, IsWritten, AreWritten}
 use Rattle.press_disasm.specs.Disassembly.{IsDisassembly, IsListed}
 use Rattle.press_disasm.proofs.ReadAgain.{read_again}
 use Rattle.press_disasm.proofs.Standing.{stand_give, one_give}
@@ -58,19 +58,19 @@ written-append : (cs : List Token) (c : Token) → AreWritten cs → IsWritten c
 written-append [] c h one = (one, tt)
 written-append (d ∷ cs) c h one = (h.0, written-append cs c h.1 one)
 
-text-append : (cs : List Token) (c : Token) → text_of (cs ++ (c ∷ [])) ≡ text_of cs ++ (line_of c ++ (10 ∷ []))
+text-append : (cs : List Token) (c : Token) → text_of (cs ++ (c ∷ [])) ≡ text_of cs ++ (written_line c ++ (10 ∷ []))
 text-append [] c = refl
 text-append (d ∷ cs) c =
-    ap (λ x. line_of d ++ (10 ∷ x)) (text-append cs c) ∙ sym (append_assoc (line_of d) (10 ∷ text_of cs) (line_of c ++ (10 ∷ [])))
+    ap (λ x. written_line d ++ (10 ∷ x)) (text-append cs c) ∙ sym (append_assoc (written_line d) (10 ∷ text_of cs) (written_line c ++ (10 ∷ [])))
 
 pub one_more : (bytes text more : List ℕ) (old new : ScannerState) (command : Token) → IsListedSoFar bytes old text → Passes old command new → IsWritten command
-    → more ≡ text ++ (line_of command ++ (10 ∷ [])) → IsListedSoFar bytes new more
+    → more ≡ text ++ (written_line command ++ (10 ∷ [])) → IsListedSoFar bytes new more
 one_more bytes text more old new command s passes written listed = record {
   given = s.given ++ (command ∷ []);
   remains = end_reaches.passes bytes s.given command old new s.remains s.ended passes;
   ended = passes.ended ∙ s.ended;
   written = written-append s.given command s.written written;
-  listed = listed ∙ ap (λ x. x ++ (line_of command ++ (10 ∷ []))) s.listed ∙ sym (text-append s.given command);
+  listed = listed ∙ ap (λ x. x ++ (written_line command ++ (10 ∷ []))) s.listed ∙ sym (text-append s.given command);
 }
 
 pub all_listed : (bytes text : List ℕ) (held : ScannerState) → IsListedSoFar bytes held text → IsDone held → IsListed bytes text
@@ -88,7 +88,7 @@ first_line (b ∷ line) rest h =
 lines_stand : (cs : List Token) → AreWritten cs → LinesStand (lines_of (text_of cs)) cs
 lines_stand [] h = refl
 lines_stand (c ∷ cs) h =
-    subst (λ (lines : List (List ℕ)). LinesStand lines (c ∷ cs)) (sym (first_line (line_of c) (text_of cs) h.0.printable)) (h.0.stands, lines_stand cs h.1)
+    subst (λ (lines : List (List ℕ)). LinesStand lines (c ∷ cs)) (sym (first_line (written_line c) (text_of cs) h.0.printable)) (h.0.stands, lines_stand cs h.1)
 
 line_ascii : (line : List ℕ) → list_all is_printable line ≡ true → IsAscii line
 line_ascii [] h = IsAscii-nil
@@ -98,7 +98,7 @@ line_ascii (b ∷ line) h =
 
 text_ascii : (cs : List Token) → AreWritten cs → IsAscii (text_of cs)
 text_ascii [] h = IsAscii-nil
-text_ascii (c ∷ cs) h = IsAscii-append (line_of c) (10 ∷ text_of cs) (line_ascii (line_of c) h.0.printable) (IsAscii-cons 10 (text_of cs) (omega arith) (text_ascii cs h.1))
+text_ascii (c ∷ cs) h = IsAscii-append (written_line c) (10 ∷ text_of cs) (line_ascii (written_line c) h.0.printable) (IsAscii-cons 10 (text_of cs) (omega arith) (text_ascii cs h.1))
 
 -- what is listed is text
 pub listed_utf8 : (bytes text : List ℕ) → IsListed bytes text → IsUtf8 text
