@@ -8,7 +8,7 @@ use Rattle.press_engine.specs.declared.effect.Closer.{Closer}
 use Rattle.press_engine.specs.declared.effect.Source.TheVariants as sources
 use Rattle.press_engine.specs.declared.machine.Machine.{Machine}
 use Rattle.press_engine.specs.Calls.{overlay_body}
-use Rattle.press_engine.specs.Outcome.{Effect, Changes, Makes, Answers, Goes, Closes, Starts}
+use Rattle.press_engine.specs.Outcome.{Effect, Changes, Makes, GivesReply, Stays, Closes, Starts}
 use Rattle.press_engine.specs.Machine.{Run, quiet, then_run, with_state, taken, deeper, entered, left, carried_over, run_over, overlay_levels, overlay_entered, overlay_left, settled_state, settled, run_each, carried, levels, source_at, run_at, run}
 use Rattle.press_engine.specs.Table.{effect_on}
 use Rattle.press_engine.specs.Trace.{last_machine, with_end, trace_each, body_items, trace_carried_over, trace_over, close_items_with, trace_settled, trace_carried, trace_at}
@@ -23,8 +23,8 @@ Within bound item = item.machine.depth ≤ bound
 carried_over-depth : (one : Token → Machine → Machine) (machine : Machine) (effect : Effect) → (carried_over one machine effect).depth ≡ machine.depth
 carried_over-depth one machine (Changes state) = refl
 carried_over-depth one machine (Makes state) = refl
-carried_over-depth one machine (Answers reply state) = refl
-carried_over-depth one machine (Goes closer state) = refl
+carried_over-depth one machine (GivesReply reply state) = refl
+carried_over-depth one machine (Stays closer state) = refl
 carried_over-depth one machine (Closes closer state) = refl
 carried_over-depth one machine (Starts commands end state) = refl
 
@@ -41,16 +41,16 @@ closed-depth (Some commands) closer machine = refl
 settled-depth : (machine : Machine) (effect : Effect) → (settled machine effect).machine.depth ≡ machine.depth
 settled-depth machine (Changes state) = refl
 settled-depth machine (Makes state) = refl
-settled-depth machine (Answers reply state) = refl
-settled-depth machine (Goes closer state) = refl
+settled-depth machine (GivesReply reply state) = refl
+settled-depth machine (Stays closer state) = refl
 settled-depth machine (Closes closer state) = closed-depth (overlay_body state) closer (with_state state machine)
 settled-depth machine (Starts commands end state) = refl
 
 carried-depth : (one : Token → Machine → Run) (machine : Machine) (effect : Effect) → (carried one machine effect).machine.depth ≡ machine.depth
 carried-depth one machine (Changes state) = refl
 carried-depth one machine (Makes state) = refl
-carried-depth one machine (Answers reply state) = refl
-carried-depth one machine (Goes closer state) = refl
+carried-depth one machine (GivesReply reply state) = refl
+carried-depth one machine (Stays closer state) = refl
 carried-depth one machine (Closes closer state) = settled-depth machine (Closes closer state)
 carried-depth one machine (Starts commands end state) = refl
 
@@ -103,8 +103,8 @@ at-keeps levels command machine = ap (λ (at : Machine). at.depth) (tells-at lev
 over-effect-within : (bound levels : ℕ) (machine : Machine) (effect : Effect) → ((command : Token) (at : Machine) → at.depth ≤ machine.depth + 1 → All (Within bound) (trace_over levels command at)) → machine.depth + 1 ≤ bound → All (Within bound) (trace_carried_over (trace_over levels) machine effect)
 over-effect-within bound levels machine (Changes state) within small = one-within bound _ (omega (arith, small))
 over-effect-within bound levels machine (Makes state) within small = one-within bound _ (omega (arith, small))
-over-effect-within bound levels machine (Answers reply state) within small = one-within bound _ (omega (arith, small))
-over-effect-within bound levels machine (Goes closer state) within small = one-within bound _ (omega (arith, small))
+over-effect-within bound levels machine (GivesReply reply state) within small = one-within bound _ (omega (arith, small))
+over-effect-within bound levels machine (Stays closer state) within small = one-within bound _ (omega (arith, small))
 over-effect-within bound levels machine (Closes closer state) within small = one-within bound _ (omega (arith, small))
 over-effect-within bound levels machine (Starts commands end state) within small =
     body-within bound (machine.depth + 1) (trace_over levels) (over-keeps levels) within
@@ -128,16 +128,16 @@ close-within bound (Some commands) closer machine small =
 settled-within : (bound : ℕ) (machine : Machine) (effect : Effect) → machine.depth + 2 ≤ bound → All (Within bound) (trace_settled machine effect)
 settled-within bound machine (Changes state) small = one-within bound _ (omega (arith, small))
 settled-within bound machine (Makes state) small = one-within bound _ (omega (arith, small))
-settled-within bound machine (Answers reply state) small = one-within bound _ (omega (arith, small))
-settled-within bound machine (Goes closer state) small = one-within bound _ (omega (arith, small))
+settled-within bound machine (GivesReply reply state) small = one-within bound _ (omega (arith, small))
+settled-within bound machine (Stays closer state) small = one-within bound _ (omega (arith, small))
 settled-within bound machine (Closes closer state) small = close-within bound (overlay_body state) closer (with_state state machine) small
 settled-within bound machine (Starts commands end state) small = one-within bound _ (omega (arith, small))
 
 carried-within : (bound levels : ℕ) (machine : Machine) (effect : Effect) → ((command : Token) (at : Machine) → at.depth ≤ machine.depth + 1 → All (Within bound) (trace_at levels command at)) → machine.depth + 2 ≤ bound → All (Within bound) (trace_carried (trace_at levels) machine effect)
 carried-within bound levels machine (Changes state) within small = settled-within bound machine (Changes state) small
 carried-within bound levels machine (Makes state) within small = settled-within bound machine (Makes state) small
-carried-within bound levels machine (Answers reply state) within small = settled-within bound machine (Answers reply state) small
-carried-within bound levels machine (Goes closer state) within small = settled-within bound machine (Goes closer state) small
+carried-within bound levels machine (GivesReply reply state) within small = settled-within bound machine (GivesReply reply state) small
+carried-within bound levels machine (Stays closer state) within small = settled-within bound machine (Stays closer state) small
 carried-within bound levels machine (Closes closer state) within small = settled-within bound machine (Closes closer state) small
 carried-within bound levels machine (Starts commands end state) within small =
     body-within bound (machine.depth + 1) (trace_at levels) (at-keeps levels) within

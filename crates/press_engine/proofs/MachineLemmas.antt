@@ -28,8 +28,8 @@ use Rattle.press_engine.proofs.SendsLemmas.{Sends-then, Sends-exit}
 state_inside : (state : State) (effect : Effect) → state_of (effect_of state effect) ≡ state
 state_inside state effects.Changes = refl
 state_inside state effects.Makes = refl
-state_inside state (effects.Answers reply) = refl
-state_inside state (effects.Goes closer) = refl
+state_inside state (effects.GivesReply reply) = refl
+state_inside state (effects.Stays closer) = refl
 state_inside state (effects.Closes closer) = refl
 state_inside state (effects.Starts body end) = refl
 
@@ -50,8 +50,8 @@ module _ (command : Token) (old new : Machine) (is_taken : new ≡ with_state ne
   over-done zero effect other gives = over-zero effect gives
   over-done (suc levels) effects.Changes other gives = is_taken ∙ over-carried levels (rows.Changes new.state) gives
   over-done (suc levels) effects.Makes other gives = is_taken ∙ over-carried levels (rows.Makes new.state) gives
-  over-done (suc levels) (effects.Answers reply) other gives = is_taken ∙ over-carried levels (rows.Answers reply new.state) gives
-  over-done (suc levels) (effects.Goes closer) other gives = is_taken ∙ over-carried levels (rows.Goes closer new.state) gives
+  over-done (suc levels) (effects.GivesReply reply) other gives = is_taken ∙ over-carried levels (rows.GivesReply reply new.state) gives
+  over-done (suc levels) (effects.Stays closer) other gives = is_taken ∙ over-carried levels (rows.Stays closer new.state) gives
   over-done (suc levels) (effects.Closes closer) other gives = is_taken ∙ over-carried levels (rows.Closes closer new.state) gives
   over-done (suc levels) (effects.Starts body end) other gives = absurd (other body end refl)
 
@@ -100,8 +100,8 @@ settle-closes (Err error) state after machine closer effect is runs settles = tt
 settled-state : (state : State) (machine : Machine) (effect : rows.Effect) → settled (with_state state machine) effect ≡ settled machine effect
 settled-state state machine (rows.Changes inside) = refl
 settled-state state machine (rows.Makes inside) = refl
-settled-state state machine (rows.Answers reply inside) = refl
-settled-state state machine (rows.Goes closer inside) = refl
+settled-state state machine (rows.GivesReply reply inside) = refl
+settled-state state machine (rows.Stays closer inside) = refl
 settled-state state machine (rows.Closes closer inside) = refl
 settled-state state machine (rows.Starts commands end inside) = refl
 
@@ -139,8 +139,8 @@ module _ (command : Token) (old new : Machine) (is_taken : new ≡ with_state ne
   run-done zero effect other gives = settled-zero (effect_of new.state effect) gives
   run-done (suc levels) effects.Changes other gives = settled-taken (rows.Changes new.state) ∙ carried-taken levels (rows.Changes new.state) gives
   run-done (suc levels) effects.Makes other gives = settled-taken (rows.Makes new.state) ∙ carried-taken levels (rows.Makes new.state) gives
-  run-done (suc levels) (effects.Answers reply) other gives = settled-taken (rows.Answers reply new.state) ∙ carried-taken levels (rows.Answers reply new.state) gives
-  run-done (suc levels) (effects.Goes closer) other gives = settled-taken (rows.Goes closer new.state) ∙ carried-taken levels (rows.Goes closer new.state) gives
+  run-done (suc levels) (effects.GivesReply reply) other gives = settled-taken (rows.GivesReply reply new.state) ∙ carried-taken levels (rows.GivesReply reply new.state) gives
+  run-done (suc levels) (effects.Stays closer) other gives = settled-taken (rows.Stays closer new.state) ∙ carried-taken levels (rows.Stays closer new.state) gives
   run-done (suc levels) (effects.Closes closer) other gives = settled-taken (rows.Closes closer new.state) ∙ carried-taken levels (rows.Closes closer new.state) gives
   run-done (suc levels) (effects.Starts body end) other gives = absurd (other body end refl)
 

@@ -6,7 +6,7 @@ use Rattle.press_engine.specs.declared.effect.Closer.{Closer}
 use Rattle.press_engine.specs.declared.effect.Source.TheVariants as sources
 use Rattle.press_engine.specs.declared.machine.Machine.{Machine}
 use Rattle.press_engine.specs.Calls.{overlay_body}
-use Rattle.press_engine.specs.Outcome.{Effect, Changes, Makes, Answers, Goes, Closes, Starts}
+use Rattle.press_engine.specs.Outcome.{Effect, Changes, Makes, GivesReply, Stays, Closes, Starts}
 use Rattle.press_engine.specs.Machine.{Run, quiet, then_run, with_state, taken, entered, left, change_each, carried_over, run_over, overlay_levels, overlay_entered, overlay_left, overlay_with, settled_state, settled, run_each, carried, levels, source_at, run_at, run, run_all}
 use Rattle.press_engine.specs.Table.{effect_on}
 use Rattle.press_engine.specs.Trace.{last_machine, joined, with_end, trace_each, body_items, trace_carried_over, trace_over, close_items_with, trace_settled, trace_carried, trace_at, trace}
@@ -73,8 +73,8 @@ module _ (one : Token → Machine → Machine) (tracing : Token → Machine → 
 tells-carried_over : (one : Token → Machine → Machine) (tracing : Token → Machine → List Run) → ((command : Token) (machine : Machine) → Tells (tracing command machine) machine (quiet (one command machine))) → (before machine : Machine) (effect : Effect) → Tells (trace_carried_over tracing machine effect) before (quiet (carried_over one machine effect))
 tells-carried_over one tracing tells before machine (Changes state) = tells-one before (quiet (with_state state machine))
 tells-carried_over one tracing tells before machine (Makes state) = tells-one before (quiet (with_state state machine))
-tells-carried_over one tracing tells before machine (Answers reply state) = tells-one before (quiet (with_state state machine))
-tells-carried_over one tracing tells before machine (Goes closer state) = tells-one before (quiet (with_state state machine))
+tells-carried_over one tracing tells before machine (GivesReply reply state) = tells-one before (quiet (with_state state machine))
+tells-carried_over one tracing tells before machine (Stays closer state) = tells-one before (quiet (with_state state machine))
 tells-carried_over one tracing tells before machine (Closes closer state) = tells-one before (quiet (with_state state machine))
 tells-carried_over one tracing tells before machine (Starts commands end state) =
     tells-quiet_body one tracing tells (λ after. quiet (left end machine.depth after)) commands before (entered end state machine)
@@ -99,16 +99,16 @@ tells-close (Some commands) closer before machine =
 tells-settled : (before machine : Machine) (effect : Effect) → Tells (trace_settled machine effect) before (settled machine effect)
 tells-settled before machine (Changes state) = tells-one before (settled_state machine (Changes state))
 tells-settled before machine (Makes state) = tells-one before (settled_state machine (Makes state))
-tells-settled before machine (Answers reply state) = tells-one before (settled_state machine (Answers reply state))
-tells-settled before machine (Goes closer state) = tells-one before (settled_state machine (Goes closer state))
+tells-settled before machine (GivesReply reply state) = tells-one before (settled_state machine (GivesReply reply state))
+tells-settled before machine (Stays closer state) = tells-one before (settled_state machine (Stays closer state))
 tells-settled before machine (Closes closer state) = tells-close (overlay_body state) closer before (with_state state machine)
 tells-settled before machine (Starts commands end state) = tells-one before (settled_state machine (Starts commands end state))
 
 tells-carried : (one : Token → Machine → Run) (tracing : Token → Machine → List Run) → ((command : Token) (machine : Machine) → Tells (tracing command machine) machine (one command machine)) → (before machine : Machine) (effect : Effect) → Tells (trace_carried tracing machine effect) before (carried one machine effect)
 tells-carried one tracing tells before machine (Changes state) = tells-settled before machine (Changes state)
 tells-carried one tracing tells before machine (Makes state) = tells-settled before machine (Makes state)
-tells-carried one tracing tells before machine (Answers reply state) = tells-settled before machine (Answers reply state)
-tells-carried one tracing tells before machine (Goes closer state) = tells-settled before machine (Goes closer state)
+tells-carried one tracing tells before machine (GivesReply reply state) = tells-settled before machine (GivesReply reply state)
+tells-carried one tracing tells before machine (Stays closer state) = tells-settled before machine (Stays closer state)
 tells-carried one tracing tells before machine (Closes closer state) = tells-settled before machine (Closes closer state)
 tells-carried one tracing tells before machine (Starts commands end state) =
     let body = tells-body one tracing tells (λ after. quiet (left end machine.depth after)) commands before (entered end state machine) in

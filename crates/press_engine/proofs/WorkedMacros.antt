@@ -27,10 +27,10 @@ use Rattle.press_engine.specs.declared.operation.Operation.TheVariants.{FormFeed
 use Rattle.press_engine.specs.declared.state.State.{State}
 use Rattle.press_engine.specs.Calls.{kept_of, overlay_body}
 use Rattle.press_engine.specs.Macros.{start_body, record_command}
-use Rattle.press_engine.specs.Outcome.{Effect, Changes, Makes, Goes, Closes, Starts, is_marked, with_macros}
+use Rattle.press_engine.specs.Outcome.{Effect, Changes, Makes, Stays, Closes, Starts, is_marked, with_macros}
 use Rattle.press_engine.specs.Machine.{Run, quiet, with_state, taken, entered, left, power_on, source_at, run_all}
 use Rattle.press_engine.specs.Motion.{to_left_margin}
-use Rattle.press_engine.specs.Table.{effect_on, is_recorded, is_skipped, row, row_unless_skipped}
+use Rattle.press_engine.specs.Table.{effect_on, is_recorded, is_skipped, table_row, row_unless_skipped}
 use Rattle.press_engine.specs.Trace.{last_machine, joined, with_end, body_items, close_items_with, trace_settled, trace_carried, trace, trace_each, trace_at, trace_over}
 use Rattle.press_engine.proofs.TraceLaws.{tells-all, trace_each-append}
 
@@ -280,7 +280,7 @@ feed_closes :
 feed_closes state carried_out has_effect stays =
     ap (λ recorded. if recorded then Makes (record_command form_feed state) else row_unless_skipped sources.Stream FormFeed form_feed state)
     carried_out
-    ∙ ap (λ skipped. if skipped then Changes state else row sources.Stream FormFeed form_feed state) has_effect
+    ∙ ap (λ skipped. if skipped then Changes state else table_row sources.Stream FormFeed form_feed state) has_effect
     ∙ ap (λ returns. Closes closers.Feed (if returns then to_left_margin state else state)) stays
 
 first_feed_closes : effect_on (source_at 2) form_feed with_overlay.state ≡ Closes closers.Feed with_overlay.state
@@ -371,8 +371,8 @@ reset_closes state carried_out has_effect marked =
     let after = with_macros abandoned (record state { hp_gl = false }) in
     ap (λ recorded. if recorded then Makes (record_command Uel state) else row_unless_skipped sources.Stream Reset Uel state)
     carried_out
-    ∙ ap (λ skipped. if skipped then Changes state else row sources.Stream Reset Uel state) has_effect
-    ∙ ap (λ marked. if marked then Closes exit_closes after else Goes exit_closes after) marked
+    ∙ ap (λ skipped. if skipped then Changes state else table_row sources.Stream Reset Uel state) has_effect
+    ∙ ap (λ marked. if marked then Closes exit_closes after else Stays exit_closes after) marked
 
 exit_is_carried_out : is_recorded Uel in_definition.state ≡ false
 unfolding trace_each trace_at

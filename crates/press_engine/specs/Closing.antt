@@ -18,7 +18,7 @@ use Rattle.press_engine.specs.declared.state.State.{State}
 use Rattle.press_engine.specs.Motion.{to_first_line, to_home}
 use Rattle.press_macros.specs.Macros.{abandoned}
 use Rattle.press_engine.specs.Counts.{counted}
-use Rattle.press_engine.specs.Outcome.{Outcome, done, after_outputs, Effect, Changes, Makes, Answers, Goes, Closes, Starts, reset_fields, ended_raster, is_marked, with_environment, with_macros}
+use Rattle.press_engine.specs.Outcome.{Outcome, done, after_outputs, Effect, Changes, Makes, GivesReply, Stays, Closes, Starts, reset_fields, ended_raster, is_marked, with_environment, with_macros}
 use Rattle.press_engine.specs.Outputs.{copies_out}
 use Rattle.press_engine.specs.Place.{blank_page}
 
@@ -120,14 +120,14 @@ ended closed (closers.Change change) state = change_page change state
 abbrev pub settle : Effect → Outcome
 settle (Changes state) = done state
 settle (Makes state) = done state
-settle (Answers reply state) = record { state = state; outputs = Reply reply ∷ [] }
-settle (Goes closer state) = ended false closer state
+settle (GivesReply reply state) = record { state = state; outputs = Reply reply ∷ [] }
+settle (Stays closer state) = ended false closer state
 settle (Closes closer state) = after_outputs (close state).outputs (ended true closer (close state).state)
 settle (Starts commands end state) = done state
 
 -- A page with a mark closes.
 abbrev pub close_if_marked : Closer → State → Effect
-close_if_marked closer state = if is_marked state then Closes closer state else Goes closer state
+close_if_marked closer state = if is_marked state then Closes closer state else Stays closer state
 
 -- A reset, with what comes of it: HP-GL/2 is off first, and an open macro definition is dropped.
 abbrev pub reset_by : PageChange → State → Effect

@@ -7,7 +7,7 @@ use Rattle.press_engine.specs.Outcome as rows
 abbrev pub effect_of : State → Effect → rows.Effect
 effect_of state effects.Changes = rows.Changes state
 effect_of state effects.Makes = rows.Makes state
-effect_of state (effects.Answers reply) = rows.Answers reply state
-effect_of state (effects.Goes closer) = rows.Goes closer state
+effect_of state (effects.GivesReply reply) = rows.GivesReply reply state
+effect_of state (effects.Stays closer) = rows.Stays closer state
 effect_of state (effects.Closes closer) = rows.Closes closer state
 effect_of state (effects.Starts body end) = rows.Starts body end state

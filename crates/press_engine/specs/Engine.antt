@@ -13,7 +13,7 @@ use Rattle.press_engine.specs.declared.fault.EngineError.TheVariants as engine_e
 use Rattle.press_engine.specs.declared.machine.Machine.{Machine}
 use Rattle.press_engine.specs.declared.view.View.{View}
 use Rattle.press_engine.specs.declared.state.State.{State}
-use Rattle.press_engine.specs.Outcome.{Outcome, Effect, Changes, Makes, Answers, Goes, Closes, Starts, is_marked}
+use Rattle.press_engine.specs.Outcome.{Outcome, Effect, Changes, Makes, GivesReply, Stays, Closes, Starts, is_marked}
 use Rattle.press_engine.specs.Closing.{ended}
 use Rattle.press_engine.specs.Table.{effect_on}
 use Rattle.press_engine.specs.Machine.{Run, run}
@@ -58,8 +58,8 @@ Shows before outcome = (outcome.outputs ≢ []) ⊎ (outcome.state.pending ≢ b
 abbrev pub TakesMemory : Effect → Type 0
 TakesMemory (Changes state) = ⊥
 TakesMemory (Makes state) = Unit {0}
-TakesMemory (Answers reply state) = Unit {0}
-TakesMemory (Goes closer state) = Shows state (ended false closer state)
+TakesMemory (GivesReply reply state) = Unit {0}
+TakesMemory (Stays closer state) = Shows state (ended false closer state)
 TakesMemory (Closes closer state) = Unit {0}
 TakesMemory (Starts commands end state) = Unit {0}
 

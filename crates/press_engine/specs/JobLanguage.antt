@@ -7,7 +7,7 @@ use Rattle.press_pjl.specs.declared.environment.PjlEnv.{PjlEnv}
 use Rattle.press_engine.specs.declared.effect.PageChange.TheVariants as page_changes
 use Rattle.press_engine.specs.declared.state.State.{State}
 use Rattle.press_engine.specs.Closing.{reset_by}
-use Rattle.press_engine.specs.Outcome.{Effect, Changes, Answers}
+use Rattle.press_engine.specs.Outcome.{Effect, Changes, GivesReply}
 
 -- what a line is told of the press
 abbrev pub facts_of : State → Facts
@@ -23,7 +23,7 @@ spoken language effect state =
 abbrev pub said : Done → State → Effect
 said (language, effect) state =
     if length effect.reply == 0 then spoken language effect state
-    else Answers effect.reply (record state { language = language })
+    else GivesReply effect.reply (record state { language = language })
 
 abbrev pub job_language : (line : List ℕ) → State → Effect
 job_language line state = said (after_line line (facts_of state) state.language) state

@@ -13,7 +13,7 @@ use Rattle.press_engine.specs.declared.machine.Machine.{Machine}
 use Rattle.press_engine.specs.declared.state.State.{State}
 use Rattle.press_engine.specs.Calls as calls
 use Rattle.press_engine.specs.Closing.{settle}
-use Rattle.press_engine.specs.Outcome.{Effect, Changes, Makes, Answers, Goes, Closes, Starts, power_on_state}
+use Rattle.press_engine.specs.Outcome.{Effect, Changes, Makes, GivesReply, Stays, Closes, Starts, power_on_state}
 use Rattle.press_engine.specs.Counts.{counted}
 use Rattle.press_engine.specs.Table.{effect_on, is_recorded}
 
@@ -67,8 +67,8 @@ change_each one (command ∷ commands) machine = change_each one commands (one c
 abbrev pub state_of : Effect → State
 state_of (Changes state) = state
 state_of (Makes state) = state
-state_of (Answers reply state) = state
-state_of (Goes closer state) = state
+state_of (GivesReply reply state) = state
+state_of (Stays closer state) = state
 state_of (Closes closer state) = state
 state_of (Starts commands end state) = state
 

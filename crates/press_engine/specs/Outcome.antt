@@ -37,8 +37,8 @@ after_outputs outputs outcome = record { state = outcome.state; outputs = output
 pub data Effect : Type 0 where
   Changes : State → Effect
   Makes : State → Effect
-  Answers : (reply : List ℕ) → State → Effect
-  Goes : Closer → State → Effect
+  GivesReply : (reply : List ℕ) → State → Effect
+  Stays : Closer → State → Effect
   Closes : Closer → State → Effect
   Starts : List Token → BodyEnd → State → Effect
 
@@ -71,13 +71,13 @@ reset_fields state =
 -- and a blank page without a mark.
 abbrev pub power_on_state : State
 power_on_state = record {
-  language = lines.power_on;
+  language = lines.power_on_language;
   since_job = 0;
-  environment = default_environment lines.power_on;
+  environment = default_environment lines.power_on_language;
   drawing = initial_drawing;
   macro_id = 0;
   overlay = None;
-  cursor = first_home (default_environment lines.power_on);
+  cursor = first_home (default_environment lines.power_on_language);
   hp_gl = false;
   sheets = 0;
   patterns = maps.empty;

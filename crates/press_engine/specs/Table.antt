@@ -37,62 +37,62 @@ abbrev pub with_hp_gl : Bool → State → State
 with_hp_gl on state = record state { hp_gl = on }
 
 -- What a row does with a command, by where the command comes from.
-abbrev pub row : Source → Operation → Token → State → Effect
-row source Nothing command = Changes
-row source CarriageReturn command = carriage_return source
-row source LineFeed command = line_feed source
-row source FormFeed command = form_feed
-row source HalfLineFeed command = half_line_feed source
-row source ClearMargins command = λ state. Changes (with_environment clear_margins state)
-row source Reset command = reset
-row source EnterHpGl command = λ state. Changes (with_hp_gl true state)
-row source LeaveHpGl command = λ state. Changes (with_hp_gl false state)
-row source UnitOfMeasure command = λ state. Changes (with_environment (set_unit_of_measure (value_of command)) state)
-row source MoveColumns command = λ state. Changes (move_along (column state) (value_of command) (is_relative command) state)
-row source MoveRows command = λ state. Changes (move_rows (value_of command) (is_relative command) state)
-row source MoveHorizontally command = λ state. Changes (move_along decipoint (value_of command) (is_relative command) state)
-row source MoveVertically command = λ state. Changes (move_down decipoint (value_of command) (is_relative command) state)
-row source SelectSide command = select_side (whole_part_of command)
-row source LeftMargin command = λ state. Changes (change_left_margin (value_of command) state)
-row source RightMargin command = λ state. Changes (change_right_margin (value_of command) state)
-row source PushOrPop command = λ state. Changes (push_or_pop (whole_part_of command) state)
-row source LineTermination command = λ state. Changes (with_environment (set_line_termination (value_of command)) state)
-row source HorizontalMotion command = λ state. Changes (with_environment (set_horizontal_motion (value_of command)) state)
-row source SelectPageSize command = select_page_size (value_of command)
-row source VerticalMotion command = λ state. Changes (with_environment (set_vertical_motion (value_of command)) state)
-row source LineSpacing command = λ state. Changes (with_environment (set_line_spacing (value_of command)) state)
-row source TopMargin command = λ state. Changes (change_top_margin (value_of command) state)
-row source TextLength command = λ state. Changes (with_environment (set_text_length (value_of command)) state)
-row source EjectPage command = eject_page
-row source PerforationSkip command = λ state. Changes (change_perforation_skip (value_of command) state)
-row source SelectOrientation command = select_orientation (value_of command)
-row source SelectSides command = select_sides (value_of command)
-row source Copies command = λ state. Changes (with_environment (set_copies (value_of command)) state)
-row source RectangleWidth command = λ state. Changes (with_drawing (set_rectangle_width (value_of command) (pcl_unit_of state)) state)
-row source RectangleHeight command = λ state. Changes (with_drawing (set_rectangle_height (value_of command) (pcl_unit_of state)) state)
-row source PatternId command = λ state. Changes (with_drawing (set_pattern_id (whole_part_of command)) state)
-row source RectangleWidthInDecipoints command = λ state. Changes (with_drawing (set_rectangle_width (value_of command) decipoint) state)
-row source Fill command = fill (whole_part_of command)
-row source ControlPatterns command = λ state. Changes (control_patterns (whole_part_of command) state)
-row source RectangleHeightInDecipoints command = λ state. Changes (with_drawing (set_rectangle_height (value_of command) decipoint) state)
-row source DefinePattern command = define_pattern (data_of command)
-row source SourceTransparency command = λ state. Changes (with_drawing (set_source_transparency (whole_part_of command)) state)
-row source PatternTransparency command = λ state. Changes (with_drawing (set_pattern_transparency (whole_part_of command)) state)
-row source SelectPattern command = λ state. Changes (select_pattern (whole_part_of command) state)
-row source RasterResolution command = λ state. Changes (while_off (set_resolution (value_of command)) state)
-row source StartRaster command = λ state. Changes (start_raster (whole_part_of command) state)
-row source EndRaster command = λ state. Changes (ended_raster state)
-row source EndRasterAndMethod command = λ state. Changes (end_raster_and_method state)
-row source SourceWidth command = λ state. Changes (while_off (set_source_width (value_of command)) state)
-row source SourceHeight command = λ state. Changes (while_off (set_source_height (value_of command)) state)
-row source SetMethod command = λ state. Changes (with_raster (set_method (value_of command)) state)
-row source TransferRow command = transfer (data_of command)
-row source OffsetRaster command = λ state. Changes (offset_raster (whole_part_of command) state)
-row source MoveX command = λ state. Changes (move_along (pcl_unit_of state) (value_of command) (is_relative command) state)
-row source MoveY command = λ state. Changes (move_down (pcl_unit_of state) (value_of command) (is_relative command) state)
-row source MacroId command = λ state. Changes (set_macro_id (whole_part_of command) state)
-row source ControlMacro command = control_macro source (whole_part_of command)
-row source JobLanguage command = job_language (line_of command)
+abbrev pub table_row : Source → Operation → Token → State → Effect
+table_row source Nothing command = Changes
+table_row source CarriageReturn command = carriage_return source
+table_row source LineFeed command = line_feed source
+table_row source FormFeed command = form_feed
+table_row source HalfLineFeed command = half_line_feed source
+table_row source ClearMargins command = λ state. Changes (with_environment clear_margins state)
+table_row source Reset command = reset
+table_row source EnterHpGl command = λ state. Changes (with_hp_gl true state)
+table_row source LeaveHpGl command = λ state. Changes (with_hp_gl false state)
+table_row source UnitOfMeasure command = λ state. Changes (with_environment (set_unit_of_measure (value_of command)) state)
+table_row source MoveColumns command = λ state. Changes (move_along (column state) (value_of command) (is_relative command) state)
+table_row source MoveRows command = λ state. Changes (move_rows (value_of command) (is_relative command) state)
+table_row source MoveHorizontally command = λ state. Changes (move_along decipoint (value_of command) (is_relative command) state)
+table_row source MoveVertically command = λ state. Changes (move_down decipoint (value_of command) (is_relative command) state)
+table_row source SelectSide command = select_side (whole_part_of command)
+table_row source LeftMargin command = λ state. Changes (change_left_margin (value_of command) state)
+table_row source RightMargin command = λ state. Changes (change_right_margin (value_of command) state)
+table_row source PushOrPop command = λ state. Changes (push_or_pop (whole_part_of command) state)
+table_row source LineTermination command = λ state. Changes (with_environment (set_line_termination (value_of command)) state)
+table_row source HorizontalMotion command = λ state. Changes (with_environment (set_horizontal_motion (value_of command)) state)
+table_row source SelectPageSize command = select_page_size (value_of command)
+table_row source VerticalMotion command = λ state. Changes (with_environment (set_vertical_motion (value_of command)) state)
+table_row source LineSpacing command = λ state. Changes (with_environment (set_line_spacing (value_of command)) state)
+table_row source TopMargin command = λ state. Changes (change_top_margin (value_of command) state)
+table_row source TextLength command = λ state. Changes (with_environment (set_text_length (value_of command)) state)
+table_row source EjectPage command = eject_page
+table_row source PerforationSkip command = λ state. Changes (change_perforation_skip (value_of command) state)
+table_row source SelectOrientation command = select_orientation (value_of command)
+table_row source SelectSides command = select_sides (value_of command)
+table_row source Copies command = λ state. Changes (with_environment (set_copies (value_of command)) state)
+table_row source RectangleWidth command = λ state. Changes (with_drawing (set_rectangle_width (value_of command) (pcl_unit_of state)) state)
+table_row source RectangleHeight command = λ state. Changes (with_drawing (set_rectangle_height (value_of command) (pcl_unit_of state)) state)
+table_row source PatternId command = λ state. Changes (with_drawing (set_pattern_id (whole_part_of command)) state)
+table_row source RectangleWidthInDecipoints command = λ state. Changes (with_drawing (set_rectangle_width (value_of command) decipoint) state)
+table_row source Fill command = fill (whole_part_of command)
+table_row source ControlPatterns command = λ state. Changes (control_patterns (whole_part_of command) state)
+table_row source RectangleHeightInDecipoints command = λ state. Changes (with_drawing (set_rectangle_height (value_of command) decipoint) state)
+table_row source DefinePattern command = define_pattern (data_of command)
+table_row source SourceTransparency command = λ state. Changes (with_drawing (set_source_transparency (whole_part_of command)) state)
+table_row source PatternTransparency command = λ state. Changes (with_drawing (set_pattern_transparency (whole_part_of command)) state)
+table_row source SelectPattern command = λ state. Changes (select_pattern (whole_part_of command) state)
+table_row source RasterResolution command = λ state. Changes (while_off (set_resolution (value_of command)) state)
+table_row source StartRaster command = λ state. Changes (start_raster (whole_part_of command) state)
+table_row source EndRaster command = λ state. Changes (ended_raster state)
+table_row source EndRasterAndMethod command = λ state. Changes (end_raster_and_method state)
+table_row source SourceWidth command = λ state. Changes (while_off (set_source_width (value_of command)) state)
+table_row source SourceHeight command = λ state. Changes (while_off (set_source_height (value_of command)) state)
+table_row source SetMethod command = λ state. Changes (with_raster (set_method (value_of command)) state)
+table_row source TransferRow command = transfer (data_of command)
+table_row source OffsetRaster command = λ state. Changes (offset_raster (whole_part_of command) state)
+table_row source MoveX command = λ state. Changes (move_along (pcl_unit_of state) (value_of command) (is_relative command) state)
+table_row source MoveY command = λ state. Changes (move_down (pcl_unit_of state) (value_of command) (is_relative command) state)
+table_row source MacroId command = λ state. Changes (set_macro_id (whole_part_of command) state)
+table_row source ControlMacro command = control_macro source (whole_part_of command)
+table_row source JobLanguage command = job_language (line_of command)
 
 -- what has effect while HP-GL/2 is on
 abbrev pub works_in_hp_gl : Operation → Bool
@@ -131,7 +131,7 @@ is_skipped source operation state =
 -- A row where it has effect.
 abbrev pub row_unless_skipped : Source → Operation → Token → State → Effect
 row_unless_skipped source operation command state =
-    if is_skipped source operation state then Changes state else row source operation command state
+    if is_skipped source operation state then Changes state else table_row source operation command state
 
 -- What a command does: it is recorded and does nothing else, or its kind's row gives what it does.
 abbrev pub effect_on : Source → Token → State → Effect

@@ -242,8 +242,8 @@ impl State {
     {
         match effect {
             Effect::Changes | Effect::Makes | Effect::Starts(_, _) => Ok(Sent::Nothing),
-            Effect::Answers(reply) => Ok(Sent::Reply(reply)),
-            Effect::Goes(closer) => {
+            Effect::GivesReply(reply) => Ok(Sent::Reply(reply)),
+            Effect::Stays(closer) => {
                 let alone = self.end(alloc, closer, false)?;
                 Ok(Sent::Sheets {
                     closed: None,
@@ -265,7 +265,7 @@ impl State {
         if self.is_marked() {
             Effect::Closes(closer)
         } else {
-            Effect::Goes(closer)
+            Effect::Stays(closer)
         }
     }
 

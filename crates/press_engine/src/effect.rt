@@ -85,9 +85,9 @@ pub enum Effect {
     /// The same, and memory may have been taken: a mark was made on the page, a pattern defined, or a macro recorded.
     Makes,
     /// The row is carried out, and a reply goes out.
-    Answers(ReplyBytes),
+    GivesReply(ReplyBytes),
     /// A page without a mark stays, and the command does what it does after a close.
-    Goes(Closer),
+    Stays(Closer),
     /// The page closes.
     Closes(Closer),
     /// The body of a macro starts, where one more may run.

@@ -22,7 +22,7 @@ impl State {
         let PjlEffect { resets, job, reply } = language.line(alloc, line, &self.facts())?;
         if !reply.as_slice().is_empty() {
             self.language = language;
-            return Ok(Effect::Answers(reply));
+            return Ok(Effect::GivesReply(reply));
         }
         if resets {
             return Ok(self.reset_by(PageChange::Language {

@@ -42,7 +42,7 @@ impl State {
     ghost use Rattle.press_cmd.specs.View.{token};
     ghost use Rattle.press_engine.specs.Effects.{effect_of};
     ghost use Rattle.press_engine.specs.Engine.{TakesMemory};
-    ghost use Rattle.press_engine.specs.Table.{row, is_skipped, effect_on};
+    ghost use Rattle.press_engine.specs.Table.{table_row, is_skipped, effect_on};
 
     /// What a row does with a command, by where the command comes from.
     fn apply(
@@ -53,9 +53,9 @@ impl State {
         command: &Command<'_>,
     ) -> Result<Effect, AllocError>
         ensures effect { IfOk result (λ effect.
-            effect_of self.new effect ≡ row source operation (token command.now) self.old) }
+            effect_of self.new effect ≡ table_row source operation (token command.now) self.old) }
         ensures memory { IsErr result
-            → TakesMemory (row source operation (token command.now) self.old) }
+            → TakesMemory (table_row source operation (token command.now) self.old) }
     {
         let value = command.value();
         match operation {
