@@ -9,7 +9,7 @@ const GREATEST_HORIZONTAL_MOTION: i64 = 840;
 /// The greatest vertical motion index, in its unit.
 const GREATEST_VERTICAL_MOTION: i64 = 336;
 
-/// The most copies of a page: 999 (PCL 5 Printer Language Technical Reference Manual, job control commands).
+/// The most copies of a page. This range is this profile's.
 pub const MOST_COPIES: u16 = 999;
 
 /// The vertical motion index of six lines to the inch.
