@@ -25,36 +25,22 @@ impl MessageType {
     pub fn named(name: &str) -> Option<Self>
         ensures { result ≡ type_named name.now }
     {
-        if name == "SubmitQueueEntry" {
-            Some(MessageType::SubmitQueueEntry)
-        } else if name == "HoldQueueEntry" {
-            Some(MessageType::HoldQueueEntry)
-        } else if name == "ResumeQueueEntry" {
-            Some(MessageType::ResumeQueueEntry)
-        } else if name == "AbortQueueEntry" {
-            Some(MessageType::AbortQueueEntry)
-        } else if name == "RemoveQueueEntry" {
-            Some(MessageType::RemoveQueueEntry)
-        } else if name == "SetQueueEntryPriority" {
-            Some(MessageType::SetQueueEntryPriority)
-        } else if name == "SetQueueEntryPosition" {
-            Some(MessageType::SetQueueEntryPosition)
-        } else if name == "HoldQueue" {
-            Some(MessageType::HoldQueue)
-        } else if name == "ResumeQueue" {
-            Some(MessageType::ResumeQueue)
-        } else if name == "OpenQueue" {
-            Some(MessageType::OpenQueue)
-        } else if name == "CloseQueue" {
-            Some(MessageType::CloseQueue)
-        } else if name == "FlushQueue" {
-            Some(MessageType::FlushQueue)
-        } else if name == "QueueStatus" {
-            Some(MessageType::QueueStatus)
-        } else if name == "Status" {
-            Some(MessageType::Status)
-        } else {
-            None
+        match name {
+            "SubmitQueueEntry" => Some(MessageType::SubmitQueueEntry),
+            "HoldQueueEntry" => Some(MessageType::HoldQueueEntry),
+            "ResumeQueueEntry" => Some(MessageType::ResumeQueueEntry),
+            "AbortQueueEntry" => Some(MessageType::AbortQueueEntry),
+            "RemoveQueueEntry" => Some(MessageType::RemoveQueueEntry),
+            "SetQueueEntryPriority" => Some(MessageType::SetQueueEntryPriority),
+            "SetQueueEntryPosition" => Some(MessageType::SetQueueEntryPosition),
+            "HoldQueue" => Some(MessageType::HoldQueue),
+            "ResumeQueue" => Some(MessageType::ResumeQueue),
+            "OpenQueue" => Some(MessageType::OpenQueue),
+            "CloseQueue" => Some(MessageType::CloseQueue),
+            "FlushQueue" => Some(MessageType::FlushQueue),
+            "QueueStatus" => Some(MessageType::QueueStatus),
+            "Status" => Some(MessageType::Status),
+            _ => None,
         }
     }
 }
