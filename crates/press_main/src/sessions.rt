@@ -1,6 +1,7 @@
 //! Sessions with a press: lines of events, and what each is answered.
 ghost use Rattle.std.specs.Prelude.{◌≡◌, ◌≤◌, ◌++◌, ◌∷◌, [], OnOk};
-ghost use Rattle.std.specs.Io.KnownBytes.{Appends};
+ghost use Rattle.std.specs.Io.KnownBytes.{Appends, IsAtEnd};
+ghost use Rattle.press_stream.specs.Pieces.{most_reads};
 ghost use Rattle.press_main.specs.Sessions.{turn_text, PlaysOn, PlaysToItsEnd, Plays, delivered_by};
 
 use crate::assembly::{NO_OUTPUT, told};
@@ -11,10 +12,10 @@ use crate::jobs::{JobFileError, images_named};
 use crate::listing::list_delivered;
 use crate::named_inputs::{NamedInputs, open_named};
 use press_core::{OperatorCommand, Press, Turn, TurnError};
-use press_stream::{MOST_READS, PIECE};
+use press_stream::{MOST_READS, PIECE, Piece, ReadCount, read_piece};
 use press_units::NO_MEMORY;
 use std::alloc::{AllocError, Global};
-use std::io::{self, ErrorKind, Read, Write};
+use std::io::{self, Read, Write};
 use thiserror::Error;
 
 /// What ends a line.
@@ -67,6 +68,7 @@ pub fn press_lines<I: NamedInputs, R: Read, W: Write, E: Write>(
 ) -> u8
     ensures status { result ≤ 1 }
     ensures plays { result ≡ 0 → Plays (W.contents out.old) (W.contents out.new) }
+    ensures whole { result ≡ 0 → IsAtEnd (R.remaining reader.new) }
 {
     let mut session = Session::new(alloc);
     match session.run(inputs, reader, out) {
@@ -105,20 +107,39 @@ impl Session {
         reader: &mut R,
         out: &mut W,
     ) -> Result<(), SessionError>
-        ensures { OnOk result (PlaysToItsEnd self.old.press (delivered_by self.old)
+        ensures plays { OnOk result (PlaysToItsEnd self.old.press (delivered_by self.old)
             (W.contents out.old) (W.contents out.new)) }
+        ensures whole { OnOk result (IsAtEnd (R.remaining reader.new)) }
+    {
+        let mut count = ReadCount {
+            reads: 0,
+            failed: false,
+        };
+        self.run_counted(inputs, reader, out, &mut count)
+    }
+
+    /// The same, with a count of the reads.
+    fn run_counted<I: NamedInputs, R: Read, W: Write>(
+        &mut self,
+        inputs: &I,
+        reader: &mut R,
+        out: &mut W,
+        count: &mut ReadCount,
+    ) -> Result<(), SessionError>
+        requires { count.old.reads ≡ 0 }
+        ensures plays { OnOk result (PlaysToItsEnd self.old.press (delivered_by self.old)
+            (W.contents out.old) (W.contents out.new)) }
+        ensures whole { OnOk result (IsAtEnd (R.remaining reader.new)) }
+        ensures bound { count.new.reads ≤ most_reads }
     {
         let mut piece = [0; PIECE];
         let mut line = Vec::new(self.alloc);
-        for _ in 0..MOST_READS {
-            match reader.read(&mut piece) {
-                Ok(0) => return self.end(inputs, &line, out),
-                Ok(count) => self.take(inputs, &piece[..count], &mut line, out)?,
-                Err(error) => {
-                    if error.kind() != ErrorKind::Interrupted {
-                        return Err(SessionError::from(InputError::ReadFault));
-                    }
-                }
+        while count.reads < MOST_READS {
+            match read_piece(reader, &mut piece, count) {
+                Piece::Bytes(0) => return self.end(inputs, &line, out),
+                Piece::Bytes(length) => self.take(inputs, &piece[..length], &mut line, out)?,
+                Piece::Interrupted => {}
+                Piece::Failed => return Err(SessionError::from(InputError::ReadFault)),
             }
         }
         Err(SessionError::from(InputError::ReadFault))
