@@ -35,6 +35,14 @@ mod placement;
 #[cfg(test)]
 mod positions;
 #[cfg(test)]
+mod program_devices;
+#[cfg(test)]
+mod program_files;
+#[cfg(test)]
+mod program_jobs;
+#[cfg(test)]
+mod program_sessions;
+#[cfg(test)]
 mod queue;
 #[cfg(test)]
 mod raster;

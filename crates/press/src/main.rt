@@ -1,33 +1,8 @@
-//! The program: it reads a print stream, and lists its sheets, writes them to files, or writes the stream as assembly text;
-//! it makes a stream of assembly text; and it writes the job of a ticket.
+//! The program, which does what its words ask for.
 #![tactic(auto)]
 
-mod assembly;
-mod entry_sheets;
-mod event_lines;
-#[cfg(test)]
-mod file_tests;
-mod files;
-mod inputs;
-#[cfg(test)]
-mod job_tests;
-mod jobs;
-mod listing;
-mod listing_sink;
-mod made_file;
-mod measures;
-mod named_inputs;
-mod program;
-#[cfg(test)]
-mod session_tests;
-mod sessions;
-mod stream;
-#[cfg(test)]
-mod tests;
-mod words;
-
+use press_main::run_words;
 use press_units::NO_MEMORY;
-use program::run_words;
 use std::env;
 use std::io::{self, ErrorKind};
 use std::process::ExitCode;

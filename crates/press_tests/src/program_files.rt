@@ -1,6 +1,6 @@
 //! Streams that are printed to files.
-use crate::files::print_files;
 use press_bits::Bitmap;
+use press_main::print_files;
 use press_pbm::read_pbm;
 use std::fs::Files;
 use std::test::Fail;

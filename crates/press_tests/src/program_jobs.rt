@@ -1,12 +1,8 @@
 //! Jobs of tickets, over named inputs and writers, and over files.
-use crate::file_tests::{new_folder, path};
-use crate::inputs::InputError;
-use crate::jobs::write_files;
-use crate::listing::print_list;
-use crate::named_inputs::{NamedFile, NamedInputs};
-use crate::program::run_words;
-use crate::tests::{Failing, Full};
+use crate::program_devices::{Failing, Full};
+use crate::program_files::{new_folder, path};
 use press_bits::Bitmap;
+use press_main::{InputError, NamedFile, NamedInputs, print_list, run_words, write_files};
 use press_pbm::{FuseRead, write_pbm};
 use std::alloc::Global;
 use std::fs::{self, Files};

@@ -1,6 +1,5 @@
 //! Devices that fail: readers, writers and files, and what the program then says.
-use crate::assembly::{asm_text, disasm_bytes};
-use crate::listing::print_list;
+use press_main::{asm_text, disasm_bytes, print_list};
 use std::io::{self, ErrorKind, Read, Write};
 use std::test::Fail;
 

@@ -1,8 +1,6 @@
 //! Sessions with a press: lines and their answers, files from memory.
-use crate::inputs::InputError;
-use crate::named_inputs::NamedInputs;
-use crate::sessions::press_lines;
-use crate::tests::{Full, Held, Reluctant};
+use crate::program_devices::{Full, Held, Reluctant};
+use press_main::{InputError, NamedInputs, press_lines};
 use std::io::{self, ErrorKind, Read};
 use std::test::Fail;
 

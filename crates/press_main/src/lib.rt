@@ -1,0 +1,30 @@
+//! What the program does: it reads a print stream, and lists its sheets, writes them to files, or writes the stream as assembly
+//! text; it makes a stream of assembly text; it writes the job of a ticket; and it has a session with a press.
+#![tactic(auto)]
+
+mod assembly;
+mod entry_sheets;
+mod event_lines;
+mod files;
+mod inputs;
+mod jobs;
+mod listing;
+mod listing_sink;
+mod made_file;
+mod measures;
+mod named_inputs;
+mod program;
+mod sessions;
+mod stream;
+mod words;
+
+pub use assembly::{asm_text, disasm_bytes};
+pub use files::{Finished, print_files};
+pub use inputs::InputError;
+pub use jobs::write_files;
+pub use listing::print_list;
+pub use named_inputs::{NamedFile, NamedFiles, NamedInputs};
+pub use program::run_words;
+pub use sessions::press_lines;
+pub use stream::print_stream;
+pub use words::{Input, Output, Refusal, Request, request_of};
