@@ -19,20 +19,14 @@ impl Media {
     pub fn named(name: &str) -> Option<Self>
         ensures { result ≡ media_named name.now }
     {
-        if name == "Letter" {
-            Some(Media::Letter)
-        } else if name == "Legal" {
-            Some(Media::Legal)
-        } else if name == "A4" {
-            Some(Media::A4)
-        } else if name == "Executive" {
-            Some(Media::Executive)
-        } else if name == "Ledger" {
-            Some(Media::Ledger)
-        } else if name == "A3" {
-            Some(Media::A3)
-        } else {
-            None
+        match name {
+            "Letter" => Some(Media::Letter),
+            "Legal" => Some(Media::Legal),
+            "A4" => Some(Media::A4),
+            "Executive" => Some(Media::Executive),
+            "Ledger" => Some(Media::Ledger),
+            "A3" => Some(Media::A3),
+            _ => None,
         }
     }
 }
@@ -52,14 +46,11 @@ impl Sides {
     pub fn named(name: &str) -> Option<Self>
         ensures { result ≡ sides_named name.now }
     {
-        if name == "OneSidedFront" {
-            Some(Sides::OneSidedFront)
-        } else if name == "TwoSidedHeadToHead" {
-            Some(Sides::TwoSidedHeadToHead)
-        } else if name == "TwoSidedHeadToFoot" {
-            Some(Sides::TwoSidedHeadToFoot)
-        } else {
-            None
+        match name {
+            "OneSidedFront" => Some(Sides::OneSidedFront),
+            "TwoSidedHeadToHead" => Some(Sides::TwoSidedHeadToHead),
+            "TwoSidedHeadToFoot" => Some(Sides::TwoSidedHeadToFoot),
+            _ => None,
         }
     }
 }

@@ -43,15 +43,18 @@ pub fn said<T: Drop>(alloc: Global, key: &str, member: Option<T>) -> Result<T, T
 fn is_ticket_key(key: &str) -> bool
     ensures { result ≡ is_ticket_key key.now }
 {
-    key == "Version"
-        || key == "Type"
-        || key == "JobID"
-        || key == "NPage"
-        || key == "Amount"
-        || key == "RunList"
-        || key == "Media"
-        || key == "Sides"
-        || key == "Collate"
+    matches!(
+        key,
+        "Version"
+            | "Type"
+            | "JobID"
+            | "NPage"
+            | "Amount"
+            | "RunList"
+            | "Media"
+            | "Sides"
+            | "Collate"
+    )
 }
 
 /// The least key that no ticket has. An object's keys ascend, so it is the first.
