@@ -1,5 +1,5 @@
 use Rattle.std.proofs.Common.{◌≡◌, length}
-use Rattle.press_tests.proofs.scanner.drain.Given as goal
+use Rattle.press_tests_commands.proofs.scanner.drain.Given as goal
 
 abbrev pub invariant-loop-command : goal.invariant-loop-command
 invariant-loop-command l = l.scanner.ended ≡ l.initial.scanner.ended

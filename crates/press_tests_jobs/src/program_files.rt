@@ -7,7 +7,7 @@ use std::test::Fail;
 use std::{env, fs, process};
 
 /// A new folder for a test, which removes it at its end.
-pub fn new_folder(rt: &HostRuntime, name: &str) -> Result<String, Fail> {
+fn new_folder(rt: &HostRuntime, name: &str) -> Result<String, Fail> {
     let parent = env::temp_dir(rt)?;
     let id = process::id(rt.process());
     let folder = format!(in rt.alloc(); "{}/press-{id}-{name}", parent.as_str())?;
@@ -16,7 +16,7 @@ pub fn new_folder(rt: &HostRuntime, name: &str) -> Result<String, Fail> {
 }
 
 /// The path of a file of a folder.
-pub fn path(rt: &HostRuntime, folder: &String, name: &str) -> Result<String, Fail> {
+fn path(rt: &HostRuntime, folder: &String, name: &str) -> Result<String, Fail> {
     Ok(format!(in rt.alloc(); "{folder}/{name}")?)
 }
 
