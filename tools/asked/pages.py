@@ -1,0 +1,180 @@
+"""Streams that print: how many dots of each side are black, and where they lie on the first side. All were worked out by hand.
+
+In a stream `^` is an escape character, `<` a carriage return, `|` a line feed and `~` a form feed, and data stands in brackets, two
+hexadecimal digits a byte.
+"""
+
+import re
+
+
+def stream_of(text):
+    """The bytes of a stream, as it is spelled here."""
+    parts = re.split(r"\[([0-9A-F]*)\]", text)
+    for place in range(0, len(parts), 2):
+        parts[place] = parts[place].translate(str.maketrans("^<|~", "\x1b\r\n\x0c")).encode()
+    return b"".join(part if isinstance(part, bytes) else bytes.fromhex(part) for part in parts)
+
+
+# Streams, and the black dots of front and perhaps back of each sheet.
+SIDES = [
+    ("^E~^E", [(0,)]),
+    ("", []),
+    ("^E^*p0x0Y^*c3a2b0P^E", [(6,)]),
+    ("^*p10<~", [(0,)]),
+    ("^*p2400x3149Y^*c1000a1000b0P^%-12345X", [(75,)]),
+    ("^*p+6x-5Y^*c2a2b-2a1P^*c0P~~", [(4,), (0,)]),
+    ("^&l1S~^E", [(0,)]),
+    ("^&l1S~^&a1G", [(0,)]),
+    ("^&l1S~^&l26A", [(0,)]),
+    ("^&l1S~^&l2S", [(0,)]),
+    ("^&l1S~^&l1O^*c2a3b0P~", [(0, 6)]),
+    ("^&l1S^&l2X~~", [(0, 0), (0, 0)]),
+    ("^&l1S^&a2G^*c2a3b0P~", [(0, 6)]),
+    ("^&l2S^&a2G^&a2G^*c2a3b0P^E", [(0, 6)]),
+    ("^&l1S^*c2a3b0P^&a2G^*c1a1b0P~", [(6, 1)]),
+    ("^&a2G^*c2a3b0P~", [(6,)]),
+    ("^&l1S^*c2a3b0P~~^*c0P~^E", [(6, 0), (6,)]),
+    ("^&f2y0X^*c4a1b0P~^&f1x4X~~", [(4,), (4,)]),
+    ("^&f2y0X^*c4a1b0P^&f1x4X^E", []),
+    ("^&f2y0X^*c4a1b0P^&f1x4X^*p100x100Y^*c1a1b0P^E", [(5,)]),
+    ("^&l1S^&f2y0X^*c4a1b0P^&f1x4X~~", [(4, 4)]),
+    ("^&l1S^&f2y0X^*c4a1b0P^&f1x4X^&a2G~", [(0, 4)]),
+    ("^&l2X^&f2y0X^*c4a1b0P^&l5X^&f1x4X~", [(4,), (4,)]),
+    ("^&f2y0X^*c4a1b0P^&f1x4X^*p3150Y|", [(4,)]),
+    ("^&f2y0X^*c4a1b0P^&f1x4x5X~", [(0,)]),
+    ("^&f2y0X^*c4a1b0P^&f1x4x8X~", [(0,)]),
+    ("^&f2y0X^*c4a1b0P^&f5x1x4X~~", [(4,), (0,)]),
+    ("^&f2y0X^*c4a1b0P^&f2y8x1x4X~~", [(4,), (0,)]),
+    ("^&f2y0X^*c4a1b0P^%0B^&f1x4X~~", [(4,)]),
+    ("^&f2y0X^&l1o1s3a1H^&a1G^*c4a1b0P^&f1x4X~~", [(4,), (4,)]),
+    ("^&f2y0X^*c4a1b0P^&f1x4X^*p100x100Y^*c1a1b0P^&l1O~", [(5,), (0,)]),
+    ("^&f2y0X^*c7G^*c9W[0000010000010001][80]^*c4a1b0P^&f1x4X~^*c7g1a1b4P^E", [(4,), (4,)]),
+    ("^&f1y0X~~^&f1x3X", [(0,), (0,)]),
+    ("^&l3X^&f1y0X^&l1X^&f1x3X~", [(0,), (0,), (0,)]),
+    ("^&l3X^&f1y0X^&l1X^&f1x2X~", [(0,)]),
+]
+
+# Streams, and the black dots of the first side, as boxes that do not meet: left column, upper line, width and height of each.
+BOXES = [
+    ("^E^*p0x0Y^*c3a2b0P^E", [(75, 150, 3, 2)]),
+    ("^*p10x20Y^*c3a2b0P~", [(85, 170, 3, 2)]),
+    ("^*p2400x3149Y^*c1000a1000b0P^%-12345X", [(2475, 3299, 75, 1)]),
+    ("^*p+6x-5Y^*c2a2b-2a1P^*c0P~~", [(81, 182, 2, 2)]),
+    ("^*p0x0Y^*c3a2b0P~", [(75, 150, 3, 2)]),
+    ("^&l1O^*p0x0Y^*c3a2b0P~", [(150, 3237, 2, 3)]),
+    ("^&l2O^*p0x0Y^*c3a2b0P~", [(2472, 3148, 3, 2)]),
+    ("^&l3O^*p0x0Y^*c3a2b0P~", [(2398, 60, 2, 3)]),
+    ("^*p2400x3149Y^*c100a100b0P~", [(2475, 3299, 75, 1)]),
+    ("^*t300R^*r0A^*b1m2W[02F0]~", [(75, 187, 4, 1), (83, 187, 4, 1), (91, 187, 4, 1)]),
+    ("^*t300R^*r0A^*b3m2W[00FF]^*b0W^*b0m0W^*b3m0W^*rC~", [(75, 187, 8, 2)]),
+    ("^*p0x0Y^*c16a1b0P^*t300R^*r8S^*v1N^*r1A^*b0W^*rC~", [(83, 150, 8, 1)]),
+    ("^*c5G^*c16W[0000010000080008FFFFFFFFFFFFFFFF]^*c15W[000001000008000800000000000000]^*p0x0Y^*c2a1b4P~",
+     [(75, 150, 2, 1)]),
+    ("^*t75R^*r1A^*b1W[80]~", [(75, 187, 4, 4)]),
+    ("^*c50G^*p0x0Y^*c4a1b2P~", [(76, 150, 1, 1), (78, 150, 1, 1)]),
+    ("^*t300R^*r0A^*b3m2W[00FF]^*b1Y^*b0W^*rC~", [(75, 187, 8, 1)]),
+    ("^*t300R^*r0A^*b2m3W[FEFF01]^*b3m2W[0100]~", [(75, 187, 24, 1), (75, 188, 8, 1), (91, 188, 8, 1)]),
+    ("^*t300R^*r1T^*r0A^*b1W[80]^*b1W[FF]~", [(75, 187, 1, 1)]),
+    ("^*t150R^*r3S^*r0A^*b1W[BF]~", [(75, 187, 2, 2), (79, 187, 2, 2)]),
+    ("^&l1O^*t100R^*r0A^*b1W[80]~", [(187, 3237, 3, 3)]),
+    ("^&l2O^*t300R^*r2S^*r0A^*b1W[40]~", [(2473, 3112, 1, 1)]),
+    ("^&l3O^*t300R^*r0A^*b1W[C0]~", [(2362, 60, 1, 2)]),
+    ("^*c3G^*v2T^*t300R^*p0x2Y^*r16S^*r1A^*b2W[FFFF]~",
+     [(76, 152, 1, 1), (80, 152, 1, 1), (84, 152, 1, 1), (88, 152, 1, 1)]),
+    ("^*c50G^*v2T^*t300R^*r0A^*p0x0Y^*b1W[F0]~", [(76, 150, 1, 1), (78, 150, 1, 1)]),
+    ("^*c7G^*c9W[0000010000010001][80]^*v4T^*c2Q^*p0x0Y^*c2a1b5P~", [(75, 150, 2, 1)]),
+    ("^*p0x0Y^*c3a2b0P^*c1a1b1P~", [(76, 150, 2, 1), (75, 151, 3, 1)]),
+    ("^*v1T^*p0x0Y^*c3a2b0P^*c1a1b5P~", [(76, 150, 2, 1), (75, 151, 3, 1)]),
+    ("^*c7.2h4.8v0P~", [(75, 187, 3, 2)]),
+    ("^*p0x0Y^&f1y0X^*c1a1b0P^*p+2X^&f3x1x3X~", [(75, 150, 1, 1), (77, 150, 1, 1)]),
+    ("^&f1y0X^&f8X^*c1a1b0P^&f1x2x2X~", [(75, 187, 1, 1)]),
+    ("^&f2y0X^*c4a1b0P~^&f1x4X~~", [(75, 187, 4, 1)]),
+    ("^&f2y0X^*c4a1b0P~^&f1x4X^*c1a1b0P^&f3y0X^%-12345X", [(75, 187, 4, 1)]),
+    ("^*p10X^&f0S^&f2y0X^&f1S^*c1a1b0P^&f1x4X^*p20X~", [(85, 187, 1, 1)]),
+    ("^*v1T^*p5x5Y^&f2y0X^*c4a1b0P^*c5P^&f1x4X~", [(75, 187, 4, 1)]),
+    ("^*t300R^*p10x0Y^*r1A^&f2y0x1x3X^*b1W[80]~", [(75, 150, 1, 1)]),
+    ("^*t300R^*p10x0Y^*r1A^&f2y0x1x2X^*b1W[80]~", [(85, 150, 1, 1)]),
+    ("^&f1y0X^*c1a1b0P^*p+2X^&f1y3x1X^&f2y0X^&f1y3x1x4X~", [(75, 187, 1, 1)]),
+    ("^&f2y0X^*c1a1b0P|^*c0P|^*c0P^&f1x4X~", [(75, 187, 1, 1), (75, 237, 1, 1), (75, 287, 1, 1)]),
+    ("^&f2y0X^*p3150Y|^*p-1Y^*c1a1b0P^&f1x4X~", [(75, 3299, 1, 1)]),
+    ("^&f2y0X^&u600D^*p10x0Y^*c4a2b0P^&f1x4X~", [(80, 150, 2, 1)]),
+]
+
+# A user-defined pattern of three by two dots: black, black, white; black, white, white.
+USER = "^*c9G^*c10W[0000010000020003C080]^*v4T"
+
+# A row of raster graphics in that pattern, and a fill with it over a black box, in each orientation. The boxes are the model's.
+IN_THE_FRAME = [
+    (f"^&l0O{USER}^*t300R^*p1x2Y^*r5S^*r1A^*b1W[D0]~",
+     [(76, 152, 1, 1), (79, 152, 1, 1)]),
+    (f"^&l0O{USER}^*t150R^*p1x2Y^*r5S^*r1A^*b1W[D0]~",
+     [(76, 152, 1, 1), (78, 152, 2, 1), (82, 152, 1, 1), (78, 153, 1, 1)]),
+    (f"^&l1O{USER}^*t300R^*p1x2Y^*r5S^*r1A^*b1W[D0]~",
+     [(152, 3235, 1, 1), (152, 3238, 1, 1)]),
+    (f"^&l1O{USER}^*t150R^*p1x2Y^*r5S^*r1A^*b1W[D0]~",
+     [(152, 3232, 1, 1), (152, 3235, 1, 1), (152, 3236, 2, 1), (152, 3238, 1, 1)]),
+    (f"^&l2O{USER}^*t300R^*p1x2Y^*r5S^*r1A^*b1W[D0]~",
+     [(2470, 3147, 1, 1), (2473, 3147, 1, 1)]),
+    (f"^&l2O{USER}^*t150R^*p1x2Y^*r5S^*r1A^*b1W[D0]~",
+     [(2471, 3146, 1, 1), (2467, 3147, 1, 1), (2470, 3147, 2, 1), (2473, 3147, 1, 1)]),
+    (f"^&l3O{USER}^*t300R^*p1x2Y^*r5S^*r1A^*b1W[D0]~",
+     [(2397, 61, 1, 1), (2397, 64, 1, 1)]),
+    (f"^&l3O{USER}^*t150R^*p1x2Y^*r5S^*r1A^*b1W[D0]~",
+     [(2397, 61, 1, 1), (2396, 63, 2, 1), (2397, 64, 1, 1), (2397, 67, 1, 1)]),
+    (f"^&l0O^*p0x0Y^*c4a4b0P^*p1x1Y^*v1O{USER}^*c4a2b5P~",
+     [(75, 150, 4, 1), (75, 151, 1, 1), (78, 151, 1, 1), (75, 152, 2, 1), (78, 152, 2, 1), (75, 153, 4, 1)]),
+    (f"^&l1O^*p0x0Y^*c4a4b0P^*p1x1Y^*v1O{USER}^*c4a2b5P~",
+     [(152, 3235, 1, 1), (150, 3236, 4, 1), (150, 3237, 1, 2), (153, 3237, 1, 1), (152, 3238, 2, 1), (150, 3239, 4, 1)]),
+    (f"^&l2O^*p0x0Y^*c4a4b0P^*p1x1Y^*v1O{USER}^*c4a2b5P~",
+     [(2471, 3146, 4, 1), (2470, 3147, 2, 1), (2473, 3147, 2, 1), (2471, 3148, 1, 1), (2474, 3148, 1, 1), (2471, 3149, 4, 1)]),
+    (f"^&l3O^*p0x0Y^*c4a4b0P^*p1x1Y^*v1O{USER}^*c4a2b5P~",
+     [(2396, 60, 4, 1), (2396, 61, 2, 1), (2399, 61, 1, 2), (2396, 62, 1, 1), (2396, 63, 4, 1), (2397, 64, 1, 1)]),
+]
+
+# A pattern, and what becomes of the dots 11001100 of a row where the first four dots of the line are black: with source and pattern
+# transparent, the pattern opaque, the source opaque, and both.
+MODES = [
+    ("^*v0T", [0xFC, 0xFC, 0xCC, 0xCC]),
+    ("^*v1T", [0x30, 0x30, 0x00, 0x00]),
+    ("^*c50G^*v2T", [0xF4, 0x74, 0xC4, 0x44]),
+    ("^*c2G^*v3T", [0xF4, 0x34, 0xC4, 0x04]),
+    (USER, [0xF8, 0xF8, 0xC8, 0xC8]),
+]
+
+# A resolution, and how many dots wide and high a black dot of a row is; every other dot of its pattern is black.
+WIDE_DOTS = [(75, 4), (100, 3), (150, 2), (300, 1)]
+
+WIDTH, HEIGHT = 2550, 3300
+
+
+def page(boxes):
+    """The file of a side of Letter whose dots in these boxes are black."""
+    rows = [bytearray((WIDTH + 7) // 8) for _ in range(HEIGHT)]
+    for left, top, width, height in boxes:
+        for line in range(top, top + height):
+            for column in range(left, left + width):
+                rows[line][column // 8] |= 0x80 >> column % 8
+    return b"P4\n%d %d\n" % (WIDTH, HEIGHT) + b"".join(rows)
+
+
+def listing(sheets):
+    """The lines of sheets of Letter with so many black dots on each side."""
+    return "".join(f"sheet {number} {side} {WIDTH}x{HEIGHT} black {black}\n" for number, sides in enumerate(sheets, 1)
+                   for side, black in zip(["front", "back"], sides))
+
+
+ROWS = [("print --list -", 0, listing(sheets), stream_of(stream)) for stream, sheets in SIDES]
+ROWS += [("print - page-%d.pbm", 0, [page(boxes), ...], stream_of(stream)) for stream, boxes in BOXES]
+ROWS += [("print - page-%d.pbm", 0, [page(boxes), ...], stream_of(stream)) for stream, boxes in IN_THE_FRAME]
+ROWS += [("print - page-%d.pbm", 0, [page([(75 + place, 150, 1, 1) for place in range(8) if dots[mode] & 0x80 >> place])],
+          stream_of(f"^*p0x0Y^*c4a1b0P{pattern}^*v{mode // 2}n{mode % 2}O^*t300R^*r8S^*r1A^*b1W[CC]~"))
+         for pattern, dots in MODES for mode in range(4)]
+ROWS += [("print - page-%d.pbm", 0,
+          [page([(x, y, 1, 1) for x in range(75, 75 + side) for y in range(187, 187 + side) if x % 2 == y % 2])],
+          stream_of(f"^*c50G^*v2T^*t{resolution}R^*r8S^*r0A^*b1W[80]~")) for resolution, side in WIDE_DOTS]
+# in duplex: a front with a box, a white back, and a white front alone
+ROWS += [("print - page-%d.pbm", 0, [page([(75, 150, 3, 2)]), page([]), page([])], stream_of("^&l1S^*p0x0Y^*c3a2b0P~~~"))]
+
+# How the second of three files is made one that cannot be made, or that can be opened and takes no byte.
+BROKEN = {"folder": lambda path: path.mkdir(), "full": lambda path: path.symlink_to("/dev/full")}
+ROWS += [(f"print - {name}-%d.pbm", 1, "fault 301\n", b"\x0c\x0c\x0c") for name in BROKEN]

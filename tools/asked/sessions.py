@@ -1,0 +1,203 @@
+"""Sessions with a press: each kind of message at each status of an entry and of the queue, refusals, and turns between them."""
+
+import json
+
+from asked.files import TICKET, named
+from asked.jobs import ticket
+
+
+def text_of(value):
+    return json.dumps(value, separators=(",", ":"), sort_keys=True)
+
+
+def message(text, response, *images):
+    """A line with a message, and its response."""
+    return " ".join(["message", named(text), *images]), response
+
+
+def ask(kind, code, *images, answer={}, **members):
+    """A message of this kind with these members, and what is answered beside the code."""
+    text = text_of({"ID": "m", "Type": kind, **members})
+    return message(text.encode(), text_of({"ReturnCode": code, "Type": kind, "refID": "m", **answer}), *images)
+
+
+def submit(number, priority=50, text=TICKET, images=("dot",)):
+    """A submission that is taken."""
+    answer = {"QueueEntryID": f"Q{number}"}
+    return ask("SubmitQueueEntry", 0, *images, answer=answer, Ticket=json.loads(text), Priority=priority)
+
+
+def refused(code, priority=50):
+    """A submission that is not taken."""
+    return ask("SubmitQueueEntry", code, "dot", Ticket=json.loads(TICKET), Priority=priority)
+
+
+def entry(kind, number, code, **members):
+    """A message about an entry."""
+    removed = kind == "RemoveQueueEntry" and code == 0
+    return ask(kind, code, answer={"Status": "Removed"} if removed else {}, QueueEntryID=f"Q{number}", **members)
+
+
+def queue(status, *entries):
+    """What the queue is, and its entries in order: number, status and priority of each."""
+    told = [{"Priority": priority, "QueueEntryID": f"Q{number}", "Status": its} for number, its, priority in entries]
+    return ask("QueueStatus", 0, answer={"Queue": {"Entries": told, "Status": status}})
+
+
+def waiting(order, priorities):
+    """A queue whose entries all wait."""
+    return queue("Waiting", *((number, "Waiting", priorities[number]) for number in order))
+
+
+def device(status, name="", sheets=0):
+    """What the device does."""
+    return ask("Status", 0, answer={"Device": {"QueueEntryID": name, "Sheets": sheets, "Status": status}})
+
+
+def turn(most, name, steps):
+    return f"turn {most}", f"turn {name} {steps}"
+
+
+def operator(word):
+    return word, "ok"
+
+
+def session(*exchanges, sheets=()):
+    """Lines with their answers, and the sheets that are listed at the end."""
+    answers = [answer for _, answer in exchanges]
+    return "press", 0, "".join(f"{line}\n" for line in [*answers, *sheets]), "\n".join(line for line, _ in exchanges).encode()
+
+
+ALL = 18446744073709551615
+SHEET = "Q1 sheet 1 front 2550x3300 black 1"
+
+# What is done with the only entry, its status then, and the sheets that it has printed.
+WAYS = [
+    ("Waiting", [], []),
+    ("Held", [entry("HoldQueueEntry", 1, 0)], []),
+    ("Running", [turn(1, "Q1", 1)], []),
+    ("Completed", [turn(ALL, "Q1", 18)], [SHEET]),
+    ("Aborted", [entry("AbortQueueEntry", 1, 0)], []),
+]
+
+# A message about an entry, and its return code at each of these statuses.
+OF_ENTRIES = [
+    ("HoldQueueEntry", {}, [0, 22, 22, 22, 22]),
+    ("ResumeQueueEntry", {}, [22, 0, 22, 22, 22]),
+    ("SuspendQueueEntry", {}, [5, 5, 5, 5, 5]),
+    ("AbortQueueEntry", {}, [0, 0, 0, 22, 22]),
+    ("RemoveQueueEntry", {}, [0, 0, 22, 0, 0]),
+    ("SetQueueEntryPriority", {"Priority": 70}, [0, 0, 22, 22, 22]),
+    ("SetQueueEntryPosition", {"Position": 0}, [0, 0, 22, 22, 22]),
+]
+SESSIONS = [session(submit(1), *way, queue("Running" if status == "Running" else "Waiting", (1, status, 50)),
+                    entry(kind, 1, codes[place], **members), sheets=sheets)
+            for kind, members, codes in OF_ENTRIES for place, (status, way, sheets) in enumerate(WAYS)]
+
+# The messages that bring a queue without entries to a status, and what a submission then is answered.
+OF_QUEUES = [
+    ([], "Waiting", 0),
+    (["HoldQueue"], "Held", 0),
+    (["CloseQueue"], "Closed", 23),
+    (["CloseQueue", "HoldQueue"], "Blocked", 23),
+    (["CloseQueue", "OpenQueue"], "Waiting", 0),
+    (["HoldQueue", "ResumeQueue"], "Waiting", 0),
+]
+ALWAYS_TAKEN = ["FlushQueue", "HoldQueue", "ResumeQueue", "CloseQueue", "OpenQueue"]
+SESSIONS += [session(*(ask(kind, 0) for kind in kinds), queue(status), submit(1) if code == 0 else refused(code), device("Idle"),
+                     *(ask(kind, 0) for kind in ALWAYS_TAKEN), queue("Waiting"))
+             for kinds, status, code in OF_QUEUES]
+
+# Messages that are refused where two entries wait.
+REFUSED = [
+    ask("Foo", 5),
+    entry("SuspendQueueEntry", 1, 5),
+    ask("HoldQueueEntry", 7),
+    ask("HoldQueueEntry", 6, QueueEntryID=1),
+    entry("HoldQueueEntry", 3, 21),
+    entry("HoldQueueEntry", "01", 21),
+    entry("ResumeQueueEntry", 1, 22),
+    entry("SetQueueEntryPriority", 1, 25, Priority=101),
+    entry("SetQueueEntryPriority", 1, 25, Priority=-1),
+    ask("SetQueueEntryPriority", 7, QueueEntryID=1),
+    entry("SetQueueEntryPosition", 1, 26, Position=2),
+    entry("SetQueueEntryPosition", 1, 26, Position=-1),
+    entry("SetQueueEntryPosition", 1, 6, Position=1.0),
+    ask("SubmitQueueEntry", 6, answer={"Fault": 602}, Ticket={}),
+]
+
+# Texts that are no message, and messages without ID or type.
+FAULTY = [
+    message(b"{", '{"ReturnCode":6,"Type":"","refID":""}'),
+    message(b"[]", '{"ReturnCode":6,"Type":"","refID":""}'),
+    message(b'{"Type":"Status"}', '{"ReturnCode":7,"Type":"Status","refID":""}'),
+    message(b'{"ID":1,"Type":2}', '{"ReturnCode":6,"Type":"","refID":""}'),
+    message(b'{"ID":"m"}', '{"ReturnCode":7,"Type":"","refID":"m"}'),
+    message(b'{"ID":"m","Type":null}', '{"ReturnCode":6,"Type":"","refID":"m"}'),
+]
+
+SIX = {1: 50, 2: 60, 3: 50, 4: 0, 5: 100, 6: 60}
+FULL = [(number, "Waiting", 50) for number in range(1, 65)]
+
+SESSIONS += [
+    session(submit(1), submit(2), *REFUSED),
+    session(*FAULTY),
+    # submissions are refused in order: closed, full, priority
+    session(*(submit(number) for number in range(1, 64)), refused(25, 101), ask("CloseQueue", 0), refused(23, 101),
+            ask("OpenQueue", 0), submit(64), refused(24, 101), ask("CloseQueue", 0), refused(23, 101)),
+    # a full queue is told so, until an entry leaves it
+    session(*(submit(number) for number, _, _ in FULL), queue("Full", *FULL), device("Idle"), ask("HoldQueue", 0),
+            ask("ResumeQueue", 0), refused(24), entry("HoldQueueEntry", 1, 0), entry("RemoveQueueEntry", 1, 0), submit(65)),
+    # an entry that has ended counts until it leaves
+    session(*(submit(number) for number, _, _ in FULL), entry("AbortQueueEntry", 1, 0),
+            queue("Full", (1, "Aborted", 50), *FULL[1:]), refused(24), entry("RemoveQueueEntry", 1, 0), submit(65)),
+    # entries stand by their priorities, and are moved
+    session(*(submit(number, priority) for number, priority in SIX.items()), waiting([5, 2, 6, 1, 3, 4], SIX),
+            entry("SetQueueEntryPriority", 5, 0, Priority=50), waiting([2, 6, 1, 3, 5, 4], SIX | {5: 50}),
+            entry("SetQueueEntryPriority", 4, 0, Priority=60), waiting([2, 6, 4, 1, 3, 5], SIX | {5: 50, 4: 60}),
+            entry("SetQueueEntryPosition", 3, 0, Position=0), waiting([3, 2, 6, 4, 1, 5], SIX | {5: 50, 4: 60}),
+            entry("SetQueueEntryPosition", 2, 0, Position=5), waiting([3, 6, 4, 1, 5, 2], SIX | {5: 50, 4: 60})),
+    # a new entry stands before one of lower priority, although that has ended
+    session(submit(1), turn(ALL, "Q1", 18), submit(2, 40), entry("AbortQueueEntry", 2, 0), submit(3, 30), submit(4, 60), submit(5),
+            queue("Waiting", (4, "Waiting", 60), (1, "Completed", 50), (5, "Waiting", 50), (2, "Aborted", 40), (3, "Waiting", 30)),
+            entry("SetQueueEntryPosition", 3, 26, Position=5), entry("SetQueueEntryPosition", 4, 0, Position=4),
+            queue("Waiting", (1, "Completed", 50), (5, "Waiting", 50), (2, "Aborted", 40), (3, "Waiting", 30), (4, "Waiting", 60)),
+            sheets=[SHEET]),
+    # the first that waits begins, and stays where it stands
+    session(submit(1), submit(2), submit(3), entry("HoldQueueEntry", 1, 0), turn(1, "Q2", 1),
+            queue("Running", (1, "Held", 50), (2, "Running", 50), (3, "Waiting", 50)), ask("FlushQueue", 0),
+            queue("Running", (2, "Running", 50)), operator("abort"), turn(1, "-", 0), queue("Waiting", (2, "Aborted", 50))),
+    # the status of the queue is the first that holds: blocked, closed, held, full, running
+    session(submit(1), turn(1, "Q1", 1), queue("Running", (1, "Running", 50)),
+            ask("HoldQueue", 0), queue("Held", (1, "Running", 50)), ask("CloseQueue", 0), queue("Blocked", (1, "Running", 50)),
+            ask("ResumeQueue", 0), queue("Closed", (1, "Running", 50)), ask("OpenQueue", 0),
+            queue("Running", (1, "Running", 50)), *(submit(number) for number in range(2, 65)),
+            queue("Full", (1, "Running", 50), *FULL[1:])),
+    # a held queue begins no entry, and goes on with one
+    session(submit(1), ask("HoldQueue", 0), turn(1, "-", 0), ask("ResumeQueue", 0), turn(1, "Q1", 1), ask("HoldQueue", 0),
+            turn(2, "Q1", 2), device("Running", "Q1")),
+    # a paused device is stopped, and what runs is aborted at once
+    session(submit(1), turn(14, "Q1", 14), operator("pause"), device("Stopped", "Q1", 1), turn(1, "-", 0), operator("abort"),
+            device("Stopped"), operator("continue"), device("Idle"), queue("Waiting", (1, "Aborted", 50)), sheets=[SHEET]),
+    # the entry of higher priority is printed first, and the one that is aborted behind its first sheet prints no more
+    session(submit(1), turn(13, "Q1", 13), submit(2, 51, ticket(NPage="2", Sides=""), ["bar", "dot"]), turn(1, "Q1", 1), turn(9, "Q1", 4),
+            submit(3), turn(14, "Q2", 14), operator("abort"), turn(9, "Q3", 9), turn(100, "Q3", 9), turn(1, "-", 0),
+            sheets=[SHEET, "Q2 sheet 1 front 2550x3300 black 3", "Q3 sheet 1 front 2550x3300 black 1"]),
+]
+
+# Changes of a ticket of three pages on both sides, how many commands its job has (10 around the sheets; 6, 9 and 6 for the pages; 1
+# for a sheet, and 1 more where it has no back), and the black dots of each side that it prints with images of 1, 16 and 3 of them.
+SETS = [
+    ({"Sides": ""}, 37, [(1,), (16,), (3,)]),
+    ({"Amount": "2"}, 58, [(1, 16), (3,), (1, 16), (3,)]),
+    ({"Amount": "2", "Collate": "false"}, 34, [(1, 16), (1, 16), (3,), (3,)]),
+    ({"Amount": "2", "RunList": "[[-1,-1]]"}, 18, [(3,), (3,)]),
+    ({"RunList": "[[-1,0],[1,1]]", "Sides": '"TwoSidedHeadToFoot"'}, 42, [(3, 16), (1, 16)]),
+    ({"Amount": "2", "Collate": "false", "Sides": ""}, 37, [(1,), (1,), (16,), (16,), (3,), (3,)]),
+]
+SESSIONS += [session(submit(1, text=ticket(**changes), images=("dot", "lines", "bar")), turn(ALL, "Q1", commands),
+                     sheets=[f"Q1 sheet {number} {side} 2550x3300 black {black}" for number, sides in enumerate(sheets, 1)
+                             for side, black in zip(["front", "back"], sides)])
+             for changes, commands, sheets in SETS]
+
+ROWS = SESSIONS
