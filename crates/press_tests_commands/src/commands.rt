@@ -87,43 +87,6 @@ fn keeps_the_other_kinds(rt: HostRuntime) -> Result<(), Fail> {
     kept(&rt, &Command::Foreign(0x1B), b"\x1B")
 }
 
-/// Lines, each with its command word, its name and its value, and whether it enters a language.
-#[test]
-fn reads_the_words_of_lines(rt: HostRuntime) {
-    let lines: [(&[u8], &[u8], &[u8], &[u8], bool); 5] = [
-        (
-            b"@PJL ENTER LANGUAGE=PCL\n",
-            b"ENTER",
-            b"LANGUAGE",
-            b"PCL",
-            true,
-        ),
-        (
-            b"@PJL enter language = pcl \r\n",
-            b"enter",
-            b"language",
-            b"pcl",
-            true,
-        ),
-        (
-            b"@PJL ENTER LANGUAGE= \n",
-            b"ENTER",
-            b"LANGUAGE",
-            b"",
-            false,
-        ),
-        (b"@PJL SET COPIES\t= 3\n", b"SET", b"COPIES", b"3", false),
-        (b"@PJL\n", b"", b"", b"", false),
-    ];
-    for (line, word, name, value, enters) in lines {
-        assert!(rt; pjl::is_line(line));
-        assert_eq!(rt; pjl::command_of(line).0, word);
-        assert_eq!(rt; pjl::assignment_of(line).0, name);
-        assert_eq!(rt; pjl::assignment_of(line).1, value);
-        assert_eq!(rt; pjl::language(line).is_some(), enters);
-    }
-}
-
 #[test]
 fn tells_the_parts_of_commands(rt: HostRuntime) {
     assert!(rt; is_broken(b"\x1B*p20"));
@@ -205,27 +168,5 @@ fn tells_lines_from_other_bytes(rt: HostRuntime) {
         assert_eq!(rt; differs(&PJL_MARK, bytes), other);
         assert_eq!(rt; pjl::begins_line(bytes), begins);
         assert_eq!(rt; pjl::is_line(bytes), line);
-    }
-}
-
-#[test]
-fn trims_texts_of_lines(rt: HostRuntime) {
-    assert_eq!(rt;
-        pjl::line_text(b"@PJL SET A = B \r\n"),
-        b" SET A = B ".as_slice()
-    );
-    assert_eq!(rt; pjl::line_text(b"@PJL\n"), b"".as_slice());
-    assert_eq!(rt; pjl::trimmed_front(b" \tA B "), b"A B ".as_slice());
-    assert_eq!(rt; pjl::trimmed(b" \tA B "), b"A B".as_slice());
-    let words: [(&[u8], bool, bool); 5] = [
-        (b"Enter", true, false),
-        (b"ENTER", true, false),
-        (b" ENTER", false, true),
-        (b"\tENTES", false, true),
-        (b"ENTES", false, false),
-    ];
-    for (bytes, word, white) in words {
-        assert_eq!(rt; pjl::is_word(bytes, b"ENTER"), word);
-        assert_eq!(rt; pjl::begins_white(bytes), white);
     }
 }

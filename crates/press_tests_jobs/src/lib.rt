@@ -1,22 +1,16 @@
-//! The tests of what takes jobs: tickets, their streams, the queue, messages, turns, and the program's files and sessions.
+//! The tests of what takes jobs: tickets, their streams, the queue, turns, and the program's files and sessions.
 #![tactic(auto)]
 
 #[cfg(test)]
 mod jobs_of_tickets;
 #[cfg(test)]
-mod messages;
-#[cfg(test)]
 mod program_devices;
-#[cfg(test)]
-mod program_files;
 #[cfg(test)]
 mod program_jobs;
 #[cfg(test)]
 mod program_sessions;
 #[cfg(test)]
 mod queue;
-#[cfg(test)]
-mod statuses;
 #[cfg(test)]
 mod tickets;
 #[cfg(test)]

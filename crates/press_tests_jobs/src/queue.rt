@@ -1,5 +1,5 @@
 //! The queue: each command at each status, and each refusal.
-use press_queue::{End, Entry, Queue, QueueStatus, Refusal, Status, SubmitError};
+use press_queue::{End, Entry, Queue, Refusal, Status, SubmitError};
 use std::alloc::{AllocError, Global};
 use std::process::Abort;
 use std::test::Fail;
@@ -55,12 +55,6 @@ fn entry_at(rt: &impl Abort, alloc: Global, status: Status) -> Result<Queue, Fai
     }
     assert_eq!(rt; queue.entry(1).map(|entry| entry.status), Some(status));
     Ok(queue)
-}
-
-/// Whether the numbers of the entries, in order, are these.
-fn stand_so(queue: &Queue, numbers: &[u64]) -> bool {
-    let entries = queue.status().entries;
-    entries.len() == numbers.len() && entries.keys().zip(numbers).all(|(is, wanted)| is == wanted)
 }
 
 const STATUSES: [Status; 6] = [
@@ -203,77 +197,6 @@ fn each_refusal_has_its_code(rt: HostRuntime) -> Result<(), Fail> {
     Ok(())
 }
 
-/// Commands, with the order of six entries after each. Before them it is 5, 2, 6, 1, 3, 4.
-const MOVES: [(EntryCommand, u64, i128, [u64; 6]); 5] = [
-    (EntryCommand::SetPriority, 5, 50, [2, 6, 1, 3, 5, 4]),
-    (EntryCommand::SetPriority, 4, 60, [2, 6, 4, 1, 3, 5]),
-    (EntryCommand::SetPosition, 3, 0, [3, 2, 6, 4, 1, 5]),
-    (EntryCommand::SetPosition, 2, 5, [3, 6, 4, 1, 5, 2]),
-    (EntryCommand::Abort, 6, 0, [3, 6, 4, 1, 5, 2]),
-];
-
-#[test]
-fn entries_stand_by_priority_and_move(rt: HostRuntime) -> Result<(), Fail> {
-    let mut queue = Queue::new(rt.alloc());
-    for priority in [50, 60, 50, 0, 100, 60] {
-        queue.submit(priority)?;
-    }
-    assert!(rt; stand_so(&queue, &[5, 2, 6, 1, 3, 4]));
-    for (command, number, value, order) in &MOVES {
-        assert_eq!(rt; give(&mut queue, *command, *number, *value), Ok(()));
-        assert!(rt; stand_so(&queue, order));
-    }
-    Ok(())
-}
-
-#[test]
-fn a_new_entry_stands_before_an_ended_one_of_lower_priority(rt: HostRuntime) -> Result<(), Fail> {
-    let mut queue = entry_at(&rt, rt.alloc(), Status::Completed)?;
-    queue.submit(40)?;
-    queue.abort(2)?;
-    queue.submit(30)?;
-    queue.submit(60)?;
-    queue.submit(50)?;
-    assert!(rt; stand_so(&queue, &[4, 1, 5, 2, 3]));
-    assert_eq!(rt; queue.set_position(3, 5), Err(Refusal::BadPosition));
-    assert_eq!(rt; queue.set_position(4, 4), Ok(()));
-    assert!(rt; stand_so(&queue, &[1, 5, 2, 3, 4]));
-    Ok(())
-}
-
-/// The answer to a submission that is refused.
-fn refusal_of(queue: &mut Queue, priority: i128) -> Option<Refusal> {
-    match queue.submit(priority) {
-        Err(SubmitError::Refused(refusal)) => Some(refusal),
-        Ok(_) | Err(SubmitError::NoMemory) => None,
-    }
-}
-
-#[test]
-fn submissions_are_refused_in_order(rt: HostRuntime) -> Result<(), Fail> {
-    let mut queue = queue_of(rt.alloc(), 63)?;
-    assert_eq!(rt; refusal_of(&mut queue, 101), Some(Refusal::BadPriority));
-    queue.close_queue();
-    assert_eq!(rt; refusal_of(&mut queue, 101), Some(Refusal::Closed));
-    queue.open_queue();
-    assert_eq!(rt; queue.submit(50)?, 64);
-    assert_eq!(rt; refusal_of(&mut queue, 101), Some(Refusal::Full));
-    queue.close_queue();
-    assert_eq!(rt; refusal_of(&mut queue, 101), Some(Refusal::Closed));
-    Ok(())
-}
-
-#[test]
-fn ended_entries_count_until_they_leave(rt: HostRuntime) -> Result<(), Fail> {
-    let mut queue = queue_of(rt.alloc(), 64)?;
-    queue.abort(1)?;
-    assert_eq!(rt; queue.queue_status(), QueueStatus::Full);
-    assert_eq!(rt; refusal_of(&mut queue, 50), Some(Refusal::Full));
-    queue.remove(1)?;
-    assert_eq!(rt; queue.submit(50)?, 65);
-    Ok(())
-}
-
 #[test]
 fn a_ninth_in_flight_is_refused(rt: HostRuntime) -> Result<(), Fail> {
     let mut queue = queue_of(rt.alloc(), 9)?;
@@ -286,40 +209,6 @@ fn a_ninth_in_flight_is_refused(rt: HostRuntime) -> Result<(), Fail> {
     assert_eq!(rt; queue.suspend(8), Err(Refusal::InFlightFull));
     queue.abort(1)?;
     assert_eq!(rt; queue.suspend(8), Ok(()));
-    Ok(())
-}
-
-#[test]
-fn the_first_that_waits_begins_where_it_stands(rt: HostRuntime) -> Result<(), Fail> {
-    let mut queue = queue_of(rt.alloc(), 3)?;
-    queue.hold(1)?;
-    assert_eq!(rt; begin(&rt, &mut queue), Some(2));
-    assert!(rt; stand_so(&queue, &[1, 2, 3]));
-    queue.flush();
-    assert!(rt; stand_so(&queue, &[2]));
-    finish(&rt, &mut queue, 2, End::Aborted);
-    assert_eq!(rt; begin(&rt, &mut queue), None);
-    assert_eq!(rt; queue.queue_status(), QueueStatus::Waiting);
-    Ok(())
-}
-
-#[test]
-fn the_first_status_of_the_queue_that_holds(rt: HostRuntime) -> Result<(), Fail> {
-    let mut queue = entry_at(&rt, rt.alloc(), Status::Running)?;
-    assert_eq!(rt; queue.queue_status(), QueueStatus::Running);
-    queue.hold_queue();
-    assert_eq!(rt; queue.queue_status(), QueueStatus::Held);
-    queue.close_queue();
-    assert_eq!(rt; queue.queue_status(), QueueStatus::Blocked);
-    queue.resume_queue();
-    assert_eq!(rt; queue.queue_status(), QueueStatus::Closed);
-    queue.open_queue();
-    assert!(rt; !queue.status().closed && !queue.status().held);
-    for _ in 1..64 {
-        assert_eq!(rt; queue.queue_status(), QueueStatus::Running);
-        queue.submit(50)?;
-    }
-    assert_eq!(rt; queue.queue_status(), QueueStatus::Full);
     Ok(())
 }
 

@@ -12,28 +12,6 @@ fn letter() -> LogicalPage {
 }
 
 #[test]
-fn moves_within_the_page(rt: HostRuntime) {
-    let cases: [(i64, bool, u32, i64); 9] = [
-        // distance, relative, x, y
-        (0, false, 0, 0),
-        (57_600, false, 57_600, 57_600),
-        (57_601, false, 57_600, 57_601),
-        (75_601, false, 57_600, 75_600),
-        (-1, false, 0, -1),
-        (-3601, false, 0, -3600),
-        (24, true, 24, 924),
-        (-24, true, 0, 876),
-        (0, true, 0, 900),
-    ];
-    for (distance, relative, x, y) in cases {
-        let mut cursor = Cursor::at_home(0, 1200, letter());
-        cursor.move_x(Pos(distance), relative, letter());
-        cursor.move_y(Pos(distance), relative, letter());
-        assert_eq!(rt; (cursor.x(), cursor.y()), (x, y));
-    }
-}
-
-#[test]
 fn rows_count_from_the_first_line(rt: HostRuntime) {
     let mut cursor = Cursor::at_home(720, 1200, letter());
     assert_eq!(rt; cursor.position(), CursorPosition { x: 720, y: 900 });
@@ -45,23 +23,6 @@ fn rows_count_from_the_first_line(rt: HostRuntime) {
     assert_eq!(rt; cursor.y(), 2700);
     cursor.move_to_first_line(1200, letter());
     assert_eq!(rt; cursor.y(), 900);
-}
-
-#[test]
-fn the_stack_holds_twenty_positions(rt: HostRuntime) {
-    let mut cursor = Cursor::at_home(0, 1200, letter());
-    for column in 1..22u32 {
-        cursor.move_x(Pos(i64::from(24 * column)), false, letter());
-        assert_eq!(rt; cursor.push(), column <= 20);
-    }
-    assert_eq!(rt; cursor.x(), 504);
-    for popped in 1..21u32 {
-        assert!(rt; cursor.pop(letter()));
-        assert_eq!(rt; cursor.x(), 24 * (21 - popped));
-    }
-    assert!(rt; !cursor.pop(letter()));
-    assert_eq!(rt; cursor.x(), 24);
-    assert!(rt; cursor.stack().is_empty());
 }
 
 #[test]
@@ -79,6 +40,7 @@ fn what_is_outside_is_clamped(rt: HostRuntime) {
     copy.clamp(small);
     assert_eq!(rt; copy.position(), CursorPosition { x: 2400, y: 0 });
     assert!(rt; cursor.pop(small));
+    assert!(rt; cursor.stack().is_empty());
     assert_eq!(rt; cursor.position(), CursorPosition { x: 2400, y: 0 });
     cursor.move_to(CursorPosition { x: 24, y: 9600 }, small);
     assert_eq!(rt; cursor.position(), CursorPosition { x: 24, y: 4800 });

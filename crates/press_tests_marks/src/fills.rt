@@ -41,71 +41,6 @@ fn expect_line(rt: &impl Abort, page: &Bitmap, y: u32, byte: u8) {
     assert_eq!(rt; page.line(y), [byte].as_slice());
 }
 
-/// Four columns and two lines of the frame, filled with a pattern of three by two dots: black, black, white; black, white,
-/// white.
-fn expect_turned(
-    rt: &impl Abort,
-    alloc: Global,
-    orientation: Orientation,
-    lines: [u8; 4],
-) -> Result<(), Fail> {
-    let mut patterns = Patterns::new(alloc);
-    patterns.define(9, &[0, 0, 1, 0, 0, 2, 0, 3, 0xc0, 0x80])?;
-    let pattern = Pattern {
-        kind: Kind::User,
-        id: 9,
-    };
-    let area = Rect {
-        x: 1,
-        y: 1,
-        width: 4,
-        height: 2,
-    };
-    let environment = environment(orientation);
-    let mut page = half_black(alloc, 4)?;
-    fill(
-        &mut page,
-        &environment,
-        &patterns,
-        area,
-        pattern,
-        PATTERN_OPAQUE,
-    )?;
-    expect_line(rt, &page, 0, lines[0]);
-    expect_line(rt, &page, 1, lines[1]);
-    expect_line(rt, &page, 2, lines[2]);
-    expect_line(rt, &page, 3, lines[3]);
-    Ok(())
-}
-
-#[test]
-fn a_pattern_lies_in_the_frame(rt: HostRuntime) -> Result<(), Fail> {
-    expect_turned(
-        &rt,
-        rt.alloc(),
-        Orientation::Portrait,
-        [0xf0, 0x90, 0xd8, 0xf0],
-    )?;
-    expect_turned(
-        &rt,
-        rt.alloc(),
-        Orientation::Landscape,
-        [0xf0, 0x90, 0xb0, 0xf0],
-    )?;
-    expect_turned(
-        &rt,
-        rt.alloc(),
-        Orientation::ReversePortrait,
-        [0xf0, 0xfa, 0xe8, 0xf0],
-    )?;
-    expect_turned(
-        &rt,
-        rt.alloc(),
-        Orientation::ReverseLandscape,
-        [0xf0, 0xf4, 0xf0, 0xf6],
-    )
-}
-
 /// Two lines of eight dots, filled from a column on.
 fn expect_filled(
     rt: &impl Abort,
@@ -130,34 +65,6 @@ const WHOLE_PAGE: Rect = Rect {
     width: 8,
     height: 2,
 };
-
-#[test]
-fn white_dots_of_a_pattern_show_where_it_is_opaque(rt: HostRuntime) -> Result<(), Fail> {
-    let half_tone = Pattern {
-        kind: Kind::Shading,
-        id: 50,
-    };
-    for source_opaque in [false, true] {
-        let opaque = Mode {
-            source_opaque,
-            ..PATTERN_OPAQUE
-        };
-        expect_filled(&rt, rt.alloc(), WHOLE_PAGE, half_tone, opaque, [0xaa, 0x55])?;
-        let transparent = Mode {
-            source_opaque,
-            ..TRANSPARENT
-        };
-        expect_filled(
-            &rt,
-            rt.alloc(),
-            WHOLE_PAGE,
-            half_tone,
-            transparent,
-            [0xfa, 0xf5],
-        )?;
-    }
-    Ok(())
-}
 
 #[test]
 fn solid_white_whitens(rt: HostRuntime) -> Result<(), Fail> {

@@ -1,5 +1,5 @@
 //! The tiles that always exist, and user-defined patterns.
-use press_pattern::{DefineError, Kind, Pattern, Patterns};
+use press_pattern::{DefineError, Kind, Pattern, Patterns, Tile};
 use std::process::Abort;
 use std::test::Fail;
 
@@ -131,6 +131,13 @@ fn solid_patterns(rt: HostRuntime) {
     expect_line(&rt, &patterns, white, 3, &[0]);
 }
 
+/// The bytes of rows of a tile of at most eight dots.
+fn expect_rows(rt: &impl Abort, tile: &Tile<'_>, rows: &[(u32, u8)]) {
+    for (y, row) in rows {
+        assert_eq!(rt; tile.row(*y), [*row].as_slice());
+    }
+}
+
 #[test]
 fn a_pattern_of_three_dots(rt: HostRuntime) -> Result<(), Fail> {
     let mut patterns = Patterns::new(rt.alloc());
@@ -141,17 +148,12 @@ fn a_pattern_of_three_dots(rt: HostRuntime) -> Result<(), Fail> {
         id: 9,
     };
     let tile = patterns.tile(pattern).expect(&rt, "it was defined");
-    assert_eq!(rt; tile.width(), 3);
-    assert_eq!(rt; tile.height(), 2);
-    assert_eq!(rt; tile.row(4), [0xa0].as_slice());
-    assert_eq!(rt; tile.row(5), [0x40].as_slice());
+    assert_eq!(rt; (tile.width(), tile.height()), (3, 2));
+    expect_rows(&rt, &tile, &[(4, 0xa0), (5, 0x40)]);
     let turned = tile.transposed(rt.alloc())?;
     let columns = turned.as_tile();
-    assert_eq!(rt; columns.width(), 2);
-    assert_eq!(rt; columns.height(), 3);
-    assert_eq!(rt; columns.row(0), [0x80].as_slice());
-    assert_eq!(rt; columns.row(1), [0x40].as_slice());
-    assert_eq!(rt; columns.row(2), [0x80].as_slice());
+    assert_eq!(rt; (columns.width(), columns.height()), (2, 3));
+    expect_rows(&rt, &columns, &[(0, 0x80), (1, 0x40), (2, 0x80)]);
     Ok(())
 }
 

@@ -1,7 +1,7 @@
 //! Jobs: streams whole and cut at every byte, and readers and sinks that fail at each of their calls.
 use press_bits::Bitmap;
 use press_pbm::FuseRead;
-use press_sink::{FuseReplies, FuseSink, ListReplies, Sheet, SheetSink, SinkError};
+use press_sink::{FuseReplies, FuseSink, ListReplies, ListSink};
 use press_stream::{Job, JobError};
 use std::alloc::{AllocError, Global};
 use std::io::{self, Read};
@@ -57,65 +57,57 @@ fn note(page: &Bitmap) -> u32 {
     page.width().saturating_mul(1000).saturating_add(digits)
 }
 
-/// A sink that notes each side of a sheet.
-#[derive(Drop)]
-struct Notes {
-    sides: Vec<u32>,
-}
-
-impl Notes {
-    /// Notes the sides of a sheet.
-    fn take(&mut self, sheet: &Sheet) -> Result<(), AllocError> {
-        self.sides.push(note(&sheet.front))?;
-        if let Some(back) = &sheet.back {
-            self.sides.push(note(back))?;
+/// The notes of the sides of each sheet.
+fn notes(alloc: Global, sheets: &ListSink) -> Result<Vec<u32>, AllocError> {
+    let mut sides = Vec::new(alloc);
+    for delivery in sheets.deliveries() {
+        sides.push(note(&delivery.sheet.front))?;
+        if let Some(back) = &delivery.sheet.back {
+            sides.push(note(back))?;
         }
-        Ok(())
     }
-}
-
-impl SheetSink for Notes {
-    ghost use Rattle.std.specs.Prelude.{None};
-
-    ghost told = { λ _. record { delivered = None; faults = 0 } };
-
-    fn faults(&self) -> u64 {
-        0
-    }
-
-    fn deliver(&mut self, _tag: u64, sheet: &Sheet) -> Result<(), SinkError> {
-        if self.take(sheet).is_err() {
-            return Err(SinkError::NoMemory);
-        }
-        Ok(())
-    }
+    Ok(sides)
 }
 
 impl Outcome {
     /// What the sinks took.
-    fn of(alloc: Global, notes: &Notes, replies: &ListReplies) -> Result<Self, Fail> {
+    fn of(alloc: Global, sheets: &ListSink, replies: &ListReplies) -> Result<Self, Fail> {
         Ok(Outcome {
             numbers: Vec::new(alloc),
-            sides: Vec::from_slice(alloc, &notes.sides)?,
+            sides: notes(alloc, sheets)?,
             replies: Vec::from_slice(alloc, replies.bytes())?,
         })
     }
 }
 
-/// A stream in two pieces; a piece after the end, and the end once more.
+/// Feeds a piece.
+fn feed(
+    job: &mut Job,
+    piece: &[u8],
+    sheets: &mut ListSink,
+    replies: &mut ListReplies,
+) -> Result<(), Fail> {
+    job.feed(piece, 7, sheets, replies)?;
+    Ok(())
+}
+
+/// Ends the input, and gives what the job answers to one piece more.
+fn finish(job: &mut Job, sheets: &mut ListSink, replies: &mut ListReplies) -> Result<u32, Fail> {
+    job.finish(7, sheets, replies)?;
+    Ok(number(&job.feed(b"\x0C", 7, sheets, replies)))
+}
+
+/// A stream in two pieces; a piece after the end.
 fn cut(alloc: Global, stream: &[u8], at: usize) -> Result<Outcome, Fail> {
-    let mut sheets = Notes {
-        sides: Vec::new(alloc),
-    };
+    let mut sheets = ListSink::new(alloc);
     let mut replies = ListReplies::new(alloc);
     let mut job = Job::open(alloc)?;
     let front = stream.get(..at).unwrap_or(stream);
     let back = stream.get(at..).unwrap_or(stream);
-    job.feed(front, 7, &mut sheets, &mut replies)?;
-    job.feed(back, 7, &mut sheets, &mut replies)?;
+    feed(&mut job, front, &mut sheets, &mut replies)?;
+    feed(&mut job, back, &mut sheets, &mut replies)?;
     let open = job.ended();
-    job.finish(7, &mut sheets, &mut replies)?;
-    let late = number(&job.feed(b"\x0C", 7, &mut sheets, &mut replies));
+    let late = finish(&mut job, &mut sheets, &mut replies)?;
     let mut outcome = Outcome::of(alloc, &sheets, &replies)?;
     let ends = [u32::from(open), u32::from(job.ended()), late];
     outcome.numbers.extend_from_slice(&ends)?;
@@ -133,10 +125,7 @@ struct Fuses {
 
 /// A stream, read byte by byte; and what the job answers to one piece more.
 fn run(alloc: Global, stream: &[u8], fuses: &Fuses) -> Result<Outcome, Fail> {
-    let notes = Notes {
-        sides: Vec::new(alloc),
-    };
-    let mut sheets = FuseSink::new(notes, fuses.sheets);
+    let mut sheets = FuseSink::new(ListSink::new(alloc), fuses.sheets);
     let mut replies = FuseReplies::new(ListReplies::new(alloc), fuses.replies, fuses.front);
     let mut reader = FuseRead::new(ByBytes { bytes: stream }, fuses.reads);
     let mut job = Job::open(alloc)?;
@@ -312,21 +301,5 @@ fn a_reader_may_fail_at_each_call(rt: HostRuntime) -> Result<(), Fail> {
         let outcome = run(rt.alloc(), COPIES, &fuses)?;
         assert!(rt; stopped(&outcome, 304, sheets, REPLY * sheets));
     }
-    Ok(())
-}
-
-#[test]
-fn faults_are_told_by_their_numbers(rt: HostRuntime) -> Result<(), Fail> {
-    let told = format!(in rt.alloc();
-        "{}, {}, {}, {}, {}, {}",
-        JobError::SinkFault,
-        JobError::ReplyFault,
-        JobError::Failed,
-        JobError::ReadFault,
-        JobError::AfterEnd,
-        JobError::NoMemory
-    )?;
-    let wanted = "fault 301, fault 302, fault 303, fault 304, fault 305, fault memory";
-    assert_eq!(rt; told.as_str(), wanted);
     Ok(())
 }

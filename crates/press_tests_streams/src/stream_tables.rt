@@ -26,25 +26,19 @@ pub enum Shows {
     Macros,
     /// How many steps were taken, x and y, and how many bodies run.
     Runs,
-    /// Of each sheet that goes out, how many dots of front and back are black; -1 for no back.
-    Sides,
-    /// The black dots of the first front, as boxes that do not meet: left column, upper line, width and height of each.
-    Boxes,
 }
 
 /// The tables, with the number of their lines.
-pub const TABLES: [(Shows, usize, &str); 11] = [
-    (Shows::Position, 62, MOVES),
+pub const TABLES: [(Shows, usize, &str); 9] = [
+    (Shows::Position, 84, MOVES),
     (Shows::Stack, 4, STACK),
-    (Shows::Margins, 42, MARGINS),
-    (Shows::Copies, 12, COPIES),
-    (Shows::Closes, 33, CLOSES),
+    (Shows::Margins, 74, MARGINS),
+    (Shows::Copies, 18, COPIES),
+    (Shows::Closes, 55, CLOSES),
     (Shows::Raster, 44, RASTER),
     (Shows::Drawing, 30, DRAWING),
     (Shows::Macros, 23, DEFINITIONS),
     (Shows::Runs, 28, RUNS),
-    (Shows::Sides, 35, SIDES),
-    (Shows::Boxes, 40, BOXES),
 ];
 
 const MOVES: &str = "\
@@ -109,7 +103,29 @@ const MOVES: &str = "\
 ^*p10X^&f0S^*p20x30Y^&f1S 240 900
 ^*p10X^&f0S^*p20X^&f1.9S^&f1S 240 900
 ^*p10X^&f0S^*p20X^&f2S^&f-1S 480 900
-^*p10x20Y~ 240 900";
+^*p10x20Y~ 240 900
+^&u+150D^*p1X 48 900
+^&u95.9999D^*p1X 24 900
+^&u-96D^*p1X 24 900
+^&k2.9G^*p10X| 0 2100
+^&k+3G^*p10X< 0 2100
+^&k3G^&k-0.9G^*p10X| 240 2100
+^&k336H^&a1C 20160 900
+^&k+10.5H^&a1C 630 900
+^&k.0066H^&a1C 0 900
+^&k-0.0001H^&a1C 720 900
+^&l+10.5C^&a0R 0 1181
+^&l.0066C^&a0R 0 0
+^&l-0.0001C^&a0R 0 900
+^&l2D^&a0R 0 2700
+^&l3D^&a0R 0 1800
+^&l4D^&a0R 0 1350
+^&l6D^&a0R 0 900
+^&l8D^&a0R 0 675
+^&l16D^&a0R 0 337
+^&l24D^&a0R 0 225
+^&l+8.9D^&a0R 0 675
+^&l-8D^&a0R 0 900";
 
 const STACK: &str = "\
 ^*p1X^&f0S^*p2X^&f0S^*p3X^&f0S^*p4X^&f0S^*p5X^&f0S^*p6X^&f0S^*p7X^&f0S^*p8X^&f0S^*p9X^&f0S^*p10X^&f0S^*p11X^&f0S^*p12X^&f0S^*p13X^&f0S^*p14X^&f0S^*p15X^&f0S^*p16X^&f0S^*p17X^&f0S^*p18X^&f0S^*p19X^&f0S^*p20X^&f0S^*p21X^&f0S 504 900 20
@@ -159,7 +175,39 @@ const MARGINS: &str = "\
 ^&a5L^&l4A 3600 57600 3600 72000 3600 900
 ^&l12D^&k1H^&l1O 0 76320 3600 54000 0 900
 ^&a5L^&l2O 0 57600 3600 72000 0 900
-^&a5L^&l4O 3600 57600 3600 72000 3600 900";
+^&a5L^&l4O 3600 57600 3600 72000 3600 900
+^&a79.9987L 57599 57600 3600 72000 57599 900
+^&a-0.0001L 0 57600 3600 72000 0 900
+^&a+1.5L 1080 57600 3600 72000 1080 900
+^&a1L^&a.0013L 0 57600 3600 72000 720 900
+^&a1L^&a0M 720 57600 3600 72000 720 900
+^&a1L^&a0.0013M 720 57600 3600 72000 720 900
+^&a1L^&a0.0014M 720 721 3600 72000 720 900
+^&a1L^&a-0.5M 720 57600 3600 72000 720 900
+^&a1L^&a+1.5M 720 1800 3600 72000 720 900
+^&a1L^&a78M 720 56880 3600 72000 720 900
+^&a1L^&a65535M 720 57600 3600 72000 720 900
+^&l66.0009E 0 57600 3600 72000 0 900
+^&l-0.0008E 0 57600 0 75600 0 900
+^&l-0.0009E 0 57600 3600 72000 0 900
+^&l+3.5E 0 57600 4200 70800 0 900
+^&l1F 0 57600 3600 1200 0 900
+^&l63.9F 0 57600 3600 75600 0 900
+^&l0.9F 0 57600 3600 72000 0 900
+^&l+2F 0 57600 3600 2400 0 900
+^&l0E^&l-0.9L 0 57600 3600 72000 0 900
+^&l0E^&l0.9L 0 57600 3600 72000 0 900
+^&l0E^&l1L 0 57600 0 75600 0 900
+^&l0E^&l+1.9L 0 57600 0 75600 0 900
+^&l0E^&l2L 0 57600 0 75600 0 900
+^&l0E^&l-1L 0 57600 0 75600 0 900
+^&l12C^&a5L^&l26A 0 56112 3600 75600 0 1350
+^&l12C^&l26A^&l1O 0 81336 3600 51600 0 900
+^&l26A^&l1O^&l0C^&l26A 0 81336 3600 52320 0 0
+^&l+26.9A 0 56112 3600 76800 0 900
+^&l27.9999A 0 80760 3600 111600 0 900
+^&l+1.5O 0 76320 3600 54000 0 900
+^&l3O 0 76320 3600 54000 0 900";
 
 const COPIES: &str = "\
 ^&l1X 1 0 1
@@ -173,7 +221,13 @@ const COPIES: &str = "\
 ^&l2S 1 1 0
 ^&l2S^&l0S 1 0 0
 ^&l2S^&l3S 1 1 0
-^&l2S^&l-1S 1 1 0";
+^&l2S^&l-1S 1 1 0
+^&l7X^&l0.9X 7 0 1
+^&l7X^&l-1X 7 0 1
+^&l+2.9X 2 0 1
+^&l7X^&l65535X 999 0 1
+^&l+1.9999S 1 1 1
+^&l2S^&l-0.9S 1 0 0";
 
 const CLOSES: &str = "\
 ~ 1 1 240 900
@@ -208,7 +262,29 @@ const CLOSES: &str = "\
 ^&l3X~ 3 3 240 900
 ^%0B~|^*p0X 0 0 240 480
 ^%0B~^%0A~ 1 1 240 900
-^%0B^E~ 2 1 0 900";
+^%0B^E~ 2 1 0 900
+^&l0A 0 0 240 480
+^&l1A 1 0 0 900
+^&l3A 1 0 0 900
+^&l5A 0 0 240 480
+^&l6A 1 0 0 900
+^&l7A 0 0 240 480
+^&l25A 0 0 240 480
+^&l26A 1 0 0 900
+^&l28A 0 0 240 480
+^&l-2A 0 0 240 480
+^&l0.9999A 0 0 240 480
+^&l+26.9A 1 0 0 900
+^&l27.9999A 1 0 0 900
+^&l-1O 0 0 240 480
+^&l-0.9O 1 0 0 900
+^&l1O 1 0 0 900
+^&l2O 1 0 0 900
+^&l+1.5O 1 0 0 900
+^&l-1S 0 0 240 480
+^&l-0.9S 1 0 0 900
+^&l2S 1 0 0 900
+^&l+1.9999S 1 0 0 900";
 
 const RASTER: &str = "\
 ^*r0A 0 0 0 900
@@ -342,82 +418,3 @@ const RUNS: &str = "\
 ^&a10L^&f1y0X^&l2A^&f1x3X< 8 7200 900 0
 ^&f1y0X^&l20E^*p0Y^&f1x3X^*p-150Y 9 0 -3600 0
 ^&f1y0X^&f0S^&f1x3X^*p+9X^&f1S 8 0 900 0";
-
-const SIDES: &str = "\
-^E~^E 0 -1
- 
-^E^*p0x0Y^*c3a2b0P^E 6 -1
-^*p10<~ 0 -1
-^*p2400x3149Y^*c1000a1000b0P^%-12345X 75 -1
-^*p+6x-5Y^*c2a2b-2a1P^*c0P~~ 4 -1 0 -1
-^&l1S~^E 0 -1
-^&l1S~^&a1G 0 -1
-^&l1S~^&l26A 0 -1
-^&l1S~^&l2S 0 -1
-^&l1S~^&l1O^*c2a3b0P~ 0 6
-^&l1S^&l2X~~ 0 0 0 0
-^&l1S^&a2G^*c2a3b0P~ 0 6
-^&l2S^&a2G^&a2G^*c2a3b0P^E 0 6
-^&l1S^*c2a3b0P^&a2G^*c1a1b0P~ 6 1
-^&a2G^*c2a3b0P~ 6 -1
-^&l1S^*c2a3b0P~~^*c0P~^E 6 0 6 -1
-^&f2y0X^*c4a1b0P~^&f1x4X~~ 4 -1 4 -1
-^&f2y0X^*c4a1b0P^&f1x4X^E
-^&f2y0X^*c4a1b0P^&f1x4X^*p100x100Y^*c1a1b0P^E 5 -1
-^&l1S^&f2y0X^*c4a1b0P^&f1x4X~~ 4 4
-^&l1S^&f2y0X^*c4a1b0P^&f1x4X^&a2G~ 0 4
-^&l2X^&f2y0X^*c4a1b0P^&l5X^&f1x4X~ 4 -1 4 -1
-^&f2y0X^*c4a1b0P^&f1x4X^*p3150Y| 4 -1
-^&f2y0X^*c4a1b0P^&f1x4x5X~ 0 -1
-^&f2y0X^*c4a1b0P^&f1x4x8X~ 0 -1
-^&f2y0X^*c4a1b0P^&f5x1x4X~~ 4 -1 0 -1
-^&f2y0X^*c4a1b0P^&f2y8x1x4X~~ 4 -1 0 -1
-^&f2y0X^*c4a1b0P^%0B^&f1x4X~~ 4 -1
-^&f2y0X^&l1o1s3a1H^&a1G^*c4a1b0P^&f1x4X~~ 4 -1 4 -1
-^&f2y0X^*c4a1b0P^&f1x4X^*p100x100Y^*c1a1b0P^&l1O~ 5 -1 0 -1
-^&f2y0X^*c7G^*c9W[0000010000010001][80]^*c4a1b0P^&f1x4X~^*c7g1a1b4P^E 4 -1 4 -1
-^&f1y0X~~^&f1x3X 0 -1 0 -1
-^&l3X^&f1y0X^&l1X^&f1x3X~ 0 -1 0 -1 0 -1
-^&l3X^&f1y0X^&l1X^&f1x2X~ 0 -1";
-
-const BOXES: &str = "\
-^E^*p0x0Y^*c3a2b0P^E 75 150 3 2
-^*p10x20Y^*c3a2b0P~ 85 170 3 2
-^*p2400x3149Y^*c1000a1000b0P^%-12345X 2475 3299 75 1
-^*p+6x-5Y^*c2a2b-2a1P^*c0P~~ 81 182 2 2
-^*p0x0Y^*c3a2b0P~ 75 150 3 2
-^&l1O^*p0x0Y^*c3a2b0P~ 150 3237 2 3
-^&l2O^*p0x0Y^*c3a2b0P~ 2472 3148 3 2
-^&l3O^*p0x0Y^*c3a2b0P~ 2398 60 2 3
-^*p2400x3149Y^*c100a100b0P~ 2475 3299 75 1
-^*t300R^*r0A^*b1m2W[02F0]~ 75 187 4 1 83 187 4 1 91 187 4 1
-^*t300R^*r0A^*b3m2W[00FF]^*b0W^*b0m0W^*b3m0W^*rC~ 75 187 8 2
-^*p0x0Y^*c16a1b0P^*t300R^*r8S^*v1N^*r1A^*b0W^*rC~ 83 150 8 1
-^*c5G^*c16W[0000010000080008FFFFFFFFFFFFFFFF]^*c15W[000001000008000800000000000000]^*p0x0Y^*c2a1b4P~ 75 150 2 1
-^*t75R^*r1A^*b1W[80]~ 75 187 4 4
-^*c50G^*p0x0Y^*c4a1b2P~ 76 150 1 1 78 150 1 1
-^*t300R^*r0A^*b3m2W[00FF]^*b1Y^*b0W^*rC~ 75 187 8 1
-^*t300R^*r0A^*b2m3W[FEFF01]^*b3m2W[0100]~ 75 187 24 1 75 188 8 1 91 188 8 1
-^*t300R^*r1T^*r0A^*b1W[80]^*b1W[FF]~ 75 187 1 1
-^*t150R^*r3S^*r0A^*b1W[BF]~ 75 187 2 2 79 187 2 2
-^&l1O^*t100R^*r0A^*b1W[80]~ 187 3237 3 3
-^&l2O^*t300R^*r2S^*r0A^*b1W[40]~ 2473 3112 1 1
-^&l3O^*t300R^*r0A^*b1W[C0]~ 2362 60 1 2
-^*c3G^*v2T^*t300R^*p0x2Y^*r16S^*r1A^*b2W[FFFF]~ 76 152 1 1 80 152 1 1 84 152 1 1 88 152 1 1
-^*c50G^*v2T^*t300R^*r0A^*p0x0Y^*b1W[F0]~ 76 150 1 1 78 150 1 1
-^*c7G^*c9W[0000010000010001][80]^*v4T^*c2Q^*p0x0Y^*c2a1b5P~ 75 150 2 1
-^*p0x0Y^*c3a2b0P^*c1a1b1P~ 76 150 2 1 75 151 3 1
-^*v1T^*p0x0Y^*c3a2b0P^*c1a1b5P~ 76 150 2 1 75 151 3 1
-^*c7.2h4.8v0P~ 75 187 3 2
-^*p0x0Y^&f1y0X^*c1a1b0P^*p+2X^&f3x1x3X~ 75 150 1 1 77 150 1 1
-^&f1y0X^&f8X^*c1a1b0P^&f1x2x2X~ 75 187 1 1
-^&f2y0X^*c4a1b0P~^&f1x4X~~ 75 187 4 1
-^&f2y0X^*c4a1b0P~^&f1x4X^*c1a1b0P^&f3y0X^%-12345X 75 187 4 1
-^*p10X^&f0S^&f2y0X^&f1S^*c1a1b0P^&f1x4X^*p20X~ 85 187 1 1
-^*v1T^*p5x5Y^&f2y0X^*c4a1b0P^*c5P^&f1x4X~ 75 187 4 1
-^*t300R^*p10x0Y^*r1A^&f2y0x1x3X^*b1W[80]~ 75 150 1 1
-^*t300R^*p10x0Y^*r1A^&f2y0x1x2X^*b1W[80]~ 85 150 1 1
-^&f1y0X^*c1a1b0P^*p+2X^&f1y3x1X^&f2y0X^&f1y3x1x4X~ 75 187 1 1
-^&f2y0X^*c1a1b0P|^*c0P|^*c0P^&f1x4X~ 75 187 1 1 75 237 1 1 75 287 1 1
-^&f2y0X^*p3150Y|^*p-1Y^*c1a1b0P^&f1x4X~ 75 3299 1 1
-^&f2y0X^&u600D^*p10x0Y^*c4a2b0P^&f1x4X~ 80 150 2 1";

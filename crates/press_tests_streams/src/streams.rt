@@ -1,11 +1,10 @@
 //! Streams that are carried out without an end of input, with what they leave, by the tables of `stream_tables`.
 use crate::stream_tables::{Shows, TABLES};
-use press_bits::Bitmap;
 use press_cmd::Kind;
 use press_engine::{Engine, Last, View};
 use press_page::Binding;
 use press_scan::Scanner;
-use press_sink::{ListReplies, ListSink, Sheet};
+use press_sink::{ListReplies, ListSink};
 use std::test::Fail;
 
 /// More commands than any stream of these tests has.
@@ -56,11 +55,11 @@ fn row_of(rt: &HostRuntime, line: &str) -> Result<(Vec<u8>, Vec<i64>), Fail> {
     Ok((stream, numbers))
 }
 
-/// What a stream left: the engine, and the sheets that went out.
+/// What a stream left: the engine, and how many sheets went out.
 #[derive(Drop)]
 struct CarriedOut {
     engine: Engine,
-    sheets: ListSink,
+    sheets: usize,
 }
 
 /// Carries the commands of a stream out.
@@ -72,6 +71,7 @@ fn carried_out(rt: &HostRuntime, stream: &[u8]) -> Result<CarriedOut, Fail> {
     let mut replies = ListReplies::new(rt.alloc());
     for _ in 0..MOST_COMMANDS {
         let Some(command) = scanner.next()? else {
+            let sheets = sheets.deliveries().len();
             return Ok(CarriedOut { engine, sheets });
         };
         let Ok(()) = engine.run_command(command, 0, &mut sheets, &mut replies) else {
@@ -180,28 +180,11 @@ fn push_view(numbers: &mut Vec<i64>, shows: Shows, view: &View<'_>) -> Result<()
     Ok(())
 }
 
-/// Adds how many dots of the sides of a sheet are black.
-fn push_black(numbers: &mut Vec<i64>, sheet: &Sheet) -> Result<(), Fail> {
-    numbers.push(i64::from(sheet.front.count_black()))?;
-    numbers.push(match &sheet.back {
-        Some(back) => i64::from(back.count_black()),
-        None => -1,
-    })?;
-    Ok(())
-}
-
 /// The numbers that a stream gives.
 fn numbers_of(rt: &HostRuntime, shows: Shows, stream: &[u8]) -> Result<Vec<i64>, Fail> {
     let mut numbers = Vec::new(rt.alloc());
     let left = carried_out(rt, stream)?;
-    match shows {
-        Shows::Sides => {
-            for delivery in left.sheets.deliveries() {
-                push_black(&mut numbers, &delivery.sheet)?;
-            }
-        }
-        _ => push_view(&mut numbers, shows, &left.engine.view())?,
-    }
+    push_view(&mut numbers, shows, &left.engine.view())?;
     Ok(numbers)
 }
 
@@ -213,47 +196,16 @@ fn closes_of(rt: &HostRuntime, stream: &[u8]) -> Result<Vec<i64>, Fail> {
     let marked = carried_out(rt, &after_mark)?;
     let unmarked = carried_out(rt, stream)?;
     let mut numbers = Vec::new(rt.alloc());
-    numbers.push(small(marked.sheets.deliveries().len() as u64))?;
-    numbers.push(small(unmarked.sheets.deliveries().len() as u64))?;
+    numbers.push(small(marked.sheets as u64))?;
+    numbers.push(small(unmarked.sheets as u64))?;
     push_view(&mut numbers, Shows::Position, &marked.engine.view())?;
     Ok(numbers)
-}
-
-/// Whether the black dots of a page are those of boxes that do not meet.
-fn is_boxes(page: &Bitmap, boxes: &[u32]) -> bool {
-    let mut dots = 0u32;
-    for corner in boxes.chunks(4) {
-        let [x, y, width, height] = *corner else {
-            return false;
-        };
-        for line in y..y.saturating_add(height) {
-            for column in x..x.saturating_add(width) {
-                if !page.get(column, line) {
-                    return false;
-                }
-            }
-        }
-        dots = width.saturating_mul(height).saturating_add(dots);
-    }
-    page.count_black() == dots
-}
-
-/// Whether the black dots of the first front are those of the boxes.
-fn gives_boxes(rt: &HostRuntime, stream: &[u8], numbers: &[i64]) -> Result<bool, Fail> {
-    let mut boxes = Vec::new(rt.alloc());
-    for number in numbers {
-        boxes.push(u32::try_from(*number).ok().ok_or("no number of dots")?)?;
-    }
-    let left = carried_out(rt, stream)?;
-    let first = left.sheets.deliveries().first().ok_or("no sheet")?;
-    Ok(is_boxes(&first.sheet.front, &boxes))
 }
 
 /// Whether a line of a table holds.
 fn holds(rt: &HostRuntime, shows: Shows, line: &str) -> Result<bool, Fail> {
     let (stream, wanted) = row_of(rt, line)?;
     let given = match shows {
-        Shows::Boxes => return gives_boxes(rt, &stream, &wanted),
         Shows::Closes => closes_of(rt, &stream)?,
         _ => numbers_of(rt, shows, &stream)?,
     };

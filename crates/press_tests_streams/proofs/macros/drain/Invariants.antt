@@ -1,6 +1,6 @@
 use Rattle.std.proofs.Common.{length}
 use Rattle.std.specs.Prelude.{⊤}
-use Rattle.press_tests_commands.proofs.macros.drain.Given as goal
+use Rattle.press_tests_streams.proofs.macros.drain.Given as goal
 
 abbrev pub invariant-loop-command : goal.invariant-loop-command
 invariant-loop-command l = ⊤
