@@ -21,7 +21,7 @@ use Rattle.press_engine.specs.declared.effect.Source.TheVariants.{Stream}
 
 -- the engine's machine, and none where an earlier command had a fault
 abbrev pub live : Engine → Option Machine
-live engine = if engine.failed then None else Some engine.machine
+live engine = if engine.failed then None else Some engine.machine.value
 
 -- How far outputs went out, by what was answered.
 abbrev pub Sends : ℕ → List Output → Result (Unit {0}) EngineError → Told → Told → Type 0

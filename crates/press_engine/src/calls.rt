@@ -13,7 +13,7 @@ use press_page::{Defaults, Media, PageEnv};
 use std::alloc::AllocError;
 
 /// What a macro call keeps at its start, and restores at its end.
-#[derive(Clone, Copy, Debug)]
+#[derive(Clone, Copy)]
 pub struct Kept {
     /// Its settings, and its margins where page size and orientation are the same at the end.
     pub environment: PageEnv,

@@ -30,7 +30,7 @@ pub enum Sent {
 }
 
 /// Which side of a sheet the next page is to be on.
-#[derive(Clone, Copy, Debug, PartialEq, Eq)]
+#[derive(Clone, Copy, PartialEq, Eq)]
 pub enum Selection {
     NextSide,
     Front,
@@ -38,7 +38,7 @@ pub enum Selection {
 }
 
 /// A change of the page, which meets no page with a mark.
-#[derive(Clone, Copy, Debug, PartialEq, Eq)]
+#[derive(Clone, Copy, PartialEq, Eq)]
 pub enum PageChange {
     Reset,
     /// A reset by new values of the job language, with which a job may begin.
@@ -49,7 +49,7 @@ pub enum PageChange {
 }
 
 /// Which command closes the page, and so what it does after the close, or in its place where the page has no mark.
-#[derive(Clone, Copy, Debug, PartialEq, Eq)]
+#[derive(Clone, Copy, PartialEq, Eq)]
 pub enum Closer {
     /// A form feed, a line feed past the end of the text, an ejected page.
     Feed,
@@ -59,7 +59,7 @@ pub enum Closer {
 }
 
 /// Where a command comes from.
-#[derive(Clone, Copy, Debug, PartialEq, Eq)]
+#[derive(Clone, Copy, PartialEq, Eq)]
 pub enum Source {
     Stream,
     /// The body of a macro, outside an overlay.
@@ -69,7 +69,7 @@ pub enum Source {
 }
 
 /// What comes when the body of a macro is used up.
-#[derive(Clone, Copy, Debug)]
+#[derive(Clone, Copy)]
 pub enum BodyEnd {
     /// The macro was executed: what it changed stays.
     Execute,

@@ -13,7 +13,8 @@ use std::alloc::{AllocError, Global};
 #[derive(Drop)]
 pub struct Engine {
     alloc: Global,
-    machine: Machine,
+    /// On the heap, so that an engine is moved as cheaply as what holds it.
+    machine: Box<Machine>,
     /// Whether an earlier command had a fault.
     failed: bool,
 }
@@ -35,7 +36,7 @@ impl Engine {
     {
         Ok(Engine {
             alloc,
-            machine: Machine::power_on(alloc),
+            machine: Box::new(alloc, Machine::power_on(alloc))?,
             failed: false,
         })
     }
@@ -86,7 +87,7 @@ impl Engine {
         if self.failed {
             return Err(EngineError::Failed);
         }
-        let Ok(machine) = self.machine.copy() else {
+        let Ok(machine) = self.copy_machine() else {
             return Err(EngineError::NoMemory);
         };
         Ok(Engine {
@@ -94,6 +95,13 @@ impl Engine {
             machine,
             failed: false,
         })
+    }
+
+    /// An equal machine, in memory of its own.
+    fn copy_machine(&self) -> Result<Box<Machine>, AllocError>
+        ensures { IfOk result (λ machine. machine.value ≡ self.now.machine.value) }
+    {
+        Ok(Box::new(self.alloc, self.machine.copy()?)?)
     }
 
     /// What can be seen of the engine. After a fault nothing is said of it.

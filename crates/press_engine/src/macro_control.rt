@@ -2,7 +2,7 @@ ghost use Rattle.std.specs.Prelude.{◌≡◌};
 ghost use Rattle.press_engine.specs.Macros.{control_of};
 
 /// What macro control does, with the macro under the macro ID or with all macros.
-#[derive(Clone, Copy, Debug, PartialEq, Eq)]
+#[derive(Clone, Copy, PartialEq, Eq)]
 pub enum MacroControl {
     Start,
     Stop,

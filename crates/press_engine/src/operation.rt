@@ -4,7 +4,7 @@ ghost use Rattle.press_engine.specs.Operation.{operation_of, row_at, escape_rows
 use press_cmd::Kind;
 
 /// What the command table says to do for a command.
-#[derive(Clone, Copy, Debug, PartialEq, Eq)]
+#[derive(Clone, Copy, PartialEq, Eq)]
 pub enum Operation {
     /// The command has no row, and no effect.
     Nothing,

@@ -4,7 +4,7 @@ ghost use Rattle.press_engine.specs.Patterns.{pattern_control_of, pattern_contro
 use press_pattern::Patterns;
 
 /// What a pattern control command does, with all patterns or with the one under the pattern ID.
-#[derive(Clone, Copy, Debug, PartialEq, Eq)]
+#[derive(Clone, Copy, PartialEq, Eq)]
 pub enum PatternControl {
     DeleteAll,
     DeleteTemporary,

@@ -94,25 +94,48 @@ impl State {
         }
     }
 
+    /// Equal patterns, macros and raster graphics, in memory of their own.
+    fn copy_stores(&self) -> Result<(Patterns, MacroStore, Raster), AllocError>
+        ensures { IfOk result (λ stores.
+            stores ≡ (self.now.patterns, self.now.macros, self.now.graphics)) }
+    {
+        let patterns = self.patterns.copy()?;
+        let macros = self.macros.copy()?;
+        let graphics = self.graphics.copy()?;
+        Ok((patterns, macros, graphics))
+    }
+
+    /// The page that is being printed, and the front that waits, in memory of their own.
+    fn copy_pages(&self) -> Result<(Option<Canvas>, Option<Canvas>), AllocError>
+        ensures { IfOk result (λ pages. pages ≡ (self.now.page, self.now.pending)) }
+    {
+        let page = copy_page(&self.page)?;
+        let pending = copy_page(&self.pending)?;
+        Ok((page, pending))
+    }
+
     /// An equal state, in memory of its own.
     pub fn copy(&self) -> Result<Self, AllocError>
         ensures { IfOk result (λ state. state ≡ self.now) }
     {
+        let cursor = self.cursor.clone()?;
+        let (patterns, macros, graphics) = self.copy_stores()?;
+        let (page, pending) = self.copy_pages()?;
         Ok(State {
             language: self.language,
             environment: self.environment,
             drawing: self.drawing,
             macro_id: self.macro_id,
             overlay: self.overlay,
-            cursor: self.cursor.clone()?,
+            cursor,
             hp_gl: self.hp_gl,
             sheets: self.sheets,
             since_job: self.since_job,
-            patterns: self.patterns.copy()?,
-            macros: self.macros.copy()?,
-            graphics: self.graphics.copy()?,
-            page: copy_page(&self.page)?,
-            pending: copy_page(&self.pending)?,
+            patterns,
+            macros,
+            graphics,
+            page,
+            pending,
         })
     }
 
