@@ -1,5 +1,6 @@
 -- The data of a user-defined pattern (PCL 5 Printer Language Technical Reference Manual, "The PCL Print Model", Define Pattern command).
-use Rattle.std.specs.Prelude.{ℕ, ◌+◌, ◌*◌, Bool, ◌&&◌, ◌==◌, nat_le, List, length, take, drop, slice_index}
+use Rattle.std.specs.Prelude.{ℕ, ◌+◌, ◌*◌, Bool, ◌&&◌, ◌==◌, nat_le, List, length, take, drop, ◌∷◌, []}
+use Rattle.std.specs.List.{starts_with}
 use Rattle.byteorder.specs.Endian.{big_number}
 use Rattle.press_bits.specs.Lines.{bytes_per_line}
 use Rattle.press_pattern.specs.Tiling.{Tiling}
@@ -19,7 +20,7 @@ width_in bytes = big_number 2 (drop 6 bytes)
 abbrev pub has_header : List ℕ → Bool
 has_header bytes =
     nat_le header_length (length bytes)
-    && slice_index bytes 0 == 0 && slice_index bytes 1 == 0 && slice_index bytes 2 == 1 && slice_index bytes 3 == 0
+    && starts_with (λ a b. a == b) bytes (0 ∷ 0 ∷ 1 ∷ 0 ∷ [])
     && nat_le 1 (height_in bytes) && nat_le 1 (width_in bytes)
 
 -- How many bytes the rows take that the header tells of, each from a new byte on.
