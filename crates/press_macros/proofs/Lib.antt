@@ -1,3 +1,2 @@
-mod BodyLemmas
 mod StoreLemmas
 pub mod WorkedMacros

@@ -1,9 +1,8 @@
-ghost use Rattle.std.specs.Prelude.{◌≡◌, ◌↔◌, [], option_map, slice_get, drop, IsTrue, IfOk};
+ghost use Rattle.std.specs.Prelude.{◌≡◌, option_map, slice_get, drop};
 ghost use Rattle.std.specs.Borrow.{sem};
 ghost use Rattle.press_cmd.specs.View.{token};
 
 use press_cmd::{Command, Owned};
-use std::alloc::AllocError;
 use std::marker::Model;
 use std::rc::Rc;
 
@@ -45,26 +44,5 @@ impl Body {
         let command = self.commands.as_slice().get(self.given)?;
         self.given += 1;
         Some(command.command())
-    }
-
-    /// Whether no command is left.
-    pub fn is_finished(&self) -> bool
-        ensures { IsTrue result ↔ (self.now ≡ []) }
-    {
-        self.commands.as_slice().len() <= self.given
-    }
-
-    /// A body with the same commands left.
-    ///
-    /// # Errors
-    ///
-    /// Where memory ran out.
-    pub fn copy(&self) -> Result<Self, AllocError>
-        ensures { IfOk result (λ body. body ≡ self.now) }
-    {
-        Ok(Body {
-            commands: self.commands.clone()?,
-            given: self.given,
-        })
     }
 }
