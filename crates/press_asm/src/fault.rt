@@ -20,7 +20,7 @@ pub enum AssembleError {
 }
 
 /// What is wrong with one line.
-#[derive(Debug, Drop)]
+#[derive(Drop)]
 pub enum LineFault {
     Line,
     Value,

@@ -1,5 +1,5 @@
 -- Dots that are mixed into the bytes of a page.
-use Rattle.std.proofs.Common.{◌≡◌, ℕ, ◌+◌, ◌-◌, ◌*◌, ◌/◌, ◌%◌, ◌^◌, ◌<◌, ◌≤◌, ◌≢◌, suc, Bool, true, false, not, ◌&&◌, ◌||◌, List, length, get_or, set, refl, sym, ap, ◌∙◌, inl, inr, w8, arith}
+use Rattle.std.proofs.Common.{◌≡◌, ℕ, ◌+◌, ◌-◌, ◌*◌, ◌/◌, ◌%◌, ◌^◌, ◌<◌, ◌≤◌, ◌≢◌, suc, min, Bool, true, false, not, ◌&&◌, ◌||◌, List, length, get_or, set, refl, sym, ap, ◌∙◌, inl, inr, w8, arith}
 use Rattle.std.specs.Prelude.{nat_lt, nat_le, nat_eq, bit_and, bit_or}
 use Rattle.std.specs.Int.{bit_not}
 use Rattle.std.proofs.Math.Nat.{mod-eq_of_lt, add-mod_left, add-mul-mod_self_left, div-add-mod, mul-le-mul_right}
@@ -369,6 +369,29 @@ painted_above_more old rows source tile mode bytes column first i index mask sou
             let same_bytes : n * bytes ≡ (first + i) * bytes = ap (λ m. m * bytes) line in
             omega arith
 
+pub painted_above_all : (old rows : List ℕ) (source tile : ℕ → Bool) (mode : Mode) (bytes column first i count : ℕ) → i ≤ count → count ≤ i →
+    PaintedAbove old rows source tile mode bytes column first (first + i) → (n c : ℕ) → c < 8 * bytes → row_dot rows (8 * (n * bytes) + c)
+    ≡ mixed_dot ((nat_eq c column && nat_le first n) && nat_lt n (first + count)) mode (source n) (tile n) (row_dot old (8 * (n * bytes) + c))
+painted_above_all old rows source tile mode bytes column first i count within done above n c low =
+    above.dots n c low
+    ∙ ap (λ e. mixed_dot ((nat_eq c column && nat_le first n) && nat_lt n (first + e)) mode (source n) (tile n) (row_dot old (8 * (n * bytes) + c))) (omega arith)
+
+-- the byte of a dot of the column lies in the rows, and so does the next line's begin as far as a number goes
+pub index_within : (length bytes column first count i index : ℕ) → i < count → column < 8 * bytes → (first + count) * bytes ≤ length → index ≡ (first + i) * bytes + column / 8 → index < length
+index_within length bytes column first count i index more inside within is =
+    let next : first + i + 1 ≤ first + count = omega arith in
+    omega (arith, mul-le-mul_right bytes next)
+
+pub next_index_fits : (length bytes first count i index : ℕ) → i < count → (first + count) * bytes ≤ length → length < 2 ^ 40 → index < length → index + bytes < 2 ^ 64
+next_index_fits length bytes first count i index more within small here =
+    let one : 1 ≤ first + count = omega arith in
+    omega (arith, mul-le-mul_right bytes one)
+
+pub first_index_fits : (length bytes column first count : ℕ) → column < 2 ^ 64 → (first + count) * bytes ≤ length → length < 2 ^ 40 → first * bytes + column / 8 < 2 ^ 64
+first_index_fits length bytes column first count low within small =
+    let front : first ≤ first + count = omega arith in
+    omega (arith, mul-le-mul_right bytes front)
+
 -- ---- down a column, eight dots at a time
 
 begun_of : (t : Bool) (at n end : ℕ) → ((t && nat_le at n) && nat_lt n end) ≡ true → at ≤ n
@@ -395,6 +418,27 @@ eight_between old rows source tile mode bytes column at count source_byte tile_b
       laid n c low
       ∙ mixed_when test mode (byte_dot source_byte (n - at)) (source n) (byte_dot tile_byte (n - at)) (tile n) (row_dot old (8 * (n * bytes) + c)) (is source_byte source sources) (is tile_byte tile tiles);
 }
+
+-- the next dots, at most eight, are those of the run
+pub eight_within : (length bytes first count index some : ℕ) → index < (count + 7) / 8 → some ≡ min (count - 8 * index) 8 → (first + count) * bytes ≤ length →
+    (first + 8 * index + some) * bytes ≤ length
+eight_within length bytes first count index some more is within =
+    let inside : first + 8 * index + some ≤ first + count = omega arith in
+    omega (arith, mul-le-mul_right bytes inside)
+
+-- where they begin is a number
+pub eight_place_fits : (length bytes column first count index : ℕ) → index < (count + 7) / 8 → column < 8 * bytes → (first + count) * bytes ≤ length → length < 2 ^ 40 →
+    first + 8 * index < 2 ^ 64
+eight_place_fits length bytes column first count index more inside within small =
+    let one : 1 ≤ bytes = omega arith in
+    omega (arith, mul-le-mul_right (first + count) one)
+
+-- after all times eight all dots of the run are painted
+pub painted_above_eights : (old rows : List ℕ) (source tile : ℕ → Bool) (mode : Mode) (bytes column first index count : ℕ) → (count + 7) / 8 ≤ index →
+    PaintedAbove old rows source tile mode bytes column first (first + min (8 * index) count) → (n c : ℕ) → c < 8 * bytes → row_dot rows (8 * (n * bytes) + c)
+    ≡ mixed_dot ((nat_eq c column && nat_le first n) && nat_lt n (first + count)) mode (source n) (tile n) (row_dot old (8 * (n * bytes) + c))
+painted_above_eights old rows source tile mode bytes column first index count done above =
+    painted_above_all old rows source tile mode bytes column first (min (8 * index) count) count (omega arith) (omega arith) above
 
 -- white dots of a transparent source
 mixed_white : (inside : Bool) (mode : Mode) (pattern before : Bool) → mode.source_opaque ≡ false → before ≡ mixed_dot inside mode false pattern before

@@ -12,3 +12,4 @@ pub mod ReadBack
 pub mod StreamsOf
 pub mod WorkedStreams
 pub mod ExitTest
+pub mod Appending

@@ -1,6 +1,6 @@
-ghost use Rattle.std.specs.Prelude.{◌≡◌, ◌++◌, length, take, OnOk, OnErr};
+ghost use Rattle.std.specs.Prelude.{◌≡◌, ◌∷◌, ◌++◌, length, take, option_to_list, OnOk, OnErr};
 ghost use Rattle.press_units.specs.Value.{tenthousandths_of, is_signed};
-ghost use Rattle.press_cmd.specs.Token.{bytes_of, field_of, data_of, line_of};
+ghost use Rattle.press_cmd.specs.Token.{escape_byte, bytes_of, field_of, data_of, line_of};
 ghost use Rattle.press_cmd.specs.Split.{IsReadBack};
 ghost use Rattle.press_cmd.specs.Kinds.{kind_of};
 ghost use Rattle.press_cmd.specs.View.{token, param_token, broken_token};
@@ -97,13 +97,22 @@ fn append_param(param: &Param, out: &mut Vec<u8>) -> Result<(), AllocError>
     ensures ok { OnOk result (out.new.items ≡ out.old.items ++ bytes_of (param_token param.now)) }
     ensures front { take (length out.old.items) out.new.items ≡ out.old.items }
 {
-    match param.group {
-        Some(group) => out.extend_from_slice(&[ESCAPE, param.character, group])?,
-        None => out.extend_from_slice(&[ESCAPE, param.character])?,
-    }
+    append_head(param, out)?;
     out.extend_from_slice(param.field)?;
     out.push(param.end)?;
     out.extend_from_slice(param.payload)
+}
+
+/// Appends what stands in front of the parameter's field. An error leaves the vector as it was.
+fn append_head(param: &Param, out: &mut Vec<u8>) -> Result<(), AllocError>
+    ensures ok { OnOk result (out.new.items
+        ≡ out.old.items ++ (escape_byte ∷ param.now.character ∷ option_to_list param.now.group)) }
+    ensures err { OnErr result (out.new.items ≡ out.old.items) }
+{
+    match param.group {
+        Some(group) => out.extend_from_slice(&[ESCAPE, param.character, group]),
+        None => out.extend_from_slice(&[ESCAPE, param.character]),
+    }
 }
 
 /// Appends the bytes, with the beginning of their sequence. An error leaves the vector longer, with its old front.

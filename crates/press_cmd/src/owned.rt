@@ -7,7 +7,7 @@ use std::alloc::{AllocError, Global};
 use std::marker::Model;
 
 /// A command that owns its bytes.
-#[derive(Debug, Drop)]
+#[derive(Drop)]
 enum Form {
     Escape(EscapeByte),
     Param(OwnedParam),

@@ -10,7 +10,7 @@ use crate::payload::{Broken, Param, PjlLine};
 use std::alloc::{AllocError, Global};
 
 /// A parameter that owns its bytes.
-#[derive(Debug, Drop)]
+#[derive(Drop)]
 pub struct OwnedParam {
     character: u8,
     group: Option<u8>,
@@ -26,14 +26,14 @@ pub struct OwnedParam {
 }
 
 /// Broken bytes, owned, with the beginning of their sequence.
-#[derive(Debug, Drop)]
+#[derive(Drop)]
 pub struct OwnedBroken {
     bytes: Vec<u8>,
     ghost broken: { ∥ IsBroken bytes.items ∥₁ },
 }
 
 /// A PJL line that owns its bytes.
-#[derive(Debug, Drop)]
+#[derive(Drop)]
 pub struct OwnedLine {
     bytes: Vec<u8>,
     ghost line: { ∥ IsPjlLine bytes.items ∥₁ },

@@ -1,8 +1,8 @@
 -- What is held, from what is found at its front.
-use Rattle.std.proofs.Common.{◌≡◌, ◌≤◌, ◌<◌, ◌∙◌, inl, inr, ℕ, List, [], ◌∷◌, ◌++◌, length, take, drop, map, Bool, true, false, cond, Option, Some, None, MatchOption, refl, sym, ap, subst, arith, append-nil, length-drop}
+use Rattle.std.proofs.Common.{◌≡◌, ◌≤◌, ◌<◌, ◌+◌, ◌∙◌, inl, inr, ℕ, List, [], ◌∷◌, ◌++◌, length, take, drop, map, Bool, true, false, cond, Option, Some, None, MatchOption, refl, sym, ap, subst, arith, append-nil, length-drop}
 use Rattle.std.specs.Prelude.{◌==◌, nat_lt}
 use Rattle.std.specs.List.{AllByRecursion}
-use Rattle.std.proofs.lemmas.List.{take-append-drop, take_all, drop_all}
+use Rattle.std.proofs.lemmas.List.{take-append-drop, take_all, drop_all, drop-drop}
 use Rattle.std.proofs.lemmas.Bool.{eqb-true, ne_eqb, lt-ltb, ltb-false}
 use Rattle.press_cmd.specs.Token.{Token, Text, Broken, ForeignByte, escape_byte, uel, pjl_mark}
 use Rattle.press_cmd.specs.Mode.{Mode, Exit, Tail, Foreign, Pcl, Open}
@@ -16,7 +16,8 @@ use Rattle.press_scan.specs.declared.reading.Found.{Found}
 use Rattle.press_scan.specs.Modes.{mode_of}
 use Rattle.press_scan.specs.Stands.{IsFound, IsShort, IsRest}
 use Rattle.press_scan.specs.Closings.{IsClosing}
-use Rattle.press_scan.specs.Gives.{ClosesAs, IsDone}
+use Rattle.press_scan.specs.ScannerState.{ScannerState}
+use Rattle.press_scan.specs.Gives.{ClosesAs, Passes, IsDone}
 use Rattle.press_scan.specs.Peeks.{scanner_state, IsNextFound, Peeks}
 use Rattle.press_cmd.proofs.LineTest.{equal_and}
 
@@ -192,3 +193,11 @@ module _ (mode scanned : Mode) (bytes : List ℕ) (found : Found) (lands : scann
 pub closing_peeks : (mode scanned : Mode) (bytes : List ℕ) (found : Option Found) → scanned_in mode bytes ≡ scanned → scanned_in scanned bytes ≡ scanned → IsShort scanned bytes → MatchOption found (bytes ≡ []) (IsClosing scanned bytes) → Peeks mode bytes true found
 closing_peeks mode scanned bytes None lands settled short at = nothing_done mode bytes at
 closing_peeks mode scanned bytes (Some found) lands settled short at = closing_passes mode scanned bytes found lands settled short at
+
+-- what is found in what is held, told of the scanner's buffer
+pub passes_behind : (mode : Mode) (ended : Bool) (items held : List ℕ) (start : ℕ) (found : Found) (old : ScannerState) → held ≡ drop start items → scanner_state mode (drop start items) ended ≡ old
+    → IsNextFound mode held ended found → Passes old (token found.command) (scanner_state (mode_of found.mode) (drop (start + found.length) items) ended)
+passes_behind mode ended items held start found old is seen next =
+    let behind : drop found.length held ≡ drop (start + found.length) items = ap (drop found.length) is ∙ drop-drop found.length start items in
+    subst (λ (s : ScannerState). Passes s (token found.command) (scanner_state (mode_of found.mode) (drop (start + found.length) items) ended)) (ap (λ xs. scanner_state mode xs ended) is ∙ seen)
+    (subst (λ xs. Passes (scanner_state mode held ended) (token found.command) (scanner_state (mode_of found.mode) xs ended)) behind next.passes)
