@@ -153,6 +153,21 @@ set_position_refused number position queue new refusal is =
     at_entry_refused (rows.legal_entry commands.SetPosition number queue.entries) queue new refusal _
     (λ entry e. repositioned_refused number (position_within (length queue.entries) position) entry queue new refusal e) is
 
+reprioritized_refused : (number : ℕ) (o : Option ℕ) (entry : Entry) (queue new : QueueState) (refusal : Refusal)
+    → (new, Err refusal) ≡ rows.reprioritized number o entry queue → new ≡ queue
+reprioritized_refused number None entry queue new refusal is = ap (λ r. r.0) is
+reprioritized_refused number (Some priority) entry queue new refusal is = absurd (true≢false (sym (ap (λ r. is_ok r.1) is)))
+
+pub set_priority_refused : (number : ℕ) (priority : ℤ) (queue new : QueueState) (refusal : Refusal) → (new, Err refusal) ≡ rows.set_priority number priority queue → new ≡ queue
+set_priority_refused number priority queue new refusal is =
+    at_entry_refused (rows.legal_entry commands.SetPriority number queue.entries) queue new refusal _
+    (λ entry e. reprioritized_refused number (priority_of priority) entry queue new refusal e) is
+
+pub remove_refused : (number : ℕ) (queue new : QueueState) (refusal : Refusal) → (new, Err refusal) ≡ rows.remove number queue → new ≡ queue
+remove_refused number queue new refusal is =
+    at_entry_refused (rows.legal_entry commands.Remove number queue.entries) queue new refusal _
+    (λ entry e. absurd (true≢false (sym (ap (λ r. is_ok r.1) e)))) is
+
 -- ---- entries that end
 
 pub aborted_none : (number : ℕ) (queue new : QueueState) → (new, Ok tt) ≡ rows.abort number queue → IsDistinct nat_eq (keys_of queue.entries)
