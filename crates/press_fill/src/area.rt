@@ -7,7 +7,7 @@ use crate::span::Span;
 use press_page::Orientation;
 
 /// Columns and lines of the physical page.
-#[derive(Clone, Copy, Debug)]
+#[derive(Clone, Copy)]
 pub(crate) struct Area {
     pub(crate) across: Span,
     pub(crate) down: Span,

@@ -25,7 +25,7 @@ fn turned_sizes(orientation: Orientation, width: u16, height: u16) -> (u16, u16)
 }
 
 /// How the frame lies on a physical page, and how many dots that has.
-#[derive(Clone, Copy, Debug)]
+#[derive(Clone, Copy)]
 pub(crate) struct Placement {
     pub(crate) orientation: Orientation,
     pub(crate) page: Extent,

@@ -6,7 +6,7 @@ use std::alloc::{AllocError, Global};
 const BETWEEN_WORDS: u8 = b' ';
 
 /// What a line asks of the press.
-#[derive(Clone, Copy, Debug)]
+#[derive(Clone, Copy)]
 pub enum LineEvent<'a> {
     /// A message: the name of its file, and the names of the files of its images.
     Message(&'a [u8], &'a [&'a [u8]]),

@@ -8,7 +8,7 @@ ghost use Rattle.press_raster.specs.Reading.{place_from, read_dot};
 use press_bits::DotRow;
 
 /// How a row of dots is read: each dot so many times, from the front, or backwards from a place.
-#[derive(Clone, Copy, Debug)]
+#[derive(Clone, Copy)]
 pub(crate) struct Reading {
     pub(crate) size: usize,
     pub(crate) last: Option<usize>,
