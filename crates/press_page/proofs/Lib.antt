@@ -1,1 +1,2 @@
 pub mod WorkedPages
+pub mod WorkedPlaces

@@ -1,18 +1,23 @@
 -- Worked pages, margins and places, computed on the definitions.
-use Rattle.std.proofs.Common.{◌≡◌, ℕ, pos, neg_ℤ, true, false, Option, Some, None, refl}
+use Rattle.std.proofs.Common.{◌≡◌, ℕ, ℤ, pos, neg_ℤ, true, false, [], ◌∷◌, map, Option, Some, None, refl}
 use Rattle.press_units.specs.Value.{tenthousandths_of}
 use Rattle.press_units.specs.declared.position.Resolution.TheVariants.{Dpi300}
 use Rattle.press_cursor.specs.Cursor.{home, position, moved_x, moved_y}
 use Rattle.press_cursor.specs.CursorState.{CursorState}
 use Rattle.std.specs.Prelude.{codes}
-use Rattle.press_page.specs.Environment.{factory, reset_environment, logical_page_of, closes_page, asked_page_size, set_page_size, with_page_size, set_orientation, with_orientation, set_top_margin, set_right_margin, set_line_spacing, set_horizontal_motion, passes_text}
+use Rattle.press_page.specs.Environment.{factory, reset_environment, logical_page_of, closes_page, asked_page_size, set_page_size, with_page_size, asked_orientation, set_orientation, with_orientation, asked_sides, set_sides, with_printed_sides, set_unit_of_measure, set_vertical_motion, set_line_termination, set_copies, asked_left, set_left_margin, set_top_margin, set_right_margin, set_text_length, skip_moves_top, set_perforation_skip, clear_margins, set_line_spacing, set_horizontal_motion, passes_text}
 use Rattle.press_page.specs.Margins.{default_text_length}
-use Rattle.press_page.specs.Media.{physical_page, page_size_of}
-use Rattle.press_page.specs.Place.{to_physical, to_frame, cursor_dot}
+use Rattle.press_page.specs.Media.{physical_page, frame, logical_page, page_size_of, printed_sides, with_sides}
+use Rattle.press_page.specs.Place.{lies_on, to_physical, to_frame, cursor_dot}
 use Rattle.press_page.specs.declared.environment.PageEnv.{PageEnv}
-use Rattle.press_page.specs.declared.media.Orientation.TheVariants.{Landscape}
+use Rattle.press_page.specs.declared.media.Binding.TheVariants.{LongEdge, ShortEdge}
+use Rattle.press_page.specs.declared.media.Orientation.TheVariants.{Portrait, Landscape, ReversePortrait, ReverseLandscape}
 use Rattle.press_page.specs.declared.media.PageSize.TheVariants.{A4, A3, Ledger}
+use Rattle.press_page.specs.declared.media.Sides.TheVariants.{OneSided, TwoSidedLongEdge, TwoSidedShortEdge}
+use Rattle.press_page.specs.declared.media.Orientation.{Orientation}
 use Rattle.press_page.specs.declared.place.Dot.{Dot}
+use Rattle.press_page.specs.declared.place.Extent.{Extent}
+use Rattle.press_cursor.specs.declared.logical_page.LogicalPage.{LogicalPage}
 
 -- after power on
 abbrev letter : PageEnv
@@ -110,3 +115,140 @@ no_size-stays = refl
 
 no_size-closes_nothing : closes_page (asked_page_size (tenthousandths_of (codes "4"))) ≡ false
 no_size-closes_nothing = refl
+
+-- one setting after another: ESC&u96D, ESC&l12C, ESC&k10.5H, ESC&l8D, ESC&k1G, ESC&l2.9X
+abbrev one_line : PageEnv
+one_line = set_vertical_motion (tenthousandths_of (codes "12")) (set_unit_of_measure (tenthousandths_of (codes "96")) letter)
+
+one_line-vertical : one_line.settings.vertical_motion ≡ 1800
+one_line-vertical = refl
+
+abbrev settled : PageEnv
+settled =
+    set_copies (tenthousandths_of (codes "2.9")) (set_line_termination (tenthousandths_of (codes "1"))
+    (set_line_spacing (tenthousandths_of (codes "8")) (set_horizontal_motion (tenthousandths_of (codes "10.5")) one_line)))
+
+settled-measure : settled.settings.unit_of_measure ≡ 96
+settled-measure = refl
+
+settled-horizontal : settled.settings.horizontal_motion ≡ 630
+settled-horizontal = refl
+
+settled-vertical : settled.settings.vertical_motion ≡ 900
+settled-vertical = refl
+
+settled-termination : settled.settings.line_termination ≡ record { feed_after_return = true; return_before_feed = false }
+settled-termination = refl
+
+settled-copies : settled.settings.copies ≡ 2
+settled-copies = refl
+
+-- and margins by these motion indices: ESC&a1L, ESC&a2M, ESC&l3.5E, ESC&l10F
+left_margin : asked_left (tenthousandths_of (codes "1")) settled ≡ Some 630
+left_margin = refl
+
+abbrev narrow : PageEnv
+narrow =
+    set_text_length (tenthousandths_of (codes "10")) (set_top_margin (tenthousandths_of (codes "3.5"))
+    (set_right_margin (tenthousandths_of (codes "2")) (set_left_margin (tenthousandths_of (codes "1")) settled)))
+
+narrow-margins : narrow.margins ≡ record { left = 630; right = 1890; top = 3150; text_length = 9000 }
+narrow-margins = refl
+
+narrow-page : (logical_page_of narrow).top_margin ≡ 3150
+narrow-page = refl
+
+-- ESC&l0L sets the top margin back, and ESC 9 the other margins
+skip_off : (set_perforation_skip (tenthousandths_of (codes "0")) narrow).settings.perforation_skip ≡ false
+skip_off = refl
+
+skip_off-moves : skip_moves_top (tenthousandths_of (codes "0")) narrow ≡ true
+skip_off-moves = refl
+
+cleared-left : (clear_margins narrow).margins.left ≡ 0
+cleared-left = refl
+
+cleared-right : (clear_margins narrow).margins.right ≡ 57600
+cleared-right = refl
+
+-- sides: simplex leaves the binding
+short_edge : printed_sides (set_sides (tenthousandths_of (codes "2")) letter).media ≡ TwoSidedShortEdge
+short_edge = refl
+
+long_edge : (with_sides TwoSidedLongEdge (set_sides (tenthousandths_of (codes "2")) letter).media).binding ≡ LongEdge
+long_edge = refl
+
+binding_stays : (with_printed_sides OneSided (set_sides (tenthousandths_of (codes "2")) letter)).media.binding ≡ ShortEdge
+binding_stays = refl
+
+sides-close : closes_page (asked_sides (tenthousandths_of (codes "2"))) ≡ true
+sides-close = refl
+
+orientation-closes : closes_page (asked_orientation (tenthousandths_of (codes "1"))) ≡ true
+orientation-closes = refl
+
+-- line feeds at the end of the text, with perforation skip and without
+half_a_line_below : passes_text (pos 71401) 600 letter ≡ true
+half_a_line_below = refl
+
+below_all_text : passes_text (pos 75600) 0 letter ≡ true
+below_all_text = refl
+
+abbrev without_skip : PageEnv
+without_skip = set_perforation_skip (tenthousandths_of (codes "0")) letter
+
+last_line_of_the_page : passes_text (pos 74400) 1200 without_skip ≡ false
+last_line_of_the_page = refl
+
+below_the_page : passes_text (pos 74401) 1200 without_skip ≡ true
+below_the_page = refl
+
+-- the cursor's dot of the frame: a dot has 24 positions, and above the page's edge it is line 0
+abbrev lies : (x : ℕ) (y : ℤ) → Dot
+lies x y = cursor_dot letter.media Dpi300 letter.margins.top (record { x = x; y = y })
+
+first_dot : lies 0 (pos 0) ≡ dot 75 150
+first_dot = refl
+
+still_the_first_dot : lies 23 (pos 23) ≡ dot 75 150
+still_the_first_dot = refl
+
+next_dot : lies 24 (pos 24) ≡ dot 76 151
+next_dot = refl
+
+last_dot : lies 57600 (pos 75600) ≡ dot 2475 3300
+last_dot = refl
+
+above_the_margin : lies 0 (neg_ℤ (pos 1)) ≡ dot 75 149
+above_the_margin = refl
+
+upper_edge : lies 0 (neg_ℤ (pos 3600)) ≡ dot 75 0
+upper_edge = refl
+
+-- Ledger has 3300 x 5100 dots, and its logical page lies 75 and 60 of them from the edges in portrait and landscape
+abbrev ledger : Orientation → PageEnv
+ledger orientation = with_orientation orientation (with_page_size Ledger letter)
+
+abbrev upright : Extent
+upright = record { width = 3300; height = 5100 }
+
+abbrev lying : Extent
+lying = record { width = 5100; height = 3300 }
+
+ledger-pages : map (λ o. physical_page (ledger o).media Dpi300) (Portrait ∷ Landscape ∷ ReversePortrait ∷ ReverseLandscape ∷ [])
+    ≡ upright ∷ upright ∷ upright ∷ upright ∷ []
+ledger-pages = refl
+
+ledger-frames : map (λ o. frame (ledger o).media Dpi300) (Portrait ∷ Landscape ∷ ReversePortrait ∷ ReverseLandscape ∷ [])
+    ≡ upright ∷ lying ∷ upright ∷ lying ∷ []
+ledger-frames = refl
+
+abbrev within : (width length : ℕ) → LogicalPage
+within width length = record { width = width; length = length; top_margin = 720 }
+
+ledger-logical_pages : map (λ o. logical_page (ledger o).media 720) (Portrait ∷ Landscape ∷ ReversePortrait ∷ ReverseLandscape ∷ [])
+    ≡ within 75600 122400 ∷ within 119520 79200 ∷ within 75600 122400 ∷ within 119520 79200 ∷ []
+ledger-logical_pages = refl
+
+ledger-corners : map (lies_on lying) (dot 5099 3299 ∷ dot 5100 0 ∷ dot 0 3300 ∷ []) ≡ true ∷ false ∷ false ∷ []
+ledger-corners = refl

@@ -1,11 +1,13 @@
 -- Refusals of commands on small and on full queues, and places of entries, computed.
-use Rattle.std.proofs.Common.{◌≡◌, ℕ, zero, suc, List, [], ◌∷◌, true, false, pos, negsuc, Ok, Err, refl}
+use Rattle.std.proofs.Common.{◌≡◌, ℕ, zero, suc, List, [], ◌∷◌, map, true, false, pos, negsuc, Result, Ok, Err, refl}
 use Rattle.press_queue.specs.declared.entry.Entry.{Entry}
+use Rattle.press_queue.specs.declared.refusal.Refusal.{Refusal}
 use Rattle.press_queue.specs.declared.refusal.Refusal.TheVariants.{Unknown, WrongStatus, Closed, Full, BadPriority, BadPosition, InFlightFull}
-use Rattle.press_queue.specs.declared.status.Status.TheVariants.{Running, Suspended, Aborted}
-use Rattle.press_queue.specs.Rows.{submit, hold, suspend, set_priority, set_position}
+use Rattle.press_queue.specs.declared.status.Status.{Status}
+use Rattle.press_queue.specs.declared.status.Status.TheVariants.{Waiting, Held, Running, Suspended, Completed, Aborted}
+use Rattle.press_queue.specs.Rows.{QueueAnswer, submit, hold, resume, suspend, abort, remove, set_priority, set_position}
 use Rattle.press_queue.specs.State.{QueueState}
-use Rattle.press_queue.specs.Status.{new_entry}
+use Rattle.press_queue.specs.Status.{is_waiting, is_running, has_ended, is_in_flight, new_entry}
 
 -- so many entries of priority 50 that wait
 abbrev waiting_ones : ℕ → List (ℕ × Entry)
@@ -79,3 +81,84 @@ aborted_entry = (2, record { priority = 40; status = Aborted; begun = false })
 pub before_an_aborted_one : (submit (pos 50) (queue_of ((1, new_entry 50) ∷ aborted_entry ∷ []))).0.entries
     ≡ (1, new_entry 50) ∷ (65, new_entry 50) ∷ aborted_entry ∷ []
 before_an_aborted_one = refl
+
+-- A command for an entry at each status: what it answers, and the status of the entry after it, if it is still in the list.
+abbrev statuses : List Status
+statuses = Waiting ∷ Held ∷ Running ∷ Suspended ∷ Completed ∷ Aborted ∷ []
+
+abbrev entry_at : Status → Entry
+entry_at status = record { priority = 50; status = status; begun = true }
+
+abbrev answers : (QueueState → QueueAnswer (Unit {0})) → List (Result (Unit {0}) Refusal)
+answers command = map (λ status. (command (queue_of ((1, entry_at status) ∷ []))).1) statuses
+
+abbrev statuses_after : (QueueState → QueueAnswer (Unit {0})) → List (List Status)
+statuses_after command =
+    map (λ status. map (λ numbered. numbered.1.status) (command (queue_of ((1, entry_at status) ∷ []))).0.entries) statuses
+
+hold-answers : answers (hold 1)
+    ≡ Ok tt ∷ Err WrongStatus ∷ Err WrongStatus ∷ Err WrongStatus ∷ Err WrongStatus ∷ Err WrongStatus ∷ []
+hold-answers = refl
+
+hold-leaves : statuses_after (hold 1)
+    ≡ (Held ∷ []) ∷ (Held ∷ []) ∷ (Running ∷ []) ∷ (Suspended ∷ []) ∷ (Completed ∷ []) ∷ (Aborted ∷ []) ∷ []
+hold-leaves = refl
+
+resume-answers : answers (resume 1)
+    ≡ Err WrongStatus ∷ Ok tt ∷ Err WrongStatus ∷ Ok tt ∷ Err WrongStatus ∷ Err WrongStatus ∷ []
+resume-answers = refl
+
+resume-leaves : statuses_after (resume 1)
+    ≡ (Waiting ∷ []) ∷ (Waiting ∷ []) ∷ (Running ∷ []) ∷ (Waiting ∷ []) ∷ (Completed ∷ []) ∷ (Aborted ∷ []) ∷ []
+resume-leaves = refl
+
+suspend-answers : answers (suspend 1)
+    ≡ Err WrongStatus ∷ Err WrongStatus ∷ Ok tt ∷ Err WrongStatus ∷ Err WrongStatus ∷ Err WrongStatus ∷ []
+suspend-answers = refl
+
+suspend-leaves : statuses_after (suspend 1)
+    ≡ (Waiting ∷ []) ∷ (Held ∷ []) ∷ (Suspended ∷ []) ∷ (Suspended ∷ []) ∷ (Completed ∷ []) ∷ (Aborted ∷ []) ∷ []
+suspend-leaves = refl
+
+abort-answers : answers (abort 1) ≡ Ok tt ∷ Ok tt ∷ Ok tt ∷ Ok tt ∷ Err WrongStatus ∷ Err WrongStatus ∷ []
+abort-answers = refl
+
+abort-leaves : statuses_after (abort 1)
+    ≡ (Aborted ∷ []) ∷ (Aborted ∷ []) ∷ (Aborted ∷ []) ∷ (Aborted ∷ []) ∷ (Completed ∷ []) ∷ (Aborted ∷ []) ∷ []
+abort-leaves = refl
+
+remove-answers : answers (remove 1) ≡ Ok tt ∷ Ok tt ∷ Err WrongStatus ∷ Err WrongStatus ∷ Ok tt ∷ Ok tt ∷ []
+remove-answers = refl
+
+remove-leaves : statuses_after (remove 1) ≡ [] ∷ [] ∷ (Running ∷ []) ∷ (Suspended ∷ []) ∷ [] ∷ [] ∷ []
+remove-leaves = refl
+
+set_priority-answers : answers (set_priority 1 (pos 0))
+    ≡ Ok tt ∷ Ok tt ∷ Err WrongStatus ∷ Err WrongStatus ∷ Err WrongStatus ∷ Err WrongStatus ∷ []
+set_priority-answers = refl
+
+set_priority-leaves : statuses_after (set_priority 1 (pos 0)) ≡ map (λ status. status ∷ []) statuses
+set_priority-leaves = refl
+
+set_position-answers : answers (set_position 1 (pos 0))
+    ≡ Ok tt ∷ Ok tt ∷ Err WrongStatus ∷ Err WrongStatus ∷ Err WrongStatus ∷ Err WrongStatus ∷ []
+set_position-answers = refl
+
+set_position-leaves : statuses_after (set_position 1 (pos 0)) ≡ map (λ status. status ∷ []) statuses
+set_position-leaves = refl
+
+-- which entries wait, run, have ended, and are in flight once they began
+waiting : map is_waiting statuses ≡ true ∷ false ∷ false ∷ false ∷ false ∷ false ∷ []
+waiting = refl
+
+running : map is_running statuses ≡ false ∷ false ∷ true ∷ false ∷ false ∷ false ∷ []
+running = refl
+
+ended : map has_ended statuses ≡ false ∷ false ∷ false ∷ false ∷ true ∷ true ∷ []
+ended = refl
+
+in_flight : map (λ status. is_in_flight (entry_at status)) statuses ≡ true ∷ true ∷ true ∷ true ∷ false ∷ false ∷ []
+in_flight = refl
+
+not_begun : map (λ status. is_in_flight (record (entry_at status) { begun = false })) statuses ≡ map (λ _. false) statuses
+not_begun = refl

@@ -1,12 +1,8 @@
-//! The tests of what makes marks: the page with its bitmaps and files, the cursor, patterns, fills, raster rows, and values.
+//! The tests of what makes marks: the page with its bitmaps and files, patterns, fills and raster rows.
 #![tactic(auto)]
 
 #[cfg(test)]
 mod bitmaps;
-#[cfg(test)]
-mod cursor;
-#[cfg(test)]
-mod environment;
 #[cfg(test)]
 mod files;
 #[cfg(test)]
@@ -14,12 +10,6 @@ mod fills;
 #[cfg(test)]
 mod patterns;
 #[cfg(test)]
-mod placement;
-#[cfg(test)]
-mod positions;
-#[cfg(test)]
 mod raster;
 #[cfg(test)]
 mod rows;
-#[cfg(test)]
-mod values;
