@@ -2,7 +2,7 @@
 use press_bits::{Bitmap, DotRow, Mode};
 use press_pbm::FuseWrite;
 use press_sink::{ListReplies, ListSink};
-use press_stream::Job;
+use press_stream::{Job, JobError};
 use press_ticket::read_ticket;
 use press_writer::{WriterError, check, write_job};
 use std::alloc::Global;
@@ -54,6 +54,17 @@ fn faults_are_told_by_their_numbers(rt: HostRuntime) -> Result<(), Fail> {
     )?;
     let wanted = "fault 611, fault 612, fault 613, fault 614, fault memory";
     assert_eq!(rt; told.as_str(), wanted);
+    let job = format!(in rt.alloc();
+        "{}, {}, {}, {}, {}, {}",
+        JobError::SinkFault,
+        JobError::ReplyFault,
+        JobError::Failed,
+        JobError::ReadFault,
+        JobError::AfterEnd,
+        JobError::NoMemory
+    )?;
+    let wanted = "fault 301, fault 302, fault 303, fault 304, fault 305, fault memory";
+    assert_eq!(rt; job.as_str(), wanted);
     Ok(())
 }
 

@@ -1,4 +1,4 @@
-//! The tests of what takes jobs: tickets, their streams, the queue, turns, and the program's files and sessions.
+//! The tests of what takes jobs: streams, tickets and their jobs, the queue, turns, and the program's files and sessions.
 #![tactic(auto)]
 
 #[cfg(test)]
@@ -11,6 +11,8 @@ mod program_jobs;
 mod program_sessions;
 #[cfg(test)]
 mod queue;
+#[cfg(test)]
+mod streams;
 #[cfg(test)]
 mod tickets;
 #[cfg(test)]

@@ -9,13 +9,18 @@ use std::test::Fail;
 const SUBMIT: &[u8] = br#"{"ID":"m","Type":"SubmitQueueEntry","Ticket":
 {"Amount":3,"JobID":"J","NPage":1,"Type":"DigitalPrinting","Version":"1.5"}}"#;
 
+/// Submits the ticket with these images.
+fn submit(press: &mut Press, images: &[Bitmap]) -> Result<(), Fail> {
+    press.message(SUBMIT, images)?;
+    Ok(())
+}
+
 /// A press with two entries.
 fn press_of_two(alloc: Global) -> Result<Press, Fail> {
     let mut press = Press::new(alloc);
-    let mut images = Vec::new(alloc);
-    images.push(Bitmap::blank(alloc, 8, 1)?)?;
-    press.message(SUBMIT, &images)?;
-    press.message(SUBMIT, &images)?;
+    let images = [Bitmap::blank(alloc, 8, 1)?];
+    submit(&mut press, &images)?;
+    submit(&mut press, &images)?;
     Ok(press)
 }
 

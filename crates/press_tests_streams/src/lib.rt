@@ -1,14 +1,12 @@
-//! The tests of what carries a stream out: the engine and its jobs, macros, sheets and replies.
+//! The tests of what carries a stream out: the engine, row by row of the command table, and the sinks of sheets and replies.
 #![tactic(auto)]
 
 #[cfg(test)]
 mod faults;
 #[cfg(test)]
-mod jobs;
-#[cfg(test)]
-mod macros;
-#[cfg(test)]
 mod replies;
+#[cfg(test)]
+mod rows;
 #[cfg(test)]
 mod sinks;
 mod stream_tables;

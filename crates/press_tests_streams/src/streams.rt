@@ -1,4 +1,5 @@
 //! Streams that are carried out without an end of input, with what they leave, by the tables of `stream_tables`.
+use crate::rows::{Row, rows_of};
 use crate::stream_tables::{Shows, TABLES};
 use press_cmd::Kind;
 use press_engine::{Engine, Last, View};
@@ -13,48 +14,6 @@ const MOST_COMMANDS: u32 = 100;
 /// What the streams of a table come behind where they follow a page with a mark.
 const MARK: &[u8] = b"\x1B*p10x20Y\x1B*c1a1b0P";
 
-/// The number that a hexadecimal digit stands for.
-fn digit(byte: u8) -> Result<u8, Fail> {
-    let number = char::from(byte).to_digit(16).ok_or("no digit")?;
-    Ok(number as u8)
-}
-
-/// The bytes of a stream, as the tables spell it.
-fn bytes_of(rt: &HostRuntime, stream: &str) -> Result<Vec<u8>, Fail> {
-    let mut bytes = Vec::new(rt.alloc());
-    let mut spelled = stream.bytes();
-    let mut in_data = false;
-    while let Some(byte) = spelled.next() {
-        match byte {
-            b'[' => in_data = true,
-            b']' => in_data = false,
-            first if in_data => {
-                let second = spelled.next().ok_or("one digit")?;
-                bytes.push(digit(first)? << 4 | digit(second)?)?;
-            }
-            b'^' => bytes.push(0x1B)?,
-            b'<' => bytes.push(b'\r')?,
-            b'|' => bytes.push(b'\n')?,
-            b'~' => bytes.push(0x0C)?,
-            other => bytes.push(other)?,
-        }
-    }
-    Ok(bytes)
-}
-
-/// The stream of a line of a table, and its numbers.
-fn row_of(rt: &HostRuntime, line: &str) -> Result<(Vec<u8>, Vec<i64>), Fail> {
-    let mut words = line.split(' ');
-    let stream = bytes_of(rt, words.next().ok_or("no stream")?)?;
-    let mut numbers = Vec::new(rt.alloc());
-    for word in words {
-        if !word.is_empty() {
-            numbers.push(word.parse::<i64>().ok().ok_or("no number")?)?;
-        }
-    }
-    Ok((stream, numbers))
-}
-
 /// What a stream left: the engine, and how many sheets went out.
 #[derive(Drop)]
 struct CarriedOut {
@@ -62,23 +21,28 @@ struct CarriedOut {
     sheets: usize,
 }
 
-/// Carries the commands of a stream out.
-fn carried_out(rt: &HostRuntime, stream: &[u8]) -> Result<CarriedOut, Fail> {
+/// Carries the commands of a stream out, and counts the sheets that go out.
+fn carry_out(rt: &HostRuntime, engine: &mut Engine, stream: &[u8]) -> Result<usize, Fail> {
     let mut scanner = Scanner::new(rt.alloc());
     scanner.feed(stream)?;
-    let mut engine = Engine::power_on(rt.alloc())?;
     let mut sheets = ListSink::new(rt.alloc());
     let mut replies = ListReplies::new(rt.alloc());
     for _ in 0..MOST_COMMANDS {
         let Some(command) = scanner.next()? else {
-            let sheets = sheets.deliveries().len();
-            return Ok(CarriedOut { engine, sheets });
+            return Ok(sheets.deliveries().len());
         };
         let Ok(()) = engine.run_command(command, 0, &mut sheets, &mut replies) else {
             return Err(Fail::from("a command was not carried out"));
         };
     }
     Err(Fail::from("too many commands"))
+}
+
+/// What a stream leaves of an engine after power on.
+fn carried_out(rt: &HostRuntime, stream: &[u8]) -> Result<CarriedOut, Fail> {
+    let mut engine = Engine::power_on(rt.alloc())?;
+    let sheets = carry_out(rt, &mut engine, stream)?;
+    Ok(CarriedOut { engine, sheets })
 }
 
 /// An ID, or -1 for none.
@@ -188,36 +152,41 @@ fn numbers_of(rt: &HostRuntime, shows: Shows, stream: &[u8]) -> Result<Vec<i64>,
     Ok(numbers)
 }
 
+/// How many sheets go out, and the cursor after them.
+fn sheets_of(rt: &HostRuntime, stream: &[u8]) -> Result<[i64; 3], Fail> {
+    let left = carried_out(rt, stream)?;
+    let view = left.engine.view();
+    Ok([small(left.sheets as u64), view.x.0, view.y.0])
+}
+
 /// How many sheets go out behind a page with a mark, and behind one without; and the cursor after the former.
 fn closes_of(rt: &HostRuntime, stream: &[u8]) -> Result<Vec<i64>, Fail> {
     let mut after_mark = Vec::new(rt.alloc());
     after_mark.extend_from_slice(MARK)?;
     after_mark.extend_from_slice(stream)?;
-    let marked = carried_out(rt, &after_mark)?;
-    let unmarked = carried_out(rt, stream)?;
+    let [sheets, x, y] = sheets_of(rt, &after_mark)?;
+    let [unmarked, _, _] = sheets_of(rt, stream)?;
     let mut numbers = Vec::new(rt.alloc());
-    numbers.push(small(marked.sheets as u64))?;
-    numbers.push(small(unmarked.sheets as u64))?;
-    push_view(&mut numbers, Shows::Position, &marked.engine.view())?;
+    numbers.extend_from_slice(&[sheets, unmarked, x, y])?;
     Ok(numbers)
 }
 
-/// Whether a line of a table holds.
-fn holds(rt: &HostRuntime, shows: Shows, line: &str) -> Result<bool, Fail> {
-    let (stream, wanted) = row_of(rt, line)?;
+/// Whether a row of a table holds.
+fn holds(rt: &HostRuntime, shows: Shows, row: &Row<'_>) -> Result<bool, Fail> {
     let given = match shows {
-        Shows::Closes => closes_of(rt, &stream)?,
-        _ => numbers_of(rt, shows, &stream)?,
+        Shows::Closes => closes_of(rt, &row.stream)?,
+        _ => numbers_of(rt, shows, &row.stream)?,
     };
-    Ok(given.as_slice() == wanted.as_slice())
+    Ok(given.as_slice() == row.numbers.as_slice())
 }
 
 #[test]
 fn streams_leave_what_their_rows_say(rt: HostRuntime) -> Result<(), Fail> {
     for (shows, count, table) in &TABLES {
-        assert_eq!(rt; table.lines().count(), *count);
-        for line in table.lines() {
-            assert!(rt; holds(&rt, *shows, line)?, "{line}");
+        let rows = rows_of(rt.alloc(), table)?;
+        assert_eq!(rt; rows.len(), *count);
+        for row in &rows {
+            assert!(rt; holds(&rt, *shows, row)?, "{}", row.line);
         }
     }
     Ok(())
@@ -235,5 +204,17 @@ fn the_last_step_is_shown(rt: HostRuntime) -> Result<(), Fail> {
     let ran = last_of(&rt, b"\x1B&f0X\x0D\x1B&f1x2X")?;
     assert_eq!(rt; ran, Last::Ran(Kind::Control(b'\r')));
     assert_eq!(rt; last_of(&rt, b"")?, Last::Nothing);
+    Ok(())
+}
+
+/// The macro ID that a copy of an engine shows.
+fn id_of_a_copy(engine: &Engine) -> Result<u16, Fail> {
+    Ok(engine.copy()?.view().macro_id)
+}
+
+#[test]
+fn a_copy_shows_the_same(rt: HostRuntime) -> Result<(), Fail> {
+    let left = carried_out(&rt, b"\x1B&f3Y")?;
+    assert_eq!(rt; id_of_a_copy(&left.engine)?, 3);
     Ok(())
 }

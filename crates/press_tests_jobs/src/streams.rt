@@ -1,10 +1,10 @@
-//! Jobs: streams whole and cut at every byte, and readers and sinks that fail at each of their calls.
+//! Streams read byte by byte, handed in cut at every byte, and with readers and sinks that fail at each of their calls.
+use crate::program_devices::Reluctant;
 use press_bits::Bitmap;
 use press_pbm::FuseRead;
 use press_sink::{FuseReplies, FuseSink, ListReplies, ListSink};
 use press_stream::{Job, JobError};
 use std::alloc::{AllocError, Global};
-use std::io::{self, Read};
 use std::process::Abort;
 use std::test::Fail;
 
@@ -18,25 +18,6 @@ fn number(answer: &Result<(), JobError>) -> u32 {
         Err(JobError::ReadFault) => 304,
         Err(JobError::AfterEnd) => 305,
         Err(JobError::NoMemory) => 0,
-    }
-}
-
-/// A reader that gives its bytes one at a time.
-#[derive(Drop)]
-struct ByBytes<'a> {
-    bytes: &'a [u8],
-}
-
-impl Read for ByBytes<'_> {
-    fn read(&mut self, buf: &mut [u8]) -> io::Result<usize> {
-        match (self.bytes.split_first(), buf.first_mut()) {
-            (Some((first, rest)), Some(place)) => {
-                *place = *first;
-                self.bytes = rest;
-                Ok(1)
-            }
-            _ => Ok(0),
-        }
     }
 }
 
@@ -80,40 +61,6 @@ impl Outcome {
     }
 }
 
-/// Feeds a piece.
-fn feed(
-    job: &mut Job,
-    piece: &[u8],
-    sheets: &mut ListSink,
-    replies: &mut ListReplies,
-) -> Result<(), Fail> {
-    job.feed(piece, 7, sheets, replies)?;
-    Ok(())
-}
-
-/// Ends the input, and gives what the job answers to one piece more.
-fn finish(job: &mut Job, sheets: &mut ListSink, replies: &mut ListReplies) -> Result<u32, Fail> {
-    job.finish(7, sheets, replies)?;
-    Ok(number(&job.feed(b"\x0C", 7, sheets, replies)))
-}
-
-/// A stream in two pieces; a piece after the end.
-fn cut(alloc: Global, stream: &[u8], at: usize) -> Result<Outcome, Fail> {
-    let mut sheets = ListSink::new(alloc);
-    let mut replies = ListReplies::new(alloc);
-    let mut job = Job::open(alloc)?;
-    let front = stream.get(..at).unwrap_or(stream);
-    let back = stream.get(at..).unwrap_or(stream);
-    feed(&mut job, front, &mut sheets, &mut replies)?;
-    feed(&mut job, back, &mut sheets, &mut replies)?;
-    let open = job.ended();
-    let late = finish(&mut job, &mut sheets, &mut replies)?;
-    let mut outcome = Outcome::of(alloc, &sheets, &replies)?;
-    let ends = [u32::from(open), u32::from(job.ended()), late];
-    outcome.numbers.extend_from_slice(&ends)?;
-    Ok(outcome)
-}
-
 /// At which calls a reader and the sinks of a run fail, and how much of a reply is taken then.
 #[derive(Drop)]
 struct Fuses {
@@ -123,11 +70,27 @@ struct Fuses {
     front: usize,
 }
 
+/// More calls than any of these streams makes.
+const NEVER: u64 = 1_000_000;
+
+/// A reader and sinks without a fault.
+const SOUND: Fuses = Fuses {
+    reads: NEVER,
+    sheets: NEVER,
+    replies: NEVER,
+    front: 0,
+};
+
 /// A stream, read byte by byte; and what the job answers to one piece more.
 fn run(alloc: Global, stream: &[u8], fuses: &Fuses) -> Result<Outcome, Fail> {
     let mut sheets = FuseSink::new(ListSink::new(alloc), fuses.sheets);
     let mut replies = FuseReplies::new(ListReplies::new(alloc), fuses.replies, fuses.front);
-    let mut reader = FuseRead::new(ByBytes { bytes: stream }, fuses.reads);
+    let bytes = Reluctant {
+        bytes: stream,
+        interrupted: true,
+        fails: false,
+    };
+    let mut reader = FuseRead::new(bytes, fuses.reads);
     let mut job = Job::open(alloc)?;
     let answer = number(&job.run(&mut reader, 7, &mut sheets, &mut replies));
     let late = number(&job.push(b"\x0C"));
@@ -200,42 +163,42 @@ const JOBS: [Row; 6] = [
     ),
 ];
 
-/// Each stream of a table, cut at each place.
-fn cuts_make_no_difference(rt: &(impl Abort + AllocGlobal), rows: &[Row]) -> Result<(), Fail> {
+/// What comes of a stream that is handed in cut in two.
+fn cut(alloc: Global, stream: &[u8], at: usize) -> Result<Outcome, Fail> {
+    let mut sheets = ListSink::new(alloc);
+    let mut replies = ListReplies::new(alloc);
+    let mut job = Job::open(alloc)?;
+    for piece in [stream.get(..at), stream.get(at..)] {
+        job.feed(piece.unwrap_or(b""), 7, &mut sheets, &mut replies)?;
+    }
+    job.finish(7, &mut sheets, &mut replies)?;
+    Outcome::of(alloc, &sheets, &replies)
+}
+
+/// Each stream of a table, read byte by byte, and cut at each place.
+fn pieces_make_no_difference(rt: &(impl Abort + AllocGlobal), rows: &[Row]) -> Result<(), Fail> {
     for (stream, sides, replies) in rows {
+        let read = run(rt.alloc(), stream, &SOUND)?;
+        assert_eq!(rt; read.numbers.as_slice(), [1, 305].as_slice());
+        assert_eq!(rt; read.sides.as_slice(), *sides);
+        assert_eq!(rt; read.replies.as_slice(), *replies);
         for at in 0..stream.len() + 1 {
-            let outcome = cut(rt.alloc(), stream, at)?;
-            assert_eq!(rt; outcome.numbers.as_slice(), [0, 1, 305].as_slice());
-            assert_eq!(rt; outcome.sides.as_slice(), *sides, "{at}");
-            assert_eq!(rt; outcome.replies.as_slice(), *replies);
+            let handed = cut(rt.alloc(), stream, at)?;
+            assert_eq!(rt; handed.sides.as_slice(), *sides, "{at}");
+            assert_eq!(rt; handed.replies.as_slice(), *replies);
         }
     }
     Ok(())
 }
 
 #[test]
-fn a_cut_makes_no_difference_to_pages(rt: HostRuntime) -> Result<(), Fail> {
-    cuts_make_no_difference(&rt, &PAGES)
+fn pages_come_in_pieces(rt: HostRuntime) -> Result<(), Fail> {
+    pieces_make_no_difference(&rt, &PAGES)
 }
 
 #[test]
-fn a_cut_makes_no_difference_to_jobs(rt: HostRuntime) -> Result<(), Fail> {
-    cuts_make_no_difference(&rt, &JOBS)
-}
-
-#[test]
-fn a_line_may_be_too_long(rt: HostRuntime) -> Result<(), Fail> {
-    for length in [4095, 4096, 4097, 9000] {
-        let mut stream = Vec::from_slice(rt.alloc(), b"\x1B%-12345X@PJL COMMENT ")?;
-        for _ in 14..length {
-            stream.push(b'x')?;
-        }
-        stream.extend_from_slice(b"\n@PJL INQUIRE PAPER\n")?;
-        let outcome = cut(rt.alloc(), &stream, 4000)?;
-        let wanted = b"@PJL INQUIRE PAPER\r\nLETTER\r\n\x0C";
-        assert_eq!(rt; outcome.replies.as_slice(), wanted.as_slice());
-    }
-    Ok(())
+fn lines_come_in_pieces(rt: HostRuntime) -> Result<(), Fail> {
+    pieces_make_no_difference(&rt, &JOBS)
 }
 
 /// Five sheets, each with its reply: a page in three copies, and one in two.
@@ -257,26 +220,25 @@ fn stopped(outcome: &Outcome, answer: u32, sheets: usize, replied: usize) -> boo
 
 #[test]
 fn a_sink_may_fail_at_each_call(rt: HostRuntime) -> Result<(), Fail> {
-    let mut fuses = Fuses {
-        reads: 1000,
-        sheets: 1000,
-        replies: 1000,
-        front: 9,
-    };
-    let whole = run(rt.alloc(), COPIES, &fuses)?;
+    let whole = run(rt.alloc(), COPIES, &SOUND)?;
     assert_eq!(rt; whole.numbers.as_slice(), [1, 305].as_slice());
     assert_eq!(rt; whole.sides.len(), 5);
     assert_eq!(rt; whole.replies.as_slice(), REPLIES);
-    for call in 0..5 {
-        fuses.sheets = call;
-        let outcome = run(rt.alloc(), COPIES, &fuses)?;
-        let before = usize::try_from(call).ok().unwrap_or(9);
+    for before in 0..5 {
+        let call = before as u64;
+        let no_sheet = Fuses {
+            sheets: call,
+            ..SOUND
+        };
+        let outcome = run(rt.alloc(), COPIES, &no_sheet)?;
         assert!(rt; stopped(&outcome, 301, before, REPLY * before));
-        fuses.sheets = 1000;
-        fuses.replies = call;
-        let outcome = run(rt.alloc(), COPIES, &fuses)?;
+        let part_of_a_reply = Fuses {
+            replies: call,
+            front: 9,
+            ..SOUND
+        };
+        let outcome = run(rt.alloc(), COPIES, &part_of_a_reply)?;
         assert!(rt; stopped(&outcome, 302, before + 1, REPLY * before + 9));
-        fuses.replies = 1000;
     }
     Ok(())
 }
@@ -285,18 +247,16 @@ fn a_sink_may_fail_at_each_call(rt: HostRuntime) -> Result<(), Fail> {
 fn a_reader_may_fail_at_each_call(rt: HostRuntime) -> Result<(), Fail> {
     let first = COPIES.iter().position(|byte| *byte == 0x0C).unwrap_or(0);
     for call in 0..COPIES.len() + 1 {
-        let fuses = Fuses {
-            reads: u64::try_from(call).ok().unwrap_or(0),
-            sheets: 1000,
-            replies: 1000,
-            front: 0,
-        };
         let sheets = if call <= first {
             0
         } else if call < COPIES.len() {
             3
         } else {
             5
+        };
+        let fuses = Fuses {
+            reads: call as u64,
+            ..SOUND
         };
         let outcome = run(rt.alloc(), COPIES, &fuses)?;
         assert!(rt; stopped(&outcome, 304, sheets, REPLY * sheets));
