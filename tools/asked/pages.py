@@ -1,4 +1,5 @@
-"""Streams that print: how many dots of each side are black, and where they lie on the first side. All were worked out by hand.
+"""Streams that print: how many dots of each side are black, and where they lie on the first side. They were worked out by hand, but
+for those whose boxes are the model's.
 
 In a stream `^` is an escape character, `<` a carriage return, `|` a line feed and `~` a form feed, and data stands in brackets, two
 hexadecimal digits a byte.
