@@ -1,7 +1,7 @@
 //! Lines of the frame on the physical page.
 
 ghost use Rattle.std.specs.Prelude.{◌≡◌, ◌≤◌, ◌-ℤ◌, pos};
-ghost use Rattle.press_bits.specs.Page.{HasNoDotOutside};
+ghost use Rattle.press_bits.specs.Page.{HasNoDotOutside, longest_side};
 ghost use Rattle.press_bits.specs.Mark.{painted, row, row_mark, column_mark};
 ghost use Rattle.press_page.specs.Media.{turned};
 ghost use Rattle.press_raster.specs.Along.{is_backward, along_mark};
@@ -24,8 +24,8 @@ pub(crate) fn frame(page: &Bitmap, orientation: Orientation) -> Extent
     ensures frame { result
         ≡ turned orientation (record { width = page.now.width; height = page.now.height }) }
     ensures some { 1 ≤ result.width }
-    ensures width { result.width ≤ 16384 }
-    ensures height { result.height ≤ 16384 }
+    ensures width { result.width ≤ longest_side }
+    ensures height { result.height ≤ longest_side }
     ensures inside { HasNoDotOutside page.now }
 {
     let (width, height) = (page.width(), page.height());
