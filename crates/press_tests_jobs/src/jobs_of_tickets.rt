@@ -1,11 +1,12 @@
 //! Jobs of tickets: what is printed of them, and writes that fail.
 use press_bits::{Bitmap, DotRow, Mode};
 use press_pbm::FuseWrite;
-use press_sink::{ListReplies, ListSink};
+use press_sink::{ListReplies, ListSink, Sheet};
 use press_stream::{Job, JobError};
 use press_ticket::read_ticket;
 use press_writer::{WriterError, check, write_job};
 use std::alloc::Global;
+use std::process::Abort;
 use std::test::Fail;
 
 /// Two sets of three pages, on both sides of the sheets.
@@ -43,7 +44,7 @@ fn a_failed_write_is_told(rt: HostRuntime) -> Result<(), Fail> {
 }
 
 #[test]
-fn faults_are_told_by_their_numbers(rt: HostRuntime) -> Result<(), Fail> {
+fn faults_of_jobs_are_told_by_their_numbers(rt: HostRuntime) -> Result<(), Fail> {
     let told = format!(in rt.alloc();
         "{}, {}, {}, {}, {}",
         WriterError::PageMissing,
@@ -54,7 +55,12 @@ fn faults_are_told_by_their_numbers(rt: HostRuntime) -> Result<(), Fail> {
     )?;
     let wanted = "fault 611, fault 612, fault 613, fault 614, fault memory";
     assert_eq!(rt; told.as_str(), wanted);
-    let job = format!(in rt.alloc();
+    Ok(())
+}
+
+#[test]
+fn faults_of_streams_are_told_by_their_numbers(rt: HostRuntime) -> Result<(), Fail> {
+    let told = format!(in rt.alloc();
         "{}, {}, {}, {}, {}, {}",
         JobError::SinkFault,
         JobError::ReplyFault,
@@ -64,7 +70,7 @@ fn faults_are_told_by_their_numbers(rt: HostRuntime) -> Result<(), Fail> {
         JobError::NoMemory
     )?;
     let wanted = "fault 301, fault 302, fault 303, fault 304, fault 305, fault memory";
-    assert_eq!(rt; job.as_str(), wanted);
+    assert_eq!(rt; told.as_str(), wanted);
     Ok(())
 }
 
@@ -86,19 +92,29 @@ fn has_its_dot(side: &Bitmap) -> bool {
     (side.width(), side.height()) == (2550, 3300) && side.count_black() == 1 && side.get(75, 0)
 }
 
+/// The job of the ticket with three dots.
+fn job_of_dots(alloc: Global) -> Result<Vec<u8>, Fail> {
+    let ticket = read_ticket(alloc, TICKET)?;
+    let images = dots(alloc)?;
+    check(&ticket, &images)?;
+    let mut job = Vec::new(alloc);
+    write_job(alloc, &ticket, &images, &mut job)?;
+    Ok(job)
+}
+
+/// A sheet with three pages in two sets has a back where its number, from 0, is even.
+fn expect_dots(rt: &impl Abort, number: usize, sheet: &Sheet) {
+    assert!(rt; has_its_dot(&sheet.front));
+    let back = sheet.back.as_ref().map(has_its_dot);
+    assert_eq!(rt; back, if number % 2 == 0 { Some(true) } else { None });
+}
+
 #[test]
 fn dots_lie_at_the_corner_of_the_logical_page(rt: HostRuntime) -> Result<(), Fail> {
-    let ticket = read_ticket(rt.alloc(), TICKET)?;
-    let images = dots(rt.alloc())?;
-    check(&ticket, &images)?;
-    let mut job = Vec::new(rt.alloc());
-    write_job(rt.alloc(), &ticket, &images, &mut job)?;
-    let sheets = printed(rt.alloc(), &job)?;
+    let sheets = printed(rt.alloc(), &job_of_dots(rt.alloc())?)?;
     assert_eq!(rt; sheets.deliveries().len(), 4);
     for (number, delivery) in sheets.deliveries().iter().enumerate() {
-        assert!(rt; has_its_dot(&delivery.sheet.front));
-        let back = delivery.sheet.back.as_ref().map(has_its_dot);
-        assert_eq!(rt; back, if number % 2 == 0 { Some(true) } else { None });
+        expect_dots(&rt, number, &delivery.sheet);
     }
     Ok(())
 }

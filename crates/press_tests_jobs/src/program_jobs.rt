@@ -1,6 +1,8 @@
 //! Jobs of tickets, over inputs of known bytes, and over a reader and a writer that fail.
 use crate::program_devices::{Failing, Full};
 use press_main::{InputError, NamedInputs, write_files};
+use std::alloc::Global;
+use std::io::{Read, Write};
 use std::test::Fail;
 
 /// A ticket of one page.
@@ -44,36 +46,31 @@ fn images_of_known_bytes_are_printed(rt: HostRuntime) -> Result<(), Fail> {
     Ok(())
 }
 
-#[test]
-fn a_reader_and_a_writer_that_fail_are_told(rt: HostRuntime) -> Result<(), Fail> {
-    let mut ticket = TICKET;
-    let inputs = SameBytes { bytes: DOT };
+/// The status of a job with this reader and this output, with an image of a black dot.
+fn status_of<R: Read, W: Write>(
+    alloc: Global,
+    ticket: &mut R,
+    out: &mut W,
+    err: &mut Vec<u8>,
+) -> u8 {
     let names: [&[u8]; 1] = [b"one"];
+    write_files(alloc, ticket, &SameBytes { bytes: DOT }, &names, out, err)
+}
+
+#[test]
+fn a_reader_that_fails_is_told(rt: HostRuntime) {
     let mut out = Vec::new(rt.alloc());
     let mut err = Vec::new(rt.alloc());
-    assert_eq!(rt;
-        write_files(
-            rt.alloc(),
-            &mut Failing,
-            &inputs,
-            &names,
-            &mut out,
-            &mut err
-        ),
-        1
-    );
-    assert_eq!(rt;
-        write_files(
-            rt.alloc(),
-            &mut ticket,
-            &inputs,
-            &names,
-            &mut Full,
-            &mut err
-        ),
-        1
-    );
-    assert_eq!(rt; err.as_slice(), b"fault 304\nfault 614\n".as_slice());
-    assert_eq!(rt; out.len(), 0);
-    Ok(())
+    let status = status_of(rt.alloc(), &mut Failing, &mut out, &mut err);
+    assert_eq!(rt; (status, out.len()), (1, 0));
+    assert_eq!(rt; err.as_slice(), b"fault 304\n".as_slice());
+}
+
+#[test]
+fn a_writer_that_fails_is_told(rt: HostRuntime) {
+    let mut ticket = TICKET;
+    let mut err = Vec::new(rt.alloc());
+    let status = status_of(rt.alloc(), &mut ticket, &mut Full, &mut err);
+    assert_eq!(rt; status, 1);
+    assert_eq!(rt; err.as_slice(), b"fault 614\n".as_slice());
 }

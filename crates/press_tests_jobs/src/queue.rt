@@ -47,17 +47,31 @@ fn each_refusal_has_its_code(rt: HostRuntime) -> Result<(), Fail> {
     Ok(())
 }
 
+/// Lets the first seven entries begin, and suspends each.
+fn suspend_seven(rt: &impl Abort, queue: &mut Queue) -> Result<(), Refusal> {
+    for number in 1..8 {
+        assert_eq!(rt; begin(rt, queue), Some(number));
+        queue.suspend(number)?;
+    }
+    Ok(())
+}
+
 #[test]
 fn a_ninth_in_flight_is_refused(rt: HostRuntime) -> Result<(), Fail> {
     let mut queue = queue_of(rt.alloc(), 9)?;
-    for number in 1..8 {
-        assert_eq!(rt; begin(&rt, &mut queue), Some(number));
-        queue.suspend(number)?;
-    }
+    suspend_seven(&rt, &mut queue)?;
     assert_eq!(rt; begin(&rt, &mut queue), Some(8));
-    assert_eq!(rt; queue.suspend(9), Err(Refusal::WrongStatus));
-    assert_eq!(rt; queue.suspend(8), Err(Refusal::InFlightFull));
+    let waits = queue.suspend(9);
+    let ninth = queue.suspend(8);
     queue.abort(1)?;
-    assert_eq!(rt; queue.suspend(8), Ok(()));
+    let answers = (waits, ninth, queue.suspend(8));
+    assert_eq!(rt;
+        answers,
+        (
+            Err(Refusal::WrongStatus),
+            Err(Refusal::InFlightFull),
+            Ok(())
+        )
+    );
     Ok(())
 }

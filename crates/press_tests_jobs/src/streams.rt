@@ -62,7 +62,7 @@ impl Outcome {
 }
 
 /// At which calls a reader and the sinks of a run fail, and how much of a reply is taken then.
-#[derive(Drop)]
+#[derive(Clone, Copy)]
 struct Fuses {
     reads: u64,
     sheets: u64,
@@ -175,17 +175,30 @@ fn cut(alloc: Global, stream: &[u8], at: usize) -> Result<Outcome, Fail> {
     Outcome::of(alloc, &sheets, &replies)
 }
 
+impl Outcome {
+    /// Whether these notes and replies came of the stream.
+    fn is(&self, sides: &[u32], replies: &[u8]) -> bool {
+        self.sides.as_slice() == sides && self.replies.as_slice() == replies
+    }
+}
+
+/// Whether a stream that is read byte by byte gives what its row says.
+fn is_read(alloc: Global, (stream, sides, replies): &Row) -> Result<bool, Fail> {
+    let read = run(alloc, stream, &SOUND)?;
+    Ok(read.numbers.as_slice() == [1, 305].as_slice() && read.is(sides, replies))
+}
+
+/// Whether a stream that is handed in cut in two gives what its row says.
+fn is_handed_in(alloc: Global, (stream, sides, replies): &Row, at: usize) -> Result<bool, Fail> {
+    Ok(cut(alloc, stream, at)?.is(sides, replies))
+}
+
 /// Each stream of a table, read byte by byte, and cut at each place.
 fn pieces_make_no_difference(rt: &(impl Abort + AllocGlobal), rows: &[Row]) -> Result<(), Fail> {
-    for (stream, sides, replies) in rows {
-        let read = run(rt.alloc(), stream, &SOUND)?;
-        assert_eq!(rt; read.numbers.as_slice(), [1, 305].as_slice());
-        assert_eq!(rt; read.sides.as_slice(), *sides);
-        assert_eq!(rt; read.replies.as_slice(), *replies);
-        for at in 0..stream.len() + 1 {
-            let handed = cut(rt.alloc(), stream, at)?;
-            assert_eq!(rt; handed.sides.as_slice(), *sides, "{at}");
-            assert_eq!(rt; handed.replies.as_slice(), *replies);
+    for row in rows {
+        assert!(rt; is_read(rt.alloc(), row)?);
+        for at in 0..row.0.len() + 1 {
+            assert!(rt; is_handed_in(rt.alloc(), row, at)?, "{at}");
         }
     }
     Ok(())
@@ -211,34 +224,53 @@ const REPLIES: &[u8] =
 
 const REPLY: usize = 23;
 
-/// Whether a run was answered so, took so many sheets and this front of the replies, and has failed.
-fn stopped(outcome: &Outcome, answer: u32, sheets: usize, replied: usize) -> bool {
-    outcome.numbers.as_slice() == [answer, 303].as_slice()
-        && outcome.sides.len() == sheets
-        && outcome.replies.as_slice() == REPLIES.get(..replied).unwrap_or(b"none")
+/// Whether a run is answered so, takes so many sheets and this front of the replies, and then has failed.
+fn stops(
+    alloc: Global,
+    fuses: &Fuses,
+    answer: u32,
+    sheets: usize,
+    replied: usize,
+) -> Result<bool, Fail> {
+    let outcome = run(alloc, COPIES, fuses)?;
+    Ok(
+        outcome.numbers.as_slice() == [answer, 303].as_slice()
+            && outcome.sides.len() == sheets
+            && outcome.replies.as_slice() == REPLIES.get(..replied).unwrap_or(b"none"),
+    )
 }
 
 #[test]
-fn a_sink_may_fail_at_each_call(rt: HostRuntime) -> Result<(), Fail> {
+fn sheets_and_replies_alternate(rt: HostRuntime) -> Result<(), Fail> {
     let whole = run(rt.alloc(), COPIES, &SOUND)?;
     assert_eq!(rt; whole.numbers.as_slice(), [1, 305].as_slice());
     assert_eq!(rt; whole.sides.len(), 5);
     assert_eq!(rt; whole.replies.as_slice(), REPLIES);
+    Ok(())
+}
+
+#[test]
+fn a_sink_may_fail_at_each_call(rt: HostRuntime) -> Result<(), Fail> {
     for before in 0..5 {
-        let call = before as u64;
         let no_sheet = Fuses {
-            sheets: call,
+            sheets: before as u64,
             ..SOUND
         };
-        let outcome = run(rt.alloc(), COPIES, &no_sheet)?;
-        assert!(rt; stopped(&outcome, 301, before, REPLY * before));
+        assert!(rt; stops(rt.alloc(), &no_sheet, 301, before, REPLY * before)?);
         let part_of_a_reply = Fuses {
-            replies: call,
+            replies: before as u64,
             front: 9,
             ..SOUND
         };
-        let outcome = run(rt.alloc(), COPIES, &part_of_a_reply)?;
-        assert!(rt; stopped(&outcome, 302, before + 1, REPLY * before + 9));
+        assert!(rt;
+            stops(
+                rt.alloc(),
+                &part_of_a_reply,
+                302,
+                before + 1,
+                REPLY * before + 9
+            )?
+        );
     }
     Ok(())
 }
@@ -258,8 +290,7 @@ fn a_reader_may_fail_at_each_call(rt: HostRuntime) -> Result<(), Fail> {
             reads: call as u64,
             ..SOUND
         };
-        let outcome = run(rt.alloc(), COPIES, &fuses)?;
-        assert!(rt; stopped(&outcome, 304, sheets, REPLY * sheets));
+        assert!(rt; stops(rt.alloc(), &fuses, 304, sheets, REPLY * sheets)?);
     }
     Ok(())
 }

@@ -1,6 +1,7 @@
 //! Job tickets: what one shows, and the library's names and texts.
-use press_ticket::{Key, Media, PageRange, Sides, TicketError, read_ticket, ticket_of};
+use press_ticket::{Key, Media, PageRange, Sides, Ticket, TicketError, read_ticket, ticket_of};
 use serde_json::Value;
+use std::process::Abort;
 use std::test::Fail;
 
 /// Three pages, twice.
@@ -8,10 +9,8 @@ const TICKET: &[u8] =
     br#"{"Amount":2,"JobID":"J","NPage":3,"RunList":[[0,-1],[1,0]],"Sides":"TwoSidedHeadToHead",
 "Type":"DigitalPrinting","Version":"1.5"}"#;
 
-#[test]
-fn a_ticket_shows_what_it_asks_for(rt: HostRuntime) -> Result<(), Fail> {
-    let value = Value::from_slice(rt.alloc(), TICKET)?;
-    let ticket = ticket_of(rt.alloc(), &value)?;
+/// Each value of the ticket.
+fn expect_values(rt: &impl Abort, ticket: &Ticket) {
     assert_eq!(rt; ticket.job_id(), "J");
     assert_eq!(rt; (ticket.page_count(), ticket.amount()), (3, 2));
     let ranges = [
@@ -24,6 +23,17 @@ fn a_ticket_shows_what_it_asks_for(rt: HostRuntime) -> Result<(), Fail> {
         (Media::Letter, Sides::TwoSidedHeadToHead)
     );
     assert!(rt; ticket.is_collated());
+}
+
+#[test]
+fn a_ticket_shows_what_it_asks_for(rt: HostRuntime) -> Result<(), Fail> {
+    let value = Value::from_slice(rt.alloc(), TICKET)?;
+    expect_values(&rt, &ticket_of(rt.alloc(), &value)?);
+    Ok(())
+}
+
+#[test]
+fn pages_come_in_the_order_of_the_ranges(rt: HostRuntime) -> Result<(), Fail> {
     let pages = read_ticket(rt.alloc(), TICKET)?.page_order(rt.alloc())?;
     assert_eq!(rt; pages.as_slice(), [0, 1, 2, 1, 0].as_slice());
     Ok(())

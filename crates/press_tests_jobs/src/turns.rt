@@ -3,6 +3,7 @@ use press_bits::Bitmap;
 use press_core::{DeviceStatus, Press, Turn, TurnError};
 use press_sink::{FuseSink, ListSink, SheetSink};
 use std::alloc::Global;
+use std::process::Abort;
 use std::test::Fail;
 
 /// The submission of three copies of a page.
@@ -41,24 +42,37 @@ fn tags_of(alloc: Global, sink: &FuseSink<ListSink>) -> Result<Vec<u64>, Fail> {
     Ok(tags)
 }
 
+/// How many sheets of either entry were delivered.
+fn counts(press: &Press) -> (Option<u64>, Option<u64>) {
+    (press.delivered(1), press.delivered(2))
+}
+
+/// The sink takes one sheet of entry 1, and then has its fault.
+fn expect_a_fault(rt: &impl Abort, press: &mut Press, sink: &mut FuseSink<ListSink>) {
+    let stopped = whole_turn(press, sink);
+    assert!(rt; matches!(&stopped, Err(TurnError::SinkFault)));
+    assert_eq!(rt; counts(press), (Some(1), Some(0)));
+    assert_eq!(rt; press.status().status, DeviceStatus::Idle);
+}
+
+/// Entry 2 takes sixteen commands, none for a white row, and the exit that is added.
+fn expect_the_other_entry(
+    rt: &impl Abort,
+    press: &mut Press,
+    sink: &mut FuseSink<ListSink>,
+) -> Result<(), Fail> {
+    let turn = whole_turn(press, sink).ok().ok_or("a fault")?;
+    assert_eq!(rt; (turn.entry, turn.steps), (Some(2), 17));
+    assert_eq!(rt; counts(press), (Some(1), Some(3)));
+    Ok(())
+}
+
 #[test]
 fn a_fault_of_the_sink_aborts_its_entry_alone(rt: HostRuntime) -> Result<(), Fail> {
     let mut press = press_of_two(rt.alloc())?;
     let mut sink = FuseSink::new(ListSink::new(rt.alloc()), 1);
-    let stopped = whole_turn(&mut press, &mut sink);
-    assert!(rt; matches!(&stopped, Err(TurnError::SinkFault)));
-    let counts = (press.delivered(1), press.delivered(2));
-    assert_eq!(rt; counts, (Some(1), Some(0)));
-    assert_eq!(rt; press.status().status, DeviceStatus::Idle);
-    let turn = whole_turn(&mut press, &mut sink).ok().ok_or("a fault")?;
-    // sixteen commands, none for a white row, and the exit that is added
-    let whole = Turn {
-        entry: Some(2),
-        steps: 17,
-    };
-    assert_eq!(rt; turn, whole);
-    let counts = (press.delivered(1), press.delivered(2));
-    assert_eq!(rt; counts, (Some(1), Some(3)));
+    expect_a_fault(&rt, &mut press, &mut sink);
+    expect_the_other_entry(&rt, &mut press, &mut sink)?;
     let tags = tags_of(rt.alloc(), &sink)?;
     assert_eq!(rt; tags.as_slice(), [1, 2, 2, 2].as_slice());
     assert_eq!(rt; sink.faults(), 1);

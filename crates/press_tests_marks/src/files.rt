@@ -109,26 +109,43 @@ fn a_fuse_fails_one_read_alone(rt: HostRuntime) -> Result<(), Fail> {
     Ok(())
 }
 
+/// A page of nine dots by two, as a file.
+const NINE_BY_TWO: &[u8] = b"P4\n9 2\n\xff\x80\x00\x80";
+
+/// What is written of a page to a writer that fails at a call, and whether the fault is told.
+fn written(alloc: Global, page: &Bitmap, call: u64) -> (bool, Vec<u8>) {
+    let mut output = FuseWrite::new(Vec::new(alloc), call);
+    let failed = matches!(write_pbm(page, &mut output), Err(WritePbmError::WriteFault));
+    (failed, output.into_inner())
+}
+
+/// Whether the write fails at this call, and that page's front of so many bytes was written.
+fn fails_at(alloc: Global, page: &Bitmap, call: u64, front: usize) -> bool {
+    let (failed, bytes) = written(alloc, page, call);
+    failed && Some(bytes.as_slice()) == NINE_BY_TWO.get(..front)
+}
+
 #[test]
 fn each_write_may_fail(rt: HostRuntime) -> Result<(), Fail> {
-    let file = b"P4\n9 2\n\xff\x80\x00\x80";
-    let mut input = file.as_slice();
+    let mut input = NINE_BY_TWO;
     let page = read_pbm(rt.alloc(), &mut input)?;
     for (call, front) in [0, 3, 4, 5, 6, 7, 9].into_iter().enumerate() {
-        let mut output = FuseWrite::new(Vec::new(rt.alloc()), call as u64);
-        let failed = matches!(
-            write_pbm(&page, &mut output),
-            Err(WritePbmError::WriteFault)
+        assert!(rt;
+            fails_at(rt.alloc(), &page, call as u64, front),
+            "write {call}"
         );
-        assert!(rt; failed, "write {call}");
-        let written = output.into_inner();
-        assert_eq!(rt; written.len(), front, "write {call}");
-        assert!(rt; file.as_slice().starts_with(written.as_slice()));
     }
+    Ok(())
+}
+
+#[test]
+fn a_fuse_that_is_not_reached_passes_all_on(rt: HostRuntime) -> Result<(), Fail> {
+    let mut input = NINE_BY_TWO;
+    let page = read_pbm(rt.alloc(), &mut input)?;
     let mut output = FuseWrite::new(Vec::new(rt.alloc()), 7);
     write_pbm(&page, &mut output)?;
     output.flush()?;
-    assert_eq!(rt; output.into_inner().as_slice(), file.as_slice());
+    assert_eq!(rt; output.into_inner().as_slice(), NINE_BY_TWO);
     Ok(())
 }
 
@@ -172,16 +189,22 @@ fn empty_writer(alloc: Global, most: usize) -> Tight {
     }
 }
 
+/// Whether such a writer takes this front of the file, and a fault is told exactly where that is not all.
+fn takes(output: &Tight, whole: bool) -> bool {
+    let wanted = &THREE[..output.most.min(8)];
+    whole == (wanted.len() == 8) && output.bytes.as_slice() == wanted
+}
+
 fn expect_tight(rt: &impl Abort, page: &Bitmap, alloc: Global, most: usize) {
-    let wanted = &THREE[..most.min(8)];
     let mut output = empty_writer(alloc, most);
     let whole = write_pbm(page, &mut output).is_ok();
-    assert_eq!(rt; whole, wanted.len() == 8, "{most} bytes of a file");
-    assert_eq!(rt; output.bytes.as_slice(), wanted, "{most} bytes of a file");
+    assert!(rt; takes(&output, whole), "{most} bytes of a file");
+}
+
+fn expect_tight_bytes(rt: &impl Abort, alloc: Global, most: usize) {
     let mut output = empty_writer(alloc, most);
     let whole = write_whole(&mut output, THREE).is_ok();
-    assert_eq!(rt; whole, wanted.len() == 8, "{most} bytes");
-    assert_eq!(rt; output.bytes.as_slice(), wanted, "{most} bytes");
+    assert!(rt; takes(&output, whole), "{most} bytes");
 }
 
 #[test]
@@ -190,6 +213,7 @@ fn a_full_writer_is_a_fault(rt: HostRuntime) -> Result<(), Fail> {
     let page = read_pbm(rt.alloc(), &mut input)?;
     for most in 0..10 {
         expect_tight(&rt, &page, rt.alloc(), most);
+        expect_tight_bytes(&rt, rt.alloc(), most);
     }
     Ok(())
 }

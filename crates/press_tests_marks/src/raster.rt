@@ -75,28 +75,59 @@ enum Before {
     End,
 }
 
+/// What comes before a row, its method and data, its dots, and the rows then.
+type Row = (Before, &'static [u8], &'static [u8], u16, u32);
+
+const ROWS: [Row; 12] = [
+    (Before::Nothing, b"0", &[0xf0, 0x0f], 0x0000, 0),
+    (Before::Start(0), b"0", &[0xf0, 0x0f], 0xf00f, 1),
+    (Before::Nothing, b"3", &[0x01, 0xaa], 0xf0aa, 2),
+    (Before::Start(48), b"3", &[], 0xf0aa, 3),
+    (Before::Nothing, b"2", &[0xff, 0x81], 0x8181, 4),
+    (Before::Nothing, b"3", &[0x00, 0x01], 0x0181, 5),
+    (Before::Offset(2), b"3", &[0x00, 0x01], 0x0100, 8),
+    (Before::Nothing, b"1", &[0x00, 0x3c], 0x3c00, 9),
+    (Before::Nothing, b"4", &[0x00, 0x3c], 0x3c00, 10),
+    (Before::Offset(65_000), b"0", &[0xff], 0x0000, 65_010),
+    (Before::End, b"0", &[0xff], 0x0000, 0),
+    (Before::Start(0), b"3", &[0x01, 0xff], 0x00ff, 1),
+];
+
+/// The dots of a row that is transferred to a small page.
+fn dots_of_row(
+    rt: &(impl Abort + AllocGlobal),
+    raster: &mut Raster,
+    settings: RasterSettings,
+    data: &[u8],
+) -> Result<u16, Fail> {
+    let ink = Ink::black(TRANSPARENT);
+    let mut page = Bitmap::blank(rt.alloc(), 91, 4)?;
+    transfer(rt, raster, &mut page, &on_line(1), settings, &ink, data)?;
+    Ok(dots_of(&page, 1))
+}
+
+/// Where raster graphics stands, in which so many rows were transferred or left out.
+fn expect_rows(rt: &impl Abort, raster: &Raster, rows: u32) {
+    let expected = if rows == 0 {
+        None
+    } else {
+        Some(RasterPosition { left: 0, rows })
+    };
+    assert_eq!(rt; raster.position(), expected);
+    assert_eq!(rt; raster.is_on(), rows > 0);
+}
+
+/// Whether a copy of raster graphics takes one row more.
+fn copy_takes_row(raster: &Raster, settings: RasterSettings) -> Result<bool, Fail> {
+    Ok(raster.copy()?.takes_row(settings))
+}
+
 #[test]
 fn the_seed_goes_on(rt: HostRuntime) -> Result<(), Fail> {
-    // What comes before the row, its method and data, its dots, and the rows then.
-    let cases: [(Before, &[u8], &[u8], u16, u32); 12] = [
-        (Before::Nothing, b"0", &[0xf0, 0x0f], 0x0000, 0),
-        (Before::Start(0), b"0", &[0xf0, 0x0f], 0xf00f, 1),
-        (Before::Nothing, b"3", &[0x01, 0xaa], 0xf0aa, 2),
-        (Before::Start(48), b"3", &[], 0xf0aa, 3),
-        (Before::Nothing, b"2", &[0xff, 0x81], 0x8181, 4),
-        (Before::Nothing, b"3", &[0x00, 0x01], 0x0181, 5),
-        (Before::Offset(2), b"3", &[0x00, 0x01], 0x0100, 8),
-        (Before::Nothing, b"1", &[0x00, 0x3c], 0x3c00, 9),
-        (Before::Nothing, b"4", &[0x00, 0x3c], 0x3c00, 10),
-        (Before::Offset(65_000), b"0", &[0xff], 0x0000, 65_010),
-        (Before::End, b"0", &[0xff], 0x0000, 0),
-        (Before::Start(0), b"3", &[0x01, 0xff], 0x00ff, 1),
-    ];
-    let ink = Ink::black(TRANSPARENT);
     let mut raster = Raster::new(rt.alloc());
     let mut settings = settings(&rt, b"300", b"16", b"0");
     settings.set_source_height(value(&rt, b"60000"));
-    for (before, number, data, dots, rows) in cases {
+    for (before, number, data, dots, rows) in ROWS {
         match before {
             Before::Nothing => {}
             Before::Offset(rows) => raster.offset(rows),
@@ -104,21 +135,37 @@ fn the_seed_goes_on(rt: HostRuntime) -> Result<(), Fail> {
             Before::End => raster.end(),
         }
         settings.set_method(value(&rt, number));
-        let mut page = Bitmap::blank(rt.alloc(), 91, 4)?;
-        let place = on_line(1);
-        transfer(&rt, &mut raster, &mut page, &place, settings, &ink, data)?;
-        assert_eq!(rt; dots_of(&page, 1), dots);
-        let expected = if rows == 0 {
-            None
-        } else {
-            Some(RasterPosition { left: 0, rows })
-        };
-        assert_eq!(rt; raster.position(), expected);
-        assert_eq!(rt; raster.is_on(), rows > 0);
-        let copy = raster.copy()?;
-        assert_eq!(rt; copy.takes_row(settings), 0 < rows && rows < 60_000);
+        assert_eq!(rt; dots_of_row(&rt, &mut raster, settings, data)?, dots);
+        expect_rows(&rt, &raster, rows);
+        assert_eq!(rt;
+            copy_takes_row(&raster, settings)?,
+            0 < rows && rows < 60_000
+        );
     }
     Ok(())
+}
+
+/// How many dots of a long row are black on a page of Letter, if it begins at this position.
+fn black_dots(
+    rt: &(impl Abort + AllocGlobal),
+    left: u32,
+    settings: RasterSettings,
+) -> Result<u32, Fail> {
+    let ink = Ink::black(TRANSPARENT);
+    let mut page = Bitmap::blank(rt.alloc(), 2550, 1)?;
+    let mut raster = Raster::new(rt.alloc());
+    raster.start(left);
+    let place = on_line(0);
+    transfer(
+        rt,
+        &mut raster,
+        &mut page,
+        &place,
+        settings,
+        &ink,
+        &[0xff; 400],
+    )?;
+    Ok(page.count_black())
 }
 
 #[test]
@@ -127,27 +174,13 @@ fn a_row_without_a_source_width_ends_at_the_edge_of_the_logical_page(
 ) -> Result<(), Fail> {
     // The left edge of the row, and how many of its dots lie on the logical page of Letter, 2400 dots wide.
     let cases: [(u32, u32); 4] = [(0, 2400), (24 * 2392, 8), (57_599, 0), (57_600, 0)];
-    let ink = Ink::black(TRANSPARENT);
     let mut settings = RasterSettings::initial();
     assert_eq!(rt; settings.resolution, RasterResolution::Dpi75);
     assert_eq!(rt; settings.resolution.row_height(), 96);
     assert_eq!(rt; settings.method, Method::Unencoded);
     settings.set_resolution(value(&rt, b"300"));
     for (left, count) in cases {
-        let mut page = Bitmap::blank(rt.alloc(), 2550, 1)?;
-        let mut raster = Raster::new(rt.alloc());
-        raster.start(left);
-        let place = on_line(0);
-        transfer(
-            &rt,
-            &mut raster,
-            &mut page,
-            &place,
-            settings,
-            &ink,
-            &[0xff; 400],
-        )?;
-        assert_eq!(rt; page.count_black(), count);
+        assert_eq!(rt; black_dots(&rt, left, settings)?, count);
     }
     Ok(())
 }

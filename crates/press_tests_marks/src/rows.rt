@@ -76,72 +76,78 @@ fn numbers_of_methods(rt: HostRuntime) {
     }
 }
 
-/// Each cut of a row's data, from none of its bytes on.
+/// The row before.
+const SEED: [u8; 4] = [1, 2, 3, 4];
+
+/// A method, its data, and the row of each cut of them, from none of its bytes on.
+type CutData = (Method, &'static [u8], [[u8; 4]; 6]);
+
+const CUTS: [CutData; 4] = [
+    (
+        Method::Unencoded,
+        b"\x07\x08\x09\x0a\x0b",
+        [
+            [0, 0, 0, 0],
+            [7, 0, 0, 0],
+            [7, 8, 0, 0],
+            [7, 8, 9, 0],
+            [7, 8, 9, 10],
+            [7, 8, 9, 10],
+        ],
+    ),
+    (
+        Method::RunLength,
+        b"\x01\x07\x00\x08\xff",
+        [
+            [0, 0, 0, 0],
+            [0, 0, 0, 0],
+            [7, 7, 0, 0],
+            [7, 7, 0, 0],
+            [7, 7, 8, 0],
+            [7, 7, 8, 0],
+        ],
+    ),
+    (
+        Method::PackBits,
+        b"\x01\x07\x08\x80\xf0\x09",
+        [
+            [0, 0, 0, 0],
+            [0, 0, 0, 0],
+            [7, 0, 0, 0],
+            [7, 8, 0, 0],
+            [7, 8, 0, 0],
+            [7, 8, 0, 0],
+        ],
+    ),
+    (
+        Method::DeltaRow,
+        b"\x21\x07\x08\x1f\xff",
+        [
+            [1, 2, 3, 4],
+            [1, 2, 3, 4],
+            [1, 7, 3, 4],
+            [1, 7, 8, 4],
+            [1, 7, 8, 4],
+            [1, 7, 8, 4],
+        ],
+    ),
+];
+
 #[test]
 fn data_cut_at_every_byte(rt: HostRuntime) -> Result<(), Fail> {
-    let seed = [1, 2, 3, 4];
-    let cuts: [(Method, &[u8], [[u8; 4]; 6]); 4] = [
-        (
-            Method::Unencoded,
-            b"\x07\x08\x09\x0a\x0b".as_slice(),
-            [
-                [0, 0, 0, 0],
-                [7, 0, 0, 0],
-                [7, 8, 0, 0],
-                [7, 8, 9, 0],
-                [7, 8, 9, 10],
-                [7, 8, 9, 10],
-            ],
-        ),
-        (
-            Method::RunLength,
-            b"\x01\x07\x00\x08\xff".as_slice(),
-            [
-                [0, 0, 0, 0],
-                [0, 0, 0, 0],
-                [7, 7, 0, 0],
-                [7, 7, 0, 0],
-                [7, 7, 8, 0],
-                [7, 7, 8, 0],
-            ],
-        ),
-        (
-            Method::PackBits,
-            b"\x01\x07\x08\x80\xf0\x09".as_slice(),
-            [
-                [0, 0, 0, 0],
-                [0, 0, 0, 0],
-                [7, 0, 0, 0],
-                [7, 8, 0, 0],
-                [7, 8, 0, 0],
-                [7, 8, 0, 0],
-            ],
-        ),
-        (
-            Method::DeltaRow,
-            b"\x21\x07\x08\x1f\xff".as_slice(),
-            [
-                [1, 2, 3, 4],
-                [1, 2, 3, 4],
-                [1, 7, 3, 4],
-                [1, 7, 8, 4],
-                [1, 7, 8, 4],
-                [1, 7, 8, 4],
-            ],
-        ),
-    ];
-    for (method, data, wanted) in cuts {
+    for (method, data, wanted) in CUTS {
         for (cut, want) in wanted.iter().enumerate() {
-            let row = row_of(rt.alloc(), method, &data[..cut.min(data.len())], &seed)?;
+            let row = row_of(rt.alloc(), method, &data[..cut.min(data.len())], &SEED)?;
             assert_eq!(rt; row.as_slice(), want.as_slice(), "by {method:?} at {cut}");
         }
     }
-    let whole = row_of(
-        rt.alloc(),
-        Method::PackBits,
-        b"\x01\x07\x08\x80\xf0\x09",
-        &seed,
-    )?;
+    Ok(())
+}
+
+#[test]
+fn data_ends_where_the_row_does(rt: HostRuntime) -> Result<(), Fail> {
+    let data = b"\x01\x07\x08\x80\xf0\x09";
+    let whole = row_of(rt.alloc(), Method::PackBits, data, &SEED)?;
     assert_eq!(rt; whole.as_slice(), [7, 8, 9, 9].as_slice());
     let none = row_of(rt.alloc(), Method::RunLength, b"\x05\x05", &[])?;
     assert!(rt; none.is_empty());
