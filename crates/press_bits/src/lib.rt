@@ -4,6 +4,7 @@
 mod bitmap;
 mod dot_bytes;
 mod dot_row;
+mod lanes;
 mod mode;
 mod painting;
 

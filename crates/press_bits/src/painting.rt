@@ -1,11 +1,15 @@
 //! Rows of dots that are mixed into the bytes of a page, eight dots at a time.
-ghost use Rattle.std.specs.Prelude.{◌≡◌, ℕ, ◌+◌, ◌-◌, ◌*◌, ◌/◌, ◌%◌, ◌^◌, ◌<◌, ◌≤◌, ◌⊎◌, ◌&&◌, ◌==◌, nat_le, nat_lt, min, pos, ◌+ℤ◌, length};
+ghost use Rattle.std.specs.Prelude.{◌≡◌, ℕ, ◌+◌, ◌-◌, ◌*◌, ◌/◌, ◌%◌, ◌^◌, ◌<◌, ◌≤◌, ◌⊎◌, ◌&&◌, ◌||◌, not, ◌==◌, nat_le, nat_lt, min, pos, ◌+ℤ◌, length};
 ghost use Rattle.press_bits.specs.Mark.{row, row_dot, byte_dot, repeated};
 ghost use Rattle.press_bits.specs.DotRows.{mixed_dot};
 
 use crate::dot_bytes::{eight_dots, is_black, is_dot_black};
 use crate::dot_row::DotRow;
+use crate::lanes::{WIDEST_TILE, paint_by_lanes};
 use crate::mode::Mode;
+
+/// The fewest dots that are painted by lanes.
+const SHORTEST_RUN: usize = 256;
 
 /// The dots of a row that lie on a page, along one side of it: `count` of them from dot `skip` of the row on, which lies at
 /// place `first`.
@@ -34,14 +38,14 @@ pub(crate) fn run_within(at: i64, dots: usize, side: u32) -> Run
 }
 
 /// Eight dots that are all black, or all white.
-fn eight_alike(black: bool) -> u8
+pub(crate) fn eight_alike(black: bool) -> u8
     ensures { (j : ℕ) → j < 8 → byte_dot result j ≡ black }
 {
     if black { 0xFF } else { 0 }
 }
 
 /// Eight dots of a page after eight source dots were painted on them, through eight pattern dots, where the mask is black.
-fn mixed_byte(before: u8, source: u8, pattern: u8, mask: u8, mode: Mode) -> u8
+pub(crate) fn mixed_byte(before: u8, source: u8, pattern: u8, mask: u8, mode: Mode) -> u8
     ensures { (j : ℕ) → j < 8 → byte_dot result j ≡ mixed_dot (byte_dot mask j) mode
         (byte_dot source j) (byte_dot pattern j) (byte_dot before j) }
 {
@@ -53,7 +57,7 @@ fn mixed_byte(before: u8, source: u8, pattern: u8, mask: u8, mode: Mode) -> u8
 }
 
 /// Of the eight dots from dot `start` on, those from dot `at` on and before dot `end`.
-fn mask_byte(start: usize, at: usize, end: usize) -> u8
+pub(crate) fn mask_byte(start: usize, at: usize, end: usize) -> u8
     requires small { end + 8 < 2 ^ 64 }
     requires begun { at < start + 8 }
     requires left { start < end }
@@ -75,7 +79,7 @@ fn mask_byte(start: usize, at: usize, end: usize) -> u8
 
 /// The eight source dots from dot `start` on, where dot `skip` of the bytes is laid at dot `at`. What stands before that is
 /// no source dot.
-fn source_byte(start: usize, at: usize, bits: &[u8], skip: usize) -> u8
+pub(crate) fn source_byte(start: usize, at: usize, bits: &[u8], skip: usize) -> u8
     requires begun { at < start + 8 }
     requires fits { skip + (start - at) < 2 ^ 64 }
     ensures { (j : ℕ) → j < 8 → at ≤ start + j
@@ -89,7 +93,7 @@ fn source_byte(start: usize, at: usize, bits: &[u8], skip: usize) -> u8
 }
 
 /// Eight dots of a pattern from dot `phase` on, where the pattern is repeated.
-fn pattern_byte(pattern: DotRow<'_>, phase: usize) -> u8
+pub(crate) fn pattern_byte(pattern: DotRow<'_>, phase: usize) -> u8
     requires wide { 8 ≤ pattern.dots }
     requires within { phase < pattern.dots }
     ensures { (j : ℕ) → j < 8 → byte_dot result j ≡ repeated (row pattern.entry) (phase + j) }
@@ -105,7 +109,7 @@ fn pattern_byte(pattern: DotRow<'_>, phase: usize) -> u8
 }
 
 /// The dot of a repeated pattern that is `step` dots further.
-fn further(phase: usize, step: usize, dots: usize) -> usize
+pub(crate) fn further(phase: usize, step: usize, dots: usize) -> usize
     requires within { phase < dots }
     requires short { step ≤ dots }
     ensures { result ≡ (phase + step) % dots }
@@ -187,14 +191,101 @@ pub(crate) fn paint_across(
         (repeated (row pattern.entry) (p - 8 * line)) (row_dot rows.old p) }
 {
     if pattern.dots >= 8 {
-        paint_wide(rows, line, run, source, pattern, mode);
+        paint_unrolled(rows, line, run, source, pattern, mode);
     } else {
         let bytes = eightfold(pattern);
         let unrolled = DotRow {
             bits: &bytes,
             dots: 8 * pattern.dots,
         };
-        paint_wide(rows, line, run, source, unrolled, mode);
+        paint_unrolled(rows, line, run, source, unrolled, mode);
+    }
+}
+
+/// Paints a run of source dots, through a pattern of at least eight dots, into the line that begins at byte `line`: by lanes
+/// where the run is long and the pattern narrow.
+fn paint_unrolled(
+    rows: &mut [u8],
+    line: usize,
+    run: Run,
+    source: DotRow<'_>,
+    pattern: DotRow<'_>,
+    mode: Mode,
+)
+    requires some { 0 < run.count }
+    requires within { 8 * line + run.first + run.count ≤ 8 * length rows.old }
+    requires small { length rows.old < 2 ^ 40 }
+    requires enough { run.skip + run.count ≤ source.dots }
+    requires wide { 8 ≤ pattern.dots }
+    ensures { (p : ℕ) → row_dot rows.new p
+        ≡ mixed_dot (nat_le (8 * line + run.first) p
+        && nat_lt p (8 * line + run.first + run.count)) mode
+        (row_dot source.entry.bits.now (run.skip + (p - (8 * line + run.first))))
+        (repeated (row pattern.entry) (p - 8 * line)) (row_dot rows.old p) }
+{
+    if pattern.dots <= WIDEST_TILE && run.count >= SHORTEST_RUN {
+        paint_by_lanes(rows, line, run, source, pattern, mode);
+    } else {
+        paint_wide(rows, line, run, source, pattern, mode);
+    }
+}
+
+/// Which of eight dots become black, and which white, where eight source dots meet eight pattern dots.
+fn made(source: u8, pattern: u8, mode: Mode) -> (u8, u8)
+    ensures black { (j : ℕ) → j < 8
+        → byte_dot result.0 j ≡ (byte_dot source j && byte_dot pattern j) }
+    ensures white { (j : ℕ) → j < 8 → byte_dot result.1 j
+        ≡ ((mode.source_opaque && not (byte_dot source j))
+        || (mode.pattern_opaque && (byte_dot source j && not (byte_dot pattern j)))) }
+{
+    let source_white = eight_alike(mode.source_opaque) & !source;
+    let pattern_white = eight_alike(mode.pattern_opaque) & (source & !pattern);
+    (source & pattern, source_white | pattern_white)
+}
+
+/// Eight dots of a page, of which those under the mask become black, or white.
+fn stamped(before: u8, mask: u8, black: bool, white: bool) -> u8
+    ensures { (j : ℕ) → j < 8 → byte_dot result j
+        ≡ ((byte_dot before j && not (byte_dot mask j && white)) || (byte_dot mask j && black)) }
+{
+    let set = mask & eight_alike(black);
+    let clear = mask & eight_alike(white);
+    (before & !clear) | set
+}
+
+/// Paints at most eight source dots, through as many pattern dots, down a column of lines of `bytes` bytes, from line `first`
+/// on.
+#[inline(always)]
+fn stamp_down(
+    rows: &mut [u8],
+    bytes: usize,
+    column: usize,
+    first: usize,
+    count: usize,
+    source: u8,
+    tile: u8,
+    mode: Mode,
+)
+    requires few { count ≤ 8 }
+    requires inside { column < 8 * bytes }
+    requires within { (first + count) * bytes ≤ length rows.old }
+    requires small { length rows.old < 2 ^ 40 }
+    ensures { (n c : ℕ) → c < 8 * bytes → row_dot rows.new (8 * (n * bytes) + c)
+        ≡ mixed_dot (c == column && nat_le first n && nat_lt n (first + count)) mode
+        (byte_dot source (n - first)) (byte_dot tile (n - first))
+        (row_dot rows.old (8 * (n * bytes) + c)) }
+{
+    let mask = 0x80 >> (column % 8);
+    let (black, white) = made(source, tile, mode);
+    let mut index = first * bytes + column / 8;
+    for i in 0..count {
+        rows[index] = stamped(
+            rows[index],
+            mask,
+            is_dot_black(black, i),
+            is_dot_black(white, i),
+        );
+        index += bytes;
     }
 }
 
@@ -219,13 +310,10 @@ fn paint_eight_down(
         (byte_dot source (n - first)) (byte_dot tile (n - first))
         (row_dot rows.old (8 * (n * bytes) + c)) }
 {
-    let mask = 0x80 >> (column % 8);
-    let mut index = first * bytes + column / 8;
-    for i in 0..count {
-        let dot = eight_alike(is_dot_black(source, i));
-        let through = eight_alike(is_dot_black(tile, i));
-        rows[index] = mixed_byte(rows[index], dot, through, mask, mode);
-        index += bytes;
+    if count == 8 {
+        stamp_down(rows, bytes, column, first, 8, source, tile, mode);
+    } else {
+        stamp_down(rows, bytes, column, first, count, source, tile, mode);
     }
 }
 
