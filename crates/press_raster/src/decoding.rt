@@ -1,3 +1,6 @@
+//! The row that the data of a transfer stands for (PCL 5 Printer Language Technical Reference Manual, Transfer Raster
+//! Data by Row command).
+
 ghost use Rattle.std.specs.Prelude.{◌≡◌, IfOk, length};
 ghost use Rattle.press_rows.specs.Row.{raster_row};
 

@@ -1,3 +1,6 @@
+//! Resolution, method, source width and source height (PCL 5 Printer Language Technical Reference Manual, Raster
+//! Graphics).
+
 ghost use Rattle.std.specs.Prelude.{◌≡◌, ◌<◌, ◌≤◌, ◌^◌};
 ghost use Rattle.press_raster.specs.Settings.{raster_dots_per_inch, row_height, dot_size, resolution_of, side_of, initial, set_resolution, set_source_width, set_source_height, set_method};
 ghost use Rattle.press_raster.specs.Transfer.{dots_of_row};

@@ -1,0 +1,269 @@
+-- Dots that are widened as numbers.
+use Rattle.std.proofs.Common.{◌≡◌, ℕ, zero, suc, ◌+◌, ◌-◌, ◌*◌, ◌/◌, ◌%◌, ◌^◌, ◌<◌, ◌≤◌, Bool, true, false, cond, refl, sym, ap, ◌∙◌, inl, inr, arith, ◌≢◌}
+use native.Mathlib.Numerals.{unary_clauses}
+use Rattle.std.specs.Prelude.{nat_eq, bit_and, bit_or, Some, None}
+use Rattle.std.specs.Int.{bit_at}
+use Rattle.std.proofs.lemmas.Nat.{pow_pos, shr_high, mod_low, div-mul-add, div-add-mod', mod_below, div_below, mul-le, shl_whole, or_shifted}
+use Rattle.std.proofs.lemmas.Nat.Bits.{bit_at-lt, bit_at-suc, bit_at_lowest, shr_and_one, bit_at_cat_low, bit_at_cat_high}
+use Rattle.std.proofs.lemmas.Bool.{cases_lt}
+use Rattle.std.proofs.lemmas.Bool.Decides.{nat_tests}
+use Rattle.std.proofs.Math.Nat.{mul_comm, zero-div, mod-eq_of_lt, mul-add-div_right}
+use Rattle.press_bits.specs.Mark.{Row, row_dot, byte_dot, repeated}
+use Rattle.press_pattern.specs.Tiling.{byte_where}
+use Rattle.press_pattern.proofs.ByteLemmas.{bit_of, byte_dot-byte_where}
+use Rattle.press_raster.specs.Reading.{place_from, read_dot, number_where, wide_dot, IsOnce}
+use Rattle.press_raster.proofs.ReadingLemmas.{bit_of_test}
+use Rattle.press_raster.specs.declared.reading.Reading.{Reading}
+
+pub number-byte : (rule : ℕ → Bool) → byte_where rule ≡ number_where rule 8
+unfolding byte_where number_where
+number-byte rule = refl
+
+bit_step : (b : Bool) (n p : ℕ) → n < p → n * 2 + cond b 1 0 < p * 2
+bit_step true n p below = omega (arith, below)
+bit_step false n p below = omega (arith, below)
+
+-- a number of n dots is below 2 ^ n
+pub number-below : (rule : ℕ → Bool) (n : ℕ) → number_where rule n < 2 ^ n
+unfolding number_where
+number-below rule zero = omega arith
+number-below rule (suc n) = simp unary_clauses (bit_step (rule n) (number_where rule n) (2 ^ n) (number-below rule n))
+
+pub number-alike : (n : ℕ) (r s : ℕ → Bool) → ((i : ℕ) → i < n → r i ≡ s i) → number_where r n ≡ number_where s n
+unfolding number_where
+number-alike zero r s same = refl
+number-alike (suc n) r s same =
+    (λ t. number-alike n r s (λ i low. same i (omega (arith, low))) t * 2 + cond (same n (omega arith) t) 1 0)
+
+-- the dots of one number behind those of another
+pub number-add : (rule : ℕ → Bool) (a b : ℕ) → number_where rule (a + b) ≡ number_where rule a * 2 ^ b + number_where (λ j. rule (a + j)) b
+unfolding number_where
+number-add rule a zero =
+    let none : a + 0 ≡ a = omega arith in
+    ap (number_where rule) none ∙ omega arith
+number-add rule a (suc b) =
+    let next : a + suc b ≡ suc (a + b) = omega arith in
+    let x : ℕ = number_where rule a in
+    let y : ℕ = number_where (λ j. rule (a + j)) b in
+    let c : ℕ = cond (rule (a + b)) 1 0 in
+    let double : (x * 2 ^ b + y) * 2 + c ≡ x * 2 ^ suc b + (y * 2 + c) = simp unary_clauses (omega arith) in
+    ap (number_where rule) next
+    ∙ ap (λ n. n * 2 + c) (number-add rule a b)
+    ∙ double
+
+-- so many dots that are alike
+pub number-same : (b : Bool) (n : ℕ) → number_where (λ _. b) n ≡ cond b (2 ^ n - 1) 0
+unfolding number_where
+number-same true zero = refl
+number-same false zero = refl
+number-same true (suc n) = omega (arith, number-same true n, pow_pos n)
+number-same false (suc n) = omega (arith, number-same false n)
+
+-- one more dot that is widened
+pub number-widened : (byte size j : ℕ) → 1 ≤ size → number_where (wide_dot byte size) (j * size + size) ≡ number_where (wide_dot byte size) (j * size) * 2 ^ size + cond (byte_dot byte j) (2 ^ size - 1) 0
+number-widened byte size j some =
+    number-add (wide_dot byte size) (j * size) size
+    ∙ ap (λ n. number_where (wide_dot byte size) (j * size) * 2 ^ size + n)
+    (number-alike size (λ i. wide_dot byte size (j * size + i)) (λ _. byte_dot byte j) (λ i low. ap (byte_dot byte) (div-mul-add j size i low))
+    ∙ number-same (byte_dot byte j) size)
+
+-- a byte of a number
+pub number-byte_of : (rule : ℕ → Bool) (size m : ℕ) → m < size → number_where rule (8 * size) / 2 ^ (8 * (size - 1 - m)) % 256 ≡ byte_where (λ j. rule (8 * m + j))
+number-byte_of rule size m within =
+    let rest : ℕ = 8 * (size - 1 - m) in
+    let parts : 8 * size ≡ 8 * m + 8 + rest = omega (arith, within) in
+    let tail : ℕ → Bool = λ j. rule (8 * m + 8 + j) in
+    let here : ℕ → Bool = λ j. rule (8 * m + j) in
+    ap (λ n. number_where rule n / 2 ^ rest % 256) parts
+    ∙ ap (λ n. n / 2 ^ rest % 256) (number-add rule (8 * m + 8) rest)
+    ∙ ap (λ n. n % 256) (shr_high (number_where rule (8 * m + 8)) rest (number_where tail rest) (number-below tail rest))
+    ∙ ap (λ n. n % 256) (number-add rule (8 * m) 8)
+    ∙ mod_low (number_where rule (8 * m)) 8 (number_where here 8) (number-below here 8)
+    ∙ sym (number-byte here)
+
+-- a byte of the widened dots of a byte that was read with each dot once
+pub wide_byte : (reading once : Reading) (source : Row) (byte group m : ℕ) → IsOnce reading once → 1 ≤ reading.size → m < reading.size →
+    byte ≡ byte_where (λ j. read_dot once source (8 * group + j)) →
+    number_where (wide_dot byte reading.size) (8 * reading.size) / 2 ^ (8 * (reading.size - 1 - m)) % 256
+    ≡ byte_where (λ j. read_dot reading source (8 * (reading.size * group + m) + j))
+wide_byte reading once source byte group m is_once some within is =
+    number-byte_of (wide_dot byte reading.size) reading.size m within
+    ∙ number-byte (λ j. wide_dot byte reading.size (8 * m + j))
+    ∙ number-alike 8 (λ j. wide_dot byte reading.size (8 * m + j)) (λ j. read_dot reading source (8 * (reading.size * group + m) + j))
+    (λ j low. dot j low)
+    ∙ sym (number-byte (λ j. read_dot reading source (8 * (reading.size * group + m) + j)))
+  where
+    place : (size group m j : ℕ) → 1 ≤ size → (8 * (size * group + m) + j) / size ≡ 8 * group + (8 * m + j) / size
+    place size group m j some =
+        let x : ℕ = 8 * m + j in
+        let split : 8 * (size * group + m) + j ≡ (8 * group + x / size) * size + x % size = omega (arith, div-add-mod' x size, mul_comm size group) in
+        ap (λ n. n / size) split ∙ div-mul-add (8 * group + x / size) size (x % size) (mod_below x size some)
+
+    below : (size m j : ℕ) → m < size → j < 8 → (8 * m + j) / size < 8
+    below size m j within low = div_below (8 * m + j) size 8 (omega (arith, within)) (omega (arith, within, low))
+
+    dot : (j : ℕ) → j < 8 → wide_dot byte reading.size (8 * m + j) ≡ read_dot reading source (8 * (reading.size * group + m) + j)
+    dot j low =
+        ap (λ b. byte_dot b ((8 * m + j) / reading.size)) is
+        ∙ byte_dot-byte_where (λ j. read_dot once source (8 * group + j)) ((8 * m + j) / reading.size) (below reading.size m j within low)
+        ∙ ap (read_dot once source) (sym (place reading.size group m j some))
+        ∙ sym (is_once.each source (8 * (reading.size * group + m) + j))
+
+-- ---- readings that are in step
+
+-- dot r of dot b, from the last of dot a on backwards
+step_back : (d b r size : ℕ) → r < size → ((b + d) * size + (size - 1) - (b * size + r)) / size ≡ d
+step_back d b r size low =
+    let left : (b + d) * size + (size - 1) - (b * size + r) ≡ d * size + (size - 1 - r) = omega (arith, low) in
+    ap (λ n. n / size) left ∙ div-mul-add d size (size - 1 - r) (omega (arith, low))
+
+step_past : (a b r size : ℕ) → a < b → (a * size + (size - 1) - (b * size + r)) / size ≡ 0
+step_past a b r size past =
+    let more : (a + 1) * size ≤ b * size = mul-le (a + 1) size b size (omega (arith, past)) (omega arith) in
+    let none : a * size + (size - 1) - (b * size + r) ≡ 0 = omega (arith, more) in
+    ap (λ n. n / size) none ∙ zero-div size
+
+-- the place that is read, of dots that are each read once
+pub in_step : (last size i : ℕ) → 1 ≤ size → last % size ≡ size - 1 → (last - i) / size ≡ last / size - i / size
+in_step last size i some whole =
+    let a : ℕ = last / size in
+    let b : ℕ = i / size in
+    let is_last : last ≡ a * size + (size - 1) = sym (div-add-mod' last size) ∙ ap (λ n. a * size + n) whole in
+    let is_i : i ≡ b * size + i % size = sym (div-add-mod' i size) in
+    (λ t. (is_last t - is_i t) / size)
+    ∙ elim (cases_lt a b) [
+      | inl past ↦ step_past a b (i % size) size past ∙ omega (arith, past)
+      | inr within ↦
+          let whole_of : a ≡ b + (a - b) = omega (arith, within) in
+          ap (λ n. (n * size + (size - 1) - (b * size + i % size)) / size) whole_of
+          ∙ step_back (a - b) b (i % size) size (mod_below i size some)
+    ]
+
+pub once_backward : (reading : Reading) (last : ℕ) → reading.last ≡ Some last → 1 ≤ reading.size → last % reading.size ≡ reading.size - 1 →
+    IsOnce reading (record { size = 1; last = Some (last / reading.size) })
+once_backward reading last back some whole = record {
+  single = refl;
+  each = λ source i.
+      ap (λ from. repeated source (place_from from i / reading.size)) back
+      ∙ ap (repeated source) (in_step last reading.size i some whole ∙ whole_of (last / reading.size - i / reading.size));
+}
+  where
+    whole_of : (n : ℕ) → n ≡ n / 1
+    whole_of n = omega arith
+
+-- ---- eight dots, forward
+
+-- a number whose bits are the dots of a rule
+number_of_bits : (k n : ℕ) (rule : ℕ → Bool) → n < 2 ^ k → ((j : ℕ) → j < k → nat_eq (bit_at n (k - 1 - j)) 1 ≡ rule j) → n ≡ number_where rule k
+unfolding number_where
+number_of_bits zero n rule small dots = omega (arith, small)
+number_of_bits (suc k) n rule small dots =
+    let halves : n ≡ n / 2 * 2 + n % 2 = omega arith in
+    let last : suc k - 1 - k ≡ 0 = omega arith in
+    let next : (j : ℕ) → j < k → suc (k - 1 - j) ≡ suc k - 1 - j = λ j low. omega (arith, low) in
+    let double : n < 2 ^ k * 2 = simp unary_clauses at small in
+    let lowest : n % 2 ≡ cond (rule k) 1 0 =
+    sym (bit_at_lowest n)
+    ∙ bit_of_test (bit_at n 0) (bit_at-lt n 0)
+    ∙ ap (λ p. bit_of (nat_eq (bit_at n p) 1)) (sym last)
+    ∙ ap bit_of (dots k (omega arith)) in
+    halves
+    ∙ (λ t. number_of_bits k (n / 2) rule (omega (arith, double))
+    (λ j low. ap (λ b. nat_eq b 1) (sym (bit_at-suc n (k - 1 - j)) ∙ ap (bit_at n) (next j low)) ∙ dots j (omega (arith, low))) t * 2 + lowest t)
+
+-- eight dots of a row that are read forward, each once
+pub eight-read : (source : Row) (byte first : ℕ) (reading : Reading) → reading.last ≡ None → reading.size ≡ 1 → first + 7 < source.dots → byte < 256 →
+    ((j : ℕ) → j < 8 → byte_dot byte j ≡ row_dot source.bits (first + j)) → byte ≡ byte_where (λ j. read_dot reading source (first + j))
+unfolding byte_dot repeated
+eight-read source byte first reading forward once within small dots =
+    number_of_bits 8 byte (λ j. read_dot reading source (first + j)) small
+    (λ j low.
+    (let whole : first + j ≡ (first + j) / 1 = omega arith in
+    let inside : (first + j) / 1 < source.dots = omega (arith, low, within) in
+    dots j low
+    ∙ ap (row_dot source.bits) (whole ∙ sym (mod-eq_of_lt inside))
+    ∙ (λ t. row_dot source.bits (place_from (sym forward t) (first + j) / sym once t % source.dots))))
+    ∙ sym (number-byte (λ j. read_dot reading source (first + j)))
+
+-- ---- a byte that is widened
+
+pub number-none : (byte size : ℕ) → 0 ≡ number_where (wide_dot byte size) (0 * size)
+unfolding number_where
+number-none byte size =
+    let none : 0 ≡ 0 * size = omega arith in
+    ap (number_where (wide_dot byte size)) none
+
+pub is_white : (n : ℕ) → n ≢ 1 → nat_eq n 1 ≡ false
+is_white n other = grind (arith, nat_tests)
+
+-- the dots that are put for one dot of the byte
+pub put_dots : (byte j size : ℕ) (black : Bool) (x : ℕ) → nat_eq (bit_and (byte / 2 ^ (7 - j)) 1) 1 ≡ black → x ≡ cond black (2 ^ size - 1) 0 → x ≡ cond (byte_dot byte j) (2 ^ size - 1) 0
+unfolding byte_dot
+put_dots byte j size black x is put =
+    put ∙ ap (λ b. cond b (2 ^ size - 1) 0) (sym is ∙ ap (λ n. nat_eq n 1) (shr_and_one byte (7 - j)))
+
+dots_fit : (b : Bool) (p : ℕ) → 0 < p → cond b (p - 1) 0 < p
+dots_fit true p some = omega (arith, some)
+dots_fit false p some = some
+
+-- one more dot of the byte
+pub widened_step : (byte size j wide x : ℕ) → 1 ≤ size → size ≤ 8 → j < 4 → wide ≡ number_where (wide_dot byte size) (j * size) → x ≡ cond (byte_dot byte j) (2 ^ size - 1) 0 →
+    bit_or (wide * 2 ^ size % 18446744073709551616) x ≡ number_where (wide_dot byte size) ((j + 1) * size)
+widened_step byte size j wide x some most within is put =
+    let number : ℕ → ℕ = number_where (wide_dot byte size) in
+    let more : (j + 1) * size ≤ 8 * 8 = mul-le (j + 1) size 8 8 (omega (arith, within)) most in
+    let room : j * size + size ≤ 64 = omega (arith, more) in
+    let small : wide < 2 ^ (j * size) = rw is (number-below (wide_dot byte size) (j * size)) in
+    let fits : x < 2 ^ size = rw put (dots_fit (byte_dot byte j) (2 ^ size) (pow_pos size)) in
+    let next : j * size + size ≡ (j + 1) * size = omega arith in
+    ap (λ n. bit_or n x) (shl_whole wide (j * size) size 64 small room)
+    ∙ or_shifted wide size x fits
+    ∙ (λ t. is t * 2 ^ size + put t)
+    ∙ sym (number-widened byte size j some)
+    ∙ ap number next
+
+-- ---- two times four dots
+
+first_four : (b j : ℕ) → j < 4 → byte_dot (b / 16 * 16) j ≡ byte_dot b j
+unfolding byte_dot
+first_four b j low =
+    let whole : b / 16 * 16 ≡ b / 16 * 2 ^ 4 + 0 = omega arith in
+    let split : b / 16 * 2 ^ 4 + b % 16 ≡ b = omega arith in
+    ap (λ n. nat_eq n 1)
+    (ap (λ n. bit_at n (7 - j)) whole
+    ∙ bit_at_cat_high (b / 16) 4 0 (7 - j) (omega arith) (omega (arith, low))
+    ∙ sym (bit_at_cat_high (b / 16) 4 (b % 16) (7 - j) (omega arith) (omega (arith, low)))
+    ∙ ap (λ n. bit_at n (7 - j)) split)
+
+last_four : (b j : ℕ) → j < 4 → byte_dot (b % 16 * 16) j ≡ byte_dot b (4 + j)
+unfolding byte_dot
+last_four b j low =
+    let whole : b % 16 * 16 ≡ b % 16 * 2 ^ 4 + 0 = omega arith in
+    let split : b / 16 * 2 ^ 4 + b % 16 ≡ b = omega arith in
+    let place : 7 - j - 4 ≡ 7 - (4 + j) = omega arith in
+    ap (λ n. nat_eq n 1)
+    (ap (λ n. bit_at n (7 - j)) whole
+    ∙ bit_at_cat_high (b % 16) 4 0 (7 - j) (omega arith) (omega (arith, low))
+    ∙ ap (bit_at (b % 16)) place
+    ∙ sym (bit_at_cat_low (b / 16) 4 (b % 16) (7 - (4 + j)) (omega (arith, low)))
+    ∙ ap (λ n. bit_at n (7 - (4 + j))) split)
+
+pub two_fours : (byte size high low : ℕ) → 1 ≤ size → size ≤ 8 →
+    high ≡ number_where (wide_dot (byte / 16 * 16) size) (4 * size) → low ≡ number_where (wide_dot (byte % 16 * 16) size) (4 * size) →
+    bit_or (high * 2 ^ (4 * size) % 18446744073709551616) low ≡ number_where (wide_dot byte size) (8 * size)
+two_fours byte size high low some most is_high is_low =
+    let four : ℕ = 4 * size in
+    let room : four + four ≤ 64 = omega (arith, most) in
+    let small : high < 2 ^ four = rw is_high (number-below (wide_dot (byte / 16 * 16) size) four) in
+    let fits : low < 2 ^ four = rw is_low (number-below (wide_dot (byte % 16 * 16) size) four) in
+    let all : four + four ≡ 8 * size = omega arith in
+    ap (λ n. bit_or n low) (shl_whole high four four 64 small room)
+    ∙ or_shifted high four low fits
+    ∙ (λ t. (is_high ∙ number-alike four (wide_dot (byte / 16 * 16) size) (wide_dot byte size) (λ i within. first_four byte (i / size) (div_below i size 4 some within))) t * 2 ^ four
+    + (is_low ∙ number-alike four (wide_dot (byte % 16 * 16) size) (λ j. wide_dot byte size (four + j))
+    (λ i within. last_four byte (i / size) (div_below i size 4 some within) ∙ ap (byte_dot byte) (behind i))) t)
+    ∙ sym (number-add (wide_dot byte size) four four)
+    ∙ ap (number_where (wide_dot byte size)) all
+  where
+    behind : (i : ℕ) → 4 + i / size ≡ (4 * size + i) / size
+    behind i = sym (mul-add-div_right some 4 i)
