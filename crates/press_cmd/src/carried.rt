@@ -1,3 +1,6 @@
+//! Which parameters carry data, and how much (PCL 5 Printer Language Technical Reference Manual, the transfer of raster
+//! data, and transparent print data).
+
 ghost use Rattle.std.specs.Prelude.{◌≡◌, ◌≤◌, ◌↔◌, true, IsTrue};
 ghost use Rattle.std.specs.Option.{ForSome};
 ghost use Rattle.press_units.specs.Field.{is_value_field};

@@ -1,3 +1,6 @@
+//! Commands that lend their bytes (PCL 5 Printer Language Technical Reference Manual, the syntax of escape sequences;
+//! PJL Technical Reference Manual, the universal exit and PJL commands).
+
 ghost use Rattle.std.specs.Prelude.{◌≡◌, ◌∷◌, ◌++◌, length, take, option_to_list, OnOk, OnErr};
 ghost use Rattle.press_units.specs.Value.{tenthousandths_of, is_signed};
 ghost use Rattle.press_cmd.specs.Token.{escape_byte, bytes_of, field_of, data_of, line_of};

@@ -1,3 +1,6 @@
+//! The bytes that commands are known by (PCL 5 Printer Language Technical Reference Manual, the syntax of escape
+//! sequences; PJL Technical Reference Manual, the universal exit).
+
 ghost use Rattle.std.specs.Prelude.{◌≡◌, ◌↔◌, IsTrue};
 ghost use Rattle.press_cmd.specs.Grammar.{IsEscapeEnd, IsControl, IsText, IsCharacter, IsGroup, IsEnd, differs};
 

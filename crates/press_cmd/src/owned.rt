@@ -1,3 +1,5 @@
+//! Commands that own their bytes.
+
 ghost use Rattle.std.specs.Prelude.{◌≡◌, IfOk};
 
 use crate::command::Command;

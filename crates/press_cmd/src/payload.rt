@@ -1,3 +1,5 @@
+//! The bytes of commands, each with the range that it has.
+
 ghost use Rattle.std.specs.Prelude.{◌≡◌, ◌<◌, ◌≤◌, ◌++◌, length, take, IsTrue, IfOk, OnOk};
 ghost use Rattle.std.specs.Option.{ForSome};
 ghost use Rattle.press_units.specs.Value.{tenthousandths_of, is_signed};

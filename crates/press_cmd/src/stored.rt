@@ -1,3 +1,5 @@
+//! Parameters, broken bytes and lines that own their bytes.
+
 ghost use Rattle.std.specs.Prelude.{◌≡◌, ◌<◌, ◌≤◌, length, IsTrue, IfOk};
 ghost use Rattle.std.specs.Option.{ForSome};
 ghost use Rattle.press_cmd.specs.Token.{uel, bytes_of, param_of};

@@ -1,3 +1,5 @@
+//! The kinds of commands.
+
 /// The kind of a command: its variant, with its byte, or with the parameterized character, the group character and the
 /// parameter or termination character in upper case (`end`).
 #[derive(Clone, Copy, Debug, PartialEq, Eq)]

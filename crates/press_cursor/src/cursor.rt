@@ -1,3 +1,5 @@
+//! The cursor and its moves (PCL 5 Printer Language Technical Reference Manual, cursor positioning).
+
 ghost use Rattle.std.specs.Prelude.{◌≡◌, ◌<◌, ◌≤◌, ◌^◌, ℤ, pos, ◌+ℤ◌, unsigned_abs};
 ghost use Rattle.press_cursor.specs.Cursor.{first_line, origin, first_line_y};
 

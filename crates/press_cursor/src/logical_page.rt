@@ -1,3 +1,5 @@
+//! The logical page, and the nearest place on it (PCL 5 Printer Language Technical Reference Manual, the logical page).
+
 ghost use Rattle.std.specs.Prelude.{◌≡◌, ◌<◌, ◌^◌, unsigned_abs};
 ghost use Rattle.press_cursor.specs.Bounds.{nearest_x, nearest_y};
 

@@ -1,3 +1,6 @@
+//! The positions that were pushed (PCL 5 Printer Language Technical Reference Manual, Push/Pop Cursor Position
+//! command).
+
 ghost use Rattle.std.specs.Prelude.{◌≡◌, ◌≤◌, ◌-◌, List, [], length, take};
 ghost use Rattle.press_cursor.specs.Stack.{most_pushed, has_room, with_pushed, newest};
 

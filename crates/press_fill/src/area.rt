@@ -1,3 +1,6 @@
+//! Where a rectangle of the frame lies on the physical page (PCL 5 Printer Language Technical Reference Manual, Logical
+//! Page Orientation command).
+
 ghost use Rattle.std.specs.Prelude.{◌≡◌};
 ghost use Rattle.press_fill.specs.Area.{LiesAt};
 

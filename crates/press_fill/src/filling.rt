@@ -1,3 +1,5 @@
+//! Rectangles that are filled (PCL 5 Printer Language Technical Reference Manual, Rectangular Area Fill Graphics).
+
 ghost use Rattle.std.specs.Prelude.{◌≡◌, None, IsOk, OnOk, OnErr};
 ghost use Rattle.press_bits.specs.Mark.{painted};
 ghost use Rattle.press_pattern.specs.Ink.{ink_of};

@@ -1,3 +1,5 @@
+//! Areas of the page that are painted line by line through a tile.
+
 ghost use Rattle.std.specs.Prelude.{◌≡◌, ◌<◌, ◌≤◌, ◌+◌, ◌*◌, min, pos, replicate};
 ghost use Rattle.press_bits.specs.Mark.{painted, row, row_mark};
 ghost use Rattle.press_fill.specs.Area.{area_mark};

@@ -1,3 +1,5 @@
+//! A rectangle of the frame (PCL 5 Printer Language Technical Reference Manual, Rectangular Area Fill Graphics).
+
 /// A rectangle, in dots of the frame.
 #[derive(Clone, Copy, Debug, PartialEq, Eq)]
 pub struct Rect {

@@ -1,3 +1,5 @@
+//! The dot rule for single dots (PCL 5 Printer Language Technical Reference Manual, The PCL Print Model).
+
 ghost use Rattle.std.specs.Prelude.{◌≡◌};
 ghost use Rattle.press_bits.specs.DotRule as rule;
 ghost use Rattle.press_fill.specs.Rule.{dot_effect, mode};

@@ -1,3 +1,5 @@
+//! Columns or lines that follow one another, along one side of a page.
+
 ghost use Rattle.std.specs.Prelude.{◌≡◌, ℕ, ◌+◌, ◌-◌, ◌≤◌, ◌<◌};
 ghost use Rattle.press_fill.specs.Span.{has};
 

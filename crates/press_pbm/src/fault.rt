@@ -1,3 +1,5 @@
+//! Why a P4 file was not read or written.
+
 use press_bits::BlankError;
 use press_units::NO_MEMORY;
 use thiserror::Error;

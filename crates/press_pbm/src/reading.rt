@@ -1,3 +1,5 @@
+//! Bitmaps that are read from P4 files (Netpbm, the PBM format).
+
 ghost use Rattle.std.specs.Prelude.{◌≡◌, ℕ, ◌*◌, List, length, IfOk, IfErr, OnOk};
 ghost use Rattle.std.specs.Io.KnownBytes.{Consumes};
 ghost use Rattle.press_bits.specs.Page.{blank};

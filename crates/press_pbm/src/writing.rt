@@ -1,3 +1,5 @@
+//! Bitmaps that are written as P4 files (Netpbm, the PBM format).
+
 ghost use Rattle.std.specs.Prelude.{ℕ, ◌<◌, slice_index, OnOk, OnErr};
 ghost use Rattle.std.specs.List.{flat_map, range_with_len};
 ghost use Rattle.std.specs.Io.KnownBytes.{Appends};

@@ -1,3 +1,5 @@
+//! Positions, units and dots (PCL 5 Printer Language Technical Reference Manual, units of measure).
+
 ghost use Rattle.std.specs.Prelude.{◌≡◌, ◌<◌, ◌≤◌, ◌*◌, ◌^◌, ◌↔◌, IsSome, IfSome, is_some, unsigned_abs};
 ghost use Rattle.press_units.specs.Measure.{IsMeasure, is_measure, decipoint, horizontal_motion_unit, vertical_motion_unit, pcl_unit};
 ghost use Rattle.press_units.specs.Position.{position_of, dot_of, positions_per_dot};
