@@ -1,12 +1,12 @@
 -- Page sizes, orientations and the sides that are printed (PCL 5 Printer Language Technical Reference Manual, Page
 -- Control Commands: Page Size, Logical Page Orientation, Simplex/Duplex Print; the sizes in dots, the offsets and which
 -- sizes there are, are this profile's).
-use Rattle.std.specs.Prelude.{ℕ, ◌*◌, ◌-◌, ◌/◌, ℤ, true, false, [], ◌∷◌, Option, if◌then◌else◌}
+use Rattle.std.specs.Prelude.{ℕ, ◌*◌, ◌-◌, ◌/◌, ℤ, true, false, List, [], ◌∷◌, Option, if◌then◌else◌}
 use Rattle.press_units.specs.Measure.{positions_per_inch}
 use Rattle.press_units.specs.declared.position.Resolution.{Resolution}
 use Rattle.press_units.specs.declared.position.Resolution.TheVariants.{Dpi300}
 use Rattle.press_cursor.specs.declared.logical_page.LogicalPage.{LogicalPage}
-use Rattle.press_page.specs.Numbers.{named}
+use Rattle.press_page.specs.Numbers.{numbered}
 use Rattle.press_page.specs.declared.media.Binding.{Binding}
 use Rattle.press_page.specs.declared.media.Binding.TheVariants as bindings
 use Rattle.press_page.specs.declared.media.Dimensions.{Dimensions}
@@ -19,17 +19,45 @@ use Rattle.press_page.specs.declared.media.Sides.{Sides}
 use Rattle.press_page.specs.declared.media.Sides.TheVariants.{OneSided, TwoSidedLongEdge, TwoSidedShortEdge}
 use Rattle.press_page.specs.declared.place.Extent.{Extent}
 
--- ESC&l#A, the page size by its number
+-- ESC&l#A, the number of a page size, and the page size of a number
+abbrev pub size_number : PageSize → ℕ
+size_number Executive = 1
+size_number Letter = 2
+size_number Legal = 3
+size_number Ledger = 6
+size_number A4 = 26
+size_number A3 = 27
+
+abbrev pub page_sizes : List PageSize
+page_sizes = Letter ∷ Legal ∷ A4 ∷ Executive ∷ Ledger ∷ A3 ∷ []
+
 abbrev pub page_size_of : ℤ → Option PageSize
-page_size_of = named ((1, Executive) ∷ (2, Letter) ∷ (3, Legal) ∷ (6, Ledger) ∷ (26, A4) ∷ (27, A3) ∷ [])
+page_size_of = numbered size_number page_sizes
 
--- ESC&l#O, the orientation
+-- ESC&l#O, the number of an orientation, and the orientation of a number
+abbrev pub orientation_number : Orientation → ℕ
+orientation_number Portrait = 0
+orientation_number Landscape = 1
+orientation_number ReversePortrait = 2
+orientation_number ReverseLandscape = 3
+
+abbrev pub orientations : List Orientation
+orientations = Portrait ∷ Landscape ∷ ReversePortrait ∷ ReverseLandscape ∷ []
+
 abbrev pub orientation_of : ℤ → Option Orientation
-orientation_of = named ((0, Portrait) ∷ (1, Landscape) ∷ (2, ReversePortrait) ∷ (3, ReverseLandscape) ∷ [])
+orientation_of = numbered orientation_number orientations
 
--- ESC&l#S, simplex or duplex print
+-- ESC&l#S, the number of simplex or duplex print, and what a number asks for
+abbrev pub sides_number : Sides → ℕ
+sides_number OneSided = 0
+sides_number TwoSidedLongEdge = 1
+sides_number TwoSidedShortEdge = 2
+
+abbrev pub all_sides : List Sides
+all_sides = OneSided ∷ TwoSidedLongEdge ∷ TwoSidedShortEdge ∷ []
+
 abbrev pub sides_of : ℤ → Option Sides
-sides_of = named ((0, OneSided) ∷ (1, TwoSidedLongEdge) ∷ (2, TwoSidedShortEdge) ∷ [])
+sides_of = numbered sides_number all_sides
 
 -- width, height, and how far the logical page begins right of the page's left edge in portrait and in landscape
 abbrev pub sized : (width height portrait_offset landscape_offset : ℕ) → Dimensions

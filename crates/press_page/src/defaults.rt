@@ -1,3 +1,5 @@
+//! The values to which a reset goes back (PJL Technical Reference Manual, environment variables).
+
 use crate::media::{Binding, Orientation, PageSize};
 use press_units::Resolution;
 

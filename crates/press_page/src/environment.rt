@@ -1,3 +1,6 @@
+//! The page environment, one setter for each command (PCL 5 Printer Language Technical Reference Manual, the print
+//! environment and Page Control Commands).
+
 ghost use Rattle.std.specs.Prelude.{◌≡◌, ◌<◌, ◌^◌, ◌+ℤ◌, pos, int_lt, unsigned_abs};
 
 use crate::defaults::Defaults;

@@ -1,6 +1,10 @@
+//! Page sizes, orientations and the sides that are printed, and where the logical page lies (PCL 5 Printer Language Technical
+//! Reference Manual, Page Control Commands).
+
 ghost use Rattle.std.specs.Prelude.{◌≡◌, ◌≤◌, ◌<◌, ◌*◌};
 ghost use Rattle.press_page.specs.Media.{page_size_of, orientation_of, sides_of, sized, dimensions_of, turned, offset_of, scale, physical_page, frame, offset, logical_width, logical_length, logical_page, with_sides, printed_sides};
 
+use crate::numbered::find_numbered;
 use crate::place::{Dot, Extent, to_frame, to_physical};
 use press_cursor::LogicalPage;
 use press_units::{POSITIONS_PER_DOT, Resolution};
@@ -16,6 +20,16 @@ pub enum PageSize {
     A3,
 }
 
+/// All page sizes, the factory's first.
+pub const PAGE_SIZES: [PageSize; 6] = [
+    PageSize::Letter,
+    PageSize::Legal,
+    PageSize::A4,
+    PageSize::Executive,
+    PageSize::Ledger,
+    PageSize::A3,
+];
+
 /// How the logical page lies on the physical page.
 #[derive(Clone, Copy, Debug, PartialEq, Eq)]
 pub enum Orientation {
@@ -24,6 +38,14 @@ pub enum Orientation {
     ReversePortrait,
     ReverseLandscape,
 }
+
+/// All orientations.
+const ORIENTATIONS: [Orientation; 4] = [
+    Orientation::Portrait,
+    Orientation::Landscape,
+    Orientation::ReversePortrait,
+    Orientation::ReverseLandscape,
+];
 
 /// The edge along which sheets are bound that are printed on both sides.
 #[derive(Clone, Copy, Debug, PartialEq, Eq)]
@@ -39,6 +61,13 @@ pub enum Sides {
     TwoSidedLongEdge,
     TwoSidedShortEdge,
 }
+
+/// All that a simplex/duplex command asks for.
+const ALL_SIDES: [Sides; 3] = [
+    Sides::OneSided,
+    Sides::TwoSidedLongEdge,
+    Sides::TwoSidedShortEdge,
+];
 
 /// The media: what a macro call does not restore.
 #[derive(Clone, Copy, Debug, PartialEq, Eq)]
@@ -106,15 +135,7 @@ impl PageSize {
     pub(crate) fn of_number(number: i64) -> Option<Self>
         ensures { result ≡ page_size_of number }
     {
-        match number {
-            1 => Some(PageSize::Executive),
-            2 => Some(PageSize::Letter),
-            3 => Some(PageSize::Legal),
-            6 => Some(PageSize::Ledger),
-            26 => Some(PageSize::A4),
-            27 => Some(PageSize::A3),
-            _ => None,
-        }
+        find_numbered(&PAGE_SIZES, number)
     }
 
     /// The size in dots of 1/300 inch.
@@ -143,13 +164,7 @@ impl Orientation {
     pub(crate) fn of_number(number: i64) -> Option<Self>
         ensures { result ≡ orientation_of number }
     {
-        match number {
-            0 => Some(Orientation::Portrait),
-            1 => Some(Orientation::Landscape),
-            2 => Some(Orientation::ReversePortrait),
-            3 => Some(Orientation::ReverseLandscape),
-            _ => None,
-        }
+        find_numbered(&ORIENTATIONS, number)
     }
 }
 
@@ -160,12 +175,7 @@ impl Sides {
     pub(crate) fn of_number(number: i64) -> Option<Self>
         ensures { result ≡ sides_of number }
     {
-        match number {
-            0 => Some(Sides::OneSided),
-            1 => Some(Sides::TwoSidedLongEdge),
-            2 => Some(Sides::TwoSidedShortEdge),
-            _ => None,
-        }
+        find_numbered(&ALL_SIDES, number)
     }
 }
 

@@ -1,3 +1,5 @@
+//! Numbers that commands are told, cut to a range or refused outside it.
+
 ghost use Rattle.std.specs.Prelude.{◌≡◌, ◌<◌, ◌^◌, unsigned_abs};
 ghost use Rattle.press_page.specs.Numbers.{within, cut, below, above};
 

@@ -1,3 +1,6 @@
+//! Dots of the frame and of the physical page (PCL 5 Printer Language Technical Reference Manual, the PCL coordinate
+//! system).
+
 ghost use Rattle.std.specs.Prelude.{◌≡◌, ◌<◌, ◌^◌, ◌+ℤ◌, pos, unsigned_abs};
 ghost use Rattle.press_page.specs.Place.{lies_on, physical_dot, frame_dot, to_physical, to_frame, ArePlacementsInverse, below_edge};
 

@@ -8,7 +8,7 @@ use Rattle.press_units.specs.declared.position.Resolution.TheVariants.{Dpi300}
 use Rattle.press_page.specs.declared.defaults.Defaults.{Defaults}
 use Rattle.press_page.specs.declared.media.Binding.TheVariants.{LongEdge, ShortEdge}
 use Rattle.press_page.specs.declared.media.Orientation.TheVariants.{Portrait, Landscape}
-use Rattle.press_page.specs.declared.media.PageSize.TheVariants.{Letter, Legal, A4, Executive, Ledger, A3}
+use Rattle.press_page.specs.Media.{page_sizes}
 use Rattle.press_page.specs.Settings.{most_copies}
 use Rattle.press_pjl.specs.Names.{of_name, size_name, orientation_name, switch_name, binding_name, resolution_name}
 use Rattle.press_pjl.specs.declared.variable.Variable.{Variable}
@@ -58,7 +58,7 @@ entry_of variables.Copies =
     of_numbers (codes "COPIES") 1 most_copies
     (λ (all : Defaults). all.copies) (λ copies (all : Defaults). record all { copies = copies })
 entry_of variables.Paper =
-    of_names (codes "PAPER") (Letter ∷ Legal ∷ A4 ∷ Executive ∷ Ledger ∷ A3 ∷ []) size_name
+    of_names (codes "PAPER") page_sizes size_name
     (λ (all : Defaults). all.size) (λ size (all : Defaults). record all { size = size })
 entry_of variables.Orientation =
     of_names (codes "ORIENTATION") (Portrait ∷ Landscape ∷ []) orientation_name

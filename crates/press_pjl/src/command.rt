@@ -1,3 +1,5 @@
+//! The commands of PJL lines (PJL Technical Reference Manual, the PJL commands).
+
 ghost use Rattle.std.specs.Prelude.{◌≡◌};
 
 use crate::named::{Named, find_named};

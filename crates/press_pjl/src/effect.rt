@@ -1,3 +1,5 @@
+//! What a PJL line is told of the press, and what comes of it.
+
 ghost use Rattle.std.specs.Prelude.{◌≡◌};
 
 use std::marker::Model;

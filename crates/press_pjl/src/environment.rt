@@ -1,3 +1,5 @@
+//! The environment of the job language (PJL Technical Reference Manual, the PJL environments).
+
 ghost use Rattle.std.specs.Prelude.{◌≡◌, ◌≢◌, [], false, IfOk, IsErr};
 ghost use Rattle.press_pjl.specs.Lines.{effect, asked_name, asked_switch, inquired, informed};
 

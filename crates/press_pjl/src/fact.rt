@@ -1,3 +1,5 @@
+//! What the press tells of itself (PJL Technical Reference Manual, the INFO command).
+
 ghost use Rattle.std.specs.Prelude.{◌≡◌, ◌++◌, OnOk};
 ghost use Rattle.press_pjl.specs.Replies.{fact_name, fact_named, fact_text};
 

@@ -1,3 +1,5 @@
+//! What has a name in the job language (PJL Technical Reference Manual, the syntax of PJL commands).
+
 ghost use Rattle.std.specs.Prelude.{◌≡◌, List, ℕ};
 ghost use Rattle.press_pjl.specs.Names.{of_name, size_name, orientation_name, switch_name, binding_name, resolution_name};
 

@@ -1,3 +1,5 @@
+//! Replies (PJL Technical Reference Manual, the status readback commands).
+
 ghost use Rattle.std.specs.Prelude.{◌≡◌, ◌++◌, IfOk, OnOk, OnErr};
 ghost use Rattle.press_cmd.specs.Language.{raised};
 ghost use Rattle.press_pjl.specs.Replies.{reply_front, echo_of, page_reply};

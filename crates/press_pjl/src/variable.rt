@@ -1,3 +1,5 @@
+//! The variables of the job language and their values (PJL Technical Reference Manual, environment variables).
+
 ghost use Rattle.std.specs.Prelude.{◌≡◌, ◌++◌, min, OnOk, IsTrue};
 ghost use Rattle.std.specs.List.{All, list_all};
 ghost use Rattle.std.specs.Char.{IsAsciiDigit, is_ascii_digit};
@@ -6,7 +8,7 @@ ghost use Rattle.press_pjl.specs.Variables.{is_number, between, number_within, a
 
 use crate::named::{Named, find_named};
 use itoa::Buffer;
-use press_page::{Binding, Defaults, MOST_COPIES, Orientation, PageSize};
+use press_page::{Binding, Defaults, MOST_COPIES, Orientation, PAGE_SIZES};
 use press_units::Resolution;
 use std::alloc::AllocError;
 
@@ -30,15 +32,6 @@ const VARIABLES: [Variable; 6] = [
     Variable::Duplex,
     Variable::Binding,
     Variable::Resolution,
-];
-
-const SIZES: [PageSize; 6] = [
-    PageSize::Letter,
-    PageSize::Legal,
-    PageSize::A4,
-    PageSize::Executive,
-    PageSize::Ledger,
-    PageSize::A3,
 ];
 
 const ORIENTATIONS: [Orientation; 2] = [Orientation::Portrait, Orientation::Landscape];
@@ -135,7 +128,7 @@ impl Variable {
         let mut after = values;
         match self {
             Variable::Copies => after.copies = copies_in(text)?,
-            Variable::Paper => after.size = find_named(&SIZES, text)?,
+            Variable::Paper => after.size = find_named(&PAGE_SIZES, text)?,
             Variable::Orientation => after.orientation = find_named(&ORIENTATIONS, text)?,
             Variable::Duplex => after.duplex = find_named(&SWITCHES, text)?,
             Variable::Binding => after.binding = find_named(&BINDINGS, text)?,

@@ -1,0 +1,67 @@
+//! What commands name by a number: page sizes, orientations and the sides that are printed (PCL 5 Printer Language Technical
+//! Reference Manual, Page Size, Logical Page Orientation and Simplex/Duplex Print commands).
+
+ghost use Rattle.std.specs.Prelude.{◌≡◌, ℕ};
+ghost use Rattle.press_page.specs.Numbers.{numbered};
+ghost use Rattle.press_page.specs.Media.{size_number, orientation_number, sides_number};
+
+use crate::media::{Orientation, PageSize, Sides};
+
+/// What a command names by a number.
+pub trait Numbered: Copy {
+    ghost number_of: { Self → ℕ };
+
+    /// Its number, as its command has it.
+    fn number(&self) -> u32
+        ensures { result ≡ number_of self.now };
+}
+
+/// The first of some things that has a number.
+pub(crate) fn find_numbered<N: Numbered>(things: &[N], number: i64) -> Option<N>
+    ensures { result ≡ numbered N.number_of things.now number }
+{
+    things
+        .iter()
+        .copied()
+        .find(|thing| i64::from(thing.number()) == number)
+}
+
+impl Numbered for PageSize {
+    ghost number_of = { size_number };
+
+    fn number(&self) -> u32 {
+        match self {
+            PageSize::Executive => 1,
+            PageSize::Letter => 2,
+            PageSize::Legal => 3,
+            PageSize::Ledger => 6,
+            PageSize::A4 => 26,
+            PageSize::A3 => 27,
+        }
+    }
+}
+
+impl Numbered for Orientation {
+    ghost number_of = { orientation_number };
+
+    fn number(&self) -> u32 {
+        match self {
+            Orientation::Portrait => 0,
+            Orientation::Landscape => 1,
+            Orientation::ReversePortrait => 2,
+            Orientation::ReverseLandscape => 3,
+        }
+    }
+}
+
+impl Numbered for Sides {
+    ghost number_of = { sides_number };
+
+    fn number(&self) -> u32 {
+        match self {
+            Sides::OneSided => 0,
+            Sides::TwoSidedLongEdge => 1,
+            Sides::TwoSidedShortEdge => 2,
+        }
+    }
+}
