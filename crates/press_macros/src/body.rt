@@ -1,3 +1,5 @@
+//! The body of a macro that runs (PCL 5 Printer Language Technical Reference Manual, Macros).
+
 ghost use Rattle.std.specs.Prelude.{◌≡◌, option_map, slice_get, drop};
 ghost use Rattle.std.specs.Borrow.{sem};
 ghost use Rattle.press_cmd.specs.View.{token};

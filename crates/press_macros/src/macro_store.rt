@@ -1,3 +1,5 @@
+//! The macros under their IDs, and the open definition (PCL 5 Printer Language Technical Reference Manual, Macros).
+
 ghost use Rattle.std.specs.Prelude.{◌≡◌, IfOk, IsErr, OnOk, OnErr, IsSome, IsNone};
 ghost use Rattle.press_cmd.specs.View.{token};
 ghost use Rattle.press_macros.specs.Macros.{no_macros, defining, begun, recorded, definition_ended, abandoned, body_of, without, all_deleted, permanent_macros, macro_made};
@@ -22,6 +24,9 @@ pub struct MacroStore {
 
 impl Model for MacroStore {
     ghost use Rattle.std.specs.FinMap as maps;
+    ghost use Rattle.std.specs.List.{IsDistinct};
+    ghost use Rattle.std.specs.Map.{keys_of};
+    ghost use Rattle.std.specs.Prelude.{nat_eq};
     ghost use Rattle.press_macros.specs.Macros.{Macros};
     ghost use Rattle.press_macros.specs.Coding.{macros_code};
 
@@ -33,6 +38,8 @@ impl Model for MacroStore {
       stored = maps.from_entries s.stored.entries;
       definition = s.definition;
     } };
+
+    ghost invariant = { λ s. IsDistinct nat_eq (keys_of s.stored.entries) };
 }
 
 impl MacroStore {
@@ -178,7 +185,6 @@ impl MacroStore {
     pub fn delete_temporary(&mut self)
         ensures { self.new ≡ permanent_macros self.old }
     {
-        let _count = self.stored.len();
         self.stored.retain(
             |_id: &u16, stored: &mut StoredMacro| -> bool
                 ensures { (result ≡ stored.old.permanent) × (stored.new ≡ stored.old) }

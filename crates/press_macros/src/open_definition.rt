@@ -1,3 +1,5 @@
+//! A macro definition that was begun and not ended (PCL 5 Printer Language Technical Reference Manual, Macros).
+
 ghost use Rattle.std.specs.Prelude.{◌≡◌, [], take, IfOk, IfErr, OnOk, OnErr};
 ghost use Rattle.press_cmd.specs.View.{token};
 ghost use Rattle.press_macros.specs.Macros.{with_command, macro_of};

@@ -1,3 +1,5 @@
+//! A macro, whose commands bodies share (PCL 5 Printer Language Technical Reference Manual, Macros).
+
 ghost use Rattle.std.specs.Prelude.{◌≡◌, false, IfOk, IfErr};
 
 use crate::body::Body;

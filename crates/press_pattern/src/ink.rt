@@ -1,3 +1,5 @@
+//! What a mark is painted with (PCL 5 Printer Language Technical Reference Manual, The PCL Print Model).
+
 ghost use Rattle.std.specs.Prelude.{◌≡◌};
 ghost use Rattle.press_bits.specs.DotRule.{solid_white_mode};
 ghost use Rattle.press_pattern.specs.Ink.{ink_mode, black_ink};

@@ -1,3 +1,5 @@
+//! Patterns by kind and ID (PCL 5 Printer Language Technical Reference Manual, Select Current Pattern command).
+
 /// The kinds of patterns.
 ///
 /// Source: PCL 5 Printer Language Technical Reference Manual, The PCL Print Model, the Select Current

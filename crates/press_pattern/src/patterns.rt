@@ -1,3 +1,5 @@
+//! The patterns that there are (PCL 5 Printer Language Technical Reference Manual, The PCL Print Model).
+
 ghost use Rattle.std.specs.Prelude.{◌≡◌, ◌↔◌, true, false, option_map, option_copied, OnOk, OnErr, IfOk, IsErrOf};
 ghost use Rattle.std.specs.FinMap as maps;
 ghost use Rattle.press_pattern.specs.Tiling.{tile_row};
@@ -28,6 +30,9 @@ pub struct Patterns {
 impl Model for Patterns {
     ghost use Rattle.std.specs.Coded.{coded_ℕ};
     ghost use Rattle.std.specs.FinMap as maps;
+    ghost use Rattle.std.specs.List.{IsDistinct};
+    ghost use Rattle.std.specs.Map.{keys_of};
+    ghost use Rattle.std.specs.Prelude.{nat_eq};
     ghost use Rattle.press_pattern.specs.Store.{UserPatterns, user_pattern_code};
 
     ghost Value = { UserPatterns };
@@ -35,6 +40,8 @@ impl Model for Patterns {
     ghost coded = { maps.code coded_ℕ user_pattern_code };
 
     ghost view = { λ patterns. maps.from_entries patterns.user.entries };
+
+    ghost invariant = { λ patterns. IsDistinct nat_eq (keys_of patterns.user.entries) };
 }
 
 impl Patterns {
@@ -107,7 +114,6 @@ impl Patterns {
     pub fn delete_temporary(&mut self)
         ensures { self.new ≡ permanent_only self.old }
     {
-        let _count = self.user.len();
         self.user.retain(
             |_id: &u16, pattern: &mut UserPattern| -> bool
                 ensures { (result ≡ pattern.old.permanent) × (pattern.new ≡ pattern.old) }

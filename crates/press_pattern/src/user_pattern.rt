@@ -1,3 +1,6 @@
+//! A pattern that a stream defined (PCL 5 Printer Language Technical Reference Manual, Define Pattern and Pattern
+//! Control commands).
+
 use crate::tile::OwnedTile;
 use std::alloc::AllocError;
 
