@@ -1,4 +1,6 @@
-ghost use Rattle.std.specs.Prelude.{◌≡◌, ◌≤◌, [], ◌++◌, true, false, length, drop, vec_len, IsOk, OnOk, OnErr, IfOk, IfSome, IfNone};
+//! A scanner that is fed a stream in pieces, and gives its commands.
+
+ghost use Rattle.std.specs.Prelude.{◌≡◌, ◌≤◌, ◌-◌, [], ◌++◌, true, false, length, drop, take, vec_len, IsOk, OnOk, OnErr, IfOk, IfSome, IfNone};
 ghost use Rattle.std.specs.Borrow.{sem};
 ghost use Rattle.press_cmd.specs.Split.{NoHead};
 ghost use Rattle.press_cmd.specs.Mode.{Exit};
@@ -9,9 +11,10 @@ ghost use Rattle.press_scan.specs.Peeks.{Peeks, PeeksWhereScanned};
 ghost use Rattle.press_scan.specs.Gives.{IsNext, IsDone};
 ghost use Rattle.press_scan.specs.Rest.{IsRestLength};
 ghost use Rattle.press_scan.specs.Sequences.{longest_rest};
+ghost use Rattle.press_scan.specs.ScannerState.{buffer_size, least_free, taken};
 
 use crate::awaited::awaited;
-use crate::buffer::drop_consumed;
+use crate::buffer::{drop_consumed, make_room};
 use crate::closing::close;
 use crate::head::{head, scanned_in};
 use crate::line::plain_front;
@@ -20,6 +23,9 @@ use crate::reading::Found;
 use press_cmd::Command;
 use std::alloc::{AllocError, Global};
 use std::marker::Model;
+
+/// How many bytes a scanner holds in reserved memory.
+pub const BUFFER_SIZE: usize = 131_072;
 
 /// A scanner: it is fed the bytes of a stream in pieces, and gives the commands of the stream one after another.
 ///
@@ -38,10 +44,12 @@ pub struct Scanner {
     searched: usize,
     /// How many bytes there have to be from `start` on before a command can stand there: one at least.
     awaited: usize,
+    /// How many bytes it may hold in reserved memory: 0 where none is.
+    room: usize,
 }
 
 impl Model for Scanner {
-    ghost use Rattle.std.specs.Prelude.{◌≤◌, vec_len, drop};
+    ghost use Rattle.std.specs.Prelude.{◌≤◌, vec_len, vec_capacity, drop};
     ghost use Rattle.press_scan.specs.ScannerState.{ScannerState};
 
     ghost Value = { ScannerState };
@@ -54,11 +62,13 @@ impl Model for Scanner {
       mode = mode_of s.mode;
       bytes = drop s.start s.buffer.items;
       ended = s.ended;
+      room = s.room;
     } };
 
     ghost invariant = { λ s. (s.start ≤ vec_len s.buffer)
         × IsKnownPlain (drop s.start s.buffer.items) s.searched
-        × IsAwaited (mode_of s.mode) (drop s.start s.buffer.items) s.awaited };
+        × IsAwaited (mode_of s.mode) (drop s.start s.buffer.items) s.awaited
+        × (s.room ≤ vec_capacity s.buffer) };
 }
 
 /// The next command of what is held, if there is one, and how many bytes behind `@PJL` are then known to be part of
@@ -109,6 +119,7 @@ impl Scanner {
         ensures mode { result.mode ≡ Exit }
         ensures bytes { result.bytes ≡ [] }
         ensures ended { result.ended ≡ false }
+        ensures room { result.room ≡ 0 }
     {
         Scanner {
             buffer: Vec::new(alloc),
@@ -117,6 +128,7 @@ impl Scanner {
             ended: false,
             searched: 0,
             awaited: 1,
+            room: 0,
         }
     }
 
@@ -129,6 +141,7 @@ impl Scanner {
         requires { self.old.ended ≡ false }
         ensures mode { self.new.mode ≡ self.old.mode }
         ensures ended { self.new.ended ≡ false }
+        ensures room { self.new.room ≡ self.old.room }
         ensures ok { OnOk result (self.new.bytes ≡ self.old.bytes ++ piece.now) }
         ensures err { OnErr result (self.new ≡ self.old) }
     {
@@ -137,8 +150,64 @@ impl Scanner {
         Ok(())
     }
 
+    /// Takes memory for 131,072 bytes, once: a scanner that has it keeps it.
+    ///
+    /// # Errors
+    ///
+    /// Where memory ran out; the scanner is then as it was.
+    pub fn reserve(&mut self) -> Result<(), AllocError>
+        ensures ok { OnOk result (self.new ≡ record self.old { room = buffer_size }) }
+        ensures err { OnErr result (self.new ≡ self.old) }
+    {
+        if self.room == BUFFER_SIZE {
+            return Ok(());
+        }
+        self.start = drop_consumed(&mut self.buffer, self.start);
+        let missing = BUFFER_SIZE.saturating_sub(self.buffer.len());
+        self.buffer.reserve_exact(missing)?;
+        self.room = BUFFER_SIZE;
+        Ok(())
+    }
+
+    /// How many bytes fed stand in no command given.
+    pub fn held(&self) -> usize
+        ensures { result ≡ length self.now.bytes }
+    {
+        self.buffer.len() - self.start
+    }
+
+    /// How many bytes of a piece it can take.
+    fn takes(&self, piece: &[u8]) -> usize
+        ensures { result ≡ taken self.now piece.now }
+    {
+        if self.ended {
+            0
+        } else {
+            piece.len().min(self.room.saturating_sub(self.held()))
+        }
+    }
+
+    /// Takes the front of a piece of the stream into reserved memory, and answers how many bytes it took: all of the piece, or
+    /// as many as there is room for beside those that are held. It takes no memory.
+    pub fn take(&mut self, piece: &[u8]) -> usize
+        ensures count { result ≡ taken self.old piece.now }
+        ensures bytes { self.new
+            ≡ record self.old { bytes = self.old.bytes ++ take result piece.now } }
+    {
+        let count = self.takes(piece);
+        if count == 0 {
+            return 0;
+        }
+        self.start = make_room(&mut self.buffer, self.start, count);
+        if self.buffer.extend_from_slice(&piece[..count]).is_err() {
+            unreachable!();
+        }
+        count
+    }
+
     /// Gives the next command, with its data lent from the buffer; none where what is held begins no whole command,
-    /// and after the end of input where nothing is held.
+    /// and after the end of input where nothing is held: then at least 65,502 bytes of a reserved buffer are free, so that a loop
+    /// of `take` and `next` comes to its end.
     ///
     /// # Errors
     ///
@@ -148,6 +217,8 @@ impl Scanner {
         ensures some { IfOk result (λ answer. IfSome answer
             (λ command. IsNext self.old (token command))) }
         ensures none { IfOk result (λ answer. IfNone answer (IsDone self.old)) }
+        ensures free { IfOk result (λ answer. IfNone answer
+            (least_free ≤ buffer_size - length self.old.bytes)) }
         ensures* after { sem 𝓛 (EndsAs self.entry result) }
     {
         let held = &self.buffer[self.start..];

@@ -1,7 +1,9 @@
+//! The scanner: pieces, cuts, what a rest stands for, and memory that is reserved.
+
 ghost use Rattle.std.specs.Prelude.{◌≡◌, ◌<◌, false, OnOk};
 
 use press_cmd::{Command, write_command};
-use press_scan::{Scanner, is_broken};
+use press_scan::{BUFFER_SIZE, Scanner, is_broken};
 use std::alloc::Global;
 use std::test::Fail;
 
@@ -112,6 +114,70 @@ fn counts_no_command_that_waits(rt: HostRuntime) -> Result<(), Fail> {
         scanner.end_input();
         assert_eq!(rt; scanner.rest_len(), rest);
     }
+    Ok(())
+}
+
+/// Nothing is taken before memory is reserved, and after the end of input; and else as much as there is room for.
+#[test]
+fn takes_what_there_is_room_for(rt: HostRuntime) -> Result<(), Fail> {
+    let piece = vec![in rt.alloc(); b'x'; 200_000]?;
+    let mut scanner = Scanner::new(rt.alloc());
+    assert_eq!(rt; scanner.take(&piece), 0);
+    scanner.reserve()?;
+    assert_eq!(rt; scanner.take(&piece), BUFFER_SIZE);
+    assert_eq!(rt; scanner.held(), 131_072);
+    assert_eq!(rt; scanner.take(b"x"), 0);
+    assert!(rt; scanner.next()?.is_some());
+    assert_eq!(rt; scanner.take(b"xx"), 1);
+    scanner.end_input();
+    assert!(rt; scanner.next()?.is_some());
+    assert_eq!(rt; scanner.take(b"x"), 0);
+    Ok(())
+}
+
+/// A piece that is fed may be longer than the buffer: then nothing is taken before commands were given.
+#[test]
+fn takes_nothing_behind_more_than_the_buffer(rt: HostRuntime) -> Result<(), Fail> {
+    let mut scanner = Scanner::new(rt.alloc());
+    scanner.reserve()?;
+    scanner.feed(&vec![in rt.alloc(); b'x'; 131_073]?)?;
+    assert_eq!(rt; scanner.take(b"x"), 0);
+    assert!(rt; scanner.next()?.is_some());
+    assert_eq!(rt; scanner.take(b"x"), 0);
+    assert!(rt; scanner.next()?.is_some());
+    assert_eq!(rt; scanner.take(b"xx"), 1);
+    Ok(())
+}
+
+/// Takes bytes one by one, and counts the commands that the scanner gives then.
+fn count_taken(scanner: &mut Scanner, bytes: &[u8]) -> Result<u32, Fail> {
+    let mut count: u32 = 0;
+    for byte in bytes {
+        if scanner.take(&[*byte]) != 1 {
+            return Err(Fail::from("a byte was not taken"));
+        }
+        if scanner.next()?.is_some() {
+            count = count.saturating_add(1);
+        }
+    }
+    Ok(count)
+}
+
+/// A parameter with the longest data, whose bytes come one by one.
+#[test]
+fn takes_the_longest_data_byte_by_byte(rt: HostRuntime) -> Result<(), Fail> {
+    let data = vec![in rt.alloc(); 0xA5u8; 65_534]?;
+    let mut scanner = Scanner::new(rt.alloc());
+    scanner.reserve()?;
+    assert_eq!(rt; count_taken(&mut scanner, b"x\x1B*b65535W")?, 1);
+    assert_eq!(rt; count_taken(&mut scanner, &data)?, 0);
+    assert_eq!(rt; scanner.held(), 65_543);
+    assert_eq!(rt; scanner.take(b"\x5A"), 1);
+    let Some(command) = scanner.next()? else {
+        return Err(Fail::from("no command was given"));
+    };
+    assert_eq!(rt; command.data().len(), 65_535);
+    assert_eq!(rt; command.data().last(), Some(&0x5A));
     Ok(())
 }
 
