@@ -7,10 +7,10 @@ use Rattle.press_engine.specs.declared.effect.Source.TheVariants as sources
 use Rattle.press_engine.specs.declared.machine.Machine.{Machine}
 use Rattle.press_engine.specs.Calls.{overlay_body}
 use Rattle.press_engine.specs.Outcome.{Effect, Changes, Makes, GivesReply, Stays, Closes, Starts}
-use Rattle.press_engine.specs.Machine.{Run, quiet, then_run, with_state, taken, entered, left, change_each, carried_over, run_over, overlay_levels, overlay_entered, overlay_left, overlay_with, settled_state, settled, run_each, carried, levels, source_at, run_at, run, run_all}
+use Rattle.press_engine.specs.Machine.{Run, quiet, then_run, with_state, taken, enter_body, leave_body, run_each_in_overlay, effect_in_overlay, run_in_overlay, overlay_levels, enter_overlay, leave_overlay, run_overlay_of, finish_without_overlay, finish_effect_with_overlay, run_each, carry_out, levels, source_at, run_at, run, run_all}
 use Rattle.press_engine.specs.Table.{effect_on}
-use Rattle.press_engine.specs.Trace.{last_machine, joined, with_end, trace_each, body_items, trace_carried_over, trace_over, close_items_with, trace_settled, trace_carried, trace_at, trace}
-use Rattle.press_engine.specs.Laws.{Tells}
+use Rattle.press_engine.specs.Trace.{last_machine, joined, with_end, trace_each, body_items, trace_effect_in_overlay, trace_in_overlay, close_items_with, trace_finished, trace_carry_out, trace_at, trace}
+use Rattle.press_engine.specs.Laws.{Tells, IsOneStep}
 
 pub last_machine-append : (items others : List Run) (machine : Machine) → last_machine machine (items ++ others) ≡ last_machine (last_machine machine items) others
 last_machine-append [] others machine = refl
@@ -59,66 +59,66 @@ module _ (one : Token → Machine → Run) (tracing : Token → Machine → List
 
 -- commands of which nothing goes out
 module _ (one : Token → Machine → Machine) where
-  pub run_each-quiet : (commands : List Token) (machine : Machine) → run_each (λ command at. quiet (one command at)) commands machine ≡ quiet (change_each one commands machine)
-  unfolding run_each change_each
+  pub run_each-quiet : (commands : List Token) (machine : Machine) → run_each (λ command at. quiet (one command at)) commands machine ≡ quiet (run_each_in_overlay one commands machine)
+  unfolding run_each run_each_in_overlay
   run_each-quiet [] machine = refl
   run_each-quiet (command ∷ commands) machine = run_each-quiet commands (one command machine)
 
 module _ (one : Token → Machine → Machine) (tracing : Token → Machine → List Run) (tells : (command : Token) (machine : Machine) → Tells (tracing command machine) machine (quiet (one command machine))) where
-  pub tells-quiet_body : (end : Machine → Run) (commands : List Token) (before inside : Machine) → Tells (body_items tracing end commands inside) before (end (change_each one commands inside))
+  pub tells-quiet_body : (end : Machine → Run) (commands : List Token) (before inside : Machine) → Tells (body_items tracing end commands inside) before (end (run_each_in_overlay one commands inside))
   tells-quiet_body end commands before inside =
       let P : Run → Type 0 = λ run. Tells (body_items tracing end commands inside) before (then_run run.outputs (end run.machine)) in
       subst P (run_each-quiet one commands inside) (tells-body (λ command at. quiet (one command at)) tracing tells end commands before inside)
 
-tells-carried_over : (one : Token → Machine → Machine) (tracing : Token → Machine → List Run) → ((command : Token) (machine : Machine) → Tells (tracing command machine) machine (quiet (one command machine))) → (before machine : Machine) (effect : Effect) → Tells (trace_carried_over tracing machine effect) before (quiet (carried_over one machine effect))
-tells-carried_over one tracing tells before machine (Changes state) = tells-one before (quiet (with_state state machine))
-tells-carried_over one tracing tells before machine (Makes state) = tells-one before (quiet (with_state state machine))
-tells-carried_over one tracing tells before machine (GivesReply reply state) = tells-one before (quiet (with_state state machine))
-tells-carried_over one tracing tells before machine (Stays closer state) = tells-one before (quiet (with_state state machine))
-tells-carried_over one tracing tells before machine (Closes closer state) = tells-one before (quiet (with_state state machine))
-tells-carried_over one tracing tells before machine (Starts commands end state) =
-    tells-quiet_body one tracing tells (λ after. quiet (left end machine.depth after)) commands before (entered end state machine)
+tells-effect_in_overlay : (one : Token → Machine → Machine) (tracing : Token → Machine → List Run) → ((command : Token) (machine : Machine) → Tells (tracing command machine) machine (quiet (one command machine))) → (before machine : Machine) (effect : Effect) → Tells (trace_effect_in_overlay tracing machine effect) before (quiet (effect_in_overlay one machine effect))
+tells-effect_in_overlay one tracing tells before machine (Changes state) = tells-one before (quiet (with_state state machine))
+tells-effect_in_overlay one tracing tells before machine (Makes state) = tells-one before (quiet (with_state state machine))
+tells-effect_in_overlay one tracing tells before machine (GivesReply reply state) = tells-one before (quiet (with_state state machine))
+tells-effect_in_overlay one tracing tells before machine (Stays closer state) = tells-one before (quiet (with_state state machine))
+tells-effect_in_overlay one tracing tells before machine (Closes closer state) = tells-one before (quiet (with_state state machine))
+tells-effect_in_overlay one tracing tells before machine (Starts commands end state) =
+    tells-quiet_body one tracing tells (λ after. quiet (leave_body end machine.depth after)) commands before (enter_body end state machine)
 
-pub tells-over : (levels : ℕ) (command : Token) (machine : Machine) → Tells (trace_over levels command machine) machine (quiet (run_over levels command machine))
-unfolding trace_over run_over
-tells-over zero command machine = tells-one machine (quiet (run_over 0 command machine))
+pub tells-over : (levels : ℕ) (command : Token) (machine : Machine) → Tells (trace_in_overlay levels command machine) machine (quiet (run_in_overlay levels command machine))
+unfolding trace_in_overlay run_in_overlay
+tells-over zero command machine = tells-one machine (quiet (run_in_overlay 0 command machine))
 tells-over (suc levels) command machine =
-    tells-carried_over (run_over levels) (trace_over levels) (tells-over levels) machine (taken command machine) (effect_on sources.Overlay command machine.state)
+    tells-effect_in_overlay (run_in_overlay levels) (trace_in_overlay levels) (tells-over levels) machine (taken command machine) (effect_on sources.Overlay command machine.state)
 
 -- a page close with the overlay's body, where there is one
 abbrev pub closed_with : Option (List Token) → Closer → Machine → Run
-closed_with body closer machine = let after = overlay_with body machine in settled_state after (Closes closer after.state)
+closed_with body closer machine = let after = run_overlay_of body machine in finish_without_overlay after (Closes closer after.state)
 
-tells-close : (body : Option (List Token)) (closer : Closer) (before machine : Machine) → Tells (close_items_with body closer machine) before (closed_with body closer machine)
-tells-close None closer before machine = tells-one before (settled_state machine (Closes closer machine.state))
-tells-close (Some commands) closer before machine =
-    tells-quiet_body (run_over overlay_levels) (trace_over overlay_levels) (tells-over overlay_levels)
-    (λ after. settled_state (overlay_left machine after) (Closes closer (overlay_left machine after).state))
-    commands before (overlay_entered machine)
+tells-close_items : (body : Option (List Token)) (closer : Closer) (before machine : Machine) → Tells (close_items_with body closer machine) before (closed_with body closer machine)
+tells-close_items None closer before machine = tells-one before (finish_without_overlay machine (Closes closer machine.state))
+tells-close_items (Some commands) closer before machine =
+    tells-quiet_body (run_in_overlay overlay_levels) (trace_in_overlay overlay_levels) (tells-over overlay_levels)
+    (λ after. finish_without_overlay (leave_overlay machine after) (Closes closer (leave_overlay machine after).state))
+    commands before (enter_overlay machine)
 
-tells-settled : (before machine : Machine) (effect : Effect) → Tells (trace_settled machine effect) before (settled machine effect)
-tells-settled before machine (Changes state) = tells-one before (settled_state machine (Changes state))
-tells-settled before machine (Makes state) = tells-one before (settled_state machine (Makes state))
-tells-settled before machine (GivesReply reply state) = tells-one before (settled_state machine (GivesReply reply state))
-tells-settled before machine (Stays closer state) = tells-one before (settled_state machine (Stays closer state))
-tells-settled before machine (Closes closer state) = tells-close (overlay_body state) closer before (with_state state machine)
-tells-settled before machine (Starts commands end state) = tells-one before (settled_state machine (Starts commands end state))
+tells-finish_effect_with_overlay : (before machine : Machine) (effect : Effect) → Tells (trace_finished machine effect) before (finish_effect_with_overlay machine effect)
+tells-finish_effect_with_overlay before machine (Changes state) = tells-one before (finish_without_overlay machine (Changes state))
+tells-finish_effect_with_overlay before machine (Makes state) = tells-one before (finish_without_overlay machine (Makes state))
+tells-finish_effect_with_overlay before machine (GivesReply reply state) = tells-one before (finish_without_overlay machine (GivesReply reply state))
+tells-finish_effect_with_overlay before machine (Stays closer state) = tells-one before (finish_without_overlay machine (Stays closer state))
+tells-finish_effect_with_overlay before machine (Closes closer state) = tells-close_items (overlay_body state) closer before (with_state state machine)
+tells-finish_effect_with_overlay before machine (Starts commands end state) = tells-one before (finish_without_overlay machine (Starts commands end state))
 
-tells-carried : (one : Token → Machine → Run) (tracing : Token → Machine → List Run) → ((command : Token) (machine : Machine) → Tells (tracing command machine) machine (one command machine)) → (before machine : Machine) (effect : Effect) → Tells (trace_carried tracing machine effect) before (carried one machine effect)
-tells-carried one tracing tells before machine (Changes state) = tells-settled before machine (Changes state)
-tells-carried one tracing tells before machine (Makes state) = tells-settled before machine (Makes state)
-tells-carried one tracing tells before machine (GivesReply reply state) = tells-settled before machine (GivesReply reply state)
-tells-carried one tracing tells before machine (Stays closer state) = tells-settled before machine (Stays closer state)
-tells-carried one tracing tells before machine (Closes closer state) = tells-settled before machine (Closes closer state)
-tells-carried one tracing tells before machine (Starts commands end state) =
-    let body = tells-body one tracing tells (λ after. quiet (left end machine.depth after)) commands before (entered end state machine) in
-    record { machine = body.machine; outputs = body.outputs ∙ append-nil (run_each one commands (entered end state machine)).outputs }
+tells-carry_out : (one : Token → Machine → Run) (tracing : Token → Machine → List Run) → ((command : Token) (machine : Machine) → Tells (tracing command machine) machine (one command machine)) → (before machine : Machine) (effect : Effect) → Tells (trace_carry_out tracing machine effect) before (carry_out one machine effect)
+tells-carry_out one tracing tells before machine (Changes state) = tells-finish_effect_with_overlay before machine (Changes state)
+tells-carry_out one tracing tells before machine (Makes state) = tells-finish_effect_with_overlay before machine (Makes state)
+tells-carry_out one tracing tells before machine (GivesReply reply state) = tells-finish_effect_with_overlay before machine (GivesReply reply state)
+tells-carry_out one tracing tells before machine (Stays closer state) = tells-finish_effect_with_overlay before machine (Stays closer state)
+tells-carry_out one tracing tells before machine (Closes closer state) = tells-finish_effect_with_overlay before machine (Closes closer state)
+tells-carry_out one tracing tells before machine (Starts commands end state) =
+    let body = tells-body one tracing tells (λ after. quiet (leave_body end machine.depth after)) commands before (enter_body end state machine) in
+    record { machine = body.machine; outputs = body.outputs ∙ append-nil (run_each one commands (enter_body end state machine)).outputs }
 
 pub tells-at : (levels : ℕ) (command : Token) (machine : Machine) → Tells (trace_at levels command machine) machine (run_at levels command machine)
 unfolding trace_at run_at
-tells-at zero command machine = tells-settled machine (taken command machine) (effect_on (source_at 0) command machine.state)
+tells-at zero command machine = tells-finish_effect_with_overlay machine (taken command machine) (effect_on (source_at 0) command machine.state)
 tells-at (suc more) command machine =
-    tells-carried (run_at more) (trace_at more) (tells-at more) machine (taken command machine) (effect_on (source_at (suc more)) command machine.state)
+    tells-carry_out (run_at more) (trace_at more) (tells-at more) machine (taken command machine) (effect_on (source_at (suc more)) command machine.state)
 
 -- The trace of commands tells their run.
 pub tells-all : (commands : List Token) (machine : Machine) → Tells (trace commands machine) machine (run_all commands machine)
@@ -140,3 +140,22 @@ pub trace-append : (commands others : List Token) (machine : Machine) → trace 
 trace-append commands others machine =
     trace_each-append (trace_at levels) commands others machine
     ∙ ap (λ at. trace commands machine ++ trace others at) (tells-all commands machine).machine
+
+-- A command that is one step has one item.
+close_items-one : (body : Option (List Token)) → body ≡ None → (closer : Closer) (machine : Machine) → close_items_with body closer machine ≡ closed_with body closer machine ∷ []
+close_items-one None none closer machine = refl
+close_items-one (Some commands) none closer machine = absurd (cc)
+
+one-item : (one : Token → Machine → Run) (tracing : Token → Machine → List Run) (machine : Machine) (effect : Effect) → IsOneStep effect → trace_carry_out tracing machine effect ≡ carry_out one machine effect ∷ []
+one-item one tracing machine (Changes state) step = refl
+one-item one tracing machine (Makes state) step = refl
+one-item one tracing machine (GivesReply reply state) step = refl
+one-item one tracing machine (Stays closer state) step = refl
+one-item one tracing machine (Closes closer state) none = close_items-one (overlay_body state) none closer (with_state state machine)
+one-item one tracing machine (Starts commands end state) step = absurd step
+
+pub trace-one : (command : Token) (machine : Machine) → IsOneStep (effect_on sources.Stream command machine.state) → trace (command ∷ []) machine ≡ run command machine ∷ []
+unfolding trace_each trace_at run_at
+trace-one command machine step =
+    append-nil (trace_at levels command machine)
+    ∙ one-item (run_at 1) (trace_at 1) (taken command machine) (effect_on sources.Stream command machine.state) step

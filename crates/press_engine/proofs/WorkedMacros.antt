@@ -12,6 +12,7 @@ use Rattle.press_bits.specs.DotRule.{both_transparent}
 use Rattle.press_bits.specs.Mark.{painted}
 use Rattle.press_bits.specs.Page.{Page, blank}
 use Rattle.press_cmd.specs.Token.{Token, Grouped, Control, Uel}
+use Rattle.press_cmd.specs.Kinds.{kind_of}
 use Rattle.press_fill.specs.Fill.{fill_mark}
 use Rattle.press_macros.specs.Macros.{Macro, Macros, abandoned, body_of}
 use Rattle.press_page.specs.declared.media.Orientation.TheVariants.{Portrait}
@@ -22,16 +23,18 @@ use Rattle.press_engine.specs.declared.effect.Closer.{Closer}
 use Rattle.press_engine.specs.declared.effect.Closer.TheVariants as closers
 use Rattle.press_engine.specs.declared.effect.PageChange.TheVariants as page_changes
 use Rattle.press_engine.specs.declared.effect.Source.TheVariants as sources
+use Rattle.press_engine.specs.declared.machine.Last.{Last}
+use Rattle.press_engine.specs.declared.machine.Last.TheVariants as lasts
 use Rattle.press_engine.specs.declared.machine.Machine.{Machine}
 use Rattle.press_engine.specs.declared.operation.Operation.TheVariants.{FormFeed, Reset}
 use Rattle.press_engine.specs.declared.state.State.{State}
 use Rattle.press_engine.specs.Calls.{kept_of, overlay_body}
 use Rattle.press_engine.specs.Macros.{start_body, record_command}
 use Rattle.press_engine.specs.Outcome.{Effect, Changes, Makes, Stays, Closes, Starts, is_marked, with_macros}
-use Rattle.press_engine.specs.Machine.{Run, quiet, with_state, taken, entered, left, power_on, source_at, run_all}
+use Rattle.press_engine.specs.Machine.{Run, quiet, with_state, taken, enter_body, leave_body, power_on, source_at, run_all}
 use Rattle.press_engine.specs.Motion.{to_left_margin}
 use Rattle.press_engine.specs.Table.{effect_on, is_recorded, is_skipped, table_row, row_unless_skipped}
-use Rattle.press_engine.specs.Trace.{last_machine, joined, with_end, body_items, close_items_with, trace_settled, trace_carried, trace, trace_each, trace_at, trace_over}
+use Rattle.press_engine.specs.Trace.{last_machine, joined, with_end, body_items, close_items_with, trace_finished, trace_carry_out, trace, trace_each, trace_at, trace_in_overlay}
 use Rattle.press_engine.proofs.TraceLaws.{tells-all, trace_each-append}
 
 -- ESC, a parameterized character, a group character, a field and a termination character
@@ -66,10 +69,10 @@ macro_is_found commands =
 
 -- A call of a macro that is found gives the items of its body.
 abbrev call_end : (before : Machine) → Machine → Run
-call_end before after = quiet (left (ends.Call (kept_of before.state)) before.depth after)
+call_end before after = quiet (leave_body (ends.Call (kept_of before.state)) before.depth after)
 
 abbrev inside_call : Machine → Machine
-inside_call before = entered (ends.Call (kept_of before.state)) before.state (taken call before)
+inside_call before = enter_body (ends.Call (kept_of before.state)) before.state (taken call before)
 
 abbrev call_effect : List Token → Machine → Effect
 call_effect commands before = Starts commands (ends.Call (kept_of before.state)) before.state
@@ -79,7 +82,7 @@ call_items :
     → effect_on (source_at (suc levels)) call before.state ≡ call_effect commands before
     → trace_at (suc levels) call before ≡ body_items (trace_at levels) (call_end before) commands (inside_call before)
 unfolding trace_at
-call_items levels commands before starts = ap (trace_carried (trace_at levels) (taken call before)) starts
+call_items levels commands before starts = ap (trace_carry_out (trace_at levels) (taken call before)) starts
 
 -- ESC*p0x0Y, ESC&f1y0X, ESC*c1a1b0P, ESC*p+2X, ESC&f3X, ESC&f1X, ESC&f3X: a macro that paints a dot, moves two units and
 -- calls itself, is called; a third one does not run
@@ -118,7 +121,7 @@ third_starts = ap (λ found. start_body found (ends.Call (kept_of third.state)) 
 
 third_item : trace_at 0 call third ≡ quiet (taken call third) ∷ []
 unfolding trace_at
-third_item = ap (trace_settled (taken call third)) third_starts
+third_item = ap (trace_finished (taken call third)) third_starts
 
 -- The items of commands: those of the first, and then those of the others; and those of a body that ends in a call, by those of
 -- the call.
@@ -179,24 +182,73 @@ items_of others =
     ∙ ap (λ items. trace definition power_on ++ items) (trace_each-cons (trace_at 2) call others first)
     ∙ ap (stream_with others) first_items
 
+-- What is seen of items: how many bodies run, what the step took, and what went out in it.
+abbrev Seen : Type 0
+Seen = ℕ × Last × List Output
+
+abbrev seen_of : List Run → List Seen
+seen_of items = map (λ (item : Run). (item.machine.depth, item.machine.last, item.outputs)) items
+
+-- a command that ran, or was recorded, where so many bodies run, and nothing went out
+abbrev ran : ℕ → Token → Seen
+ran depth command = (depth, lasts.Ran (kind_of command), [])
+
+abbrev recorded : Token → Seen
+recorded command = (0, lasts.Recorded (kind_of command), [])
+
+-- a page with so many black dots in a line from a dot on
+abbrev dotted : (x y width : ℕ) → Page → Page
+dotted x y width page =
+    painted page
+    (fill_mark Portrait page (record { x = x; y = y; width = width; height = 1 }) solid_black both_transparent)
+
+abbrev letter : Page
+letter = blank 2550 3300
+
+abbrev sheet_of : Page → Output
+sheet_of page = Deliver (record { front = page; back = None })
+
 -- The trace with FF and the universal exit: ten steps of the stream, the call and four of the macro's, the call in it and four
 -- more, the call that has no effect and ends both, and two of the stream.
-abbrev depths_of : List Run → List ℕ
-depths_of items = map (λ (item : Run). item.machine.depth) items
-
 abbrev page_and_exit : List Token
 page_and_exit = form_feed ∷ Uel ∷ []
 
-computed_depths :
-    depths_of (stream_with page_and_exit called)
-    ≡ 0 ∷ 0 ∷ 0 ∷ 0 ∷ 0 ∷ 0 ∷ 0 ∷ 0 ∷ 0 ∷ 0 ∷ 1 ∷ 1 ∷ 1 ∷ 1 ∷ 1 ∷ 2 ∷ 2 ∷ 2 ∷ 2 ∷ 2 ∷ 0 ∷ 0 ∷ 0 ∷ []
-unfolding trace_each trace_at trace_over
-computed_depths = refl
+abbrev two_dots_sheet : Output
+two_dots_sheet = sheet_of (dotted 77 150 1 (dotted 75 150 1 letter))
 
-depths_of_the_items :
-    depths_of (trace (dot_twice page_and_exit) power_on)
-    ≡ 0 ∷ 0 ∷ 0 ∷ 0 ∷ 0 ∷ 0 ∷ 0 ∷ 0 ∷ 0 ∷ 0 ∷ 1 ∷ 1 ∷ 1 ∷ 1 ∷ 1 ∷ 2 ∷ 2 ∷ 2 ∷ 2 ∷ 2 ∷ 0 ∷ 0 ∷ 0 ∷ []
-depths_of_the_items = ap depths_of (items_of page_and_exit) ∙ computed_depths
+abbrev calls_seen : List Seen
+calls_seen =
+    ran 0 (sequence "*" "p" "0" "X")
+    ∷ ran 0 (sequence "*" "p" "0" "Y")
+    ∷ ran 0 (macro_id "1")
+    ∷ ran 0 (macro_control "0")
+    ∷ recorded (sequence "*" "c" "1" "A")
+    ∷ recorded (sequence "*" "c" "1" "B")
+    ∷ recorded (sequence "*" "c" "0" "P")
+    ∷ recorded (sequence "*" "p" "+2" "X")
+    ∷ recorded call
+    ∷ ran 0 (macro_control "1")
+    ∷ ran 1 call
+    ∷ ran 1 (sequence "*" "c" "1" "A")
+    ∷ ran 1 (sequence "*" "c" "1" "B")
+    ∷ ran 1 (sequence "*" "c" "0" "P")
+    ∷ ran 1 (sequence "*" "p" "+2" "X")
+    ∷ ran 2 call
+    ∷ ran 2 (sequence "*" "c" "1" "A")
+    ∷ ran 2 (sequence "*" "c" "1" "B")
+    ∷ ran 2 (sequence "*" "c" "0" "P")
+    ∷ ran 2 (sequence "*" "p" "+2" "X")
+    ∷ ran 0 call
+    ∷ (0, lasts.Ran (kind_of form_feed), two_dots_sheet ∷ [])
+    ∷ ran 0 Uel
+    ∷ []
+
+computed_calls : seen_of (stream_with page_and_exit called) ≡ calls_seen
+unfolding trace_each trace_at trace_in_overlay
+computed_calls = refl
+
+the_items_of_the_calls : seen_of (trace (dot_twice page_and_exit) power_on) ≡ calls_seen
+the_items_of_the_calls = ap seen_of (items_of page_and_exit) ∙ computed_calls
 
 -- A stream leaves the machine of its last item, and its outputs are those of its items.
 machine_of_items :
@@ -218,23 +270,11 @@ the_cursor_stays_where_the_calls_left_it : (run_all (dot_twice []) power_on).mac
 the_cursor_stays_where_the_calls_left_it =
     ap (λ (at : Machine). at.state.cursor.x) (machine_of_items (dot_twice []) (stream_with [] called) (items_of [])) ∙ computed_x
 
--- a page with so many black dots in a line from a dot on
-abbrev dotted : (x y width : ℕ) → Page → Page
-dotted x y width page =
-    painted page
-    (fill_mark Portrait page (record { x = x; y = y; width = width; height = 1 }) solid_black both_transparent)
-
-abbrev letter : Page
-letter = blank 2550 3300
-
-abbrev sheet_of : Page → Output
-sheet_of page = Deliver (record { front = page; back = None })
-
-computed_dots : joined (stream_with page_and_exit called) ≡ sheet_of (dotted 77 150 1 (dotted 75 150 1 letter)) ∷ []
-unfolding trace_each trace_at trace_over
+computed_dots : joined (stream_with page_and_exit called) ≡ two_dots_sheet ∷ []
+unfolding trace_each trace_at trace_in_overlay
 computed_dots = refl
 
-two_dots : (run_all (dot_twice page_and_exit) power_on).outputs ≡ sheet_of (dotted 77 150 1 (dotted 75 150 1 letter)) ∷ []
+two_dots : (run_all (dot_twice page_and_exit) power_on).outputs ≡ two_dots_sheet ∷ []
 two_dots = outputs_of_items (dot_twice page_and_exit) (stream_with page_and_exit called) (items_of page_and_exit) ∙ computed_dots
 
 -- A command of the stream that closes the page, where the overlay's macro is found, gives the items of the overlay's body.
@@ -245,7 +285,7 @@ close_with_overlay :
     → trace_at 2 command before ≡ close_items_with (Some commands) closer (with_state state (taken command before))
 unfolding trace_at
 close_with_overlay command commands closer before state closes found =
-    ap (trace_carried (trace_at 1) (taken command before)) closes
+    ap (trace_carry_out (trace_at 1) (taken command before)) closes
     ∙ ap (λ body. close_items_with body closer (with_state state (taken command before))) found
 
 second_macro_is_found : (commands : List Token) → body_of (one_macro 2 commands) 2 ≡ Some commands
@@ -298,22 +338,22 @@ abbrev second_page : Machine
 second_page = fed with_overlay
 
 second_is_carried_out : is_recorded form_feed second_page.state ≡ false
-unfolding trace_each trace_at trace_over
+unfolding trace_each trace_at trace_in_overlay
 second_is_carried_out = refl
 
 second_has_effect : is_skipped sources.Stream FormFeed second_page.state ≡ false
-unfolding trace_each trace_at trace_over
+unfolding trace_each trace_at trace_in_overlay
 second_has_effect = refl
 
 second_stays_in_place : second_page.state.environment.settings.line_termination.return_before_feed ≡ false
-unfolding trace_each trace_at trace_over
+unfolding trace_each trace_at trace_in_overlay
 second_stays_in_place = refl
 
 second_feed_closes : effect_on (source_at 2) form_feed second_page.state ≡ Closes closers.Feed second_page.state
 second_feed_closes = feed_closes second_page.state second_is_carried_out second_has_effect second_stays_in_place
 
 second_overlay : overlay_body second_page.state ≡ Some four_dots
-unfolding trace_each trace_at trace_over
+unfolding trace_each trace_at trace_in_overlay
 second_overlay = second_macro_is_found four_dots
 
 second_feed : trace_at 2 form_feed second_page ≡ fed_items second_page
@@ -335,9 +375,47 @@ items_of_two_pages =
     (trace_each-cons (trace_at 2) form_feed exit second_page
     ∙ ap (λ items. items ++ trace_each (trace_at 2) exit (last_machine second_page items)) second_feed))
 
+-- All items: the definition and the overlay's start, eight steps; a form feed, which starts the overlay; and of its commands the
+-- form feed, which has no effect there, and in whose step the overlay ends and the page closes.
+abbrev overlaid_seen : List Seen
+overlaid_seen =
+    ran 0 (macro_id "2")
+    ∷ ran 0 (macro_control "0")
+    ∷ recorded (sequence "*" "c" "4" "A")
+    ∷ recorded (sequence "*" "c" "1" "B")
+    ∷ recorded (sequence "*" "c" "0" "P")
+    ∷ recorded form_feed
+    ∷ ran 0 (macro_control "1")
+    ∷ ran 0 (macro_control "4")
+    ∷ []
+
+abbrev close_seen : (closing : Token) → Page → List Seen
+close_seen closing page =
+    ran 1 closing
+    ∷ ran 1 (sequence "*" "c" "4" "A")
+    ∷ ran 1 (sequence "*" "c" "1" "B")
+    ∷ ran 1 (sequence "*" "c" "0" "P")
+    ∷ (0, lasts.Ran (kind_of form_feed), sheet_of page ∷ [])
+    ∷ []
+
+abbrev overlay_dots : Page → Page
+overlay_dots = dotted 75 187 4
+
+abbrev pages_seen : List Seen
+pages_seen =
+    overlaid_seen
+    ++ (close_seen form_feed (overlay_dots letter) ++ (close_seen form_feed (overlay_dots letter) ++ (ran 0 Uel ∷ [])))
+
+computed_overlay : seen_of (trace overlaid power_on ++ two_pages) ≡ pages_seen
+unfolding trace_each trace_at trace_in_overlay
+computed_overlay = refl
+
+the_items_under_the_overlay : seen_of (trace (overlaid ++ (form_feed ∷ form_feed ∷ exit)) power_on) ≡ pages_seen
+the_items_under_the_overlay = ap seen_of items_of_two_pages ∙ computed_overlay
+
 computed_pages :
     joined (trace overlaid power_on ++ two_pages) ≡ sheet_of (dotted 75 187 4 letter) ∷ sheet_of (dotted 75 187 4 letter) ∷ []
-unfolding trace_each trace_at trace_over
+unfolding trace_each trace_at trace_in_overlay
 computed_pages = refl
 
 every_page_has_the_overlay :
@@ -403,9 +481,28 @@ items_with_the_exit =
     trace_each-append (trace_at 2) open_definition exit power_on
     ∙ ap (λ items. trace open_definition power_on ++ items) (trace_each-one (trace_at 2) Uel in_definition ∙ exit_gives)
 
+-- All items: those of the overlay's start, three commands and an open definition, and the exit, which closes the page under
+-- the overlay.
+abbrev exit_seen : List Seen
+exit_seen =
+    overlaid_seen
+    ++ (ran 0 (sequence "*" "c" "1" "A")
+    ∷ ran 0 (sequence "*" "c" "1" "B")
+    ∷ ran 0 (sequence "*" "c" "0" "P")
+    ∷ ran 0 (macro_id "3")
+    ∷ ran 0 (macro_control "0")
+    ∷ close_seen Uel (overlay_dots (dotted 75 187 1 letter)))
+
+computed_exit : seen_of (trace open_definition power_on ++ exit_items) ≡ exit_seen
+unfolding trace_each trace_at trace_in_overlay
+computed_exit = refl
+
+the_items_of_the_exit : seen_of (trace (open_definition ++ exit) power_on) ≡ exit_seen
+the_items_of_the_exit = ap seen_of items_with_the_exit ∙ computed_exit
+
 computed_last_page :
     joined (trace open_definition power_on ++ exit_items) ≡ sheet_of (dotted 75 187 4 (dotted 75 187 1 letter)) ∷ []
-unfolding trace_each trace_at trace_over
+unfolding trace_each trace_at trace_in_overlay
 computed_last_page = refl
 
 the_exit_drops_a_definition :

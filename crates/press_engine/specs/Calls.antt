@@ -4,13 +4,10 @@ use Rattle.press_cmd.specs.Token.{Token}
 use Rattle.press_cursor.specs.Cursor.{at, clamped, position}
 use Rattle.press_macros.specs.Macros.{body_of}
 use Rattle.press_page.specs.Environment.{reset_environment, logical_page_of}
+use Rattle.press_page.specs.Media.{size_number, orientation_number}
 use Rattle.press_page.specs.declared.environment.PageEnv.{PageEnv}
 use Rattle.press_page.specs.declared.margins.Margins.{Margins}
 use Rattle.press_page.specs.declared.media.Media.{Media}
-use Rattle.press_page.specs.declared.media.PageSize.{PageSize}
-use Rattle.press_page.specs.declared.media.PageSize.TheVariants as sizes
-use Rattle.press_page.specs.declared.media.Orientation.{Orientation}
-use Rattle.press_page.specs.declared.media.Orientation.TheVariants as orientations
 use Rattle.press_engine.specs.declared.calls.Kept.{Kept}
 use Rattle.press_engine.specs.declared.effect.BodyEnd.{BodyEnd}
 use Rattle.press_engine.specs.declared.effect.BodyEnd.TheVariants as ends
@@ -24,26 +21,11 @@ use Rattle.press_engine.specs.Place.{resolution}
 abbrev pub kept_of : State → Kept
 kept_of state = record { environment = state.environment; drawing = state.drawing; macro_id = state.macro_id }
 
--- sizes and orientations by their numbers in the page size and orientation commands
-abbrev pub number_of_size : PageSize → ℕ
-number_of_size sizes.Executive = 1
-number_of_size sizes.Letter = 2
-number_of_size sizes.Legal = 3
-number_of_size sizes.Ledger = 6
-number_of_size sizes.A4 = 26
-number_of_size sizes.A3 = 27
-
-abbrev pub number_of_orientation : Orientation → ℕ
-number_of_orientation orientations.Portrait = 0
-number_of_orientation orientations.Landscape = 1
-number_of_orientation orientations.ReversePortrait = 2
-number_of_orientation orientations.ReverseLandscape = 3
-
 -- whether media have the same size and orientation
 abbrev pub lies_as : Media → Media → Bool
 lies_as media other =
-    number_of_size media.size == number_of_size other.size
-    && number_of_orientation media.orientation == number_of_orientation other.orientation
+    size_number media.size == size_number other.size
+    && orientation_number media.orientation == orientation_number other.orientation
 
 -- Margins and text length are restored where page size and orientation are those that were kept.
 abbrev pub restored_margins : (kept now : PageEnv) → Margins

@@ -50,8 +50,8 @@ close_duplex (Some front) page state =
     finish_sheet (record { front = front; back = Some page }) (record state { pending = None })
 
 -- A page closes, and raster graphics ends; the next page is blank and has no mark.
-abbrev pub close : State → Outcome
-close state =
+abbrev pub close_page : State → Outcome
+close_page state =
     let next = record (ended_raster state) { page = None } in
     if state.environment.media.duplex then close_duplex state.pending (page_now state) next
     else finish_sheet (record { front = page_now state; back = None }) next
@@ -111,19 +111,19 @@ abbrev pub fed : (closed : Bool) → State → State
 fed closed state = if closed then to_first_line state else state
 
 -- What a command that closes the page does after the close, or in its place where the page has no mark.
-abbrev pub ended : (closed : Bool) → Closer → State → Outcome
-ended closed closers.Feed state = done (fed closed state)
-ended closed (closers.Side selection) state = turn_to selection (fed closed state)
-ended closed (closers.Change change) state = change_page change state
+abbrev pub after_close : (closed : Bool) → Closer → State → Outcome
+after_close closed closers.Feed state = done (fed closed state)
+after_close closed (closers.Side selection) state = turn_to selection (fed closed state)
+after_close closed (closers.Change change) state = change_page change state
 
 -- What a row leaves where no body runs: where it closes the page, the close and then what the closing command does after it.
-abbrev pub settle : Effect → Outcome
-settle (Changes state) = done state
-settle (Makes state) = done state
-settle (GivesReply reply state) = record { state = state; outputs = Reply reply ∷ [] }
-settle (Stays closer state) = ended false closer state
-settle (Closes closer state) = after_outputs (close state).outputs (ended true closer (close state).state)
-settle (Starts commands end state) = done state
+abbrev pub finish_effect : Effect → Outcome
+finish_effect (Changes state) = done state
+finish_effect (Makes state) = done state
+finish_effect (GivesReply reply state) = record { state = state; outputs = Reply reply ∷ [] }
+finish_effect (Stays closer state) = after_close false closer state
+finish_effect (Closes closer state) = after_outputs (close_page state).outputs (after_close true closer (close_page state).state)
+finish_effect (Starts commands end state) = done state
 
 -- A page with a mark closes.
 abbrev pub close_if_marked : Closer → State → Effect

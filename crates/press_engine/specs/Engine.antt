@@ -14,7 +14,7 @@ use Rattle.press_engine.specs.declared.machine.Machine.{Machine}
 use Rattle.press_engine.specs.declared.view.View.{View}
 use Rattle.press_engine.specs.declared.state.State.{State}
 use Rattle.press_engine.specs.Outcome.{Outcome, Effect, Changes, Makes, GivesReply, Stays, Closes, Starts, is_marked}
-use Rattle.press_engine.specs.Closing.{ended}
+use Rattle.press_engine.specs.Closing.{after_close}
 use Rattle.press_engine.specs.Table.{effect_on}
 use Rattle.press_engine.specs.Machine.{Run, run}
 use Rattle.press_engine.specs.declared.effect.Source.TheVariants.{Stream}
@@ -59,7 +59,7 @@ abbrev pub TakesMemory : Effect → Type 0
 TakesMemory (Changes state) = ⊥
 TakesMemory (Makes state) = Unit {0}
 TakesMemory (GivesReply reply state) = Unit {0}
-TakesMemory (Stays closer state) = Shows state (ended false closer state)
+TakesMemory (Stays closer state) = Shows state (after_close false closer state)
 TakesMemory (Closes closer state) = Unit {0}
 TakesMemory (Starts commands end state) = Unit {0}
 

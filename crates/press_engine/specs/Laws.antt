@@ -1,9 +1,13 @@
 -- What the trace of commands has to do with carrying them out whole.
-use Rattle.std.specs.Prelude.{◌≡◌, ◌≤◌, ℕ, List, ◌++◌}
+use Rattle.std.specs.Prelude.{◌≡◌, ◌≤◌, ℕ, List, [], ◌∷◌, ◌++◌, None, ⊤}
 use Rattle.std.specs.List.{All}
 use Rattle.press_cmd.specs.Token.{Token}
 use Rattle.press_engine.specs.declared.machine.Machine.{Machine}
-use Rattle.press_engine.specs.Machine.{Run, run_all}
+use Rattle.press_engine.specs.declared.effect.Source.TheVariants.{Stream}
+use Rattle.press_engine.specs.Calls.{overlay_body}
+use Rattle.press_engine.specs.Machine.{Run, run, run_all}
+use Rattle.press_engine.specs.Outcome.{Effect, Changes, Makes, GivesReply, Stays, Closes, Starts}
+use Rattle.press_engine.specs.Table.{effect_on}
 use Rattle.press_engine.specs.Trace.{last_machine, joined, trace}
 
 -- The items stand for a run: they end in its machine, and their outputs joined are its outputs.
@@ -20,6 +24,21 @@ abbrev pub TraceGoesOn : Type 0
 TraceGoesOn =
     (commands others : List Token) (machine : Machine)
     → trace (commands ++ others) machine ≡ trace commands machine ++ trace others (run_all commands machine).machine
+
+-- What a row gives is one step alone: no body starts, and no page closes where an overlay runs.
+abbrev pub IsOneStep : Effect → Type 0
+IsOneStep (Changes state) = ⊤
+IsOneStep (Makes state) = ⊤
+IsOneStep (GivesReply reply state) = ⊤
+IsOneStep (Stays closer state) = ⊤
+IsOneStep (Closes closer state) = overlay_body state ≡ None
+IsOneStep (Starts commands end state) = ⊥
+
+-- The trace of such a command of the stream has one item, and that is the run of the command.
+abbrev pub OneStepIsTheRun : Type 0
+OneStepIsTheRun =
+    (command : Token) (machine : Machine) → IsOneStep (effect_on Stream command machine.state)
+    → trace (command ∷ []) machine ≡ run command machine ∷ []
 
 -- No more than four bodies run at a time: two macros, and an overlay with one more. After a whole command none runs.
 abbrev pub most_bodies : ℕ

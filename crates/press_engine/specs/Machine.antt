@@ -12,7 +12,7 @@ use Rattle.press_engine.specs.declared.machine.Last.TheVariants as lasts
 use Rattle.press_engine.specs.declared.machine.Machine.{Machine}
 use Rattle.press_engine.specs.declared.state.State.{State}
 use Rattle.press_engine.specs.Calls as calls
-use Rattle.press_engine.specs.Closing.{settle}
+use Rattle.press_engine.specs.Closing.{finish_effect}
 use Rattle.press_engine.specs.Outcome.{Effect, Changes, Makes, GivesReply, Stays, Closes, Starts, power_on_state}
 use Rattle.press_engine.specs.Counts.{counted}
 use Rattle.press_engine.specs.Table.{effect_on, is_recorded}
@@ -51,17 +51,17 @@ abbrev pub deeper : ℕ → ℕ
 deeper depth = min (depth + 1) 255
 
 -- A body starts, and is used up: as many bodies run then as before.
-abbrev pub entered : BodyEnd → State → Machine → Machine
-entered end state machine =
+abbrev pub enter_body : BodyEnd → State → Machine → Machine
+enter_body end state machine =
     record machine { state = calls.at_start end state; depth = deeper machine.depth }
 
-abbrev pub left : BodyEnd → (depth : ℕ) → Machine → Machine
-left end depth machine = record machine { state = calls.at_end end machine.state; depth = depth }
+abbrev pub leave_body : BodyEnd → (depth : ℕ) → Machine → Machine
+leave_body end depth machine = record machine { state = calls.at_end end machine.state; depth = depth }
 
 -- Commands of an overlay, one after another: nothing goes out there.
-unfoldable pub change_each : (Token → Machine → Machine) → List Token → Machine → Machine
-change_each one [] machine = machine
-change_each one (command ∷ commands) machine = change_each one commands (one command machine)
+unfoldable pub run_each_in_overlay : (Token → Machine → Machine) → List Token → Machine → Machine
+run_each_in_overlay one [] machine = machine
+run_each_in_overlay one (command ∷ commands) machine = run_each_in_overlay one commands (one command machine)
 
 -- the state that an effect leaves where no page closes and no body starts
 abbrev pub state_of : Effect → State
@@ -73,53 +73,53 @@ state_of (Closes closer state) = state
 state_of (Starts commands end state) = state
 
 -- What an effect leaves in an overlay, where no page closes; bodies that start run by what is given.
-abbrev pub carried_over : (Token → Machine → Machine) → Machine → Effect → Machine
-carried_over one machine (Starts commands end state) =
-    left end machine.depth (change_each one commands (entered end state machine))
-carried_over one machine effect = with_state (state_of effect) machine
+abbrev pub effect_in_overlay : (Token → Machine → Machine) → Machine → Effect → Machine
+effect_in_overlay one machine (Starts commands end state) =
+    leave_body end machine.depth (run_each_in_overlay one commands (enter_body end state machine))
+effect_in_overlay one machine effect = with_state (state_of effect) machine
 
 -- A command of an overlay, where so many macros may start.
-unfoldable pub run_over : (levels : ℕ) → Token → Machine → Machine
-run_over zero command machine =
+unfoldable pub run_in_overlay : (levels : ℕ) → Token → Machine → Machine
+run_in_overlay zero command machine =
     with_state (state_of (effect_on sources.Overlay command machine.state)) (taken command machine)
-run_over (suc levels) command machine =
-    carried_over (run_over levels) (taken command machine) (effect_on sources.Overlay command machine.state)
+run_in_overlay (suc levels) command machine =
+    effect_in_overlay (run_in_overlay levels) (taken command machine) (effect_on sources.Overlay command machine.state)
 
 -- in an overlay one macro may run
 abbrev pub overlay_levels : ℕ
 overlay_levels = 1
 
 -- The start and the end of an overlay's body.
-abbrev pub overlay_entered : Machine → Machine
-overlay_entered machine =
+abbrev pub enter_overlay : Machine → Machine
+enter_overlay machine =
     record machine { state = calls.overlaid machine.state; depth = deeper machine.depth }
 
-abbrev pub overlay_left : (before after : Machine) → Machine
-overlay_left before after =
+abbrev pub leave_overlay : (before after : Machine) → Machine
+leave_overlay before after =
     record after { state = calls.put_back before.state after.state; depth = before.depth }
 
 -- The overlay runs, where there is one.
-abbrev pub overlay_with : Option (List Token) → Machine → Machine
-overlay_with None machine = machine
-overlay_with (Some commands) machine =
-    overlay_left machine (change_each (run_over overlay_levels) commands (overlay_entered machine))
+abbrev pub run_overlay_of : Option (List Token) → Machine → Machine
+run_overlay_of None machine = machine
+run_overlay_of (Some commands) machine =
+    leave_overlay machine (run_each_in_overlay (run_in_overlay overlay_levels) commands (enter_overlay machine))
 
 abbrev pub run_overlay : Machine → Machine
-run_overlay machine = overlay_with (calls.overlay_body machine.state) machine
+run_overlay machine = run_overlay_of (calls.overlay_body machine.state) machine
 
 -- what an effect leaves where no overlay runs and no body starts
-abbrev pub settled_state : Machine → Effect → Run
-settled_state machine effect =
-    record { machine = with_state (settle effect).state machine; outputs = (settle effect).outputs }
+abbrev pub finish_without_overlay : Machine → Effect → Run
+finish_without_overlay machine effect =
+    record { machine = with_state (finish_effect effect).state machine; outputs = (finish_effect effect).outputs }
 
 -- A page closes: first the overlay runs.
-abbrev pub closed : Closer → Machine → Run
-closed closer machine = let after = run_overlay machine in settled_state after (Closes closer after.state)
+abbrev pub close_after_overlay : Closer → Machine → Run
+close_after_overlay closer machine = let after = run_overlay machine in finish_without_overlay after (Closes closer after.state)
 
 -- What an effect leaves where no body starts.
-abbrev pub settled : Machine → Effect → Run
-settled machine (Closes closer state) = closed closer (with_state state machine)
-settled machine effect = settled_state machine effect
+abbrev pub finish_effect_with_overlay : Machine → Effect → Run
+finish_effect_with_overlay machine (Closes closer state) = close_after_overlay closer (with_state state machine)
+finish_effect_with_overlay machine effect = finish_without_overlay machine effect
 
 -- Commands one after another: each from the machine that the one before left, and all outputs in order.
 unfoldable pub run_each : (Token → Machine → Run) → List Token → Machine → Run
@@ -128,14 +128,14 @@ run_each one (command ∷ commands) machine =
     then_run (one command machine).outputs (run_each one commands (one command machine).machine)
 
 -- what comes at the end of a body
-abbrev pub body_ended : BodyEnd → (depth : ℕ) → Run → Run
-body_ended end depth run = record { machine = left end depth run.machine; outputs = run.outputs }
+abbrev pub run_and_leave : BodyEnd → (depth : ℕ) → Run → Run
+run_and_leave end depth run = record { machine = leave_body end depth run.machine; outputs = run.outputs }
 
 -- What an effect leaves; bodies that start run by what is given.
-abbrev pub carried : (Token → Machine → Run) → Machine → Effect → Run
-carried one machine (Starts commands end state) =
-    body_ended end machine.depth (run_each one commands (entered end state machine))
-carried one machine effect = settled machine effect
+abbrev pub carry_out : (Token → Machine → Run) → Machine → Effect → Run
+carry_out one machine (Starts commands end state) =
+    run_and_leave end machine.depth (run_each one commands (enter_body end state machine))
+carry_out one machine effect = finish_effect_with_overlay machine effect
 
 -- two macros may run, one in the other; where all may still start, the stream gives the commands
 abbrev pub levels : ℕ
@@ -146,9 +146,9 @@ source_at left = if left == levels then sources.Stream else sources.Macro
 
 -- A command outside an overlay, where so many macros may start, carried out whole.
 unfoldable pub run_at : (levels : ℕ) → Token → Machine → Run
-run_at zero command machine = settled (taken command machine) (effect_on (source_at 0) command machine.state)
+run_at zero command machine = finish_effect_with_overlay (taken command machine) (effect_on (source_at 0) command machine.state)
 run_at (suc more) command machine =
-    carried (run_at more) (taken command machine) (effect_on (source_at (suc more)) command machine.state)
+    carry_out (run_at more) (taken command machine) (effect_on (source_at (suc more)) command machine.state)
 
 -- A command of the stream, carried out whole, with the bodies that it starts.
 abbrev pub run : Token → Machine → Run

@@ -10,7 +10,7 @@ use Rattle.press_engine.specs.declared.effect.Source.TheVariants as sources
 use Rattle.press_engine.specs.declared.machine.Machine.{Machine}
 use Rattle.press_engine.specs.Calls.{overlay_body}
 use Rattle.press_engine.specs.Outcome.{Effect, Closes, Starts}
-use Rattle.press_engine.specs.Machine.{Run, quiet, then_run, with_state, taken, entered, left, state_of, run_over, overlay_levels, overlay_entered, overlay_left, settled_state, levels, source_at}
+use Rattle.press_engine.specs.Machine.{Run, quiet, then_run, with_state, taken, enter_body, leave_body, state_of, run_in_overlay, overlay_levels, enter_overlay, leave_overlay, finish_without_overlay, levels, source_at}
 use Rattle.press_engine.specs.Table.{effect_on}
 
 -- the machine after the last of the items; the one before, where there is none
@@ -39,41 +39,41 @@ abbrev pub body_items : (Token → Machine → List Run) → (Machine → Run) �
 body_items one end commands inside = with_end end (quiet inside) (trace_each one commands inside)
 
 -- The items of an effect in an overlay.
-abbrev pub trace_carried_over : (Token → Machine → List Run) → Machine → Effect → List Run
-trace_carried_over one machine (Starts commands end state) =
-    body_items one (λ after. quiet (left end machine.depth after)) commands (entered end state machine)
-trace_carried_over one machine effect = quiet (with_state (state_of effect) machine) ∷ []
+abbrev pub trace_effect_in_overlay : (Token → Machine → List Run) → Machine → Effect → List Run
+trace_effect_in_overlay one machine (Starts commands end state) =
+    body_items one (λ after. quiet (leave_body end machine.depth after)) commands (enter_body end state machine)
+trace_effect_in_overlay one machine effect = quiet (with_state (state_of effect) machine) ∷ []
 
-unfoldable pub trace_over : (levels : ℕ) → Token → Machine → List Run
-trace_over zero command machine = quiet (run_over 0 command machine) ∷ []
-trace_over (suc levels) command machine =
-    trace_carried_over (trace_over levels) (taken command machine) (effect_on sources.Overlay command machine.state)
+unfoldable pub trace_in_overlay : (levels : ℕ) → Token → Machine → List Run
+trace_in_overlay zero command machine = quiet (run_in_overlay 0 command machine) ∷ []
+trace_in_overlay (suc levels) command machine =
+    trace_effect_in_overlay (trace_in_overlay levels) (taken command machine) (effect_on sources.Overlay command machine.state)
 
 -- The items of a page close: the overlay's body, where there is one, and in its end the close.
 abbrev pub close_items_with : Option (List Token) → Closer → Machine → List Run
-close_items_with None closer machine = settled_state machine (Closes closer machine.state) ∷ []
+close_items_with None closer machine = finish_without_overlay machine (Closes closer machine.state) ∷ []
 close_items_with (Some commands) closer machine =
-    body_items (trace_over overlay_levels)
-    (λ after. settled_state (overlay_left machine after) (Closes closer (overlay_left machine after).state))
-    commands (overlay_entered machine)
+    body_items (trace_in_overlay overlay_levels)
+    (λ after. finish_without_overlay (leave_overlay machine after) (Closes closer (leave_overlay machine after).state))
+    commands (enter_overlay machine)
 
 abbrev pub close_items : Closer → Machine → List Run
 close_items closer machine = close_items_with (overlay_body machine.state) closer machine
 
 -- The items of an effect outside an overlay where no macro starts, and of any.
-abbrev pub trace_settled : Machine → Effect → List Run
-trace_settled machine (Closes closer state) = close_items closer (with_state state machine)
-trace_settled machine effect = settled_state machine effect ∷ []
+abbrev pub trace_finished : Machine → Effect → List Run
+trace_finished machine (Closes closer state) = close_items closer (with_state state machine)
+trace_finished machine effect = finish_without_overlay machine effect ∷ []
 
-abbrev pub trace_carried : (Token → Machine → List Run) → Machine → Effect → List Run
-trace_carried one machine (Starts commands end state) =
-    body_items one (λ after. quiet (left end machine.depth after)) commands (entered end state machine)
-trace_carried one machine effect = trace_settled machine effect
+abbrev pub trace_carry_out : (Token → Machine → List Run) → Machine → Effect → List Run
+trace_carry_out one machine (Starts commands end state) =
+    body_items one (λ after. quiet (leave_body end machine.depth after)) commands (enter_body end state machine)
+trace_carry_out one machine effect = trace_finished machine effect
 
 unfoldable pub trace_at : (levels : ℕ) → Token → Machine → List Run
-trace_at zero command machine = trace_settled (taken command machine) (effect_on (source_at 0) command machine.state)
+trace_at zero command machine = trace_finished (taken command machine) (effect_on (source_at 0) command machine.state)
 trace_at (suc more) command machine =
-    trace_carried (trace_at more) (taken command machine) (effect_on (source_at (suc more)) command machine.state)
+    trace_carry_out (trace_at more) (taken command machine) (effect_on (source_at (suc more)) command machine.state)
 
 -- The trace of the commands of a stream.
 abbrev pub trace : List Token → Machine → List Run

@@ -1,3 +1,6 @@
+//! The page that marks are made on, with the front that waits (PCL 5 Printer Language Technical Reference Manual, The
+//! PCL Print Model).
+
 use press_bits::{Bitmap, BlankError, Mode};
 use press_fill::{Rect, fill};
 use press_page::{Media, PageEnv};

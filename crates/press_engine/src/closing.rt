@@ -18,7 +18,7 @@ impl State {
     ghost use Rattle.press_engine.specs.Motion.{to_home};
     ghost use Rattle.press_engine.specs.Outcome.{after_outputs, is_marked, with_environment};
     ghost use Rattle.press_engine.specs.Outputs.{outputs_of, finished_of};
-    ghost use Rattle.press_engine.specs.Closing.{page_now, status_count, with_sheets, with_language, reset_by, close, front_alone, overlay_off, blank_front, turn_to, change_page, ended, settle, close_if_marked, reset, select_page_size, select_orientation, select_sides, eject_page, select_side};
+    ghost use Rattle.press_engine.specs.Closing.{page_now, status_count, with_sheets, with_language, reset_by, close_page, front_alone, overlay_off, blank_front, turn_to, change_page, after_close, finish_effect, close_if_marked, reset, select_page_size, select_orientation, select_sides, eject_page, select_side};
 
     /// Whether a mark was made on the page.
     pub fn is_marked(&self) -> bool
@@ -77,9 +77,9 @@ impl State {
     }
 
     /// Closes the page: it is a side of a sheet, which is finished unless it is a front in duplex.
-    fn close(&mut self, alloc: Global) -> Result<Option<FinishedSheet>, AllocError>
+    fn close_page(&mut self, alloc: Global) -> Result<Option<FinishedSheet>, AllocError>
         ensures { IfOk result (λ finished.
-            record { state = self.new; outputs = finished_of finished } ≡ close self.old) }
+            record { state = self.new; outputs = finished_of finished } ≡ close_page self.old) }
     {
         let page = self.take_page(alloc)?;
         self.graphics.end();
@@ -219,9 +219,9 @@ impl State {
     ) -> Result<Option<FinishedSheet>, AllocError>
         ensures ended { IfOk result (λ alone.
             record { state = self.new; outputs = finished_of alone }
-            ≡ ended closed closer self.old) }
+            ≡ after_close closed closer self.old) }
         ensures memory { IsErr result
-            → (ended closed closer self.old).state.pending ≢ self.old.pending }
+            → (after_close closed closer self.old).state.pending ≢ self.old.pending }
     {
         if closed && !matches!(closer, Closer::Change(_)) {
             self.move_to_first_line();
@@ -234,10 +234,10 @@ impl State {
     }
 
     /// What a row leaves: where it closes the page, the close and then what the closing command does after it.
-    pub fn settle(&mut self, alloc: Global, effect: Effect) -> Result<Sent, AllocError>
-        ensures settled { IfOk result (λ sent.
+    pub fn finish_effect(&mut self, alloc: Global, effect: Effect) -> Result<Sent, AllocError>
+        ensures finish_effect_with_overlay { IfOk result (λ sent.
             record { state = self.new; outputs = outputs_of sent }
-            ≡ settle (effect_of self.old effect)) }
+            ≡ finish_effect (effect_of self.old effect)) }
         ensures memory { IsErr result → TakesMemory (effect_of self.old effect) }
     {
         match effect {
@@ -251,7 +251,7 @@ impl State {
                 })
             }
             Effect::Closes(closer) => {
-                let closed = self.close(alloc)?;
+                let closed = self.close_page(alloc)?;
                 let alone = self.end(alloc, closer, true)?;
                 Ok(Sent::Sheets { closed, alone })
             }

@@ -1,3 +1,6 @@
+//! What marks are made with: the rectangle, the pattern, the modes, raster graphics (PCL 5 Printer Language Technical
+//! Reference Manual, the commands of these names).
+
 ghost use Rattle.std.specs.Prelude.{◌≡◌};
 ghost use Rattle.press_units.specs.Value.{whole_part};
 ghost use Rattle.press_engine.specs.Drawing.{initial_drawing, set_rectangle_width, set_rectangle_height, set_pattern_id, is_opaque, set_source_transparency, set_pattern_transparency};

@@ -1,3 +1,5 @@
+//! What a row of the command table gives, as a value.
+
 ghost use Rattle.std.specs.Prelude.{◌≡◌};
 ghost use Rattle.press_engine.specs.Closing.{selection_of};
 

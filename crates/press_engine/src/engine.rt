@@ -1,3 +1,5 @@
+//! The command table at work, over sinks of sheets and replies.
+
 use crate::fault::EngineError;
 use crate::machine::{LEVELS, Machine};
 use crate::view::View;
@@ -20,7 +22,7 @@ pub struct Engine {
 }
 
 impl Engine {
-    ghost use Rattle.std.specs.Prelude.{◌≡◌, ◌↔◌, IfOk, IfSome, IsErrOf, Some, None};
+    ghost use Rattle.std.specs.Prelude.{◌≡◌, ◌⊎◌, ◌↔◌, IfOk, IfErr, IfSome, IsErrOf, Some, None};
     ghost use Rattle.press_sink.specs.Told.{both, CanCount};
     ghost use Rattle.press_cmd.specs.View.{token};
     ghost use Rattle.press_engine.specs.Machine.{power_on};
@@ -83,6 +85,8 @@ impl Engine {
     pub fn copy(&self) -> Result<Self, EngineError>
         ensures copy { IfOk result (λ engine. live engine ≡ live self.now) }
         ensures failed { IsErrOf result EngineError.Failed ↔ (live self.now ≡ None) }
+        ensures refused { IfErr result
+            (λ error. (error ≡ EngineError.Failed) ⊎ (error ≡ EngineError.NoMemory)) }
     {
         if self.failed {
             return Err(EngineError::Failed);

@@ -1,3 +1,5 @@
+//! Why the engine did not carry a command out.
+
 use press_sink::{REPLY_FAULT, SINK_FAULT};
 use press_units::NO_MEMORY;
 use thiserror::Error;

@@ -1,6 +1,6 @@
 //! What the trace of commands, a table step an item, has to do with carrying them out whole.
 
-ghost use Rattle.press_engine.specs.Laws.{TraceTellsTheRun, TraceGoesOn, AtMostFourBodies};
+ghost use Rattle.press_engine.specs.Laws.{TraceTellsTheRun, TraceGoesOn, OneStepIsTheRun, AtMostFourBodies};
 
 /// The last item of the trace has the machine that the commands leave, and the outputs of all items joined are theirs.
 pub fn trace_tells_the_run()
@@ -10,6 +10,11 @@ pub fn trace_tells_the_run()
 /// The trace of commands and then others is that of the first, and then that of the others.
 pub fn trace_goes_on()
     ensures { TraceGoesOn }
+{}
+
+/// A command that starts no body, and closes no page under an overlay, has one item in the trace, and it is the command's run.
+pub fn one_step_is_the_run()
+    ensures { OneStepIsTheRun }
 {}
 
 /// No more than four bodies run at a time, and none after a whole command.

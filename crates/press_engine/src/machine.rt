@@ -1,3 +1,5 @@
+//! The machine round the state: whole commands, with the bodies that they start.
+
 use crate::effect::{BodyEnd, Effect, Sent, Source};
 use crate::fault::EngineError;
 use crate::sender::send;
@@ -57,7 +59,7 @@ impl Machine {
     ghost use Rattle.press_cmd.specs.View.{token};
     ghost use Rattle.press_engine.specs.Effects.{effect_of};
     ghost use Rattle.press_engine.specs.Engine.{Performs, TakesMemory};
-    ghost use Rattle.press_engine.specs.Machine.{power_on, with_state, taken, deeper, entered, left, change_each, run_over, overlay_entered, overlay_left, run_overlay, settled, run_each, body_ended, source_at, run_at};
+    ghost use Rattle.press_engine.specs.Machine.{power_on, with_state, taken, deeper, enter_body, leave_body, run_each_in_overlay, run_in_overlay, enter_overlay, leave_overlay, run_overlay, finish_effect_with_overlay, run_each, run_and_leave, source_at, run_at};
     ghost use Rattle.press_engine.specs.Outputs.{outputs_of};
     ghost use Rattle.press_engine.specs.Table.{effect_on};
 
@@ -112,16 +114,16 @@ impl Machine {
     }
 
     /// The body of a macro starts.
-    fn enter(&mut self, end: &BodyEnd)
-        ensures { self.new ≡ entered end.now self.old.state self.old }
+    fn enter_body(&mut self, end: &BodyEnd)
+        ensures { self.new ≡ enter_body end.now self.old.state self.old }
     {
         self.state.start_body(end);
         self.depth = self.depth.saturating_add(1);
     }
 
     /// The body of a macro is used up; so many bodies run then.
-    fn leave(&mut self, end: BodyEnd, depth: u8)
-        ensures { self.new ≡ left end depth self.old }
+    fn leave_body(&mut self, end: BodyEnd, depth: u8)
+        ensures { self.new ≡ leave_body end depth self.old }
     {
         self.state.end_body(end);
         self.depth = depth;
@@ -129,13 +131,13 @@ impl Machine {
 
     /// Carries a command of an overlay out, where so many macros may start.
     #[cycle(overlay)]
-    fn run_over(
+    fn run_in_overlay(
         &mut self,
         alloc: Global,
         levels: u8,
         command: Command<'_>,
     ) -> Result<(), AllocError>
-        ensures { IfOk result (λ _. self.new ≡ run_over levels (token command.entry) self.old) }
+        ensures { IfOk result (λ _. self.new ≡ run_in_overlay levels (token command.entry) self.old) }
     {
         let effect = self.take(alloc, Source::Overlay, &command)?;
         let Effect::Starts(body, end) = effect else {
@@ -145,19 +147,24 @@ impl Machine {
             return Ok(());
         }
         let depth = self.depth;
-        self.enter(&end);
-        self.run_each_over(alloc, levels - 1, body)?;
-        self.leave(end, depth);
+        self.enter_body(&end);
+        self.run_each_in_overlay(alloc, levels - 1, body)?;
+        self.leave_body(end, depth);
         Ok(())
     }
 
     /// Carries the commands of a body in an overlay out, where so many macros may start.
     #[cycle(overlay)]
-    fn run_each_over(&mut self, alloc: Global, levels: u8, mut body: Body) -> Result<(), AllocError>
-        ensures { IfOk result (λ _. self.new ≡ change_each (run_over levels) body self.old) }
+    fn run_each_in_overlay(
+        &mut self,
+        alloc: Global,
+        levels: u8,
+        mut body: Body,
+    ) -> Result<(), AllocError>
+        ensures { IfOk result (λ _. self.new ≡ run_each_in_overlay (run_in_overlay levels) body self.old) }
     {
         while let Some(command) = body.next() {
-            self.run_over(alloc, levels, command)?;
+            self.run_in_overlay(alloc, levels, command)?;
         }
         Ok(())
     }
@@ -174,30 +181,30 @@ impl Machine {
         let position = self.state.cursor.position();
         self.state.start_overlay();
         self.depth = depth.saturating_add(1);
-        self.run_each_over(alloc, OVERLAY_LEVELS, body)?;
+        self.run_each_in_overlay(alloc, OVERLAY_LEVELS, body)?;
         self.state.end_overlay(kept, position);
         self.depth = depth;
         Ok(())
     }
 
     /// What an effect leaves where no body starts: before a page closes, the overlay runs.
-    fn settle(&mut self, alloc: Global, effect: Effect) -> Result<Sent, AllocError>
-        ensures settled { IfOk result (λ sent.
+    fn finish_effect(&mut self, alloc: Global, effect: Effect) -> Result<Sent, AllocError>
+        ensures finish_effect_with_overlay { IfOk result (λ sent.
             record { machine = self.new; outputs = outputs_of sent }
-            ≡ settled self.old (effect_of self.old.state effect)) }
+            ≡ finish_effect_with_overlay self.old (effect_of self.old.state effect)) }
         ensures memory { IsErr result → TakesMemory (effect_of self.old.state effect) }
     {
         match effect {
             Effect::Closes(closer) => {
                 self.run_overlay(alloc)?;
-                self.state.settle(alloc, Effect::Closes(closer))
+                self.state.finish_effect(alloc, Effect::Closes(closer))
             }
-            other => self.state.settle(alloc, other),
+            other => self.state.finish_effect(alloc, other),
         }
     }
 
     /// Settles an effect, and hands out what goes out.
-    fn send_settled<S: SheetSink, R: ReplySink>(
+    fn send_effect<S: SheetSink, R: ReplySink>(
         &mut self,
         alloc: Global,
         effect: Effect,
@@ -207,13 +214,13 @@ impl Machine {
     ) -> Result<(), EngineError>
         requires { CanCount (both (S.told sheets.old) (R.told replies.old)) }
         ensures performs { Performs
-            (settled self.old (effect_of self.old.state effect)) tag result self.new
+            (finish_effect_with_overlay self.old (effect_of self.old.state effect)) tag result self.new
             (both (S.told sheets.old) (R.told replies.old))
             (both (S.told sheets.new) (R.told replies.new)) }
         ensures memory { IsErrOf result EngineError.NoMemory
             → TakesMemory (effect_of self.old.state effect) }
     {
-        let Ok(sent) = self.settle(alloc, effect) else {
+        let Ok(sent) = self.finish_effect(alloc, effect) else {
             return Err(EngineError::NoMemory);
         };
         send(&sent, alloc, tag, sheets, replies)
@@ -248,7 +255,7 @@ impl Machine {
                 }
                 self.run_body(alloc, levels - 1, body, end, tag, sheets, replies)
             }
-            other => self.send_settled(alloc, other, tag, sheets, replies),
+            other => self.send_effect(alloc, other, tag, sheets, replies),
         }
     }
 
@@ -265,18 +272,18 @@ impl Machine {
         replies: &mut R,
     ) -> Result<(), EngineError>
         requires { CanCount (both (S.told sheets.old) (R.told replies.old)) }
-        ensures { Performs (body_ended end self.old.depth
-            (run_each (run_at levels) body (entered end self.old.state self.old)))
+        ensures { Performs (run_and_leave end self.old.depth
+            (run_each (run_at levels) body (enter_body end self.old.state self.old)))
             tag result self.new
             (both (S.told sheets.old) (R.told replies.old))
             (both (S.told sheets.new) (R.told replies.new)) }
     {
         let depth = self.depth;
-        self.enter(&end);
+        self.enter_body(&end);
         while let Some(command) = body.next() {
             self.run(alloc, levels, command, tag, sheets, replies)?;
         }
-        self.leave(end, depth);
+        self.leave_body(end, depth);
         Ok(())
     }
 }

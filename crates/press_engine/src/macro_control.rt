@@ -1,3 +1,5 @@
+//! What macro control asks for (PCL 5 Printer Language Technical Reference Manual, Macro Control command).
+
 ghost use Rattle.std.specs.Prelude.{◌≡◌};
 ghost use Rattle.press_engine.specs.Macros.{control_of};
 

@@ -1,3 +1,5 @@
+//! What pattern control asks for (PCL 5 Printer Language Technical Reference Manual, Pattern Control command).
+
 ghost use Rattle.std.specs.Prelude.{◌≡◌};
 ghost use Rattle.press_engine.specs.Patterns.{pattern_control_of, pattern_controlled};
 

@@ -1,3 +1,5 @@
+//! The rectangle that a fill has (PCL 5 Printer Language Technical Reference Manual, Rectangular Area Fill Graphics).
+
 ghost use Rattle.std.specs.Prelude.{◌≡◌};
 ghost use Rattle.press_engine.specs.Rectangle.{no_rectangle, size_of, dots_up};
 

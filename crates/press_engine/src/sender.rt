@@ -1,3 +1,5 @@
+//! The one place that hands sheets and replies to the sinks.
+
 ghost use Rattle.std.specs.Prelude.{◌≡◌, ◌≢◌, [], ◌∷◌, Some, IsErrOf};
 ghost use Rattle.press_pjl.specs.Replies.{page_reply};
 ghost use Rattle.press_sink.specs.Told.{both, CanCount};

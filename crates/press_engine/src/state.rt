@@ -1,3 +1,5 @@
+//! The state that commands change.
+
 ghost use Rattle.std.specs.Prelude.{◌≡◌, IfOk};
 ghost use Rattle.press_engine.specs.Outcome.{first_home};
 

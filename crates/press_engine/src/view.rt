@@ -1,3 +1,5 @@
+//! What can be seen of the engine.
+
 use crate::drawing::Drawing;
 use crate::machine::Last;
 use press_cursor::CursorPosition;
