@@ -5,7 +5,7 @@ use Rattle.press_cmd.specs.Token.{Token, Uel}
 use Rattle.press_cmd.specs.Kinds.{kind_of}
 use Rattle.press_cmd.specs.declared.variant.Kind.{Kind}
 use Rattle.press_scan.specs.Gives.{Passes, IsDone}
-use Rattle.press_scan.specs.ScannerState.{ScannerState}
+use Rattle.press_scan.specs.ScannerState.{ScannerState, buffer_size}
 use Rattle.press_sink.specs.Told.{Told}
 use Rattle.press_sink.specs.Sending.{AtSheet, AtReply, ForMemory}
 use Rattle.press_engine.specs.declared.fault.EngineError.{EngineError}
@@ -14,8 +14,9 @@ use Rattle.press_engine.specs.declared.machine.Machine.{Machine}
 use Rattle.press_engine.specs.Engine.{Runs, NeedsMemory}
 use Rattle.press_stream.specs.declared.fault.JobError.{JobError}
 use Rattle.press_stream.specs.declared.fault.JobError.TheVariants as errors
-use Rattle.press_stream.specs.Answers.{job_error, CarriesOne, CarriesNext, RanOne, Faults, WantsMemory}
-use Rattle.press_stream.proofs.Going.{Carried-one, Stopped-one, Goes-command, Goes-exit, Stops-command, Stops-exit}
+use Rattle.press_stream.specs.Answers.{job_error, CarriesOne, CarriesNext, RanOne, StepFaults, IsDue, WantsMemory}
+use Rattle.press_stream.specs.State.{JobState}
+use Rattle.press_stream.proofs.Going.{Carried-one, Stopped-one, Goes-command, Goes-exit}
 
 ok_is_no_err : (done : Unit {0}) {error : EngineError} → Ok done ≡ Err error → ⊥
 ok_is_no_err done e = cc
@@ -45,25 +46,15 @@ CarriesOne-err command (Some machine) tag result error new before after is runs 
       by engine_errors.NoMemory same ran = (ran.left, Stopped-one command machine (Some machine) tag ForMemory before after refl ran.sends, memory same)
       by engine_errors.Failed same ran = absurd ran.sends
 
--- a command that was handed on stopped
-one_stops : (held next : ScannerState) (command : Token) (old new : Option Machine) (tag : ℕ) (error : JobError) (before after : Told) → IsSome old → Passes held command next → CarriesOne command old tag (Err error) new before after → Faults (record { held = held; machine = old; exited = false }) [] tag error (record { held = next; machine = new; exited = false }) before after
-one_stops held next command old new tag errors.SinkFault before after running passes one = (one.0, Stops-command held next old command tag AtSheet before after (λ e. cc) passes one.1)
-one_stops held next command old new tag errors.ReplyFault before after running passes one = (one.0, Stops-command held next old command tag AtReply before after (λ e. cc) passes one.1)
-one_stops held next command old new tag errors.NoMemory before after running passes one = (one.0, Stops-command held next old command tag ForMemory before after (λ e. cc) passes one.1)
-one_stops held next command old new tag errors.Failed before after running passes one =
+-- the command that comes next was handed on, and stopped
+one_stops : (job new : JobState) (command : Token) (tag : ℕ) (error : JobError) (before after : Told) → IsSome job.machine → IsDue job command → CarriesOne command job.machine tag (Err error) new.machine before after → StepFaults job tag error new before after
+one_stops job new command tag errors.SinkFault before after running due one = (one.0, (command, due, one.1))
+one_stops job new command tag errors.ReplyFault before after running due one = (one.0, (command, due, one.1))
+one_stops job new command tag errors.NoMemory before after running due one = (one.0, (command, due, one.1))
+one_stops job new command tag errors.Failed before after running due one =
     absurd (false≢true (subst (λ machine. IsSome machine) one.0 running))
-one_stops held next command old new tag errors.ReadFault before after running passes one = absurd one
-one_stops held next command old new tag errors.AfterEnd before after running passes one = absurd one
-
--- the exit that is added stopped
-exit_stops : (held : ScannerState) (old new : Option Machine) (tag : ℕ) (error : JobError) (before after : Told) → IsSome old → held.ended ≡ true → IsDone held → CarriesOne Uel old tag (Err error) new before after → Faults (record { held = held; machine = old; exited = false }) [] tag error (record { held = held; machine = new; exited = false }) before after
-exit_stops held old new tag errors.SinkFault before after running ended done one = (one.0, Stops-exit held old tag AtSheet before after ended done one.1)
-exit_stops held old new tag errors.ReplyFault before after running ended done one = (one.0, Stops-exit held old tag AtReply before after ended done one.1)
-exit_stops held old new tag errors.NoMemory before after running ended done one = (one.0, Stops-exit held old tag ForMemory before after ended done one.1)
-exit_stops held old new tag errors.Failed before after running ended done one =
-    absurd (false≢true (subst (λ machine. IsSome machine) one.0 running))
-exit_stops held old new tag errors.ReadFault before after running ended done one = absurd one
-exit_stops held old new tag errors.AfterEnd before after running ended done one = absurd one
+one_stops job new command tag errors.ReadFault before after running due one = absurd one
+one_stops job new command tag errors.AfterEnd before after running due one = absurd one
 
 -- a step that took a command
 pub RanOne-next : (held next : ScannerState) (old new : Option Machine) (tag : ℕ) (kind : Kind) (before after : Told) → CarriesNext held old tag (Ok (Some kind)) next new before after → RanOne (record { held = held; machine = old; exited = false }) tag kind (record { held = next; machine = new; exited = false }) before after
@@ -75,8 +66,9 @@ RanOne-next held next old new tag kind before after carries = record {
   still = carries.1.ended;
 }
 
-pub Faults-next : (held next : ScannerState) (old new : Option Machine) (tag : ℕ) (error : JobError) (before after : Told) → IsSome old → CarriesNext held old tag (Err error) next new before after → Faults (record { held = held; machine = old; exited = false }) [] tag error (record { held = next; machine = new; exited = false }) before after
-Faults-next held next old new tag error before after running carries = one_stops held next carries.0 old new tag error before after running carries.1 carries.2
+pub Faults-next : (held next : ScannerState) (old new : Option Machine) (tag : ℕ) (error : JobError) (before after : Told) → IsSome old → CarriesNext held old tag (Err error) next new before after → StepFaults (record { held = held; machine = old; exited = false }) tag error (record { held = next; machine = new; exited = false }) before after
+Faults-next held next old new tag error before after running carries =
+    one_stops (record { held = held; machine = old; exited = false }) (record { held = next; machine = new; exited = false }) carries.0 tag error before after running (refl, inl (next, carries.1)) carries.2
 
 -- a step that took the exit
 pub RanOne-exit : (held next : ScannerState) (old between new : Option Machine) (tag : ℕ) (kind : Kind) (before middle after : Told) → next.ended ≡ true → CarriesNext held old tag (Ok None) next between before middle → CarriesOne Uel between tag (Ok kind) new middle after → RanOne (record { held = held; machine = old; exited = false }) tag kind (record { held = next; machine = new; exited = true }) before after
@@ -92,14 +84,12 @@ RanOne-exit held next old between new tag kind before middle after ended nothing
       still = refl;
     })
 
-pub Faults-exit : (held next : ScannerState) (old between new : Option Machine) (tag : ℕ) (error : JobError) (before middle after : Told) → IsSome old → next.ended ≡ true → CarriesNext held old tag (Ok None) next between before middle → CarriesOne Uel between tag (Err error) new middle after → Faults (record { held = held; machine = old; exited = false }) [] tag error (record { held = next; machine = new; exited = false }) before after
+pub Faults-exit : (held next : ScannerState) (old between new : Option Machine) (tag : ℕ) (error : JobError) (before middle after : Told) → IsSome old → next.ended ≡ true → CarriesNext held old tag (Ok None) next between before middle → CarriesOne Uel between tag (Err error) new middle after → StepFaults (record { held = held; machine = old; exited = false }) tag error (record { held = next; machine = new; exited = false }) before after
 Faults-exit held next old between new tag error before middle after running ended nothing one =
     let Q : Option Machine → Type 0 = λ machine. CarriesOne Uel machine tag (Err error) new middle after in
     let R : Told → Type 0 = λ told. CarriesOne Uel old tag (Err error) new told after in
-    let first = subst R nothing.3 (subst Q nothing.2 one) in
     let over : held.ended ≡ true = ap (λ (now : ScannerState). now.ended) (sym nothing.1) ∙ ended in
-    let P : ScannerState → Type 0 = λ now. Faults (record { held = held; machine = old; exited = false }) [] tag error (record { held = now; machine = new; exited = false }) before after in
-    subst P (sym nothing.1) (exit_stops held old new tag error before after running over nothing.0 first)
+    one_stops (record { held = held; machine = old; exited = false }) (record { held = next; machine = new; exited = false }) Uel tag error before after running (refl, inr (over, nothing.0, refl)) (subst R nothing.3 (subst Q nothing.2 one))
 
 -- an answer tells one fault
 pub same_fault : {X : Type 0} (result : Result X JobError) (one other : JobError) → result ≡ Err one → result ≡ Err other → one ≡ other
@@ -123,3 +113,12 @@ Wants-exit held next old between new tag error before middle after is ended noth
     let over : held.ended ≡ true = ap (λ (now : ScannerState). now.ended) (sym nothing.1) ∙ ended in
     let P : Option Machine → Type 0 = λ machine. NeedsMemory machine Uel in
     (Uel, (refl, inr (over, nothing.0, refl)), subst P nothing.2 (needs_memory Uel between new tag error middle after is one))
+
+-- what a step that took a command leaves
+pub Fits-next : (held next : ScannerState) (old new : Option Machine) (tag : ℕ) (kind : Kind) (before after : Told) → held.room ≡ buffer_size → CarriesNext held old tag (Ok (Some kind)) next new before after → IsSome new × (next.room ≡ buffer_size)
+Fits-next held next old new tag kind before after room carries =
+    (subst (λ (machine : Option Machine). IsSome machine) (sym carries.2.1.left) refl, carries.1.room ∙ room)
+
+pub Fits-nothing : (held next : ScannerState) (old new : Option Machine) (tag : ℕ) (before after : Told) → IsSome old → held.room ≡ buffer_size → CarriesNext held old tag (Ok None) next new before after → IsSome new × (next.room ≡ buffer_size)
+Fits-nothing held next old new tag before after running room carries =
+    (subst (λ (machine : Option Machine). IsSome machine) (sym carries.2) running, ap (λ (now : ScannerState). now.room) carries.1 ∙ room)

@@ -1,5 +1,5 @@
 -- Jobs that stopped at a fault, chained.
-use Rattle.std.proofs.Common.{◌≡◌, ◌∙◌, inl, inr, ℕ, List, [], ◌++◌, Option, Some, None, Result, Ok, Err, refl, sym, subst}
+use Rattle.std.proofs.Common.{◌≡◌, ◌∙◌, inl, inr, ℕ, List, [], ◌∷◌, ◌++◌, true, false, Option, IsSome, Some, None, Result, Ok, Err, refl, sym, ap, subst, append_assoc}
 use Rattle.std.proofs.lemmas.Bool.{true≢false}
 use Rattle.std.proofs.lemmas.List.{append-nil}
 use Rattle.press_cmd.specs.Token.{Token}
@@ -7,10 +7,10 @@ use Rattle.press_sink.specs.Told.{Told}
 use Rattle.press_sink.specs.Sending.{AtSheet, AtReply, ForMemory}
 use Rattle.press_stream.specs.declared.fault.JobError.{JobError}
 use Rattle.press_stream.specs.declared.fault.JobError.TheVariants as errors
-use Rattle.press_stream.specs.State.{JobState, with_piece}
+use Rattle.press_stream.specs.State.{JobState, IsHungry, with_piece, input_ended}
 use Rattle.press_stream.specs.Meaning.{Goes}
-use Rattle.press_stream.specs.Answers.{Pushes, Drains, Feeds, Faults}
-use Rattle.press_stream.proofs.Going.{Goes-then, Goes-push, Stops-then, Stops-memory}
+use Rattle.press_stream.specs.Answers.{Drains, Feeds, Finishes, Faults, FaultsBefore, StepFaults}
+use Rattle.press_stream.proofs.Going.{Goes-then, Goes-push, Goes-ends, Stops-then, Stops-due, Stops-memory}
 
 -- a job that has failed has no machine
 none_is_no_some : {X : Type 0} (option : Option X) (value : X) → option ≡ None → option ≡ Some value → ⊥
@@ -31,44 +31,123 @@ Faults-after old between new bytes given tag error before middle after goes faul
     let P : List ℕ → Type 0 = λ all. Faults old all tag error new before after in
     subst P (append-nil bytes) (Faults-then old between new bytes [] given tag error before middle after goes faults)
 
+-- bytes of which nothing is left behind others
+none_behind : (bytes more : List ℕ) → bytes ++ more ≡ [] → more ≡ []
+none_behind [] more e = e
+none_behind (byte ∷ bytes) more e = absurd (cc)
+
+-- the same whatever bytes come behind them
+pub FaultsBefore-after : (old between new : JobState) (bytes : List ℕ) (given : List Token) (tag : ℕ) (error : JobError) (before middle after : Told) → between.held.ended ≡ old.held.ended → Goes old bytes given tag between before middle → FaultsBefore between [] tag error new middle after → FaultsBefore old bytes tag error new before after
+FaultsBefore-after old between new bytes given tag error before middle after still goes faults =
+    λ more none_after. Faults-then old between new bytes more given tag error before middle after goes (faults more (λ ended. none_behind bytes more (none_after (sym still ∙ ended))))
+
+-- the fault of a step, whatever bytes come
+pub FaultsBefore-step : (old new : JobState) (tag : ℕ) (error : JobError) (before after : Told) → StepFaults old tag error new before after → FaultsBefore old [] tag error new before after
+FaultsBefore-step old new tag errors.SinkFault before after faults = λ more none_after. (faults.0, Stops-due old more tag AtSheet before after (λ e. cc) none_after faults.1)
+FaultsBefore-step old new tag errors.ReplyFault before after faults = λ more none_after. (faults.0, Stops-due old more tag AtReply before after (λ e. cc) none_after faults.1)
+FaultsBefore-step old new tag errors.NoMemory before after faults = λ more none_after. (faults.0, Stops-due old more tag ForMemory before after (λ e. cc) none_after faults.1)
+FaultsBefore-step old new tag errors.Failed before after faults = λ more none_after. faults
+FaultsBefore-step old new tag errors.ReadFault before after faults = absurd faults
+FaultsBefore-step old new tag errors.AfterEnd before after faults = absurd faults
+
+-- the fault where nothing comes behind
+pub Faults-now : (old new : JobState) (tag : ℕ) (error : JobError) (before after : Told) → FaultsBefore old [] tag error new before after → Faults old [] tag error new before after
+Faults-now old new tag error before after faults = faults [] (λ _. refl)
+
+-- no drain answers that a read failed
+pub no_read_fault : (old new : JobState) (tag : ℕ) (error : JobError) (before after : Told) → error ≡ errors.ReadFault → Drains old tag (Err error) new before after → ⊥
+no_read_fault old new tag error before after is drains =
+    let P : JobError → Type 0 = λ fault. Faults old [] tag fault new before after in
+    subst P is (Faults-now old new tag error before after drains)
+
 -- a job that went on and then drained
 pub Goes-after : (old between new : JobState) (bytes : List ℕ) (given others : List Token) (tag : ℕ) (before middle after : Told) → Goes old bytes given tag between before middle → Goes between [] others tag new middle after → Goes old bytes (given ++ others) tag new before after
 Goes-after old between new bytes given others tag before middle after first second =
     let P : List ℕ → Type 0 = λ all. Goes old all (given ++ others) tag new before after in
     subst P (append-nil bytes) (Goes-then old between new bytes [] given others tag before middle after first second)
 
--- a push that was refused
-pub Feeds-push : (old new : JobState) (piece : List ℕ) (tag : ℕ) (error : JobError) (told : Told) → Pushes old piece (Err error) new → Feeds old piece tag (Err error) new told told
-Feeds-push old new piece tag errors.NoMemory told pushes = (pushes.2, Stops-memory old piece tag told pushes.0 (λ ended. absurd (true≢false (sym ended ∙ pushes.1))))
-Feeds-push old new piece tag errors.Failed told pushes = (pushes.0, pushes.1, refl)
-Feeds-push old new piece tag errors.AfterEnd told pushes = (pushes.0, pushes.1, refl)
-Feeds-push old new piece tag errors.SinkFault told pushes = absurd pushes
-Feeds-push old new piece tag errors.ReplyFault told pushes = absurd pushes
-Feeds-push old new piece tag errors.ReadFault told pushes = absurd pushes
+-- a fault before the end of input
+feeds_fault : (old new : JobState) (piece : List ℕ) (tag : ℕ) (error : JobError) (before after : Told) → old.held.ended ≡ false → FaultsBefore old piece tag error new before after → Feeds old piece tag (Err error) new before after
+feeds_fault old new piece tag errors.SinkFault before after going faults = faults
+feeds_fault old new piece tag errors.ReplyFault before after going faults = faults
+feeds_fault old new piece tag errors.NoMemory before after going faults = faults
+feeds_fault old new piece tag errors.Failed before after going faults = faults
+feeds_fault old new piece tag errors.ReadFault before after going faults = faults
+feeds_fault old new piece tag errors.AfterEnd before after going faults = absurd (faults [] (λ ended. absurd (true≢false (sym ended ∙ going))))
 
-feeds_fault : (old new : JobState) (piece : List ℕ) (tag : ℕ) (error : JobError) (before after : Told) → Faults old piece tag error new before after → Feeds old piece tag (Err error) new before after
-feeds_fault old new piece tag errors.SinkFault before after faults = faults
-feeds_fault old new piece tag errors.ReplyFault before after faults = faults
-feeds_fault old new piece tag errors.NoMemory before after faults = faults
-feeds_fault old new piece tag errors.Failed before after faults = faults
-feeds_fault old new piece tag errors.ReadFault before after faults = absurd faults
-feeds_fault old new piece tag errors.AfterEnd before after faults = absurd faults
+-- no piece that is fed answers that a read failed
+pub no_read_fault-fed : (old new : JobState) (piece : List ℕ) (tag : ℕ) (error : JobError) (before after : Told) → old.held.ended ≡ false → error ≡ errors.ReadFault → Feeds old piece tag (Err error) new before after → ⊥
+no_read_fault-fed old new piece tag error before after going is feeds =
+    let P : JobError → Type 0 = λ fault. Feeds old piece tag (Err fault) new before after in
+    subst P is feeds [] (λ ended. absurd (true≢false (sym ended ∙ going)))
 
--- a piece was pushed, and the job drained
-pub Feeds-drain : (old between new : JobState) (piece : List ℕ) (tag : ℕ) (result : Result (Unit {0}) JobError) (before after : Told) → Pushes old piece (Ok tt) between → Drains between tag result new before after → Feeds old piece tag result new before after
-Feeds-drain old between new piece tag result before after pushes =
-    let P : JobState → Type 0 = λ job. Drains job tag result new before after → Feeds old piece tag result new before after in
-    subst P (sym pushes.2) (fed result) where
-      goes_first : Goes old piece [] tag (with_piece piece old) before before
-      goes_first = Goes-push old piece tag before pushes.0 pushes.1
+-- what was held had a fault
+pub Feeds-stopped : (old new : JobState) (piece : List ℕ) (tag : ℕ) (error : JobError) (before after : Told) → old.held.ended ≡ false → FaultsBefore old [] tag error new before after → Feeds old piece tag (Err error) new before after
+Feeds-stopped old new piece tag error before after going faults =
+    feeds_fault old new piece tag error before after going (λ more none_after. faults (piece ++ more) none_after)
 
-      fed : (result : Result (Unit {0}) JobError) → Drains (with_piece piece old) tag result new before after → Feeds old piece tag result new before after
-      fed (Ok done) drains = (
+-- a job went on and was hungry, and was then fed
+pub Feeds-then : (old between new : JobState) (piece : List ℕ) (given : List Token) (tag : ℕ) (result : Result (Unit {0}) JobError) (before middle after : Told) → old.held.ended ≡ false → Goes old [] given tag between before middle → IsHungry between → Feeds between piece tag result new middle after → Feeds old piece tag result new before after
+Feeds-then old between new piece given tag (Ok done) before middle after going goes hungry feeds =
+    (given ++ feeds.0, Goes-then old between new [] piece given feeds.0 tag before middle after goes feeds.1, feeds.2)
+Feeds-then old between new piece given tag (Err error) before middle after going goes hungry feeds =
+    feeds_fault old new piece tag error before after going
+    (λ more none_after. Faults-then old between new [] (piece ++ more) given tag error before middle after goes (fault error feeds more (λ ended. absurd (true≢false (sym ended ∙ hungry.going))))) where
+      fault : (error : JobError) → Feeds between piece tag (Err error) new middle after → FaultsBefore between piece tag error new middle after
+      fault errors.SinkFault feeds = feeds
+      fault errors.ReplyFault feeds = feeds
+      fault errors.NoMemory feeds = feeds
+      fault errors.Failed feeds = feeds
+      fault errors.ReadFault feeds = feeds
+      fault errors.AfterEnd feeds = absurd (true≢false (sym feeds.0.1 ∙ hungry.going))
+
+-- a job that takes more bytes and drained is hungry
+pub hungry_of : (old new : JobState) (tag : ℕ) (done : Unit {0}) (before after : Told) → old.held.ended ≡ false → Drains old tag (Ok done) new before after → IsHungry new
+hungry_of old new tag done before after going drains =
+    elim drains.2 [
+      | inl hungry ↦ hungry
+      | inr over ↦ absurd (true≢false (sym over.ended ∙ drains.3 ∙ going))
+    ]
+
+-- A part of a piece was taken, and carried out.
+pub Takes-part : (old between new : JobState) (part : List ℕ) (tag : ℕ) (before after : Told) → IsHungry old → between ≡ with_piece part old → Drains between tag (Ok tt) new before after → (given : List Token) × Goes old part given tag new before after × IsHungry new
+Takes-part old between new part tag before after hungry is =
+    let P : JobState → Type 0 = λ job. Drains job tag (Ok tt) new before after → (given : List Token) × Goes old part given tag new before after × IsHungry new in
+    subst P (sym is) (λ drains. (
+      drains.0,
+      Goes-after old (with_piece part old) new part [] drains.0 tag before before after (Goes-push old part tag before hungry.running hungry.going) drains.1,
+      hungry_of (with_piece part old) new tag tt before after hungry.going drains,
+    ))
+
+-- A part of a piece was taken, and there was a fault: whatever is left of the piece comes behind it.
+Stops-part : (old between new : JobState) (part more : List ℕ) (tag : ℕ) (error : JobError) (before after : Told) → IsHungry old → between ≡ with_piece part old → Drains between tag (Err error) new before after → Faults old (part ++ more) tag error new before after
+Stops-part old between new part more tag error before after hungry is =
+    let P : JobState → Type 0 = λ job. Drains job tag (Err error) new before after → Faults old (part ++ more) tag error new before after in
+    subst P (sym is) (λ drains. Faults-then old (with_piece part old) new part more [] tag error before before after (Goes-push old part tag before hungry.running hungry.going)
+    (drains more (λ ended. absurd (true≢false (sym ended ∙ hungry.going)))))
+
+-- A piece was fed as far as a part, and there was a fault then.
+pub Feeds-part : (old between taken new : JobState) (piece fed part rest : List ℕ) (given : List Token) (tag : ℕ) (error : JobError) (before middle after : Told) → old.held.ended ≡ false → piece ≡ fed ++ (part ++ rest) → Goes old fed given tag between before middle → IsHungry between → taken ≡ with_piece part between → Drains taken tag (Err error) new middle after → Feeds old piece tag (Err error) new before after
+Feeds-part old between taken new piece fed part rest given tag error before middle after going whole goes hungry is drains =
+    feeds_fault old new piece tag error before after going
+    (λ more none_after.
+    let P : List ℕ → Type 0 = λ all. Faults old all tag error new before after in
+    subst P (sym (ap (λ all. all ++ more) whole ∙ append_assoc fed (part ++ rest) more ∙ ap (λ all. fed ++ all) (append_assoc part rest more)))
+    (Faults-then old between new fed (part ++ (rest ++ more)) given tag error before middle after goes
+    (Stops-part between taken new part (rest ++ more) tag error middle after hungry is drains)))
+
+-- the input ended, and the job drained
+pub Finishes-drain : (old between new : JobState) (tag : ℕ) (result : Result (Unit {0}) JobError) (before after : Told) → IsSome old.machine → between ≡ input_ended old → Drains between tag result new before after → Finishes old tag result new before after
+Finishes-drain old between new tag result before after running is =
+    let P : JobState → Type 0 = λ job. Drains job tag result new before after → Finishes old tag result new before after in
+    subst P (sym is) (finished result) where
+      finished : (result : Result (Unit {0}) JobError) → Drains (input_ended old) tag result new before after → Finishes old tag result new before after
+      finished (Ok done) drains = (
         drains.0,
-        Goes-after old (with_piece piece old) new piece [] drains.0 tag before before after goes_first drains.1,
+        Goes-after old (input_ended old) new [] [] drains.0 tag before before after (Goes-ends old tag before running) drains.1,
         elim drains.2 [
-          | inl hungry ↦ hungry
-          | inr over ↦ absurd (true≢false (sym over.ended ∙ drains.3 ∙ pushes.1))
+          | inl hungry ↦ absurd (true≢false (sym drains.3 ∙ hungry.going))
+          | inr over ↦ over
         ],
       )
-      fed (Err error) drains = feeds_fault old new piece tag error before after (Faults-after old (with_piece piece old) new piece [] tag error before before after goes_first drains)
+      finished (Err error) drains = Faults-after old (input_ended old) new [] [] tag error before before after (Goes-ends old tag before running) (Faults-now (input_ended old) new tag error before after drains)

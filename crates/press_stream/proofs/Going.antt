@@ -1,12 +1,12 @@
 -- How a job goes on.
-use Rattle.std.proofs.Common.{◌≡◌, ◌∙◌, ◌<◌, ℕ, List, [], ◌∷◌, ◌++◌, Bool, true, false, Option, Some, None, IsSome, MatchBool, refl, sym, ap, subst}
+use Rattle.std.proofs.Common.{◌≡◌, ◌∙◌, ◌<◌, ◌⊎◌, inl, inr, ℕ, List, [], ◌∷◌, ◌++◌, Bool, true, false, Option, Some, None, IsSome, MatchBool, refl, sym, ap, subst}
 use Rattle.std.proofs.lemmas.Bool.{false≢true, true≢false}
 use Rattle.std.proofs.lemmas.List.{append_assoc, append-nil}
 use Rattle.press_cmd.specs.Mode.{Mode}
 use Rattle.press_cmd.specs.Split.{Steps, ClosedFrom, closing}
 use Rattle.press_cmd.specs.Token.{Token, Uel}
 use Rattle.press_cmd.proofs.Splits.{some_split, steps-more, steps-then}
-use Rattle.press_scan.specs.Gives.{Passes, IsDone}
+use Rattle.press_scan.specs.Gives.{Passes, IsDone, IsNext}
 use Rattle.press_scan.specs.ScannerState.{ScannerState}
 use Rattle.press_sink.specs.Told.{Told, CanCount, most_faults}
 use Rattle.press_sink.specs.Sending.{Ending, Complete, ForMemory, WentOut}
@@ -16,6 +16,7 @@ use Rattle.press_engine.specs.Machine.{Run, run, run_all}
 use Rattle.press_engine.proofs.Runs.{run_all-none, run_all-one, run_all-append}
 use Rattle.press_stream.specs.State.{JobState, with_piece, input_ended}
 use Rattle.press_stream.specs.Meaning.{with_exit, Carried, Stopped, Owes, Goes, Stops}
+use Rattle.press_stream.specs.Answers.{StopsAtDue}
 
 -- the value of an option that has one
 pub some_of : {X : Type 0} (option : Option X) → IsSome option → (value : X) × (option ≡ Some value)
@@ -194,10 +195,10 @@ Goes-command held next old new command tag before after passes carried = record 
   carried = carried;
 }
 
-pub Stops-command : (held next : ScannerState) (old : Option Machine) (command : Token) (tag : ℕ) (ending : Ending) (before after : Told) → (ending ≡ Complete → ⊥) → Passes held command next → Stopped (command ∷ []) old tag ending before after → Stops (record { held = held; machine = old; exited = false }) [] tag ending before after
-Stops-command held next old command tag ending before after stops passes stopped =
-    let others = Owes-some (record { held = next; machine = old; exited = false }) [] (λ _. refl) in
-    (command ∷ others.0, passes-to_end held next old old command [] others.0 passes others.1, Stopped-more (command ∷ []) others.0 old tag ending before after stops stopped)
+pub Stops-command : (held next : ScannerState) (old : Option Machine) (command : Token) (more : List ℕ) (tag : ℕ) (ending : Ending) (before after : Told) → (ending ≡ Complete → ⊥) → Passes held command next → (held.ended ≡ true → more ≡ []) → Stopped (command ∷ []) old tag ending before after → Stops (record { held = held; machine = old; exited = false }) more tag ending before after
+Stops-command held next old command more tag ending before after stops passes none_after stopped =
+    let others = Owes-some (record { held = next; machine = old; exited = false }) more (λ ended. none_after (sym passes.ended ∙ ended)) in
+    (command ∷ others.0, passes-to_end held next old old command more others.0 passes others.1, Stopped-more (command ∷ []) others.0 old tag ending before after stops stopped)
 
 -- the exit that is added
 exit_owed : (held : ScannerState) (machine : Option Machine) → held.ended ≡ true → IsDone held → Owes (record { held = held; machine = machine; exited = false }) [] (Uel ∷ [])
@@ -215,8 +216,20 @@ Goes-exit held old new tag before after ended done carried = record {
   carried = carried;
 }
 
-pub Stops-exit : (held : ScannerState) (old : Option Machine) (tag : ℕ) (ending : Ending) (before after : Told) → held.ended ≡ true → IsDone held → Stopped (Uel ∷ []) old tag ending before after → Stops (record { held = held; machine = old; exited = false }) [] tag ending before after
-Stops-exit held old tag ending before after ended done stopped = (Uel ∷ [], exit_owed held old ended done, stopped)
+pub Stops-exit : (held : ScannerState) (old : Option Machine) (more : List ℕ) (tag : ℕ) (ending : Ending) (before after : Told) → held.ended ≡ true → more ≡ [] → IsDone held → Stopped (Uel ∷ []) old tag ending before after → Stops (record { held = held; machine = old; exited = false }) more tag ending before after
+Stops-exit held old more tag ending before after ended none done stopped =
+    let P : List ℕ → Type 0 = λ all. Stops (record { held = held; machine = old; exited = false }) all tag ending before after in
+    subst P (sym none) (Uel ∷ [], exit_owed held old ended done, stopped)
+
+-- a step that stopped
+pub Stops-due : (job : JobState) (bytes : List ℕ) (tag : ℕ) (ending : Ending) (before after : Told) → (ending ≡ Complete → ⊥) → (job.held.ended ≡ true → bytes ≡ []) → StopsAtDue job tag ending before after → Stops job bytes tag ending before after
+Stops-due job bytes tag ending before after stops none_after (command, (exited, next), stopped) = by job.exited exited next where
+  by : (exited : Bool) → exited ≡ false → IsNext job.held command ⊎ ((job.held.ended ≡ true) × IsDone job.held × (command ≡ Uel)) → Stops (record { held = job.held; machine = job.machine; exited = exited }) bytes tag ending before after
+  by true e next = absurd (true≢false e)
+  by false e (inl (next, passes)) = Stops-command job.held next job.machine command bytes tag ending before after stops passes none_after stopped
+  by false e (inr (ended, done, is)) =
+      let P : Token → Type 0 = λ one. Stopped (one ∷ []) job.machine tag ending before after in
+      Stops-exit job.held job.machine bytes tag ending before after ended (none_after ended) done (subst P is stopped)
 
 -- a job that stopped after it had gone on
 pub Stops-then : (old between : JobState) (bytes more : List ℕ) (given : List Token) (tag : ℕ) (ending : Ending) (before middle after : Told) → Goes old bytes given tag between before middle → Stops between more tag ending middle after → Stops old (bytes ++ more) tag ending before after

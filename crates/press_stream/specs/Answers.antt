@@ -1,5 +1,5 @@
 -- What a job answers.
-use Rattle.std.specs.Prelude.{◌≡◌, ◌<◌, ℕ, List, [], ◌∷◌, Option, Some, None, IsSome, Result, Ok, Err, true, false, ◌⊎◌, ⊤}
+use Rattle.std.specs.Prelude.{◌≡◌, ◌<◌, ℕ, List, [], ◌∷◌, ◌++◌, Option, Some, None, IsSome, Result, Ok, Err, true, false, ◌⊎◌, ⊤}
 use Rattle.std.specs.Io.KnownBytes.{Consumes, IsAtEnd}
 use Rattle.press_cmd.specs.Token.{Token, Uel}
 use Rattle.press_cmd.specs.Kinds.{kind_of}
@@ -7,7 +7,7 @@ use Rattle.press_cmd.specs.declared.variant.Kind.{Kind}
 use Rattle.press_scan.specs.ScannerState.{ScannerState}
 use Rattle.press_scan.specs.Gives.{Passes, IsDone, IsNext}
 use Rattle.press_sink.specs.Told.{Told}
-use Rattle.press_sink.specs.Sending.{AtSheet, AtReply, ForMemory}
+use Rattle.press_sink.specs.Sending.{Ending, AtSheet, AtReply, ForMemory}
 use Rattle.press_engine.specs.Engine.{NeedsMemory}
 use Rattle.press_engine.specs.declared.machine.Machine.{Machine}
 use Rattle.press_engine.specs.declared.fault.EngineError.{EngineError}
@@ -45,15 +45,24 @@ CarriesNext held old tag (Ok None) next new before after = IsDone held × (next 
 CarriesNext held old tag (Err error) next new before after =
     (command : Token) × Passes held command next × CarriesOne command old tag (Err error) new before after
 
--- A job with these bytes behind what it held stopped at a fault, and has failed for good: of what it owed, so much went out.
--- A job that had failed before lets nothing out.
+-- A job stopped at a fault, and has failed for good: so much went out as the fault's ending says. A job that had failed
+-- before lets nothing out.
+abbrev pub FaultsBy : (Ending → Type 0) → JobState → JobError → JobState → Told → Told → Type 0
+FaultsBy stops old errors.SinkFault new before after = (new.machine ≡ None) × stops AtSheet
+FaultsBy stops old errors.ReplyFault new before after = (new.machine ≡ None) × stops AtReply
+FaultsBy stops old errors.NoMemory new before after = (new.machine ≡ None) × stops ForMemory
+FaultsBy stops old errors.Failed new before after = (old.machine ≡ None) × (new ≡ old) × (after ≡ before)
+FaultsBy stops old errors.ReadFault new before after = ⊥
+FaultsBy stops old errors.AfterEnd new before after = ⊥
+
+-- The same of a job with these bytes behind what it held: it is so much of what it owed.
 abbrev pub Faults : JobState → List ℕ → ℕ → JobError → JobState → Told → Told → Type 0
-Faults old bytes tag errors.SinkFault new before after = (new.machine ≡ None) × Stops old bytes tag AtSheet before after
-Faults old bytes tag errors.ReplyFault new before after = (new.machine ≡ None) × Stops old bytes tag AtReply before after
-Faults old bytes tag errors.NoMemory new before after = (new.machine ≡ None) × Stops old bytes tag ForMemory before after
-Faults old bytes tag errors.Failed new before after = (old.machine ≡ None) × (new ≡ old) × (after ≡ before)
-Faults old bytes tag errors.ReadFault new before after = ⊥
-Faults old bytes tag errors.AfterEnd new before after = ⊥
+Faults old bytes tag error new before after = FaultsBy (λ ending. Stops old bytes tag ending before after) old error new before after
+
+-- The same, whatever bytes may come behind these: none do after the end of input.
+abbrev pub FaultsBefore : JobState → List ℕ → ℕ → JobError → JobState → Told → Told → Type 0
+FaultsBefore old bytes tag error new before after =
+    (more : List ℕ) → (old.held.ended ≡ true → bytes ++ more ≡ []) → Faults old (bytes ++ more) tag error new before after
 
 -- A piece was pushed: it stands behind what was held; or memory ran out, and the job has failed for good; or it was refused,
 -- and nothing changed.
@@ -90,21 +99,30 @@ pub record RanOne (old : JobState) (tag : ℕ) (kind : Kind) (new : JobState) (b
   pub fewer : most_steps new < most_steps old
   pub still : new.held.ended ≡ old.held.ended
 
+-- The command that comes next: the first of what the scanner holds, or the universal exit that is added where nothing is left.
+abbrev pub IsDue : JobState → Token → Type 0
+IsDue job command =
+    (job.exited ≡ false) × (IsNext job.held command ⊎ ((job.held.ended ≡ true) × IsDone job.held × (command ≡ Uel)))
+
+-- The command that comes next was carried out, and of its outputs so much went out as the ending says.
+abbrev pub StopsAtDue : JobState → ℕ → Ending → Told → Told → Type 0
+StopsAtDue job tag ending before after =
+    (command : Token) × IsDue job command × Stopped (command ∷ []) job.machine tag ending before after
+
+-- A step stopped at a fault: so much went out of the command that comes next.
+abbrev pub StepFaults : JobState → ℕ → JobError → JobState → Told → Told → Type 0
+StepFaults old tag error new before after = FaultsBy (λ ending. StopsAtDue old tag ending before after) old error new before after
+
 -- A step was taken; or the bytes so far are used up, or no step is left, and nothing changed; or the job stopped at a fault.
 abbrev pub Takes : JobState → ℕ → Result Step JobError → JobState → Told → Told → Type 0
 Takes old tag (Ok (answers.Ran kind)) new before after = RanOne old tag kind new before after
 Takes old tag (Ok answers.Hungry) new before after = IsHungry old × (new ≡ old) × (after ≡ before)
 Takes old tag (Ok answers.Ended) new before after = IsOver old × (new ≡ old) × (after ≡ before)
-Takes old tag (Err error) new before after = Faults old [] tag error new before after
+Takes old tag (Err error) new before after = StepFaults old tag error new before after
 
 -- the job is hungry, or no step is left
 abbrev pub IsIdle : JobState → Type 0
 IsIdle job = IsHungry job ⊎ IsOver job
-
--- The command that comes next: the first of what the scanner holds, or the universal exit that is added where nothing is left.
-abbrev pub IsDue : JobState → Token → Type 0
-IsDue job command =
-    (job.exited ≡ false) × (IsNext job.held command ⊎ ((job.held.ended ≡ true) × IsDone job.held × (command ≡ Uel)))
 
 -- the command that comes next may take memory
 abbrev pub WantsMemory : JobState → Type 0
@@ -119,14 +137,14 @@ ComesToWant job tag told =
 abbrev pub Drains : JobState → ℕ → Result (Unit {0}) JobError → JobState → Told → Told → Type 0
 Drains old tag (Ok _) new before after =
     (given : List Token) × Goes old [] given tag new before after × IsIdle new × (new.held.ended ≡ old.held.ended)
-Drains old tag (Err error) new before after = Faults old [] tag error new before after
+Drains old tag (Err error) new before after = FaultsBefore old [] tag error new before after
 
 -- A piece was handed to a job, which carried out the commands so far; or it was refused after the end of input, and nothing
 -- changed.
 abbrev pub Feeds : JobState → List ℕ → ℕ → Result (Unit {0}) JobError → JobState → Told → Told → Type 0
 Feeds old piece tag (Ok _) new before after = (given : List Token) × Goes old piece given tag new before after × IsHungry new
 Feeds old piece tag (Err errors.AfterEnd) new before after = IsAfterEnd old × (new ≡ old) × (after ≡ before)
-Feeds old piece tag (Err error) new before after = Faults old piece tag error new before after
+Feeds old piece tag (Err error) new before after = FaultsBefore old piece tag error new before after
 
 -- The end of input was given to a job, which carried out all that it owed.
 abbrev pub Finishes : JobState → ℕ → Result (Unit {0}) JobError → JobState → Told → Told → Type 0

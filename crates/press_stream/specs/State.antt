@@ -1,8 +1,9 @@
 -- A job as callers see it.
-use Rattle.std.specs.Prelude.{◌≡◌, ◌+◌, ℕ, List, [], ◌++◌, Bool, true, false, Option, Some, None, IsSome, length, if◌then◌else◌}
+use Rattle.std.specs.Prelude.{◌≡◌, ◌≤◌, ◌+◌, ℕ, List, [], ◌++◌, Bool, true, false, Option, Some, None, IsSome, length, if◌then◌else◌}
 use Rattle.press_cmd.specs.Mode.{Exit}
 use Rattle.press_cmd.specs.Split.{NoHead}
-use Rattle.press_scan.specs.ScannerState.{ScannerState}
+use Rattle.press_scan.specs.ScannerState.{ScannerState, buffer_size}
+use Rattle.press_scan.specs.Sequences.{longest_rest}
 use Rattle.press_engine.specs.declared.engine.Engine.{Engine}
 use Rattle.press_engine.specs.declared.machine.Machine.{Machine}
 use Rattle.press_engine.specs.Engine.{live}
@@ -19,7 +20,11 @@ pub record JobState : Type 0 where
 
 -- a job at the beginning of a stream
 abbrev pub opened : JobState
-opened = record { held = record { mode = Exit; bytes = []; ended = false }; machine = Some power_on; exited = false }
+opened = record {
+  held = record { mode = Exit; bytes = []; ended = false; room = buffer_size };
+  machine = Some power_on;
+  exited = false;
+}
 
 -- with a piece behind what it holds
 abbrev pub with_piece : List ℕ → JobState → JobState
@@ -34,6 +39,7 @@ pub record IsHungry (job : JobState) : Type 0 where
   pub running : IsSome job.machine
   pub going : job.held.ended ≡ false
   pub short : NoHead job.held.mode job.held.bytes
+  pub few : length job.held.bytes ≤ longest_rest
 
 -- No step is left: the job has not failed, the end of input was given, nothing is held, and the added universal exit was
 -- carried out.
@@ -69,5 +75,5 @@ job_state held engine phase = record { held = held; machine = machine_in phase e
 -- what is true of them
 abbrev pub Fits : ScannerState → Engine → Phase → Type 0
 Fits held engine phases.Failed = Unit {0}
-Fits held engine phases.Running = IsSome (live engine)
+Fits held engine phases.Running = IsSome (live engine) × (held.room ≡ buffer_size)
 Fits held engine phases.Over = IsSome (live engine) × (held.ended ≡ true) × (held.bytes ≡ [])

@@ -1,5 +1,8 @@
+//! Commands that a scanner holds, handed to an engine one by one.
+
 ghost use Rattle.std.specs.Prelude.{◌≡◌, IsSome, IsOk, IsErrOf};
 ghost use Rattle.press_cmd.specs.View.{token};
+ghost use Rattle.press_scan.specs.ScannerState.{buffer_size};
 ghost use Rattle.press_sink.specs.Told.{both, CanCount};
 ghost use Rattle.press_engine.specs.Engine.{live};
 ghost use Rattle.press_stream.specs.Answers.{CarriesOne, CarriesNext, Takes, WantsMemory};
@@ -63,6 +66,7 @@ pub fn take<S: SheetSink, P: ReplySink>(
 ) -> Result<Step, JobError>
     requires running { IsSome (live engine.old) }
     requires phase { phase.old ≡ Running }
+    requires room { scanner.old.room ≡ buffer_size }
     requires can_count { CanCount (both (S.told sheets.old) (P.told replies.old)) }
     ensures takes { Takes (job_state scanner.old engine.old Running) tag result
         (job_state scanner.new engine.new phase.new)

@@ -1,3 +1,5 @@
+//! A stream that is carried out as its pieces come.
+
 use crate::carrying::take;
 use crate::fault::JobError;
 use crate::phase::Phase;
@@ -40,12 +42,12 @@ impl Model for Job {
 }
 
 impl Job {
-    ghost use Rattle.std.specs.Prelude.{◌≡◌, ◌≤◌, ◌⊎◌, ◌↔◌, true, false, None, IfOk, IfSome, IsTrue, IsSome, IsErrOf};
+    ghost use Rattle.std.specs.Prelude.{◌≡◌, ◌<◌, ◌≤◌, ◌↔◌, length, take, false, None, IfOk, IfSome, IsTrue, IsSome, IsErrOf};
     ghost use Rattle.press_sink.specs.Told.{both, CanCount};
     ghost use Rattle.press_engine.specs.Engine.{view_of};
-    ghost use Rattle.press_stream.specs.State.{opened, input_ended, IsOver};
+    ghost use Rattle.press_stream.specs.State.{opened, with_piece, input_ended, IsHungry, IsOver, IsAfterEnd};
     ghost use Rattle.press_stream.specs.Answers.{Pushes, IsGoing, IsEarly, Takes, WantsMemory, Drains, ComesToWant, Feeds, Finishes, RunsReader};
-    ghost use Rattle.press_stream.specs.Pieces.{most_reads};
+    ghost use Rattle.press_stream.specs.Pieces.{most_reads, no_reads, HasFault};
 
     /// A job at the beginning of a stream, with an engine after power on.
     ///
@@ -55,8 +57,10 @@ impl Job {
     pub fn open(alloc: Global) -> Result<Self, AllocError>
         ensures { IfOk result (λ job. job ≡ opened) }
     {
+        let mut scanner = Scanner::new(alloc);
+        scanner.reserve()?;
         Ok(Job {
-            scanner: Scanner::new(alloc),
+            scanner,
             engine: Engine::power_on(alloc)?,
             phase: Phase::Running,
         })
@@ -156,12 +160,47 @@ impl Job {
         replies: &mut P,
     ) -> Result<(), JobError>
         requires { CanCount (both (S.told sheets.old) (P.told replies.old)) }
+        ensures feeds { Feeds self.old piece.now tag result self.new
+            (both (S.told sheets.old) (P.told replies.old))
+            (both (S.told sheets.new) (P.told replies.new)) }
+        ensures refused { IsAfterEnd self.old → IsErrOf result JobError.AfterEnd }
+    {
+        self.check_going()?;
+        self.drain(tag, sheets, replies)?;
+        self.feed_by_parts(piece, tag, sheets, replies)
+    }
+
+    /// Takes the front of a piece into reserved memory: all of it, or as much as there is room for.
+    fn take(&mut self, piece: &[u8]) -> usize
+        requires { IsHungry self.old }
+        ensures within { result ≤ length piece.now }
+        ensures some { 0 < length piece.now → 0 < result }
+        ensures taken { self.new ≡ with_piece (take result piece.now) self.old }
+    {
+        self.scanner.take(piece)
+    }
+
+    /// Takes a piece part by part, and carries out the commands of each part before the next one is taken.
+    fn feed_by_parts<S: SheetSink, P: ReplySink>(
+        &mut self,
+        piece: &[u8],
+        tag: u64,
+        sheets: &mut S,
+        replies: &mut P,
+    ) -> Result<(), JobError>
+        requires hungry { IsHungry self.old }
+        requires can_count { CanCount (both (S.told sheets.old) (P.told replies.old)) }
         ensures { Feeds self.old piece.now tag result self.new
             (both (S.told sheets.old) (P.told replies.old))
             (both (S.told sheets.new) (P.told replies.new)) }
     {
-        self.push(piece)?;
-        self.drain(tag, sheets, replies)
+        let mut rest = piece;
+        while !rest.is_empty() {
+            let count = self.take(rest);
+            rest = &rest[count..];
+            self.drain(tag, sheets, replies)?;
+        }
+        Ok(())
     }
 
     /// Gives the end of input, and carries out all that is left: what closes the bytes handed in, and one universal exit.
@@ -213,10 +252,7 @@ impl Job {
         ensures unread { IsEarly result → reader.new ≡ reader.old }
     {
         self.check_going()?;
-        let mut count = ReadCount {
-            reads: 0,
-            failed: false,
-        };
+        let mut count = ReadCount::none();
         self.run_counted(reader, &mut count, tag, sheets, replies)
     }
 
@@ -262,15 +298,14 @@ impl Job {
     ) -> Result<(), JobError>
         requires running { IsSome self.old.machine }
         requires going { self.old.held.ended ≡ false }
-        requires none { count.old.reads ≡ 0 }
+        requires none { count.old ≡ no_reads }
         requires can_count { CanCount (both (S.told sheets.old) (P.told replies.old)) }
         ensures runs { RunsReader self.old (R.remaining reader.old)
             (R.remaining reader.new) tag result self.new
             (both (S.told sheets.old) (P.told replies.old))
             (both (S.told sheets.new) (P.told replies.new)) }
         ensures bound { count.new.reads ≤ most_reads }
-        ensures fault { IsErrOf result JobError.ReadFault
-            → (count.new.failed ≡ true) ⊎ (count.new.reads ≡ most_reads) }
+        ensures fault { IsErrOf result JobError.ReadFault → HasFault count.new }
     {
         self.drain(tag, sheets, replies)?;
         let mut piece = [0; PIECE];

@@ -3,7 +3,7 @@ use Rattle.std.proofs.lemmas.Result.{err_from_is_err_and}
 use Rattle.press_stream.specs.declared.fault.JobError.{JobError}
 use Rattle.press_stream.proofs.Carries.{same_fault}
 use Rattle.press_stream.proofs.Going.{Goes-none, can_count-then}
-use Rattle.press_stream.proofs.Faults.{Faults-after, Goes-after}
+use Rattle.press_stream.proofs.Faults.{FaultsBefore-after, FaultsBefore-step, Goes-after}
 use Rattle.press_stream.proofs.job.Job.drain.Goals as goal
 
 pub loop-init : goal.loop-init
@@ -17,7 +17,7 @@ loop-init g c = record {
 pub returns-in_err-step-clause-drains : goal.returns-in_err-step-clause-drains
 returns-in_err-step-clause-drains g c =
     let p = err_from_is_err_and c.from_residual.result c.from_residual.ensures.1 in
-    rw (p.1, p.2) (Faults-after c.args.self.now c.loop.self c.step.new.self [] c.loop.invariant.given c.args.tag _ _ _ _ c.loop.invariant.goes (rw c.in_err-step.was at c.step.ensures.takes))
+    rw (p.1, p.2) (FaultsBefore-after c.args.self.now c.loop.self c.step.new.self [] c.loop.invariant.given c.args.tag _ _ _ _ c.loop.invariant.still c.loop.invariant.goes (FaultsBefore-step c.loop.self c.step.new.self c.args.tag _ _ _ (rw c.in_err-step.was at c.step.ensures.takes)))
 
 pub returns-in_err-step-clause-memory : goal.returns-in_err-step-clause-memory
 returns-in_err-step-clause-memory g c =

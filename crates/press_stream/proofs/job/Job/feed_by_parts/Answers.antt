@@ -1,0 +1,43 @@
+use Rattle.std.proofs.Common.{◌≡◌, ◌∙◌, ℕ, List, [], ◌++◌, take, drop, refl, sym, ap, append_assoc}
+use Rattle.std.proofs.lemmas.List.{take-append-drop, take_rest}
+use Rattle.std.proofs.lemmas.Result.{err_from_is_err_and}
+use Rattle.press_stream.proofs.Going.{Goes-none, Goes-then, can_count-then}
+use Rattle.press_stream.proofs.Faults.{Takes-part, Feeds-part}
+use Rattle.press_stream.proofs.job.Job.feed_by_parts.Goals as goal
+
+pub loop-rest-init : goal.loop-rest-init
+loop-rest-init g c = record {
+  fed = [];
+  given = [];
+  piece = refl;
+  goes = Goes-none c.args.self.now c.args.tag _ c.requires.hungry.running;
+  hungry = c.requires.hungry;
+  can_count = c.requires.can_count;
+}
+
+pub loop-rest-preserved : goal.loop-rest-preserved
+loop-rest-preserved g c =
+    let so_far = c.loop-rest.invariant in
+    let rest : List ℕ = c.loop-rest.rest.now in
+    let count : ℕ = c.take-count.result in
+    let taken = Takes-part c.loop-rest.self c.take-count.new.self c.drain.new.self (take c.take-count.result c.loop-rest.rest.now) c.args.tag _ _ so_far.hungry c.take-count.ensures.taken (rw c.in_ok-drain.was at c.drain.ensures.drains) in
+    record {
+      fed = so_far.fed ++ take c.take-count.result c.loop-rest.rest.now;
+      given = so_far.given ++ taken.0;
+      piece =
+          so_far.piece
+          ∙ ap (λ (xs : List ℕ). so_far.fed ++ xs) (sym (take-append-drop c.take-count.result c.loop-rest.rest.now))
+          ∙ sym (append_assoc so_far.fed (take c.take-count.result c.loop-rest.rest.now) (drop c.take-count.result c.loop-rest.rest.now))
+          ∙ ap (λ (xs : List ℕ). (so_far.fed ++ take c.take-count.result c.loop-rest.rest.now) ++ xs) (sym (take_rest c.loop-rest.rest.now c.take-count.result));
+      goes = Goes-then c.args.self.now c.loop-rest.self c.drain.new.self so_far.fed (take c.take-count.result c.loop-rest.rest.now) so_far.given taken.0 c.args.tag _ _ _ so_far.goes taken.1;
+      hungry = taken.2;
+      can_count = can_count-then taken.0 c.loop-rest.self.machine c.drain.new.self.machine c.args.tag _ _ taken.1.carried so_far.can_count;
+    }
+
+pub returns-in_err-drain : goal.returns-in_err-drain
+returns-in_err-drain g c =
+    let so_far = c.loop-rest.invariant in
+    let p = err_from_is_err_and c.from_residual.result c.from_residual.ensures.1 in
+    rw (p.1, p.2) (Feeds-part c.args.self.now c.loop-rest.self c.take-count.new.self c.drain.new.self c.args.piece.now so_far.fed (take c.take-count.result c.loop-rest.rest.now) (drop c.take-count.result c.loop-rest.rest.now) so_far.given c.args.tag _ _ _ _ c.requires.hungry.going
+    (so_far.piece ∙ ap (λ (xs : List ℕ). so_far.fed ++ xs) (sym (take-append-drop c.take-count.result c.loop-rest.rest.now)))
+    so_far.goes so_far.hungry c.take-count.ensures.taken (rw c.in_err-drain.was at c.drain.ensures.drains))
