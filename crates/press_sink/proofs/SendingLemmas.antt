@@ -1,5 +1,5 @@
 -- Outputs that go out one after another.
-use Rattle.std.proofs.Common.{◌≡◌, ◌∙◌, ◌<◌, ℕ, List, [], ◌∷◌, ◌++◌, Option, Some, None, option_map, refl, sym, ap, subst}
+use Rattle.std.proofs.Common.{◌≡◌, ◌∙◌, ◌<◌, ℕ, List, [], ◌∷◌, ◌++◌, Option, Some, None, map, option_map, refl, sym, ap, subst}
 use Rattle.std.proofs.lemmas.List.{append_assoc, append-nil, map-append}
 use Rattle.std.proofs.KnownBytes.{Appends-nil, Appends-trans}
 use Rattle.std.specs.Io.KnownBytes.{Appends}
@@ -18,6 +18,15 @@ sheets_of-append (Reply bytes ∷ outputs) others = sheets_of-append outputs oth
 pub sheets_in-tagged : (tag : ℕ) (sheets : List Sides) → sheets_in (under_tag tag sheets) ≡ sheets
 sheets_in-tagged tag [] = refl
 sheets_in-tagged tag (sheet ∷ sheets) = ap (λ (all : List Sides). sheet ∷ all) (sheets_in-tagged tag sheets)
+
+-- the sheets of outputs that are sheets alone, and the bytes of their replies
+pub sheets_of-delivered : (sheets : List Sides) → sheets_of (map Deliver sheets) ≡ sheets
+sheets_of-delivered [] = refl
+sheets_of-delivered (sheet ∷ sheets) = ap (λ (all : List Sides). sheet ∷ all) (sheets_of-delivered sheets)
+
+pub reply_bytes_of-delivered : (sheets : List Sides) → reply_bytes_of (map Deliver sheets) ≡ []
+reply_bytes_of-delivered [] = refl
+reply_bytes_of-delivered (sheet ∷ sheets) = reply_bytes_of-delivered sheets
 
 tagged-append : (tag : ℕ) (outputs others : List Output) → under_tag tag (sheets_of (outputs ++ others)) ≡ under_tag tag (sheets_of outputs) ++ under_tag tag (sheets_of others)
 tagged-append tag outputs others = ap (under_tag tag) (sheets_of-append outputs others) ∙ map-append _ (sheets_of outputs) (sheets_of others)

@@ -1,0 +1,30 @@
+use Rattle.std.proofs.Common.{[], sym, ap, get_or, take}
+use Rattle.std.specs.List.{flat_map}
+use Rattle.std.proofs.lemmas.List.{take_all}
+use Rattle.press_theorem.proofs.ChainLemmas.{pieces-next, Goes-opened, Goes-more, can_count-after, Prints-end}
+use Rattle.press_theorem.proofs.pieces.print_pieces.Goals as goal
+
+pub loop-piece-init : goal.loop-piece-init
+loop-piece-init g c = record {
+  given = [];
+  goes = Goes-opened c.chain.ensures.calls c.in_ok-job.job c.args.tag _ c.in_ok-job.ensures;
+  can_count = c.requires;
+}
+
+pub loop-piece-preserved : goal.loop-piece-preserved
+loop-piece-preserved g c =
+    let pieces = c.args.pieces.now in
+    let i = c.loop-piece.piece-index in
+    let more = c.in_ok-feed.ensures.feeds in
+    let goes = c.loop-piece.invariant.goes in
+    record {
+      given = _;
+      goes = Goes-more c.chain.ensures.calls (flat_map (λ piece. piece.now) (take i pieces)) (get_or pieces i (record { ref_ptr = (0, 0); now = [] })).now _ c.loop-piece.invariant.given more.0 c.args.tag c.loop-piece.job c.feed.new.self _ _ _ (pieces-next (λ piece. piece.now) pieces i (record { ref_ptr = (0, 0); now = [] }) c.loop-piece-test.true) goes more.1;
+      can_count = can_count-after c.loop-piece.job c.feed.new.self (get_or pieces i (record { ref_ptr = (0, 0); now = [] })).now more.0 c.args.tag _ _ more.1 c.loop-piece.invariant.can_count;
+    }
+
+pub returns : goal.returns
+returns g c =
+    let pieces = c.args.pieces.now in
+    let i = c.loop-piece.piece-index in
+    Prints-end c.chain.ensures.calls c.chain.ensures.prints (flat_map (λ piece. piece.now) (take i pieces)) (flat_map (λ piece. piece.now) pieces) c.loop-piece.invariant.given c.args.tag c.loop-piece.job c.finish.new.self c.finish.result c.in_ok-finish.field-0 _ _ _ c.in_ok-finish.was (sym (ap (flat_map (λ piece. piece.now)) (take_all i pieces c.loop-piece-test.false))) c.loop-piece.invariant.goes c.finish.ensures.finishes

@@ -1,0 +1,40 @@
+//! A stream in pieces.
+ghost use Rattle.std.specs.Prelude.{IfOk};
+ghost use Rattle.std.specs.List.{flat_map};
+ghost use Rattle.press_sink.specs.Told.{both, CanCount};
+ghost use Rattle.press_sink.specs.Sending.{Complete};
+ghost use Rattle.press_stream.specs.Printed.{Prints};
+
+use press_sink::{ReplySink, SheetSink};
+use press_stream::{Job, JobError, laws};
+use std::alloc::Global;
+
+/// Prints a stream that comes in pieces, from power on: the pieces are fed one after another, and then the end of input is
+/// given. The job is handed back. In whatever pieces the bytes come, the sheets, the replies and the machine are those of
+/// their commands, carried out one after another.
+///
+/// # Errors
+///
+/// `SinkFault` (301) and `ReplyFault` (302): a sink had a fault, and nothing came after it. What went out by then the clauses of
+/// [`Job`] say.
+pub fn print_pieces<S: SheetSink, P: ReplySink>(
+    alloc: Global,
+    pieces: &[&[u8]],
+    tag: u64,
+    sheets: &mut S,
+    replies: &mut P,
+) -> Result<Job, JobError>
+    requires { CanCount (both (S.told sheets.old) (P.told replies.old)) }
+    ensures { IfOk result (λ job.
+        Prints (flat_map (λ piece. piece.now) pieces.now) tag Complete job.machine
+        (both (S.told sheets.old) (P.told replies.old))
+        (both (S.told sheets.new) (P.told replies.new))) }
+{
+    laws::chain();
+    let mut job = Job::open(alloc)?;
+    for piece in pieces {
+        job.feed(piece, tag, sheets, replies)?;
+    }
+    job.finish(tag, sheets, replies)?;
+    Ok(job)
+}
