@@ -1,12 +1,13 @@
 -- Numbers of entries: each up to the last number given.
-use Rattle.std.proofs.Common.{◌≡◌, ℕ, zero, suc, ◌+◌, ◌≤◌, ◌<◌, List, [], ◌∷◌, Bool, true, false, nat_eq, Option, None, Some, Ok, Err, if◌then◌else◌, filter, insert, refl, arith, rules}
+use Rattle.std.proofs.Common.{◌≡◌, ℕ, zero, suc, ◌+◌, ◌≤◌, ◌<◌, List, [], ◌∷◌, Bool, true, false, nat_eq, Option, None, Some, Ok, Err, if◌then◌else◌, filter, insert, refl, sym, ap, ◌∙◌, arith, rules}
 use Rattle.std.specs.Map.{lookup}
 use Rattle.press_queue.specs.declared.command.EntryCommand.{EntryCommand}
 use Rattle.press_queue.specs.declared.entry.Entry.{Entry}
 use Rattle.press_queue.specs.declared.refusal.Refusal.TheVariants as refusals
-use Rattle.press_queue.specs.Entries.{are_up_to, with_entry, without_entry, put, put_again, moved_to, place_of}
+use Rattle.press_queue.specs.EveryQueue.{are_up_to}
+use Rattle.press_queue.specs.Entries.{with_entry, without_entry, put, place_of}
 use Rattle.press_queue.specs.Legal.{is_legal}
-use Rattle.press_queue.specs.Rows.{legal_at, legal_entry}
+use Rattle.press_queue.specs.Rows.{legal_at}
 
 pub up_to_with_entry : (last number : ℕ) (entry : Entry) (es : List (ℕ × Entry)) → are_up_to last es ≡ true → are_up_to last (with_entry number entry es) ≡ true
 up_to_with_entry last number entry [] h = refl
@@ -48,17 +49,14 @@ legal_there command (Some e) entry h = legal_is (is_legal command e.status) e en
     legal_is true e entry h = cc
     legal_is false e entry h = absurd (cc)
 
-pub up_to_put_again : (last number : ℕ) (command : EntryCommand) (old new : Entry) (es : List (ℕ × Entry)) → are_up_to last es ≡ true
-    → Ok old ≡ legal_entry command number es → are_up_to last (put_again number new es) ≡ true
-up_to_put_again last number command old new es h legal =
-    up_to_insert last number (place_of new.priority (without_entry number es)) new (without_entry number es)
-    (number_up_to last number old es h (legal_there command (lookup (nat_eq number) es) old legal)) (up_to_without last number es h)
-
-pub up_to_moved_to : (last index number : ℕ) (command : EntryCommand) (entry : Entry) (es : List (ℕ × Entry)) → are_up_to last es ≡ true
-    → Ok entry ≡ legal_entry command number es → are_up_to last (moved_to index number entry es) ≡ true
-up_to_moved_to last index number command entry es h legal =
-    up_to_insert last number index entry (without_entry number es)
-    (number_up_to last number entry es h (legal_there command (lookup (nat_eq number) es) entry legal)) (up_to_without last number es h)
+-- and the command is legal at it
+pub legal_at_it : (command : EntryCommand) (o : Option Entry) (entry : Entry) → Ok entry ≡ legal_at command o → is_legal command entry.status ≡ true
+legal_at_it command None entry h = absurd (cc)
+legal_at_it command (Some e) entry h = legal_is (is_legal command e.status) refl h
+  where
+    legal_is : (legal : Bool) → is_legal command e.status ≡ legal → Ok entry ≡ (if legal then Ok e else Err refusals.WrongStatus) → is_legal command entry.status ≡ true
+    legal_is true is h = let same : e ≡ entry = cc in ap (λ x. is_legal command x.status) (sym same) ∙ is
+    legal_is false is h = absurd (cc)
 
 pub up_to_put_next : (last : ℕ) (entry : Entry) (es : List (ℕ × Entry)) → are_up_to last es ≡ true → are_up_to (last + 1) (put (last + 1) entry es) ≡ true
 up_to_put_next last entry es h =

@@ -1,8 +1,9 @@
 -- Entries under their numbers, in the order of the queue.
-use Rattle.std.specs.Prelude.{ℕ, Bool, List, Option, nat_eq, nat_lt, nat_le, length, filter, find, insert}
-use Rattle.std.specs.List.{list_all, position_or_len}
+use Rattle.std.specs.Prelude.{ℕ, List, Option, nat_eq, nat_lt, length, filter, find, insert}
+use Rattle.std.specs.List.{position_or_len}
 use Rattle.std.specs.Map.{lookup, remove_entry, set_value}
 use Rattle.press_queue.specs.declared.entry.Entry.{Entry}
+use Rattle.press_queue.specs.declared.status.Status.{Status}
 use Rattle.press_queue.specs.Status.{is_waiting, is_running, is_in_flight}
 
 -- the entry that has this number, if one has
@@ -12,6 +13,10 @@ entry_numbered number entries = lookup (nat_eq number) entries
 -- the entries, with another one under this number, at its place
 abbrev pub with_entry : ℕ → Entry → List (ℕ × Entry) → List (ℕ × Entry)
 with_entry number entry entries = set_value (nat_eq number) entries entry
+
+-- the entries, with another status of this one
+abbrev pub with_status : ℕ → Status → Entry → List (ℕ × Entry) → List (ℕ × Entry)
+with_status number status entry entries = with_entry number (record entry { status = status }) entries
 
 -- the entries without this one; the others keep their order
 abbrev pub without_entry : ℕ → List (ℕ × Entry) → List (ℕ × Entry)
@@ -48,7 +53,3 @@ running_ones entries = filter (λ e. is_running e.1.status) entries
 -- how many are in flight
 abbrev pub count_in_flight : List (ℕ × Entry) → ℕ
 count_in_flight entries = length (filter (λ e. is_in_flight e.1) entries)
-
--- whether each has a number up to this one
-abbrev pub are_up_to : ℕ → List (ℕ × Entry) → Bool
-are_up_to last entries = list_all (λ e. nat_le e.0 last) entries

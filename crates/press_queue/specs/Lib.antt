@@ -1,6 +1,8 @@
 pub mod Answers
 pub mod Entries
+pub mod EveryQueue
 pub mod Inside
+pub mod Laws
 pub mod Legal
 pub mod Priority
 pub mod Refusal

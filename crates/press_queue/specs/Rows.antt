@@ -6,13 +6,13 @@ use Rattle.press_queue.specs.declared.command.EntryCommand.{EntryCommand}
 use Rattle.press_queue.specs.declared.command.EntryCommand.TheVariants as commands
 use Rattle.press_queue.specs.declared.entry.Entry.{Entry}
 use Rattle.press_queue.specs.declared.refusal.Refusal.{Refusal}
-use Rattle.press_queue.specs.declared.refusal.Refusal.TheVariants.{Unknown, WrongStatus, Closed, Full, BadPriority, BadPosition, InFlightFull}
+use Rattle.press_queue.specs.declared.refusal.Refusal.TheVariants as refusals
 use Rattle.press_queue.specs.declared.status.Status.{Status}
 use Rattle.press_queue.specs.declared.status.Status.TheVariants as statuses
 use Rattle.press_queue.specs.declared.status.End.{End}
 use Rattle.press_queue.specs.declared.status.QueueStatus.{QueueStatus}
 use Rattle.press_queue.specs.declared.status.QueueStatus.TheVariants as standings
-use Rattle.press_queue.specs.Entries.{entry_numbered, with_entry, without_entry, put, put_again, moved_to, first_waiting, first_running, running_ones, count_in_flight}
+use Rattle.press_queue.specs.Entries.{entry_numbered, with_entry, with_status, without_entry, put, put_again, moved_to, first_waiting, first_running, running_ones, count_in_flight}
 use Rattle.press_queue.specs.Legal.{is_legal}
 use Rattle.press_queue.specs.Priority.{priority_of, position_within}
 use Rattle.press_queue.specs.State.{QueueState}
@@ -60,19 +60,19 @@ submitted priority queue = (
 )
 
 abbrev pub submitted_at : Option ℕ → QueueState → QueueAnswer ℕ
-submitted_at None queue = refused queue BadPriority
+submitted_at None queue = refused queue refusals.BadPriority
 submitted_at (Some priority) queue = submitted priority queue
 
 -- SubmitQueueEntry: 23 closed, 24 full, 25 a bad priority; else a new entry that waits, before the first of lower priority.
 abbrev pub submit : ℤ → QueueState → QueueAnswer ℕ
 submit priority queue =
-    if queue.closed then refused queue Closed
-    else (if is_full queue then refused queue Full else submitted_at (priority_of priority) queue)
+    if queue.closed then refused queue refusals.Closed
+    else (if is_full queue then refused queue refusals.Full else submitted_at (priority_of priority) queue)
 
 -- The entry that a command names, where the command is legal: 21 where there is none, 22 where it is not legal.
 abbrev pub legal_at : EntryCommand → Option Entry → Result Entry Refusal
-legal_at command None = Err Unknown
-legal_at command (Some entry) = if is_legal command entry.status then Ok entry else Err WrongStatus
+legal_at command None = Err refusals.Unknown
+legal_at command (Some entry) = if is_legal command entry.status then Ok entry else Err refusals.WrongStatus
 
 abbrev pub legal_entry : EntryCommand → ℕ → List (ℕ × Entry) → Result Entry Refusal
 legal_entry command number entries = legal_at command (entry_numbered number entries)
@@ -86,7 +86,7 @@ at_entry (Ok entry) queue row = row entry
 -- the entry gets another status
 abbrev pub set_status : ℕ → Status → Entry → QueueState → QueueState
 set_status number status entry queue =
-    with_entries (with_entry number (record entry { status = status }) queue.entries) queue
+    with_entries (with_status number status entry queue.entries) queue
 
 -- HoldQueueEntry: of a waiting entry; it is held.
 abbrev pub hold : ℕ → QueueState → QueueAnswer (Unit {0})
@@ -104,7 +104,7 @@ resume number queue =
 abbrev pub suspend : ℕ → QueueState → QueueAnswer (Unit {0})
 suspend number queue =
     at_entry (legal_entry commands.Suspend number queue.entries) queue
-    (λ entry. if nat_le most_in_flight (count_in_flight queue.entries) then refused queue InFlightFull
+    (λ entry. if nat_le most_in_flight (count_in_flight queue.entries) then refused queue refusals.InFlightFull
     else accepted (set_status number statuses.Suspended entry queue))
 
 -- AbortQueueEntry: of an entry that did not end; it is aborted.
@@ -120,7 +120,7 @@ remove number queue =
     (λ entry. accepted (with_entries (without_entry number queue.entries) queue))
 
 abbrev pub reprioritized : ℕ → Option ℕ → Entry → QueueState → QueueAnswer (Unit {0})
-reprioritized number None entry queue = refused queue BadPriority
+reprioritized number None entry queue = refused queue refusals.BadPriority
 reprioritized number (Some priority) entry queue =
     accepted (with_entries (put_again number (record entry { priority = priority }) queue.entries) queue)
 
@@ -131,7 +131,7 @@ set_priority number priority queue =
     (λ entry. reprioritized number (priority_of priority) entry queue)
 
 abbrev pub repositioned : ℕ → Option ℕ → Entry → QueueState → QueueAnswer (Unit {0})
-repositioned number None entry queue = refused queue BadPosition
+repositioned number None entry queue = refused queue refusals.BadPosition
 repositioned number (Some index) entry queue =
     accepted (with_entries (moved_to index number entry queue.entries) queue)
 

@@ -1,3 +1,5 @@
+//! The queue commands that name an entry (CIP4 JDF 1.5, the queue commands).
+
 ghost use Rattle.std.specs.Prelude.{◌≡◌};
 ghost use Rattle.press_queue.specs.Legal.{is_legal};
 

@@ -3,9 +3,10 @@
 ghost use Rattle.std.specs.Prelude.{◌≡◌, ◌<◌, IsSome, None, OnOk, OnErr, Some, option_map};
 ghost use Rattle.std.specs.Map.Iter.{deref_pair};
 ghost use Rattle.indexmap.specs.IndexMap.{index_map_len};
-ghost use Rattle.press_queue.specs.Entries.{entry_numbered, with_entry, place_of, put, put_again, moved_to, first_waiting, first_running, running_ones, count_in_flight};
+ghost use Rattle.press_queue.specs.Entries.{entry_numbered, with_entry, with_status, place_of, put, put_again, moved_to, first_waiting, first_running, running_ones, count_in_flight};
 
 use crate::entry::Entry;
+use crate::status::Status;
 use indexmap::IndexMap;
 use std::alloc::AllocError;
 
@@ -25,6 +26,13 @@ pub fn replace(entries: &mut Entries, number: u64, entry: Entry)
     if let Some(slot) = entries.get_mut(&number) {
         *slot = entry;
     }
+}
+
+/// Gives an entry another status.
+pub fn set_status(entries: &mut Entries, number: u64, entry: Entry, status: Status)
+    ensures { entries.new.entries ≡ with_status number status entry entries.old.entries }
+{
+    replace(entries, number, Entry { status, ..entry });
 }
 
 /// The index of the first entry of lower priority, or the length.

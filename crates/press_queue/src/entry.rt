@@ -1,3 +1,5 @@
+//! An entry of the queue.
+
 ghost use Rattle.std.specs.Prelude.{◌≡◌};
 ghost use Rattle.press_queue.specs.Status.{is_in_flight, new_entry};
 

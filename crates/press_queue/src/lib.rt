@@ -5,6 +5,7 @@
 mod command;
 mod entries;
 mod entry;
+pub mod laws;
 mod queue;
 mod refusal;
 mod status;

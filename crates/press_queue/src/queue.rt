@@ -1,3 +1,5 @@
+//! The queue, and what each queue command does to it (CIP4 JDF 1.5, the queue commands).
+
 ghost use Rattle.std.specs.Prelude.{◌≡◌};
 ghost use Rattle.press_queue.specs.Priority.{priority_of, position_within};
 
@@ -32,25 +34,23 @@ pub struct Queue {
 }
 
 impl Model for Queue {
-    ghost use Rattle.std.specs.Prelude.{IsTrue};
-    ghost use Rattle.press_queue.specs.Entries.{are_up_to};
     ghost use Rattle.press_queue.specs.State.{QueueState};
 
     ghost Value = { QueueState };
 
+    ghost use Rattle.press_queue.specs.EveryQueue.{IsQueue};
     ghost use Rattle.press_queue.specs.Inside.{queue_state};
 
     ghost view = { queue_state };
 
-    ghost invariant = { λ q. IsTrue (are_up_to q.last q.entries.entries) };
+    ghost invariant = { λ q. IsQueue (queue_state q) };
 }
 
 impl Queue {
-    ghost use Rattle.std.specs.Prelude.{◌≡◌, None, IfOk, IsTrue, nat_eq};
-    ghost use Rattle.std.specs.List.{IsDistinct};
-    ghost use Rattle.std.specs.Map.{keys_of};
+    ghost use Rattle.std.specs.Prelude.{◌≡◌, None, IfOk, IsTrue};
     ghost use Rattle.press_queue.specs.Answers.{Submits};
     ghost use Rattle.press_queue.specs.Entries.{entry_numbered};
+    ghost use Rattle.press_queue.specs.EveryQueue.{IsQueue};
     ghost use Rattle.press_queue.specs.State.{empty_queue};
     ghost use Rattle.press_queue.specs.View.{shown};
     ghost use Rattle.press_queue.specs.Rows as rows;
@@ -104,13 +104,6 @@ impl Queue {
         }
     }
 
-    /// Gives an entry another status.
-    fn set_status(&mut self, number: u64, entry: Entry, status: Status)
-        ensures { self.new ≡ rows.set_status number status entry self.old }
-    {
-        entries::replace(&mut self.entries, number, Entry { status, ..entry });
-    }
-
     /// Holds an entry that waits.
     ///
     /// # Errors
@@ -120,7 +113,7 @@ impl Queue {
         ensures { (self.new, result) ≡ rows.hold number self.old }
     {
         let entry = self.legal_entry(EntryCommand::Hold, number)?;
-        self.set_status(number, entry, Status::Held);
+        entries::set_status(&mut self.entries, number, entry, Status::Held);
         Ok(())
     }
 
@@ -133,7 +126,7 @@ impl Queue {
         ensures { (self.new, result) ≡ rows.resume number self.old }
     {
         let entry = self.legal_entry(EntryCommand::Resume, number)?;
-        self.set_status(number, entry, Status::Waiting);
+        entries::set_status(&mut self.entries, number, entry, Status::Waiting);
         Ok(())
     }
 
@@ -149,7 +142,7 @@ impl Queue {
         if entries::count_in_flight(&self.entries) >= MAX_IN_FLIGHT {
             return Err(Refusal::InFlightFull);
         }
-        self.set_status(number, entry, Status::Suspended);
+        entries::set_status(&mut self.entries, number, entry, Status::Suspended);
         Ok(())
     }
 
@@ -162,7 +155,7 @@ impl Queue {
         ensures { (self.new, result) ≡ rows.abort number self.old }
     {
         let entry = self.legal_entry(EntryCommand::Abort, number)?;
-        self.set_status(number, entry, Status::Aborted);
+        entries::set_status(&mut self.entries, number, entry, Status::Aborted);
         Ok(())
     }
 
@@ -271,17 +264,18 @@ impl Queue {
         ensures { self.new ≡ rows.finish_entry number end self.old }
     {
         if let Some(entry) = entries::entry_numbered(&self.entries, number) {
-            self.set_status(number, entry, end.status());
+            entries::set_status(&mut self.entries, number, entry, end.status());
         }
     }
 
     /// Its entries, in order, its flags, and the last number that it gave.
+    ///
+    /// Of every queue: no number stands twice, and each is one that the queue gave; at most 64 entries are in the list, at
+    /// most one runs, and at most eight are in flight, of which at most seven do not run.
     pub fn status(&self) -> QueueView<'_>
         ensures shown { shown result ≡ self.now }
-        ensures distinct { IsDistinct nat_eq (keys_of self.now.entries) }
+        ensures bounds { IsQueue self.now }
     {
-        // The length is what says that no number stands twice.
-        let _count = self.entries.len();
         QueueView {
             entries: &self.entries,
             held: self.held,
@@ -328,7 +322,8 @@ impl Queue {
 
     /// The number of the first entry that runs.
     pub fn running(&self) -> Option<u64>
-        ensures { result ≡ rows.running self.now }
+        ensures value { result ≡ rows.running self.now }
+        ensures bounds { IsQueue self.now }
     {
         let (number, _) = entries::first_running(&self.entries)?;
         Some(number)

@@ -1,3 +1,5 @@
+//! Why the queue refuses a command, and the return codes.
+
 ghost use Rattle.std.specs.Prelude.{◌≡◌};
 ghost use Rattle.press_queue.specs.Refusal.{return_code_of};
 

@@ -1,3 +1,5 @@
+//! Where an entry stands, and where the queue does (CIP4 JDF 1.5, the statuses of queues and of their entries).
+
 ghost use Rattle.std.specs.Prelude.{◌≡◌};
 ghost use Rattle.press_queue.specs.Status.{is_waiting, is_running, has_ended, status_at_end};
 

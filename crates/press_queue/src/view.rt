@@ -1,3 +1,5 @@
+//! What a queue lends.
+
 use crate::entry::Entry;
 use indexmap::IndexMap;
 

@@ -1,11 +1,18 @@
-use Rattle.std.proofs.Common.{sym, ap, ◌∙◌}
+-- What is true of every queue is true after it.
+use Rattle.std.proofs.Common.{◌≡◌, Ok, sym, ap, ◌∙◌}
+use Rattle.press_queue.specs.declared.command.EntryCommand.TheVariants as commands
+use Rattle.press_queue.specs.Entries.{entry_numbered}
+use Rattle.press_queue.specs.Inside.{queue_state}
 use Rattle.press_queue.specs.Rows.{legal_entry}
-use Rattle.press_queue.specs.declared.command.EntryCommand.TheVariants.{SetPosition}
-use Rattle.press_queue.proofs.NumberLemmas.{up_to_moved_to}
+use Rattle.press_queue.proofs.NumberLemmas.{legal_there}
+use Rattle.press_queue.proofs.RowLemmas.{put_back-keeps}
 use Rattle.press_queue.proofs.queue.Queue.set_position.Goals as goal
 
 pub invariant_of-self : goal.invariant_of-self
 invariant_of-self c =
+    let queue = queue_state c.self.inside in
+    let legal : Ok c.in_ok-entry.entry ≡ legal_entry commands.SetPosition c.args.number queue.entries =
+    c.in_ok-entry.ensures ∙ ap (λ q. legal_entry commands.SetPosition c.args.number q.entries) (sym c.self.view_is) in
+    let there = legal_there commands.SetPosition (entry_numbered c.args.number queue.entries) c.in_ok-entry.entry legal in
     rw c.move_to.ensures
-    (up_to_moved_to c.self.inside.last c.in-Some.index c.args.number SetPosition c.in_ok-entry.entry c.self.inside.entries.entries c.self.invariant
-    (c.in_ok-entry.ensures ∙ ap (λ q. legal_entry SetPosition c.args.number q.entries) (sym c.self.view_is)))
+    (put_back-keeps c.in-Some.index c.args.number c.in_ok-entry.entry.priority c.in_ok-entry.entry queue there c.self.invariant)

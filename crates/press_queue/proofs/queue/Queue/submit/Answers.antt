@@ -1,12 +1,17 @@
-use Rattle.std.proofs.Common.{arith, ◌+◌}
-use Rattle.press_queue.proofs.NumberLemmas.{absent_above, up_to_put_next}
+-- The next number is free, and what is true of every queue is true after it.
+use Rattle.std.proofs.Common.{◌+◌, arith}
+use Rattle.press_queue.specs.Inside.{queue_state}
+use Rattle.press_queue.proofs.NumberLemmas.{absent_above}
+use Rattle.press_queue.proofs.RowLemmas.{submitted-keeps}
 use Rattle.press_queue.proofs.queue.Queue.submit.Goals as goal
 
 pub put-requires : goal.put-requires
-put-requires c = absent_above c.self.inside.last (c.self.inside.last + 1) c.self.inside.entries.entries (omega arith) c.self.invariant
+put-requires c = absent_above c.self.inside.last (c.self.inside.last + 1) c.self.inside.entries.entries (omega arith) c.self.invariant.given
 
 pub invariant_of-self-2 : goal.invariant_of-self-2
-invariant_of-self-2 c = rw c.in_ok-put.ensures.ok (up_to_put_next c.self.inside.last _ c.self.inside.entries.entries c.self.invariant)
+invariant_of-self-2 c =
+    rw (c.in_ok-put.ensures.ok, c.waiting.ensures) (submitted-keeps c.in-Some.priority (queue_state c.self.inside) (omega (arith, c.len.ensures.len)) c.self.invariant)
 
 pub returns-clause-fresh : goal.returns-clause-fresh
-returns-clause-fresh c = rw (← c.self.view_is) (absent_above c.self.inside.last (c.self.inside.last + 1) c.self.inside.entries.entries (omega arith) c.self.invariant)
+returns-clause-fresh c =
+    rw (← c.self.view_is) (absent_above c.self.inside.last (c.self.inside.last + 1) c.self.inside.entries.entries (omega arith) c.self.invariant.given)
