@@ -1,3 +1,5 @@
+//! A key of a JSON object that an answer names.
+
 use std::alloc::{AllocError, Global};
 use std::fmt;
 use std::marker::Model;

@@ -1,3 +1,5 @@
+//! The names of media and sides (CIP4 JDF 1.5; which there are is this profile's).
+
 ghost use Rattle.std.specs.Prelude.{◌≡◌};
 ghost use Rattle.press_ticket.specs.Names.{media_named, sides_named};
 

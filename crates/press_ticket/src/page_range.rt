@@ -1,3 +1,5 @@
+//! Ranges of pages (CIP4 JDF 1.5, run lists; this profile's form of them).
+
 ghost use Rattle.std.specs.Prelude.{◌≡◌, ◌<◌, ◌≤◌, ◌++◌, ℕ, nat_le, length, slice_get, Some, IfOk, IfSome, OnOk};
 ghost use Rattle.press_ticket.specs.Pages.{page_at, pages_of, page_order};
 

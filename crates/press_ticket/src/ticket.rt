@@ -1,3 +1,5 @@
+//! A job ticket (CIP4 JDF 1.5, the process DigitalPrinting).
+
 use crate::fault::TicketError;
 use crate::media::{Media, Sides};
 use crate::page_range::{MAX_PAGES, PageRange};

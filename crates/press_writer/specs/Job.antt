@@ -5,36 +5,22 @@ use Rattle.std.specs.Prelude.{ℕ, ◌<◌, ⊤, IfSome, ◌/◌, ◌%◌, ◌&&
 use Rattle.std.specs.List.{flat_map}
 use Rattle.press_bits.specs.Page.{Page}
 use Rattle.press_cmd.specs.Token.{Token, Escape, Control, Uel}
+use Rattle.press_page.specs.Media.{size_number, orientation_number, sides_number}
 use Rattle.press_page.specs.Settings.{most_copies}
+use Rattle.press_page.specs.declared.media.Orientation.TheVariants.{Portrait}
 use Rattle.press_ticket.specs.Ticket.{JobTicket}
-use Rattle.press_ticket.specs.declared.media.Media as names
-use Rattle.press_ticket.specs.declared.media.Media.TheVariants.{Letter, Legal, A4, Executive, Ledger, A3}
-use Rattle.press_ticket.specs.declared.media.Sides.{Sides}
-use Rattle.press_ticket.specs.declared.media.Sides.TheVariants.{OneSidedFront, TwoSidedHeadToHead, TwoSidedHeadToFoot}
 use Rattle.press_writer.specs.declared.part.Part.{Part}
 use Rattle.press_writer.specs.declared.part.Part.TheVariants.{Head, Front, Back, Tail}
 use Rattle.press_writer.specs.declared.plan.PrintRun.{PrintRun}
 use Rattle.press_writer.specs.declared.sequence.Sequence.TheVariants.{PageSize, Orientation, SimplexDuplex, TopMargin, Copies, SideSelection, RasterResolution}
 use Rattle.press_writer.specs.declared.sheet.SheetPages.{SheetPages}
+use Rattle.press_writer.specs.Medium.{page_size, wanted_sides}
 use Rattle.press_writer.specs.Picture.{picture}
 use Rattle.press_writer.specs.Sequences.{command, written}
 use Rattle.press_writer.specs.Sheets.{set_of}
 use Rattle.press_writer.specs.Wanted.{image_of}
 
--- the number of a page size, of sides, and of a side of a sheet, as the commands of those names have it
-abbrev pub size_number : names.Media → ℕ
-size_number Executive = 1
-size_number Letter = 2
-size_number Legal = 3
-size_number Ledger = 6
-size_number A4 = 26
-size_number A3 = 27
-
-abbrev pub sides_number : Sides → ℕ
-sides_number OneSidedFront = 0
-sides_number TwoSidedHeadToHead = 1
-sides_number TwoSidedHeadToFoot = 2
-
+-- the number of the front, as the command that selects a side of a sheet has it
 abbrev pub front_side : ℕ
 front_side = 1
 
@@ -48,8 +34,10 @@ form_feed_command = Control (code "\u{c}")
 -- Before the first page: the universal exit, a reset, the medium in portrait, no margin at the top, and the raster resolution.
 abbrev pub head : JobTicket → List Token
 head ticket =
-    Uel ∷ printer_reset ∷ command PageSize (size_number ticket.media) ∷ command Orientation 0
-    ∷ command SimplexDuplex (sides_number ticket.sides) ∷ command TopMargin 0 ∷ command RasterResolution 300 ∷ []
+    Uel ∷ printer_reset ∷ command PageSize (size_number (page_size ticket.media))
+    ∷ command Orientation (orientation_number Portrait)
+    ∷ command SimplexDuplex (sides_number (wanted_sides ticket.sides)) ∷ command TopMargin 0
+    ∷ command RasterResolution 300 ∷ []
 
 -- behind the last page
 abbrev pub tail : List Token

@@ -1,4 +1,5 @@
 pub mod Medium
+pub mod Faults
 pub mod Fitting
 pub mod Sheets
 pub mod Wanted

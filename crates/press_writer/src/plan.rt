@@ -1,3 +1,5 @@
+//! The sheets of a job, each with its copies, and its parts by their places.
+
 ghost use Rattle.std.specs.Prelude.{◌≡◌, ◌<◌, ◌≤◌, All, length, slice_get, Some, IfOk};
 ghost use Rattle.press_ticket.specs.Pages.{page_order};
 ghost use Rattle.press_writer.specs.Job.{batches};

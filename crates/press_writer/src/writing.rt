@@ -1,10 +1,12 @@
+//! The bytes of a job, part by part.
+
 ghost use Rattle.std.specs.Prelude.{◌≡◌, ◌<◌, ◌++◌, ◌⊎◌, [], None, Err, length, OnOk, OnErr, IfSome, IsSome, IfErr};
 ghost use Rattle.std.specs.List.{flat_map};
 ghost use Rattle.std.specs.Io.KnownBytes.{Appends};
 ghost use Rattle.press_pbm.specs.Spelling.{AppendsFront, Writes};
 ghost use Rattle.press_writer.specs.declared.fault.WriterError.TheVariants.{WriteFault, NoMemory};
 ghost use Rattle.press_writer.specs.Fitting.{refusal};
-ghost use Rattle.press_writer.specs.Job.{size_number, sides_number, head, tail, page, back_of, part_commands, part_bytes, FitsPart, job_bytes};
+ghost use Rattle.press_writer.specs.Job.{head, tail, page, back_of, part_commands, part_bytes, FitsPart, job_bytes};
 ghost use Rattle.press_writer.specs.Plan.{IsSmall, HasItsImages, plan_parts};
 ghost use Rattle.press_writer.specs.Printing.{PrintsTheTicket};
 ghost use Rattle.press_writer.specs.Sequences.{written};
@@ -12,14 +14,16 @@ ghost use Rattle.press_writer.specs.Sequences.{written};
 use crate::checking::check;
 use crate::commands::{push_command, push_commands};
 use crate::fault::WriterError;
+use crate::media::{page_size, printed_sides};
 use crate::part::Part;
 use crate::picture::push_picture;
 use crate::plan::Plan;
 use crate::sequence::Sequence;
 use press_bits::Bitmap;
 use press_cmd::{ESCAPE, UEL};
+use press_page::{Numbered, Orientation};
 use press_pbm::write_whole;
-use press_ticket::{Media, Sides, Ticket};
+use press_ticket::Ticket;
 use std::alloc::{AllocError, Global};
 use std::io::Write;
 
@@ -29,31 +33,6 @@ const RESET: [u8; 2] = [ESCAPE, b'E'];
 /// A form feed.
 const FORM_FEED: u8 = 12;
 
-/// The number of a page size.
-fn size_number(media: Media) -> u32
-    ensures { result ≡ size_number media }
-{
-    match media {
-        Media::Executive => 1,
-        Media::Letter => 2,
-        Media::Legal => 3,
-        Media::Ledger => 6,
-        Media::A4 => 26,
-        Media::A3 => 27,
-    }
-}
-
-/// The number of sides.
-fn sides_number(sides: Sides) -> u32
-    ensures { result ≡ sides_number sides }
-{
-    match sides {
-        Sides::OneSidedFront => 0,
-        Sides::TwoSidedHeadToHead => 1,
-        Sides::TwoSidedHeadToFoot => 2,
-    }
-}
-
 /// Appends what stands before the first page.
 fn push_head(out: &mut Vec<u8>, ticket: &Ticket) -> Result<(), AllocError>
     ensures { OnOk result (out.new.items ≡ out.old.items ++ written (head ticket.now)) }
@@ -61,9 +40,12 @@ fn push_head(out: &mut Vec<u8>, ticket: &Ticket) -> Result<(), AllocError>
     out.extend_from_slice(&UEL)?;
     out.extend_from_slice(&RESET)?;
     let settings = [
-        (Sequence::PageSize, size_number(ticket.media())),
-        (Sequence::Orientation, 0),
-        (Sequence::SimplexDuplex, sides_number(ticket.sides())),
+        (Sequence::PageSize, page_size(ticket.media()).number()),
+        (Sequence::Orientation, Orientation::Portrait.number()),
+        (
+            Sequence::SimplexDuplex,
+            printed_sides(ticket.sides()).number(),
+        ),
         (Sequence::TopMargin, 0),
         (Sequence::RasterResolution, 300),
     ];
