@@ -1,5 +1,6 @@
 mod AnswerLemmas
 mod EntryLemmas
+mod EventLemmas
 mod FloatLemmas
 mod FoundLemmas
 mod HandingLemmas

@@ -24,9 +24,9 @@ use Rattle.press_queue.specs.State.{QueueState}
 use Rattle.press_queue.specs.Status.{is_running, new_entry, status_at_end}
 use Rattle.press_core.specs.Inside.{EachRunning, HasPlace, IsSound}
 use Rattle.press_core.specs.Work.{Work}
-use Rattle.press_core.specs.World.{is_listed, landed_works}
+use Rattle.press_core.specs.World.{is_listed, works_without_job}
 use Rattle.press_core.proofs.EntryLemmas.{listed_set, listed_insert, listed_remove, running_set, running_insert, running_remove, first_is_numbered}
-use Rattle.press_core.proofs.WorkLemmas.{IsSound-landed, IsSound-submitted, none_runs_after}
+use Rattle.press_core.proofs.WorkLemmas.{IsSound-without_job, IsSound-submitted, none_runs_after}
 
 -- the same entries are listed, and none runs that did not
 pub record Keeps (old new : QueueState) : Type 1 where
@@ -188,15 +188,15 @@ still_at_end Completed = refl
 still_at_end Aborted = refl
 
 pub IsSound-finished : (number : ℕ) (end : End) (queue : QueueState) (works : List (ℕ × Work)) → rows.entry_runs number queue ≡ true → IsDistinct nat_eq (keys_of queue.entries)
-    → IsSound queue works → IsSound (rows.finish_entry number end queue) (landed_works number works)
+    → IsSound queue works → IsSound (rows.finish_entry number end queue) (works_without_job number works)
 IsSound-finished number end queue works runs distinct sound = at_entry (entry_numbered number queue.entries) refl
   where
-    at_entry : (o : Option Entry) → entry_numbered number queue.entries ≡ o → IsSound (rows.finish_entry number end queue) (landed_works number works)
+    at_entry : (o : Option Entry) → entry_numbered number queue.entries ≡ o → IsSound (rows.finish_entry number end queue) (works_without_job number works)
     at_entry None is = absurd (true≢false (sym runs ∙ ap (λ o. option_map_or (λ entry. is_running entry.status) o false) is))
     at_entry (Some entry) is =
         let new = rows.set_status number (status_at_end end) entry queue in
-        subst (λ o. IsSound (rows.finish_entry_at o number end queue) (landed_works number works)) (sym is)
-        (IsSound-landed number new works (none_runs_after number (status_at_end end) entry queue (still_at_end end) is distinct)
+        subst (λ o. IsSound (rows.finish_entry_at o number end queue) (works_without_job number works)) (sym is)
+        (IsSound-without_job number new works (none_runs_after number (status_at_end end) entry queue (still_at_end end) is distinct)
         (IsSound-kept queue new works (set_status_keeps number (status_at_end end) entry queue (still_at_end end)) sound))
 
 -- the entry that runs is the one of its number

@@ -59,12 +59,12 @@ may_go_on work o running is place stands going =
 pub advances : (work : Work) (o : Option RunningJob) (running new : RunningJob) (number : ℕ) (sheets : List Delivery) → o ≡ Some running → work.place ≡ option_map (λ r. r.steps) o
     → IfSome o (λ r. IsJobAt work r) → ((commands : List Token) → IsAt commands running.steps running.job → JobGoesOn commands number running new sheets)
     → (commands : List Token) → IsJobOf work commands
-    → (at_place (Some new.steps) work ≡ at_place (Some (place_in_job work + 1)) work) × (sheets ≡ under_tag number (sheets_from (place_in_job work) 1 commands))
+    → (at_place new.steps work ≡ at_place (place_in_job work + 1) work) × (sheets ≡ under_tag number (sheets_from (place_in_job work) 1 commands))
 advances work o running new number sheets is place stands goes commands job =
     let at = standing work o running is stands in
     let here = placed work o running is place in
     let on = goes commands (subst (λ cs. IsAt cs running.steps running.job) (IsJobOf-one work at.0 commands at.1 job) at.2) in
-    (ap (λ n. at_place (Some n) work) (on.next ∙ ap (λ n. n + 1) (sym here)), on.sheets_are ∙ ap (λ n. under_tag number (sheets_from n 1 commands)) (sym here))
+    (ap (λ n. at_place n work) (on.next ∙ ap (λ n. n + 1) (sym here)), on.sheets_are ∙ ap (λ n. under_tag number (sheets_from n 1 commands)) (sym here))
 
 pub on_err : {A E P : Type 0} (r : Result A E) → P → OnErr r P
 on_err (Ok a) p = tt

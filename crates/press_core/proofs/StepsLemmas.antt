@@ -17,7 +17,7 @@ use Rattle.press_core.specs.declared.turn.TurnError.TheVariants as errors
 use Rattle.press_core.specs.Handing.{HandsOver, TakesSteps}
 use Rattle.press_core.specs.Jobs.{Advances}
 use Rattle.press_core.specs.Turns.{IsJobOf, WereHandedOut, machine_at, place_in_job, sheets_from, steps_from}
-use Rattle.press_core.specs.Work.{Work, at_place, counting, with_delivered}
+use Rattle.press_core.specs.Work.{Work, at_place, counting, with_delivered, without_job}
 use Rattle.press_core.proofs.HandingLemmas.{handed_twice}
 use Rattle.press_core.proofs.JobLemmas.{IsJobOf-some}
 
@@ -53,7 +53,7 @@ no_steps number work told begun = record {
   left = at_place_in_job work.place refl begun;
   were = record { told = told-nothing told.delivered; faults = refl };
 } where
-  at_place_in_job : (o : Option ℕ) → work.place ≡ o → IsSome o → work ≡ at_place (Some (place_in_job work + 0)) (with_delivered [] work)
+  at_place_in_job : (o : Option ℕ) → work.place ≡ o → IsSome o → work ≡ at_place (place_in_job work + 0) (with_delivered [] work)
   at_place_in_job None is begun = absurd (true≢false (sym begun))
   at_place_in_job (Some place) is begun =
       let here : Some (place_in_job work + 0) ≡ work.place = rw is (ap (λ n. Some n) (omega arith)) in
@@ -86,7 +86,7 @@ may_step work over going begun ends within commands job =
 record OneStep (number : ℕ) (old now next : Work) (taken : ℕ) (handed others : List Sides) : Type 0 where
   pub here : (commands : List Token) → IsJobOf old commands → sheets_from (place_in_job old + taken) 1 commands ≡ handed ++ others
   pub within : (commands : List Token) → IsJobOf old commands → place_in_job old + taken < length commands
-  pub next_is : next ≡ at_place (Some (place_in_job old + taken + 1)) now
+  pub next_is : next ≡ at_place (place_in_job old + taken + 1) now
 
 one_step : (number taken : ℕ) (old now next : Work) (deliveries : List Delivery) (result : Result (Unit {0}) TurnError) (before between after : SheetsTold) (count : ℕ)
     → TakesSteps number taken old (Ok taken) now before between → Advances number now next deliveries
@@ -103,7 +103,7 @@ one_step number taken old now next deliveries result before between after count 
           ∙ sym (ap (λ n. sheets_in (under_tag number (sheets_from n 1 commands))) here)
           ∙ sym (ap sheets_in advanced.1) ∙ hands.sheets_are;
       within = λ commands job. subst (λ n. n < length commands) here (going commands (same_job number taken old now before between commands took job));
-      next_is = (advances some.0 (same_job number taken old now before between some.0 took some.1)).0 ∙ ap (λ n. at_place (Some (n + 1)) now) here;
+      next_is = (advances some.0 (same_job number taken old now before between some.0 took some.1)).0 ∙ ap (λ n. at_place (n + 1) now) here;
     }
 
 -- the sheets of the steps so far, and of one more
@@ -128,7 +128,7 @@ counting-append (sheet ∷ sheets) others count = counting-append sheets others 
 -- the count after the sheets so far and those of a step
 counts_on : (number taken : ℕ) (old now next : Work) (deliveries : List Delivery) (result : Result (Unit {0}) TurnError) (before between after : SheetsTold) (count : ℕ)
     → (took : TakesSteps number taken old (Ok taken) now before between) → (hands : HandsOver number (sheets_in deliveries) result between after next.delivered count)
-    → next ≡ at_place (Some (place_in_job old + taken + 1)) now → count ≡ counting (took.sheets ++ hands.handed) old.delivered
+    → next ≡ at_place (place_in_job old + taken + 1) now → count ≡ counting (took.sheets ++ hands.handed) old.delivered
 counts_on number taken old now next deliveries result before between after count took hands is =
     hands.count_is ∙ ap (λ (w : Work). counting hands.handed w.delivered) is ∙ ap (λ (w : Work). counting hands.handed w.delivered) took.left
     ∙ sym (counting-append took.sheets hands.handed old.delivered)
@@ -194,13 +194,13 @@ stopped_in_step number taken most old now next deliveries error before between a
 
 -- memory ran out before a step
 pub stopped_before_step : (number taken most : ℕ) (old now next : Work) (before after : SheetsTold) → TakesSteps number taken old (Ok taken) now before after
-    → next ≡ at_place None now → taken < most → TakesSteps number most old (Err errors.NoMemory) next before after
+    → next ≡ without_job now → taken < most → TakesSteps number most old (Err errors.NoMemory) next before after
 stopped_before_step number taken most old now next before after took is below = record {
   sheets = took.sheets;
   steps = λ commands job.
       let so_far = took.steps commands job in
       fronts (place_in_job old) taken most commands took.sheets [] (omega (arith, so_far.0, below)) (sym so_far.1 ∙ sym (append-nil took.sheets));
-  left = ap (at_place None) (is ∙ ap (at_place None) took.left);
+  left = ap (without_job) (is ∙ ap (without_job) took.left);
   were = record { told = took.were.told; faults = took.were.faults };
 }
 

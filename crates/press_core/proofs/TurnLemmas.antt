@@ -27,12 +27,12 @@ use Rattle.press_core.specs.declared.turn.TurnError.TheVariants.{SinkFault, NoMe
 use Rattle.press_core.specs.Handing.{IsAfterSteps, TakesSteps}
 use Rattle.press_core.specs.Inside.{Begins, EachRunning, HasPlace, IsSound, begun_work, begun_works, with_begun}
 use Rattle.press_core.specs.Turns.{EntrySteps, FaultsAfter, IsJobOf, NamesEntry, StepsTo, TakesTurn, TurnAt, WereHandedOut, aborted, after_steps, completed, is_idle, place_in_job, sheets_from, steps_from, steps_of, at_turn, at_turn_with}
-use Rattle.press_core.specs.Work.{Work, at_place, with_delivered}
-use Rattle.press_core.specs.World.{World, landed_works, with_queue, with_work, work_numbered}
+use Rattle.press_core.specs.Work.{Work, at_place, with_delivered, without_job}
+use Rattle.press_core.specs.World.{World, works_without_job, with_queue, with_work, work_numbered}
 use Rattle.press_core.proofs.EntryLemmas.{listed_set, none_runs, first_is_numbered, running_more, running_set}
 use Rattle.press_core.proofs.JobLemmas.{IsJobOf-some}
 use Rattle.press_core.proofs.SoundLemmas.{Keeps, IsSound-kept, set_status_keeps, still_at_end}
-use Rattle.press_core.proofs.WorkLemmas.{IsSound-landed, IsSound-set, none_runs_after, there_set}
+use Rattle.press_core.proofs.WorkLemmas.{IsSound-without_job, IsSound-set, none_runs_after, there_set}
 
 -- ---- a value set under a number
 
@@ -196,7 +196,7 @@ distinct_ended queue new number end begins distinct =
     (subst (λ ks. IsDistinct nat_eq ks) (sym (keys-set_value (nat_eq number) queue.entries (record begins.entry { status = status_at_end end; begun = true }))) distinct)
 
 pub IsSound-given_up : (queue new : QueueState) (works : List (ℕ × Work)) (number : ℕ) (end : End) → IsDistinct nat_eq (keys_of queue.entries) → IsBegun queue new number → IsSound queue works
-    → IsSound (rows.finish_entry number end new) (landed_works number works)
+    → IsSound (rows.finish_entry number end new) (works_without_job number works)
 IsSound-given_up queue new works number end distinct begins sound =
     let ended = record begins.entry { status = status_at_end end; begun = true } in
     let after = rows.with_entries (with_entry number ended queue.entries) queue in
@@ -207,12 +207,12 @@ IsSound-given_up queue new works number end distinct begins sound =
     let none = none_runs number after.entries ended
     (subst (λ ks. IsDistinct nat_eq ks) (sym (keys-set_value (nat_eq number) queue.entries ended)) distinct)
     (there_set number queue.entries begins.entry ended begins.there) (still_at_end end) in
-    subst (λ q. IsSound q (landed_works number works)) (sym (ended_is queue new number end begins))
-    (IsSound-landed number after works none (IsSound-kept queue after works keeps sound))
+    subst (λ q. IsSound q (works_without_job number works)) (sym (ended_is queue new number end begins))
+    (IsSound-without_job number after works none (IsSound-kept queue after works keeps sound))
 
 pub begins_given_up : (world : World) (number : ℕ) (new after : QueueState) (works : List (ℕ × Work)) (error : AllocError) → rows.running world.queue ≡ None
     → IsDistinct nat_eq (keys_of world.queue.entries) → IsSound world.queue world.works → (new, Some number) ≡ rows.begin world.queue
-    → after ≡ rows.finish_entry number Aborted new → works ≡ landed_works number world.works → Begins world (Err error) (record { queue = after; paused = world.paused; works = works })
+    → after ≡ rows.finish_entry number Aborted new → works ≡ works_without_job number world.works → Begins world (Err error) (record { queue = after; paused = world.paused; works = works })
 begins_given_up world number new after works error none distinct sound is ends lands = at_work (lookup (nat_eq number) world.works) refl
   where
     begins : IsBegun world.queue new number
@@ -222,7 +222,7 @@ begins_given_up world number new after works error none distinct sound is ends l
     at_work None there = absurd (true≢false (sym (has_work world.queue world.works number begins.entry sound begins.there) ∙ ap is_some there))
     at_work (Some work) there =
         let same = begins_at world new number none is in
-        let works_are = lands ∙ ap (λ o. option_map_or (λ w. set_value (nat_eq number) world.works (at_place None w)) o world.works) there in (
+        let works_are = lands ∙ ap (λ o. option_map_or (λ w. set_value (nat_eq number) world.works (without_job w)) o world.works) there in (
           number,
           work,
           ap (λ r. r.1) same,
@@ -232,11 +232,11 @@ begins_given_up world number new after works error none distinct sound is ends l
         )
 
 -- a work that is given up after another stood for it
-pub landed_set : (number : ℕ) (works : List (ℕ × Work)) (old work : Work) → lookup (nat_eq number) works ≡ Some old
-    → landed_works number (set_value (nat_eq number) works work) ≡ set_value (nat_eq number) works (at_place None work)
-landed_set number works old work there =
-    ap (λ o. option_map_or (λ w. set_value (nat_eq number) (set_value (nat_eq number) works work) (at_place None w)) o (set_value (nat_eq number) works work)) (there_set number works old work there)
-    ∙ set_twice number works work (at_place None work)
+pub without_job_set : (number : ℕ) (works : List (ℕ × Work)) (old work : Work) → lookup (nat_eq number) works ≡ Some old
+    → works_without_job number (set_value (nat_eq number) works work) ≡ set_value (nat_eq number) works (without_job work)
+without_job_set number works old work there =
+    ap (λ o. option_map_or (λ w. set_value (nat_eq number) (set_value (nat_eq number) works work) (without_job w)) o (set_value (nat_eq number) works work)) (there_set number works old work there)
+    ∙ set_twice number works work (without_job work)
 
 -- ---- the entry that runs ends
 
@@ -256,29 +256,29 @@ IsSound-ended number end queue works work runs distinct sound = at_entry (entry_
 -- ---- steps
 
 -- what steps leave, where the job goes on, is at its end, or met a fault
-pub leaves_going : (world : World) (number steps : ℕ) (old new : Work) (sheets : List Sides) (commands : List Token) → new ≡ at_place (Some (place_in_job old + steps)) (with_delivered sheets old)
+pub leaves_going : (world : World) (number steps : ℕ) (old new : Work) (sheets : List Sides) (commands : List Token) → new ≡ at_place (place_in_job old + steps) (with_delivered sheets old)
     → nat_eq (place_in_job new) (length commands) ≡ false → with_work number new world ≡ after_steps number old commands (Ok steps) sheets world
 leaves_going world number steps old new sheets commands left going =
     let e : (place_in_job old + steps == length commands) ≡ false = sym (ap (λ (w : Work). nat_eq (place_in_job w) (length commands)) left) ∙ going in
     rw e (ap (λ (w : Work). with_work number w world) left)
 
-pub leaves_over : (world : World) (number steps : ℕ) (old new : Work) (sheets : List Sides) (commands : List Token) → new ≡ at_place (Some (place_in_job old + steps)) (with_delivered sheets old)
+pub leaves_over : (world : World) (number steps : ℕ) (old new : Work) (sheets : List Sides) (commands : List Token) → new ≡ at_place (place_in_job old + steps) (with_delivered sheets old)
     → nat_eq (place_in_job new) (length commands) ≡ true → completed number new world ≡ after_steps number old commands (Ok steps) sheets world
 leaves_over world number steps old new sheets commands left over =
     let e : (place_in_job old + steps == length commands) ≡ true = sym (ap (λ (w : Work). nat_eq (place_in_job w) (length commands)) left) ∙ over in
     rw e (ap (λ (w : Work). completed number w world) left)
 
-pub leaves_fault : (world : World) (number : ℕ) (error : TurnError) (old new : Work) (sheets : List Sides) (commands : List Token) → at_place None new ≡ at_place None (with_delivered sheets old)
+pub leaves_fault : (world : World) (number : ℕ) (error : TurnError) (old new : Work) (sheets : List Sides) (commands : List Token) → without_job new ≡ without_job (with_delivered sheets old)
     → aborted number new world ≡ after_steps number old commands (Err error) sheets world
 leaves_fault world number error old new sheets commands left =
     ap (λ (w : Work). record world { queue = rows.finish_entry number Aborted world.queue; works = set_value (nat_eq number) world.works w }) left
 
 pub after_ok : (old new : Work) (result : Result ℕ TurnError) (steps : ℕ) (sheets : List Sides) → result ≡ Ok steps → IsAfterSteps old result sheets new
-    → new ≡ at_place (Some (place_in_job old + steps)) (with_delivered sheets old)
+    → new ≡ at_place (place_in_job old + steps) (with_delivered sheets old)
 after_ok old new result steps sheets is left = subst (λ r. IsAfterSteps old r sheets new) is left
 
 pub after_err : (old new : Work) (result : Result ℕ TurnError) (error : TurnError) (sheets : List Sides) → result ≡ Err error → IsAfterSteps old result sheets new
-    → at_place None new ≡ at_place None (with_delivered sheets old)
+    → without_job new ≡ without_job (with_delivered sheets old)
 after_err old new result error sheets is left = subst (λ r. IsAfterSteps old r sheets new) is left
 
 abbrev pub the_world : QueueState → Bool → List (ℕ × Work) → World
@@ -286,11 +286,11 @@ the_world queue paused works = record { queue = queue; paused = paused; works = 
 
 -- the world after an entry that ran ended, by what its queue and its works are
 pub ended_world : (world : World) (number : ℕ) (end : End) (old new : Work) (queue : QueueState) (works : List (ℕ × Work)) → work_numbered number world ≡ Some old
-    → queue ≡ rows.finish_entry number end world.queue → works ≡ landed_works number (set_value (nat_eq number) world.works new)
-    → record { queue = queue; paused = world.paused; works = works } ≡ with_queue (rows.finish_entry number end world.queue) (with_work number (at_place None new) world)
+    → queue ≡ rows.finish_entry number end world.queue → works ≡ works_without_job number (set_value (nat_eq number) world.works new)
+    → record { queue = queue; paused = world.paused; works = works } ≡ with_queue (rows.finish_entry number end world.queue) (with_work number (without_job new) world)
 ended_world world number end old new queue works there ends lands =
     ap (λ q. record { queue = q; paused = world.paused; works = works }) ends
-    ∙ ap (λ ws. record { queue = rows.finish_entry number end world.queue; paused = world.paused; works = ws }) (lands ∙ landed_set number world.works old new there)
+    ∙ ap (λ ws. record { queue = rows.finish_entry number end world.queue; paused = world.paused; works = ws }) (lands ∙ without_job_set number world.works old new there)
 
 -- the steps of an entry, from those of its work
 pub entry_steps : (world : World) (number most : ℕ) (old new : Work) (result : Result ℕ TurnError) (before after : SheetsTold) (next : World) → work_numbered number world ≡ Some old
@@ -327,10 +327,10 @@ after_begun : (world : World) (number : ℕ) (work : Work) (commands : List Toke
     → after_steps number (begun_work work) commands result sheets (with_begun number world) ≡ after_steps number work commands result sheets world
 after_begun world number work commands (Ok steps) sheets is =
     ifs (place_in_job work + steps == length commands) _ _ _ _
-    (ap (λ works. record world { queue = rows.finish_entry number Completed world.queue; works = works }) (begun_again number world.works work (at_place None (with_delivered sheets work)) is))
-    (ap (λ works. record world { works = works }) (begun_again number world.works work (at_place (Some (place_in_job work + steps)) (with_delivered sheets work)) is))
+    (ap (λ works. record world { queue = rows.finish_entry number Completed world.queue; works = works }) (begun_again number world.works work (without_job (with_delivered sheets work)) is))
+    (ap (λ works. record world { works = works }) (begun_again number world.works work (at_place (place_in_job work + steps) (with_delivered sheets work)) is))
 after_begun world number work commands (Err error) sheets is =
-    ap (λ works. record world { queue = rows.finish_entry number Aborted world.queue; works = works }) (begun_again number world.works work (at_place None (with_delivered sheets work)) is)
+    ap (λ works. record world { queue = rows.finish_entry number Aborted world.queue; works = works }) (begun_again number world.works work (without_job (with_delivered sheets work)) is)
 
 steps_begun : (work : Work) (commands : List Token) (most : ℕ) (result : Result ℕ TurnError) (sheets : List Sides) → StepsTo (begun_work work) commands most result sheets
     → StepsTo work commands most result sheets

@@ -14,8 +14,8 @@ use Rattle.press_queue.specs.Rows as rows
 use Rattle.press_queue.specs.State.{QueueState}
 use Rattle.press_queue.specs.Status.{is_running, new_entry}
 use Rattle.press_core.specs.Inside.{EachRunning, HasPlace, IsSound}
-use Rattle.press_core.specs.Work.{Work, at_place}
-use Rattle.press_core.specs.World.{is_listed, landed_works, works_listed}
+use Rattle.press_core.specs.Work.{Work, without_job}
+use Rattle.press_core.specs.World.{is_listed, works_without_job, works_listed}
 use Rattle.press_core.proofs.EntryLemmas.{listed_set, listed_insert, listed_append, listed_less, listed_filter, running_insert, running_remove, running_filter, running_more, running_both, none_runs}
 
 -- ---- works of entries that are gone
@@ -67,14 +67,14 @@ IsSound-set number queue works work none sound = record {
       (running_both (HasPlace works) (λ n. nat_eq n number ≡ false) queue.entries sound.begun none);
 }
 
--- it may land
-pub IsSound-landed : (number : ℕ) (queue : QueueState) (works : List (ℕ × Work)) → EachRunning (λ n. nat_eq n number ≡ false) queue.entries → IsSound queue works
-    → IsSound queue (landed_works number works)
-IsSound-landed number queue works none sound = at_work (lookup (nat_eq number) works) refl
+-- it may drop_job
+pub IsSound-without_job : (number : ℕ) (queue : QueueState) (works : List (ℕ × Work)) → EachRunning (λ n. nat_eq n number ≡ false) queue.entries → IsSound queue works
+    → IsSound queue (works_without_job number works)
+IsSound-without_job number queue works none sound = at_work (lookup (nat_eq number) works) refl
   where
-    at_work : (o : Option Work) → lookup (nat_eq number) works ≡ o → IsSound queue (landed_works number works)
+    at_work : (o : Option Work) → lookup (nat_eq number) works ≡ o → IsSound queue (works_without_job number works)
     at_work None is = rw is sound
-    at_work (Some work) is = rw is (IsSound-set number queue works (at_place None work) none sound)
+    at_work (Some work) is = rw is (IsSound-set number queue works (without_job work) none sound)
 
 pub there_set : {X : Type 0} (number : ℕ) (es : List (ℕ × X)) (old new : X) → lookup (nat_eq number) es ≡ Some old → lookup (nat_eq number) (set_value (nat_eq number) es new) ≡ Some new
 there_set number [] old new there = absurd (cc)

@@ -7,12 +7,11 @@ use Rattle.press_cmd.specs.Token.{Token}
 use Rattle.press_queue.specs.declared.entry.Entry.{Entry}
 use Rattle.press_queue.specs.State.{QueueState}
 use Rattle.press_queue.specs.Status.{is_running}
-use Rattle.press_writer.specs.Fitting.{refusal}
 use Rattle.press_core.specs.declared.work.RunningJob.{RunningJob}
 use Rattle.press_core.specs.declared.work.Work.TheInside.{Inside}
 use Rattle.press_core.specs.Jobs.{IsAt}
 use Rattle.press_core.specs.Turns.{IsJobOf, aborted, place_in_job, at_turn}
-use Rattle.press_core.specs.Work.{Work, at_place}
+use Rattle.press_core.specs.Work.{Work, IsPrintable, at_place}
 use Rattle.press_core.specs.World.{World, is_listed, with_queue, work_numbered}
 
 abbrev pub work_of : Inside → Work
@@ -27,9 +26,9 @@ work_of work = record {
 abbrev pub IsJobAt : Work → RunningJob → Type 0
 IsJobAt work running = (commands : List Token) × IsJobOf work commands × IsAt commands running.steps running.job
 
--- Its ticket can be printed with its images, and its job stands at its place.
+-- Its ticket is printed with its images, and its job stands at its place.
 pub record IsSoundWork (work : Inside) : Type 0 where
-  pub printable : refusal (work_of work).ticket (work_of work).images ≡ None
+  pub printable : IsPrintable (work_of work).ticket (work_of work).images
   pub stands : IfSome work.running (λ running. IsJobAt (work_of work) running)
 
 -- the entry of this number has begun: its work has a place in its job
@@ -43,7 +42,7 @@ EachRunning P (e ∷ entries) = (is_running e.1.status ≡ true → P e.0) × Ea
 
 -- a work that has begun: at the place that it had, or at the first
 abbrev pub begun_work : Work → Work
-begun_work work = at_place (Some (place_in_job work)) work
+begun_work work = at_place (place_in_job work) work
 
 abbrev pub begun_works : ℕ → List (ℕ × Work) → List (ℕ × Work)
 begun_works number works =

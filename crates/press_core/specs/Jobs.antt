@@ -32,4 +32,4 @@ pub record JobGoesOn (commands : List Token) (number : ℕ) (old new : RunningJo
 abbrev pub Advances : (number : ℕ) (old new : Work) → List Delivery → Type 0
 Advances number old new sheets =
     (commands : List Token) → IsJobOf old commands
-    → (new ≡ at_place (Some (place_in_job old + 1)) old) × (sheets ≡ under_tag number (sheets_from (place_in_job old) 1 commands))
+    → (new ≡ at_place (place_in_job old + 1) old) × (sheets ≡ under_tag number (sheets_from (place_in_job old) 1 commands))

@@ -13,3 +13,4 @@ pub mod Events
 pub mod Jobs
 pub mod Inside
 pub mod Handing
+pub mod Laws

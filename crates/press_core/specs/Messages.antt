@@ -33,24 +33,35 @@ pub record Heading : Type 0 where
 abbrev pub headed : (type_name id : List ℕ) → Heading
 headed type_name id = record { type_name = type_name; id = id }
 
+-- The return codes of messages that are not carried out: of no type that there is; that say what they may not; that lack what
+-- they have to have. Those of the queue are its own.
+abbrev pub unknown_code : ℕ
+unknown_code = 5
+
+abbrev pub wrong_code : ℕ
+wrong_code = 6
+
+abbrev pub absent_code : ℕ
+absent_code = 7
+
 -- A return code, and the number of a fault of ticket or images, if there is one.
 abbrev pub refused_with : ℕ → Refused
 refused_with code = record { code = code; fault = None }
 
-abbrev pub for_fault : ℕ → Refused
-for_fault number = record { code = 6; fault = Some number }
+abbrev pub for_fault : Option ℕ → Refused
+for_fault number = record { code = wrong_code; fault = number }
 
 -- an absent member, and one of another kind
 abbrev pub for_parameter : ParameterFault → Refused
-for_parameter Absent = refused_with 7
-for_parameter WrongKind = refused_with 6
+for_parameter Absent = refused_with absent_code
+for_parameter WrongKind = refused_with wrong_code
 
 -- no message, and a message of no type that there is
 abbrev pub no_message : Refused
-no_message = refused_with 6
+no_message = refused_with wrong_code
 
 abbrev pub unknown_type : Refused
-unknown_type = refused_with 5
+unknown_type = refused_with unknown_code
 
 -- The type of a message with its heading, or the refusal of one that has none, with as much of the heading as it has.
 abbrev pub Headed : Type 0

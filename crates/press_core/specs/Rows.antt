@@ -1,6 +1,7 @@
 -- What each message does to the world of a press, and what it is answered (CIP4 JDF 1.5, queue commands and queries of JMF;
 -- this profile).
-use Rattle.std.specs.Prelude.{ℕ, ℤ, pos, List, Option, Some, None, Result, Ok, Err, ok_or, codes}
+use Rattle.std.specs.Prelude.{ℕ, ℤ, pos, List, Option, Some, None, Result, Ok, Err, ok_or, option_map, option_and_then, codes}
+use Rattle.std.specs.Result.{result_ok}
 use Rattle.serde_json.specs.Data.{Data, string}
 use Rattle.press_bits.specs.Page.{Page}
 use Rattle.press_queue.specs.declared.refusal.Refusal.{Refusal}
@@ -9,14 +10,16 @@ use Rattle.press_queue.specs.Refusal.{return_code_of}
 use Rattle.press_queue.specs.Rows as rows
 use Rattle.press_queue.specs.State.{QueueState}
 use Rattle.press_ticket.specs.declared.fault.TicketError.{TicketError}
-use Rattle.press_ticket.specs.declared.fault.TicketError.TheVariants as ticket_errors
+use Rattle.press_ticket.specs.Faults as tickets
 use Rattle.press_ticket.specs.Members.{as_whole}
 use Rattle.press_ticket.specs.Reading.{ticket_from}
 use Rattle.press_ticket.specs.Ticket.{JobTicket}
 use Rattle.press_writer.specs.declared.fault.WriterError.{WriterError}
-use Rattle.press_writer.specs.declared.fault.WriterError.TheVariants as writer_errors
+use Rattle.press_writer.specs.Faults as writers
 use Rattle.press_writer.specs.Fitting.{refusal}
 use Rattle.press_core.specs.declared.fault.Refused.{Refused}
+use Rattle.press_core.specs.declared.flag.FlagCommand.{FlagCommand}
+use Rattle.press_core.specs.declared.flag.FlagCommand.TheVariants as flags
 use Rattle.press_core.specs.declared.message_type.MessageType.{MessageType}
 use Rattle.press_core.specs.declared.message_type.MessageType.TheVariants as types
 use Rattle.press_core.specs.Listings.{entry_id, number_with_id, listed_queue, listed_device}
@@ -24,7 +27,7 @@ use Rattle.press_core.specs.Messages.{Heading, Headed, heading_of, message_in, n
 use Rattle.press_core.specs.Parameters.{Found, optional_parameter, both_found, text_parameter, whole_parameter, object_parameter}
 use Rattle.press_core.specs.Response.{Addition, adding, accepted_text, refused_text, no_heading}
 use Rattle.press_core.specs.Work.{new_work}
-use Rattle.press_core.specs.World.{World, with_queue, with_new_work, without_gone, landed, device}
+use Rattle.press_core.specs.World.{World, with_queue, with_new_work, without_gone, without_job_of, device}
 
 -- What a message is answered, and the world after it: what the response adds, or why nothing was done.
 abbrev pub MessageAnswer : Type 0
@@ -100,29 +103,13 @@ entry_number_row key message world row =
     with_named (named_entry_with key message world.queue) world (λ both.
     after_queue_row (row both.0 both.1 world.queue) world (λ _ after. accepting after))
 
--- The numbers of the refusals of tickets and of images.
-abbrev pub ticket_fault : TicketError → ℕ
-ticket_fault ticket_errors.NotJson = 601
-ticket_fault (ticket_errors.NotProfile key) = 602
-ticket_fault ticket_errors.WrongProcess = 603
-ticket_fault ticket_errors.BadRange = 604
-ticket_fault ticket_errors.BadAmount = 605
-ticket_fault ticket_errors.NoMemory = 0
-
-abbrev pub image_fault : WriterError → ℕ
-image_fault writer_errors.PageMissing = 611
-image_fault writer_errors.TooWide = 612
-image_fault writer_errors.TooTall = 613
-image_fault writer_errors.WriteFault = 614
-image_fault writer_errors.NoMemory = 0
-
 -- A ticket that can be printed with these images.
 abbrev pub fitting : JobTicket → Option WriterError → Result JobTicket Refused
 fitting ticket None = Ok ticket
-fitting ticket (Some error) = Err (for_fault (image_fault error))
+fitting ticket (Some error) = Err (for_fault (writers.fault_number error))
 
 abbrev pub fitting_ticket : List Page → Result JobTicket TicketError → Result JobTicket Refused
-fitting_ticket images (Err error) = Err (for_fault (ticket_fault error))
+fitting_ticket images (Err error) = Err (for_fault (tickets.fault_number error))
 fitting_ticket images (Ok ticket) = fitting ticket (refusal ticket images)
 
 -- the priority of an entry where none is given
@@ -154,21 +141,28 @@ submit_row message images world =
     telling (adding (codes "QueueEntryID") (string (entry_id number)))
     (with_new_work number (new_work both.0 images) after)))
 
+-- a command that sets a flag of the queue
+abbrev pub flagged : FlagCommand → QueueState → QueueState
+flagged flags.Hold queue = rows.hold_queue queue
+flagged flags.Resume queue = rows.resume_queue queue
+flagged flags.Open queue = rows.open_queue queue
+flagged flags.Close queue = rows.close_queue queue
+
 -- The row of each type of message.
 abbrev pub answered : MessageType → Data → List Page → World → MessageAnswer
 answered types.SubmitQueueEntry message images world = submit_row message images world
 answered types.HoldQueueEntry message images world = entry_row message world rows.hold (λ number after. accepting after)
 answered types.ResumeQueueEntry message images world = entry_row message world rows.resume (λ number after. accepting after)
-answered types.AbortQueueEntry message images world = entry_row message world rows.abort (λ number after. accepting (landed number after))
+answered types.AbortQueueEntry message images world = entry_row message world rows.abort (λ number after. accepting (without_job_of number after))
 answered types.RemoveQueueEntry message images world =
     entry_row message world rows.remove (λ number after.
     telling (adding (codes "Status") (string (codes "Removed"))) (without_gone after))
 answered types.SetQueueEntryPriority message images world = entry_number_row (codes "Priority") message world rows.set_priority
 answered types.SetQueueEntryPosition message images world = entry_number_row (codes "Position") message world rows.set_position
-answered types.HoldQueue message images world = accepting (with_queue (rows.hold_queue world.queue) world)
-answered types.ResumeQueue message images world = accepting (with_queue (rows.resume_queue world.queue) world)
-answered types.OpenQueue message images world = accepting (with_queue (rows.open_queue world.queue) world)
-answered types.CloseQueue message images world = accepting (with_queue (rows.close_queue world.queue) world)
+answered types.HoldQueue message images world = accepting (with_queue (flagged flags.Hold world.queue) world)
+answered types.ResumeQueue message images world = accepting (with_queue (flagged flags.Resume world.queue) world)
+answered types.OpenQueue message images world = accepting (with_queue (flagged flags.Open world.queue) world)
+answered types.CloseQueue message images world = accepting (with_queue (flagged flags.Close world.queue) world)
 answered types.FlushQueue message images world = accepting (without_gone (with_queue (rows.flush world.queue) world))
 answered types.QueueStatus message images world = telling (adding (codes "Queue") (listed_queue world.queue)) world
 answered types.Status message images world = telling (adding (codes "Device") (listed_device (device world))) world
@@ -185,6 +179,18 @@ responding_to (Ok headed) message images world = responding headed.0 (answered h
 abbrev pub responding_in : Option Data → List Page → World → List ℕ × World
 responding_in None images world = (refused_text no_heading no_message, world)
 responding_in (Some message) images world = responding_to (heading_of message) message images world
+
+-- The ticket that a message submits with these images, if it does.
+abbrev pub ticket_of_type : MessageType → Data → List Page → Option JobTicket
+ticket_of_type types.SubmitQueueEntry message images = option_map (λ both. both.0) (result_ok (submission message images))
+ticket_of_type other message images = None
+
+abbrev pub ticket_of_headed : Headed → Data → List Page → Option JobTicket
+ticket_of_headed (Err stopped) message images = None
+ticket_of_headed (Ok headed) message images = ticket_of_type headed.1 message images
+
+abbrev pub ticket_in : (text : List ℕ) → List Page → Option JobTicket
+ticket_in text images = option_and_then (λ message. ticket_of_headed (heading_of message) message images) (message_in text)
 
 -- The response to a text with images, byte for byte, and the world after it.
 abbrev pub responded : (text : List ℕ) → List Page → World → List ℕ × World

@@ -1,6 +1,7 @@
 //! What each message does to a press. The response is made before anything changes.
 
 use crate::fault::{Refused, Stop};
+use crate::flag::FlagCommand;
 use crate::heading::Heading;
 use crate::listings::{entry_id, listed_device, listed_queue, number_with_id};
 use crate::message_type::MessageType;
@@ -9,7 +10,7 @@ use crate::press::Press;
 use crate::response::{accepted, text};
 use crate::submission::submission;
 use crate::work::Work;
-use crate::works::{enter, forget_gone, land};
+use crate::works::{drop_job, enter, forget_gone};
 use press_bits::Bitmap;
 use press_queue::Refusal;
 use serde_json::Value;
@@ -27,7 +28,8 @@ impl Press {
     ghost use Rattle.press_core.specs.Response.{adding, accepted_text};
     ghost use Rattle.press_core.specs.Rows as table;
     ghost use Rattle.press_core.specs.Shown.{shown_heading};
-    ghost use Rattle.press_core.specs.Stops.{AnswersMessage};
+    ghost use Rattle.press_core.specs.declared.message_type.MessageType.TheVariants.{SubmitQueueEntry};
+    ghost use Rattle.press_core.specs.Stops.{AnswersMessage, Accepts};
     ghost use Rattle.press_core.specs.World as world;
 
     /// Carries a message out. The response is made before anything changes.
@@ -38,9 +40,11 @@ impl Press {
         message: &Value,
         images: &[Bitmap],
     ) -> Result<Vec<u8>, Stop>
-        ensures { AnswersMessage
+        ensures answers { AnswersMessage
             (table.answered message_type (view message.now) images.now self.old)
             self.old (shown_heading heading.entry) result self.new }
+        ensures printable { Accepts
+            (table.ticket_of_type message_type (view message.now) images.now) images.now result }
     {
         match message_type {
             MessageType::SubmitQueueEntry => self.submit(heading, message, images),
@@ -52,10 +56,10 @@ impl Press {
             MessageType::SetQueueEntryPosition => self.set_position(heading, message),
             MessageType::QueueStatus => self.tell_queue(heading),
             MessageType::Status => self.tell_device(heading),
-            MessageType::HoldQueue => self.hold_queue(heading),
-            MessageType::ResumeQueue => self.resume_queue(heading),
-            MessageType::OpenQueue => self.open_queue(heading),
-            MessageType::CloseQueue => self.close_queue(heading),
+            MessageType::HoldQueue => self.set_flag(heading, FlagCommand::Hold),
+            MessageType::ResumeQueue => self.set_flag(heading, FlagCommand::Resume),
+            MessageType::OpenQueue => self.set_flag(heading, FlagCommand::Open),
+            MessageType::CloseQueue => self.set_flag(heading, FlagCommand::Close),
             MessageType::FlushQueue => self.flush(heading),
         }
     }
@@ -98,8 +102,10 @@ impl Press {
         message: &Value,
         images: &[Bitmap],
     ) -> Result<Vec<u8>, Stop>
-        ensures { AnswersMessage (table.submit_row (view message.now) images.now self.old)
+        ensures answers { AnswersMessage (table.submit_row (view message.now) images.now self.old)
             self.old (shown_heading heading.entry) result self.new }
+        ensures printable { Accepts
+            (table.ticket_of_type SubmitQueueEntry (view message.now) images.now) images.now result }
     {
         let (ticket, priority) = submission(self.alloc, message, images)?;
         let response = self.entered(heading)?;
@@ -147,13 +153,13 @@ impl Press {
     /// Aborts an entry that did not end, and its job with it.
     fn abort(&mut self, heading: Heading<'_>, message: &Value) -> Result<Vec<u8>, Stop>
         ensures { AnswersMessage (table.entry_row (view message.now) self.old rows.abort
-            (λ number after. table.accepting (world.landed number after)))
+            (λ number after. table.accepting (world.without_job_of number after)))
             self.old (shown_heading heading.entry) result self.new }
     {
         let number = self.named_entry(message)?;
         let response = accepted(self.alloc, heading, None)?;
         self.queue.abort(number)?;
-        land(&mut self.works, number);
+        drop_job(&mut self.works, number);
         Ok(response)
     }
 
@@ -219,47 +225,19 @@ impl Press {
         Ok(accepted(self.alloc, heading, Some(("Device", device)))?)
     }
 
-    /// From now on no entry begins.
-    fn hold_queue(&mut self, heading: Heading<'_>) -> Result<Vec<u8>, Stop>
+    /// Sets a flag of the queue.
+    fn set_flag(&mut self, heading: Heading<'_>, command: FlagCommand) -> Result<Vec<u8>, Stop>
         ensures { AnswersMessage
-            (table.accepting (world.with_queue (rows.hold_queue self.old.queue) self.old))
+            (table.accepting (world.with_queue (table.flagged command self.old.queue) self.old))
             self.old (shown_heading heading.entry) result self.new }
     {
         let response = accepted(self.alloc, heading, None)?;
-        self.queue.hold_queue();
-        Ok(response)
-    }
-
-    /// Entries begin again.
-    fn resume_queue(&mut self, heading: Heading<'_>) -> Result<Vec<u8>, Stop>
-        ensures { AnswersMessage
-            (table.accepting (world.with_queue (rows.resume_queue self.old.queue) self.old))
-            self.old (shown_heading heading.entry) result self.new }
-    {
-        let response = accepted(self.alloc, heading, None)?;
-        self.queue.resume_queue();
-        Ok(response)
-    }
-
-    /// New entries are taken again.
-    fn open_queue(&mut self, heading: Heading<'_>) -> Result<Vec<u8>, Stop>
-        ensures { AnswersMessage
-            (table.accepting (world.with_queue (rows.open_queue self.old.queue) self.old))
-            self.old (shown_heading heading.entry) result self.new }
-    {
-        let response = accepted(self.alloc, heading, None)?;
-        self.queue.open_queue();
-        Ok(response)
-    }
-
-    /// From now on no new entry is taken.
-    fn close_queue(&mut self, heading: Heading<'_>) -> Result<Vec<u8>, Stop>
-        ensures { AnswersMessage
-            (table.accepting (world.with_queue (rows.close_queue self.old.queue) self.old))
-            self.old (shown_heading heading.entry) result self.new }
-    {
-        let response = accepted(self.alloc, heading, None)?;
-        self.queue.close_queue();
+        match command {
+            FlagCommand::Hold => self.queue.hold_queue(),
+            FlagCommand::Resume => self.queue.resume_queue(),
+            FlagCommand::Open => self.queue.open_queue(),
+            FlagCommand::Close => self.queue.close_queue(),
+        }
         Ok(response)
     }
 

@@ -4,8 +4,10 @@
 mod commands;
 mod device;
 mod fault;
+mod flag;
 mod handing;
 mod heading;
+pub mod laws;
 mod listings;
 mod message_type;
 mod no_replies;

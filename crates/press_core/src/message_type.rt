@@ -1,3 +1,5 @@
+//! The types of messages (CIP4 JDF 1.5, queue commands and queries of JMF).
+
 ghost use Rattle.std.specs.Prelude.{◌≡◌};
 ghost use Rattle.press_core.specs.Messages.{type_named};
 

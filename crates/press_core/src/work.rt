@@ -10,8 +10,7 @@ ghost use Rattle.press_core.specs.Handing.{TakesSteps};
 ghost use Rattle.press_core.specs.Inside.{begun_work};
 ghost use Rattle.press_core.specs.Jobs.{IsAt, JobGoesOn, Advances, job_at_start};
 ghost use Rattle.press_core.specs.Turns.{IsJobOf, place_in_job};
-ghost use Rattle.press_writer.specs.Fitting.{refusal};
-ghost use Rattle.press_core.specs.Work.{new_work, at_place};
+ghost use Rattle.press_core.specs.Work.{IsPrintable, new_work, without_job};
 
 use crate::handing::hand_over;
 use crate::no_replies::NoReplies;
@@ -114,7 +113,7 @@ fn copies(alloc: Global, images: &[Bitmap]) -> Result<Vec<Bitmap>, AllocError>
 impl Work {
     /// The work of a new entry.
     pub fn new(alloc: Global, ticket: Ticket, images: &[Bitmap]) -> Result<Self, AllocError>
-        requires { refusal ticket images.now ≡ None }
+        requires { IsPrintable ticket images.now }
         ensures { IfOk result (λ work. work ≡ new_work ticket images.now) }
     {
         Ok(Work {
@@ -164,7 +163,7 @@ impl Work {
         requires going { (commands : List Token) → IsJobOf self.old commands
             → place_in_job self.old < length commands }
         ensures ok { IfOk result (λ sink. Advances number self.old self.new (deliveries sink)) }
-        ensures err { OnErr result (self.new ≡ at_place None self.old) }
+        ensures err { OnErr result (self.new ≡ without_job self.old) }
     {
         let Some(mut running) = self.running.take() else {
             unreachable!()
@@ -196,9 +195,9 @@ impl Work {
         Ok(taken)
     }
 
-    /// Its job is given up, or at its end.
-    pub fn end(&mut self)
-        ensures { self.new ≡ at_place None self.old }
+    /// Drops its job, which is given up or at its end.
+    pub fn drop_job(&mut self)
+        ensures { self.new ≡ without_job self.old }
     {
         self.running = None;
     }

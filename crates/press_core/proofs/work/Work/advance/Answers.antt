@@ -19,6 +19,6 @@ returns-in_err-sheets-clause-err c = on_err c.from_residual.result (rw (c.take.e
 
 pub returns-clause-ok : goal.returns-clause-ok
 returns-clause-ok c =
-    subst (λ (w : Work). Advances c.args.number w (at_place (Some c.step.new.self.steps) (work_of c.self.inside)) (deliveries c.in_ok-sheets.sheets)) c.self.view_is
+    subst (λ (w : Work). Advances c.args.number w (at_place c.step.new.self.steps (work_of c.self.inside)) (deliveries c.in_ok-sheets.sheets)) c.self.view_is
     (λ commands job. advances (work_of c.self.inside) c.self.inside.running c.in-Some.running c.step.new.self c.args.number (deliveries c.in_ok-sheets.sheets)
     (sym c.take.ensures.value ∙ c.in-Some.is) refl c.self.invariant.stands c.in_ok-sheets.ensures commands job)

@@ -1,0 +1,25 @@
+-- Messages as events.
+use Rattle.std.proofs.Common.{◌≡◌, ◌∙◌, ℕ, [], List, IfOk, IfSome, OnErr, OnOk, Result, Ok, Err, Some, Vec, Global, option_and_then, refl, sym, ap, subst}
+use Rattle.std.specs.declared.alloc.AllocError.{AllocError}
+use Rattle.serde_json.specs.Data.{Data}
+use Rattle.press_bits.specs.Page.{Page}
+use Rattle.press_core.specs.declared.message_type.MessageType.{MessageType}
+use Rattle.press_core.specs.Events.{Happens, Message, response_to}
+use Rattle.press_core.specs.Messages.{Heading, heading_of, message_in}
+use Rattle.press_core.specs.Rows.{answered, responding, responding_in, responding_to, ticket_of_headed, ticket_of_type}
+use Rattle.press_core.specs.Work.{IsPrintable}
+use Rattle.press_core.specs.World.{World}
+
+-- a message of a type, as it was answered
+pub message_happens : (text : List ℕ) (images : List Page) (world next : World) (message : Data) (heading : Heading) (message_type : MessageType) (result : Result (Vec ℕ Global) AllocError)
+    → message_in text ≡ Some message → heading_of message ≡ Ok (heading, message_type)
+    → IfOk result (λ bytes. (bytes.items, next) ≡ responding heading (answered message_type message images world)) → OnErr result (next ≡ world)
+    → OnOk result (IfSome (ticket_of_type message_type message images) (λ ticket. IsPrintable ticket images))
+    → Happens world (Message text images) (response_to result) [] next
+message_happens text images world next message heading message_type (Ok bytes) is headed responds same printable = (
+  refl,
+  responds ∙ sym (ap (λ m. responding_in m images world) is ∙ ap (λ h. responding_to h message images world) headed),
+  subst (λ o. IfSome o (λ ticket. IsPrintable ticket images))
+      (sym (ap (λ m. option_and_then (λ d. ticket_of_headed (heading_of d) d images) m) is ∙ ap (λ h. ticket_of_headed h message images) headed)) printable,
+)
+message_happens text images world next message heading message_type (Err error) is headed responds same printable = (refl, same)
