@@ -8,16 +8,15 @@ use Rattle.press_stream.specs.declared.fault.JobError.{JobError}
 use Rattle.press_stream.specs.declared.fault.JobError.TheVariants as errors
 use Rattle.press_stream.specs.State.{JobState, opened}
 use Rattle.press_stream.specs.Answers.{RunsReader}
+use Rattle.press_stream.specs.Chain.{CallsGo, PrintsAll}
 use Rattle.press_stream.specs.Printed.{Printed}
-use Rattle.press_stream.proofs.Going.{Stops-memory}
-use Rattle.press_stream.proofs.ChainLaws.{Prints-stops, prints_all}
 
 -- no memory at the beginning
-pub Printed-no_memory : (known : Option (List ℕ)) (tag : ℕ) (told : Told) → Printed known known tag (Some errors.NoMemory) None told told
-Printed-no_memory known tag told = record {
+pub Printed-no_memory : CallsGo → PrintsAll → (known : Option (List ℕ)) (tag : ℕ) (told : Told) → Printed known known tag (Some errors.NoMemory) None told told
+Printed-no_memory calls prints known tag told = record {
   bytes = [];
   read = record { lost = Consumes-nil known; at_end = λ e. cc };
-  printed = Prints-stops [] tag ForMemory told told (λ e. cc) (Stops-memory opened [] tag told refl (λ e. refl)) None;
+  printed = prints.stopped [] [] [] tag ForMemory opened told told told (λ e. cc) (calls.begins opened tag told refl) (calls.wants opened [] tag told refl (λ e. refl)) None;
 }
 
 -- after an error no job is handed back
@@ -29,10 +28,10 @@ unspoken had left tag errors.NoMemory new before after printed = record { bytes 
 unspoken had left tag errors.Failed new before after printed = absurd printed.printed
 unspoken had left tag errors.AfterEnd new before after printed = absurd printed.printed
 
-pub Printed-error : (first : JobState) (had left : Option (List ℕ)) (tag : ℕ) (error : JobError) (job : JobState) (before after : Told) → first ≡ opened → RunsReader first had left tag (Err error) job before after → Printed had left tag (Some error) None before after
-Printed-error first had left tag error job before after is runs =
+pub Printed-error : PrintsAll → (first : JobState) (had left : Option (List ℕ)) (tag : ℕ) (error : JobError) (job : JobState) (before after : Told) → first ≡ opened → RunsReader first had left tag (Err error) job before after → Printed had left tag (Some error) None before after
+Printed-error prints first had left tag error job before after is runs =
     let P : JobState → Type 0 = λ one. RunsReader one had left tag (Err error) job before after in
-    unspoken had left tag error job.machine before after (prints_all.whole had left tag (Err error) job before after (subst P is runs))
+    unspoken had left tag error job.machine before after (prints.whole had left tag (Err error) job before after (subst P is runs))
 
 -- the answer of a run
 pub run_err : (first : JobState) (had left : Option (List ℕ)) (tag : ℕ) (result : Result (Unit {0}) JobError) (error : JobError) (job : JobState) (before after : Told) → result ≡ Err error → RunsReader first had left tag result job before after → RunsReader first had left tag (Err error) job before after
@@ -41,8 +40,8 @@ run_err first had left tag result error job before after is runs =
     subst P is runs
 
 -- a run of a whole stream
-pub Printed-whole : (first : JobState) (had left : Option (List ℕ)) (tag : ℕ) (result : Result (Unit {0}) JobError) (done : Unit {0}) (job : JobState) (before after : Told) → result ≡ Ok done → first ≡ opened → RunsReader first had left tag result job before after → Printed had left tag None job.machine before after
-Printed-whole first had left tag result done job before after answer is runs =
+pub Printed-whole : PrintsAll → (first : JobState) (had left : Option (List ℕ)) (tag : ℕ) (result : Result (Unit {0}) JobError) (done : Unit {0}) (job : JobState) (before after : Told) → result ≡ Ok done → first ≡ opened → RunsReader first had left tag result job before after → Printed had left tag None job.machine before after
+Printed-whole prints first had left tag result done job before after answer is runs =
     let P : JobState → Type 0 = λ one. RunsReader one had left tag (Ok done) job before after in
     let Q : Result (Unit {0}) JobError → Type 0 = λ one. RunsReader first had left tag one job before after in
-    prints_all.whole had left tag (Ok done) job before after (subst P is (subst Q answer runs))
+    prints.whole had left tag (Ok done) job before after (subst P is (subst Q answer runs))

@@ -12,7 +12,7 @@ use Rattle.press_main.specs.Sessions.{answer_text, answer_to, answers_to, happen
 Leads-join : (world middle last : World) (happenings others : List Happening) → Leads world happenings middle → Leads middle others last → Leads world (happenings ++ others) last
 Leads-join world middle last [] others first second = subst (λ (w : World). Leads w others last) first second
 Leads-join world middle last (happening ∷ happenings) others first second =
-    (first.0, first.1, Leads-join first.0 middle last happenings others first.2 second)
+    (first.0, Leads-join happening.next middle last happenings others first.1 second)
 
 happenings-join : (lines others : List (Option Happening)) → happenings_in (lines ++ others) ≡ happenings_in lines ++ happenings_in others
 happenings-join [] others = refl
@@ -55,10 +55,10 @@ PlaysLines-none world had old new written = record {
 -- a line that is an event
 pub PlaysLines-event : (world next : World) (had has handed : List Delivery) (old new : Option (List ℕ)) (event : Event) (answer : EventAnswer) → Happens world event answer handed next → has ≡ had ++ handed → Appends old new (answer_text answer) → PlaysLines world had old next has new
 PlaysLines-event world next had has handed old new event answer happens is written =
-    let happening : Happening = record { event = event; answer = answer; handed = handed } in
+    let happening : Happening = record { event = event; answer = answer; handed = handed; next = next } in
     record {
       lines = Some happening ∷ [];
-      leads = (next, happens, refl);
+      leads = (happens, refl);
       handed = is ∙ ap (λ (all : List Delivery). had ++ all) (sym (append-nil handed));
       written = subst (λ (all : List ℕ). Appends old new all) (sym (append-nil (answer_text answer))) written;
     }

@@ -39,10 +39,7 @@ pub fn read_all<R: Read>(alloc: Global, reader: &mut R) -> Result<Vec<u8>, Input
     ensures { IfOk result (λ all.
         ReadWhole (R.remaining reader.old) (R.remaining reader.new) all.items) }
 {
-    let mut count = ReadCount {
-        reads: 0,
-        failed: false,
-    };
+    let mut count = ReadCount::none();
     read_counted(alloc, reader, &mut count)
 }
 

@@ -111,10 +111,7 @@ impl Session {
             (W.contents out.old) (W.contents out.new)) }
         ensures whole { OnOk result (IsAtEnd (R.remaining reader.new)) }
     {
-        let mut count = ReadCount {
-            reads: 0,
-            failed: false,
-        };
+        let mut count = ReadCount::none();
         self.run_counted(inputs, reader, out, &mut count)
     }
 

@@ -28,6 +28,7 @@ pub fn print_stream<R: Read, S: SheetSink, P: ReplySink>(
         (both (S.told sheets.old) (P.told replies.old))
         (both (S.told sheets.new) (P.told replies.new)) }
 {
+    press_stream::laws::chain();
     let mut job = Job::open(alloc)?;
     job.run(reader, tag, sheets, replies)?;
     Ok(job)
