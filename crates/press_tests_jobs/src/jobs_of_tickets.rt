@@ -1,8 +1,9 @@
 //! Jobs of tickets: what is printed of them, and writes that fail.
 use press_bits::{Bitmap, DotRow, Mode};
 use press_pbm::FuseWrite;
-use press_sink::{ListReplies, ListSink, Sheet};
-use press_stream::{Job, JobError};
+use press_sink::Sheet;
+use press_stream::JobError;
+use press_theorem::print_ticket;
 use press_ticket::read_ticket;
 use press_writer::{WriterError, check, write_job};
 use std::alloc::Global;
@@ -37,8 +38,10 @@ fn dots(alloc: Global) -> Result<[Bitmap; 3], Fail> {
 #[test]
 fn a_failed_write_is_told(rt: HostRuntime) -> Result<(), Fail> {
     let ticket = read_ticket(rt.alloc(), TICKET)?;
+    let images = dots(rt.alloc())?;
+    check(&ticket, &images)?;
     let mut output = FuseWrite::new(Vec::new(rt.alloc()), 2);
-    let written = write_job(rt.alloc(), &ticket, &dots(rt.alloc())?, &mut output);
+    let written = write_job(rt.alloc(), &ticket, &images, &mut output);
     assert!(rt; matches!(written, Err(WriterError::WriteFault)));
     Ok(())
 }
@@ -74,32 +77,9 @@ fn faults_of_streams_are_told_by_their_numbers(rt: HostRuntime) -> Result<(), Fa
     Ok(())
 }
 
-/// What a job prints, by a press that is powered on.
-fn printed(alloc: Global, job: &[u8]) -> Result<ListSink, Fail> {
-    let mut sheets = ListSink::new(alloc);
-    let mut replies = ListReplies::new(alloc);
-    let mut input = job;
-    Job::open(alloc)?.run(&mut input, 1, &mut sheets, &mut replies)?;
-    if replies.bytes().is_empty() {
-        Ok(sheets)
-    } else {
-        Err(Fail::from("a reply"))
-    }
-}
-
 /// Whether a side is that of an image of one dot on Letter, whose logical page begins 75 dots from the left edge.
 fn has_its_dot(side: &Bitmap) -> bool {
     (side.width(), side.height()) == (2550, 3300) && side.count_black() == 1 && side.get(75, 0)
-}
-
-/// The job of the ticket with three dots.
-fn job_of_dots(alloc: Global) -> Result<Vec<u8>, Fail> {
-    let ticket = read_ticket(alloc, TICKET)?;
-    let images = dots(alloc)?;
-    check(&ticket, &images)?;
-    let mut job = Vec::new(alloc);
-    write_job(alloc, &ticket, &images, &mut job)?;
-    Ok(job)
 }
 
 /// A sheet with three pages in two sets has a back where its number, from 0, is even.
@@ -111,9 +91,10 @@ fn expect_dots(rt: &impl Abort, number: usize, sheet: &Sheet) {
 
 #[test]
 fn dots_lie_at_the_corner_of_the_logical_page(rt: HostRuntime) -> Result<(), Fail> {
-    let sheets = printed(rt.alloc(), &job_of_dots(rt.alloc())?)?;
-    assert_eq!(rt; sheets.deliveries().len(), 4);
-    for (number, delivery) in sheets.deliveries().iter().enumerate() {
+    let printed = print_ticket(rt.alloc(), TICKET, &dots(rt.alloc())?, 1)?;
+    assert!(rt; printed.replies.bytes().is_empty());
+    assert_eq!(rt; printed.sheets.deliveries().len(), 4);
+    for (number, delivery) in printed.sheets.deliveries().iter().enumerate() {
         expect_dots(&rt, number, &delivery.sheet);
     }
     Ok(())

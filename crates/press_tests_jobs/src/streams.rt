@@ -4,6 +4,7 @@ use press_bits::Bitmap;
 use press_pbm::FuseRead;
 use press_sink::{FuseReplies, FuseSink, ListReplies, ListSink};
 use press_stream::{Job, JobError};
+use press_theorem::{Call, print_calls, print_pieces};
 use std::alloc::{AllocError, Global};
 use std::process::Abort;
 use std::test::Fail;
@@ -163,15 +164,35 @@ const JOBS: [Row; 6] = [
     ),
 ];
 
+/// The two pieces of a stream that is cut.
+fn pieces_of(stream: &[u8], at: usize) -> (&[u8], &[u8]) {
+    let front = stream.get(..at).unwrap_or(b"");
+    let back = stream.get(at..).unwrap_or(b"");
+    (front, back)
+}
+
 /// What comes of a stream that is handed in cut in two.
 fn cut(alloc: Global, stream: &[u8], at: usize) -> Result<Outcome, Fail> {
     let mut sheets = ListSink::new(alloc);
     let mut replies = ListReplies::new(alloc);
-    let mut job = Job::open(alloc)?;
-    for piece in [stream.get(..at), stream.get(at..)] {
-        job.feed(piece.unwrap_or(b""), 7, &mut sheets, &mut replies)?;
-    }
-    job.finish(7, &mut sheets, &mut replies)?;
+    let (front, back) = pieces_of(stream, at);
+    print_pieces(alloc, &[front, back], 7, &mut sheets, &mut replies)?;
+    Outcome::of(alloc, &sheets, &replies)
+}
+
+/// What comes of a stream that is pushed cut in two, with a step before, between and behind the pieces.
+fn stepped(alloc: Global, stream: &[u8], at: usize) -> Result<Outcome, Fail> {
+    let mut sheets = ListSink::new(alloc);
+    let mut replies = ListReplies::new(alloc);
+    let (front, back) = pieces_of(stream, at);
+    let calls = [
+        Call::Step,
+        Call::Push(front),
+        Call::Step,
+        Call::Push(back),
+        Call::Step,
+    ];
+    print_calls(alloc, &calls, 7, &mut sheets, &mut replies)?;
     Outcome::of(alloc, &sheets, &replies)
 }
 
@@ -190,7 +211,8 @@ fn is_read(alloc: Global, (stream, sides, replies): &Row) -> Result<bool, Fail> 
 
 /// Whether a stream that is handed in cut in two gives what its row says.
 fn is_handed_in(alloc: Global, (stream, sides, replies): &Row, at: usize) -> Result<bool, Fail> {
-    Ok(cut(alloc, stream, at)?.is(sides, replies))
+    let fed = cut(alloc, stream, at)?.is(sides, replies);
+    Ok(fed && stepped(alloc, stream, at)?.is(sides, replies))
 }
 
 /// Each stream of a table, read byte by byte, and cut at each place.
@@ -212,6 +234,19 @@ fn pages_come_in_pieces(rt: HostRuntime) -> Result<(), Fail> {
 #[test]
 fn lines_come_in_pieces(rt: HostRuntime) -> Result<(), Fail> {
     pieces_make_no_difference(&rt, &JOBS)
+}
+
+/// A million commands and a page in one piece, which is forty times as long as the buffer that it goes through.
+#[test]
+fn a_long_piece_goes_through_the_buffer(rt: HostRuntime) -> Result<(), Fail> {
+    let mut stream = Vec::new(rt.alloc());
+    for _ in 0..1_000_000 {
+        stream.extend_from_slice(b"\x1B*p0X")?;
+    }
+    stream.extend_from_slice(b"\x1BE\x1B*p0x0Y\x1B*c3a2b0P\x1BE")?;
+    let outcome = cut(rt.alloc(), &stream, 0)?;
+    assert!(rt; outcome.is(&[2_550_100], b""));
+    Ok(())
 }
 
 /// Five sheets, each with its reply: a page in three copies, and one in two.
