@@ -1,0 +1,22 @@
+"""The Rattle kit: where it is, and what is said where it is not."""
+
+import os
+import shutil
+import sys
+
+PLACE = "/opt/rattle/bin/rt"
+NOT_BUILT, MISSING = 126, 127
+
+
+def say(text):
+    print(f"press: {text}", file=sys.stderr, flush=True)
+
+
+def find():
+    """The path of `rt`; ends the program where there is none."""
+    path = shutil.which("rt") or (PLACE if os.access(PLACE, os.X_OK) else None)
+    if path is None:
+        say(f"the Rattle kit is not here: there is no rt on the PATH, and no {PLACE}.")
+        say("Without it tools/explain, tools/show and tools/why work: they need Python alone.")
+        raise SystemExit(MISSING)
+    return path

@@ -1,0 +1,191 @@
+"""A remark on a command: where it stands, what HP calls it, what its value is, and what it does here."""
+
+from model import patterns, pjl
+from model.commands import Broken, Control, Escape, Foreign, Param, PjlLine, Text, Uel, kind
+
+from . import names
+
+LINE_END = b"\r\n"
+COMMANDS = {Escape: "escape", Param: "parameter", Control: "control", Text: "text", Broken: "broken", Uel: "universal exit",
+            PjlLine: "PJL line", Foreign: "foreign"}
+PLURALS = {"copy": "copies", "line per inch": "lines per inch", "dot per inch": "dots per inch", "inch": "inches",
+           "character per inch": "characters per inch", "PCL unit per inch": "PCL units per inch"}
+# The fields that change by themselves wherever a page or a job goes on.
+SILENT = {"total", "since_job", "pjl_current", "pjl_default", "raster_left", "marked"}
+FIELDS = {
+    "x": "x", "y": "y", "size": "page size", "unit": "unit of measure", "vmi": "VMI", "hmi": "HMI",
+    "line_termination": "line termination", "perforation_skip": "perforation skip", "copies": "copies",
+    "raster_resolution": "raster resolution", "method": "compression method", "source_width": "raster width",
+    "source_height": "raster height", "rectangle_width": "rectangle width", "rectangle_height": "rectangle height",
+    "pattern_id": "pattern ID", "current_pattern": "current pattern", "source_opaque": "source opaque",
+    "pattern_opaque": "pattern opaque", "macro_id": "macro ID", "left_margin": "left margin", "right_margin": "right margin",
+    "top_margin": "top margin", "text_length": "text length", "orientation": "orientation", "duplex": "duplex",
+    "binding": "binding", "stack": "positions pushed", "overlay": "overlay", "hpgl": "HP-GL/2", "raster_on": "raster graphics",
+    "row_count": "raster rows", "defining": "open macro definition", "pjl_status": "status after each page",
+}
+
+
+def readable(data, most=60):
+    """Bytes as text, what is no printable ASCII as \\xHH, cut where it is long."""
+    text = "".join(chr(byte) if 32 <= byte <= 126 and byte != 92 else "\\x%02X" % byte for byte in data[:most])
+    return text + (f".. ({len(data)} bytes)" if len(data) > most else "")
+
+
+def plural(count, unit):
+    return f"{count} {unit if count == 1 or unit[0].isdigit() else PLURALS.get(unit, unit + 's')}"
+
+
+def name_of(command):
+    """What HP calls a command, or what it is."""
+    if isinstance(command, Param):
+        return names.named(command).name
+    if isinstance(command, Escape):
+        return names.ESCAPES.get(chr(command.byte), "An escape sequence that is not in HP's list")
+    if isinstance(command, Control):
+        return names.CONTROLS.get(command.control, "Control character %02X" % command.control)
+    if isinstance(command, Text):
+        return f'Text "{readable(bytes([command.text]))}"'
+    if isinstance(command, Uel):
+        return "Universal Exit Language"
+    if isinstance(command, PjlLine):
+        return f'PJL line "{readable(command.line.rstrip(LINE_END))}"'
+    if isinstance(command, Foreign):
+        return f'A byte "{readable(bytes([command.foreign]))}" of another language'
+    return f'"{readable(command.broken)}", which begins a command and does not go on'
+
+
+def value_of(command):
+    """The value of a parameterized command with its unit or its meaning; empty where it needs none."""
+    if not isinstance(command, Param):
+        return ""
+    known, value = names.named(command), command.value()
+    spelled = command.field.decode() or "0"
+    shown = f"{value.tenthousandths / 10000:.4f}".rstrip("0").rstrip(".")
+    if known.unit:
+        number = int(shown) if shown.lstrip("-").isdigit() else shown
+        sign = "+" if value.signed and value.tenthousandths >= 0 else ""
+        text = sign + plural(number, known.unit)
+    elif value.whole() in known.values:
+        text = f"{value.whole()} ({known.values[value.whole()]})"
+    else:
+        text = spelled + (" (no such value)" if known.values else "")
+    cut = value.tenthousandths in (655350000, -327670000) and shown != spelled.lstrip("+")
+    return ", " + text + (f" ({spelled} is cut to this)" if cut else "")
+
+
+def shown_field(name, value):
+    if value is None:
+        return "none"
+    if isinstance(value, bool):
+        return "on" if value else "off"
+    if name == "current_pattern":
+        kind_of, number = value
+        return names.PATTERN_KINDS[kind_of] + (f" {number}" if kind_of > 1 else "")
+    if name == "orientation":
+        return names.PARAMS["&lO"].values[value]
+    if name == "stack":
+        return str(len(value))
+    return str(value)
+
+
+def variables(before, after):
+    """What changes in an environment of the job language."""
+    return ", ".join(f"{name.decode()} {old.decode()} to {new.decode()}"
+                     for (name, old), (_, new) in zip(before, after) if old != new)
+
+
+def change(name, before, after):
+    return f"{FIELDS[name]} {shown_field(name, before)} to {shown_field(name, after)}"
+
+
+def changes_of(happening):
+    """The changes of the fields, the least surprising ones left out where a reset brings many."""
+    told = [change(*each) for each in happening.changes if each[0] not in SILENT]
+    for name, before, after in happening.changes:
+        if name in ("pjl_current", "pjl_default"):
+            told.append(("PJL default " if name == "pjl_default" else "PJL ") + variables(before, after))
+    return told
+
+
+def definition_of(command, run_before):
+    """What a pattern's definition does: it is no field that shows."""
+    try:
+        tile = patterns.tile_of_data(command.data)
+    except patterns.BadHeader:
+        return "no effect: its data begins with no header of a pattern"
+    except patterns.ShortData:
+        return "no effect: its data ends before its last row"
+    return f"defines pattern {run_before}, {len(tile[0])} by {len(tile)} dots"
+
+
+def deeds(happening, pattern_id):
+    """What a command does, in parts; empty for nothing."""
+    told = []
+    if happening.closes:
+        told.append("the page closes" if happening.closes == 1 else f"{happening.closes} pages close")
+        if not happening.sheets:
+            told.append("it waits for its back")
+    for number, copies in happening.sheets:
+        told.append(f"sheet {number} goes out" + (f" in {copies} copies" if copies > 1 else ""))
+    for mark in happening.marks:
+        told.append(f"marks {mark.right - mark.left + 1} by {mark.bottom - mark.top + 1} dots")
+    if happening.bodies > 0:
+        told.append(f"runs {plural(happening.bodies, 'recorded command')}")
+    if isinstance(happening.placed.command, Param) and happening.row == "*cW":
+        told.append(definition_of(happening.placed.command, pattern_id))
+    told += changes_of(happening)
+    if happening.replies:
+        told.append(f'replies "{readable(happening.replies, 200)}"')
+    return told
+
+
+NOTHING = {Text: "no row: text leaves no marks", Foreign: "skipped, up to the next universal exit",
+           Broken: "no row: ignored"}
+
+
+def effect_of(happening, pattern_id=0):
+    """What a command does here, as a part of a sentence."""
+    command = happening.placed.command
+    if happening.how == "recorded":
+        return f"recorded, in macro {happening.recorded_in}"
+    if happening.how == "HP-GL/2":
+        return "ignored: HP-GL/2 is on"
+    if happening.how == "no row":
+        return NOTHING.get(type(command), "no row: ignored")
+    told = deeds(happening, pattern_id)
+    if not told and isinstance(command, PjlLine):
+        return line_without_change(command)
+    return "; ".join(told) or "changes nothing"
+
+
+def line_without_change(command):
+    language = pjl.language_of_line(command.line)
+    if language is not None:
+        skipped = "" if language == b"PCL" else ", which is skipped up to the next universal exit"
+        return f"enters the language {readable(language)}{skipped}"
+    return "changes nothing"
+
+
+def told(happening, pattern_id=0):
+    """Name, value and effect, in one line of text."""
+    command = happening.placed.command
+    return f"{name_of(command)}{value_of(command)}: {effect_of(happening, pattern_id)}"
+
+
+def remark(happening, pattern_id=0):
+    """The same, with the place in the file."""
+    return f"at {happening.placed.offset}: {told(happening, pattern_id)}"
+
+
+def tally(happenings):
+    """The lines of the tally: commands by kind, and how many had a row."""
+    kinds = {}
+    for happening in happenings:
+        command = happening.placed.command
+        shown = kind(command) if isinstance(command, (Param, Escape, Control)) else COMMANDS[type(command)]
+        count, with_row = kinds.get(shown, (0, 0))
+        kinds[shown] = (count + 1, with_row + (happening.row is not None))
+    taken = sum(with_row for _, with_row in kinds.values())
+    yield f"{plural(len(happenings), 'command')}, {taken} with a row of the command table"
+    for shown, (count, with_row) in sorted(kinds.items(), key=lambda item: (-item[1][0], item[0])):
+        yield f"{count:7} {shown}{'' if with_row else ', no row'}"
