@@ -1,0 +1,139 @@
+"""Sixty mistakes: words, what stands on standard input and in files, and what `tools/why` has to say of each.
+
+The number is that of the fault that the program tells, 2 where it refuses the words, and 0 where it ends well and yet prints nothing,
+or something else than was meant. What is said first has to have each of the texts. A file of None is a folder.
+"""
+
+from typing import NamedTuple
+
+TICKET = b'{"Amount":1,"JobID":"J","NPage":1,"Type":"DigitalPrinting","Version":"1.5"}'
+DOT = b"P4 1 1\n\x80"
+UEL = b"\x1b%-12345X"
+
+
+def ticket(old=b"", new=b""):
+    assert old in TICKET
+    return TICKET.replace(old, new, 1)
+
+
+class Mistake(NamedTuple):
+    words: str
+    number: int
+    said: tuple
+    files: dict = {}
+    given: bytes = b""
+
+
+def written(text, *said, number=601):
+    """A ticket that is refused."""
+    return Mistake("write t.json job.prn a.pbm", number, ("t.json", *said), {"t.json": text, "a.pbm": DOT})
+
+
+def imaged(content, number, *said):
+    """A second image that is refused."""
+    return Mistake("write t.json job.prn a.pbm cut.pbm", number, ("second image cut.pbm", *said),
+                   {"t.json": TICKET, "a.pbm": DOT, "cut.pbm": content})
+
+
+def assembled(text, number, *said):
+    return Mistake("asm page.asm page.pcl", number, ("page.asm", *said), {"page.asm": text})
+
+
+def printed(stream, *said):
+    """A stream that prints nothing, or a blank page."""
+    return Mistake("print --list in.pcl", 0, ("in.pcl", *said), {"in.pcl": stream})
+
+
+def played(line, *said, number=0, files=None):
+    return Mistake("press", number, said, files or {}, line)
+
+
+WORDS = [
+    Mistake("prnt in.pcl", 2, ("prnt", "Did you mean print?")),
+    Mistake("print", 2, ("IN is missing", "press print [--list] IN [OUT]")),
+    Mistake("print in.pcl", 2, ("OUT is missing", "page-%d.pbm")),
+    Mistake("print a b c", 2, ("c is one too many",)),
+    Mistake("print --all in.pcl", 2, ("--all is no option of print",)),
+    Mistake("asm page.asm", 2, ("OUT is missing", "press asm IN OUT")),
+    Mistake("disasm", 2, ("IN is missing",)),
+    Mistake("write t.json", 2, ("OUT is missing",)),
+    Mistake("press session.txt", 2, ("session.txt is one too many",)),
+]
+FILES = [
+    Mistake("print --list none.pcl", 304, ("none.pcl is not there", "Look at the name")),
+    Mistake("print --list no/such/in.pcl", 304, ("no/such/in.pcl is not there", "no folder no/such")),
+    Mistake("print --list folder", 304, ("folder is a folder",), {"folder": None}),
+    Mistake("print in.pcl page.pbm", 121, ("OUT page.pbm has no %d", "page-%d.pbm"), {"in.pcl": b"\x0c"}),
+    Mistake("print in.pcl %d-%d.pbm", 121, ("has %d 2 times",), {"in.pcl": b"\x0c"}),
+    Mistake("print in.pcl no/%d.pbm", 301, ("OUT no/1.pbm cannot be made", "no is not there", "mkdir -p no"), {"in.pcl": b"\x0c"}),
+    Mistake("asm page.asm no/page.pcl", 115, ("OUT no/page.pcl", "no is not there"), {"page.asm": b"uel\n"}),
+    Mistake("asm page.asm folder", 115, ("OUT folder is a folder",), {"page.asm": b"uel\n", "folder": None}),
+    Mistake("asm page.asm /dev/full", 115, ("OUT /dev/full", "disk that is full"), {"page.asm": b"uel\n"}),
+    Mistake("write t.json /dev/full a.pbm", 614, ("OUT /dev/full", "disk that is full"), {"t.json": TICKET, "a.pbm": DOT}),
+    Mistake("write t.json no/job.prn a.pbm", 614, ("OUT no/job.prn",), {"t.json": TICKET, "a.pbm": DOT}),
+    Mistake("asm page.asm " + "x" * 256, 115, ("more than 255 bytes", "shorter"), {"page.asm": b"uel\n"}),
+    Mistake("disasm none.pcl", 304, ("none.pcl is not there",)),
+    Mistake("write - job.prn", 304, ("the ticket - is not there",), given=TICKET),
+]
+TEXTS = [
+    assembled(b"uel\n\nfoo\n", 401, "line 3 of page.asm has no form", "foo is none of uel, esc"),
+    assembled(b"\xef\xbb\xbfuel\n", 401, "line 1 of page.asm begins with a byte order mark"),
+    assembled(b"uel\r\n", 401, "line 1 of page.asm ends with a carriage return"),
+    assembled(b"; caf\xe9\nuel\n", 401, "line 1 of page.asm is no UTF-8 text", "byte 6 is E9"),
+    assembled(b"ESC E\n", 401, "ESC stands in capitals", "Write esc"),
+    assembled(b"\x1bE\x0c", 401, "this is a print stream, and no assembly text", "order of the words"),
+    assembled(b"par *p1.2.3X\n", 402, "line 1 of page.asm", "1.2.3", "is no number"),
+    assembled(b"par *p" + b"1" * 33 + b"X\n", 402, "more than 32 characters"),
+    assembled(b"par *b2W 02\n", 403, "has 1 byte of data, and its value says 2"),
+    assembled(b"brk 414\n", 403, "odd number of digits"),
+    assembled(b"par *p1X 02\n", 403, "*p1X carries none"),
+    assembled(b"pjl 40504A4C\n", 403, "no line feed stands at its end"),
+]
+TICKETS = [
+    written(b"", "is empty"),
+    written(b"\xef\xbb\xbf" + TICKET, "begins with a byte order mark"),
+    written(b"[1]", "is a list, and no object"),
+    written(ticket(b'"J"', b"'J'"), "line 1, column 21", "double quotes"),
+    written(ticket(b'"1.5"}', b'"1.5",}'), "a comma stands before the end"),
+    written(ticket(b"J", b"\xff"), "is no UTF-8 text", "FF"),
+    written(DOT, "is a P4 picture, and no JSON text", "order of the words"),
+    written(ticket(b"NPage", b"NPages"), "unknown key NPages", "Did you mean NPage?", number=602),
+    written(ticket(b'"JobID":"J",'), "has no key JobID", number=602),
+    written(ticket(b'"Amount":1', b'"Amount":"1"'), "Amount that is '1'", "whole number", number=602),
+    written(ticket(b"DigitalPrinting", b"Folding"), "asks for Folding", number=603),
+    written(ticket(b"NPage\":1", b"NPage\":1000"), "1,000 pages", "1 to 999", number=604),
+    written(ticket(b"{", b'{"RunList":[[0,1]],'), "page 1 in RunList", "pages 0 to 0", number=604),
+    written(ticket(b"Amount\":1", b"Amount\":0"), "0 sets", "1 to 9,999", number=605),
+]
+IMAGES = [
+    imaged(b"P4 96 96\n" + bytes(291), 113, "ends after 300 of 1,161 bytes"),
+    imaged(b"\x89PNG\r\n\x1a\n", 111, "is a PNG picture, and no P4 file", "pgmtopbm"),
+    imaged(b"P4 0 1\n", 112, "0 x 1 dots", "1 to 16,384"),
+    imaged(b"", 113, "is empty"),
+    Mistake("write t.json job.prn", 611, ("t.json has 1 page, and 0 images",), {"t.json": TICKET}),
+    Mistake("write t.json job.prn a.pbm", 612, ("first image a.pbm is 2,401 dots wide", "room for 2,400"),
+            {"t.json": TICKET, "a.pbm": b"P4 2401 1\n" + bytes(301)}),
+    Mistake("write t.json job.prn a.pbm", 613, ("first image a.pbm is 3,301 dots tall",), {"t.json": TICKET, "a.pbm": b"P4 1 3301\n" + bytes(3301)}),
+    Mistake("write t.json job.prn none.pbm", 304, ("first image none.pbm is not there",), {"t.json": TICKET}),
+]
+STREAMS = [
+    printed(b"", "is empty"),
+    printed(b"%PDF-1.7\n", "is a PDF file; the press reads PCL and PJL"),
+    printed(UEL + b"@PJL ENTER LANGUAGE=POSTSCRIPT\n%!PS\nshowpage\n" + UEL, "prints no sheet"),
+    printed(b"Dear Sir\x0c", "prints 1 side, and it is blank"),
+    printed(b"\x1b%0BIN;SP1;PD100,100;\x1b%0A\x0c", "blank"),
+    printed(b"\x1b*p10x10Y\x1b*c5a5B", "prints no sheet"),
+]
+SESSIONS = [
+    played(b"stop\n", "line 1 is none of a session: 'stop'"),
+    played(b"pause\r\n", "carriage return"),
+    played(b"message  m.json\n", "line 1 is none of a session", "A space is too many"),
+    played(b"message none.json\n", "none.json is not there", number=304),
+    played(b"message m.json\n", "m.json has no ID: return code 7", files={"m.json": b'{"Type":"Status"}'}),
+    played(b"message m.json\n", "its Type is unknown: return code 5", files={"m.json": b'{"ID":"a","Type":"Print"}'}),
+    played(b"message m.json a.pbm\n", "2 pages, and 1 image", "611", "return code 6", files={
+        "m.json": b'{"ID":"a","Type":"SubmitQueueEntry","Ticket":' + ticket(b'NPage":1', b'NPage":2') + b"}", "a.pbm": DOT}),
+    played(b"message m.json a.pbm\n", "first image a.pbm ends", number=113,
+           files={"m.json": b'{"ID":"a","Type":"Status"}', "a.pbm": b"P4 9 1\n\x80"}),
+]
+MISTAKES = [*WORDS, *FILES, *TEXTS, *TICKETS, *IMAGES, *STREAMS, *SESSIONS]

@@ -1,0 +1,80 @@
+"""What is wrong with a request: the faults that the program would tell, in its order."""
+
+import os
+
+from seen import program
+
+from . import files, images, sessions, streams, texts, tickets, words
+from .finding import Finding, Found
+
+NOT_MADE, NOT_ASSEMBLED, NOT_WRITTEN = 301, 115, 614
+BAD_TEMPLATE = 121
+HEADER_BYTES = 16
+LEAST_JOB = 64   # bytes: its head and its tail
+
+
+def findings(asked, chosen=program.PROGRAM):
+    """All that is found, the fault that ends the program first."""
+    try:
+        request = words.request_of(asked)
+        if request is None:
+            return []
+        return list(JUDGES[request.what](request, chosen))
+    except Found as found:
+        return [found.finding]
+
+
+def judge_print(request, _chosen):
+    name = request.names[0]
+    files.open_input(name, "IN")
+    if not request.listed:
+        check_template(request.names[1])
+    shown = "standard input" if name == "-" else name
+    stream = files.read_input(name, "IN")
+    found, printed = streams.looked_at(shown, stream)
+    if printed and not request.listed:
+        size = sum(copies * (HEADER_BYTES + side.height() * ((side.width() + 7) // 8)) for side, _, _, copies in printed)
+        files.check_output(request.names[1].replace("%d", "1"), NOT_MADE, size)
+    return found
+
+
+def check_template(template):
+    times = template.count("%d")
+    if times != 1:
+        where = "has no %d" if times == 0 else f"has %d {times} times"
+        raise Found(BAD_TEMPLATE, f"OUT {template} {where}", "Put %d once where the number of the side goes: page-%d.pbm")
+
+
+def judge_asm(request, _chosen):
+    name, made = request.names
+    data = texts.assembled("standard input" if name == "-" else name, files.read_input(name, "IN"))
+    files.check_output(made, NOT_ASSEMBLED, len(data))
+    yield from replaced(made)
+
+
+def judge_disasm(request, _chosen):
+    stream = files.read_input(request.names[0], "IN")
+    if not stream:
+        yield Finding(None, f"{files.describe('IN', request.names[0])} is empty, and so is its text", "Look at what made it")
+
+
+def judge_write(request, _chosen):
+    name, made, *image_names = request.names
+    ticket = tickets.ticket_in(name, files.read_input(name, "TICKET"))
+    read = [images.read_image(place, image) for place, image in enumerate(image_names)]
+    tickets.check_images(name, ticket, read, image_names)
+    files.check_output(made, NOT_WRITTEN, LEAST_JOB)
+    yield from replaced(made)
+
+
+def replaced(name):
+    """OUT is no fault where it is there, but it is replaced."""
+    if os.path.isfile(name) and os.path.getsize(name):
+        yield Finding(None, f"OUT {name} is there, with {os.path.getsize(name):,} bytes, and is replaced", "Give another name to keep it")
+
+
+def judge_press(_request, chosen):
+    yield from sessions.findings(files.read_input("-", "IN"), chosen)
+
+
+JUDGES = {"print": judge_print, "asm": judge_asm, "disasm": judge_disasm, "write": judge_write, "press": judge_press}

@@ -1,0 +1,79 @@
+"""What the words of the command line ask for, or why they are refused: the program's own grammar."""
+
+import difflib
+from typing import NamedTuple
+
+from .finding import REFUSED_WORDS, Found
+
+# The words that each subcommand takes, those that may be missing in brackets, and any number more after `..`.
+USAGES = {
+    "print": ["IN", "[OUT]"],
+    "asm": ["IN", "OUT"],
+    "disasm": ["IN"],
+    "write": ["TICKET", "OUT", "[IMG..]"],
+    "press": [],
+}
+HELP = ("-h", "--help", "help")
+
+
+class Request(NamedTuple):
+    what: str
+    names: list
+    listed: bool = False
+
+
+def usage(what):
+    words = " ".join(["press", what, *(["[--list]"] if what == "print" else []), *USAGES[what]])
+    return f"Write: {words}"
+
+
+def refuse(sentence, advice):
+    raise Found(REFUSED_WORDS, sentence, advice)
+
+
+def request_of(words):
+    """The request of the words, or None where help is asked for."""
+    for word in words:
+        if any(0xDC80 <= ord(character) <= 0xDCFF for character in word):
+            refuse(f"The word {word!r} is no UTF-8 text", "Rename the file, or name it by another path")
+    if not words:
+        return Request("print", ["-"], True)
+    what = words[0]
+    if what in HELP:
+        return None
+    if what not in USAGES:
+        near = difflib.get_close_matches(what, USAGES, 1)
+        hint = f"Did you mean {near[0]}?" if near else "The subcommands are " + ", ".join(USAGES)
+        if what.startswith("-"):
+            refuse(f"No option {what} stands before a subcommand", "The subcommands are " + ", ".join(USAGES))
+        refuse(f"There is no subcommand {what}", hint)
+    return request_of_rest(what, words[1:])
+
+
+def request_of_rest(what, rest):
+    names, listed, options = [], False, True
+    for word in rest:
+        if options and word == "--":
+            options = False
+        elif options and word in ("-h", "--help"):
+            return None
+        elif options and word == "--list" and what == "print" and not listed:
+            listed = True
+        elif options and word.startswith("-") and word != "-":
+            again = "twice" if word == "--list" and what == "print" else f"of {what}"
+            refuse(f"{word} is no option {again}" if again != "twice" else "--list stands twice", usage(what))
+        else:
+            names.append(word)
+    check_count(what, names, listed)
+    return Request(what, names, listed)
+
+
+def check_count(what, names, listed):
+    wanted = USAGES[what]
+    needed = [word for word in wanted if not word.startswith("[")]
+    if len(names) < len(needed):
+        refuse(f"{needed[len(names)]} is missing", usage(what))
+    if len(names) > len(wanted) and not any(".." in word for word in wanted):
+        refuse(f"The word {names[len(wanted)]} is one too many", usage(what))
+    if what == "print" and not listed and len(names) == 1:
+        refuse("OUT is missing", "Give a template as page-%d.pbm, or list the sheets: press print --list IN")
