@@ -1,0 +1,17 @@
+# Completions for bash: source tools/completions.bash
+_press() {
+  local word="${COMP_WORDS[COMP_CWORD]}" first="${COMP_WORDS[1]}" place="$COMP_CWORD"
+  if [ "$first" = --try ]; then
+    first="${COMP_WORDS[2]}"
+    place=$((place - 1))
+  fi
+  if [ "$place" -eq 1 ]; then
+    mapfile -t COMPREPLY < <(compgen -W "--try print asm disasm write press help --help" -- "$word")
+  elif [ "$first" = print ] && [[ "$word" == -* ]]; then
+    mapfile -t COMPREPLY < <(compgen -W "--list" -- "$word")
+  elif [ "$first" != press ]; then
+    mapfile -t COMPREPLY < <(compgen -f -- "$word")
+  fi
+}
+complete -o filenames -F _press press ./press
+complete -o filenames -F _press tools/why
