@@ -10,12 +10,10 @@ pub fn drop_consumed(buffer: &mut Vec<u8>, start: usize) -> usize
     ensures capacity { vec_capacity buffer.new ≡ vec_capacity buffer.old }
     ensures unread { drop result buffer.new.items ≡ drop start buffer.old.items }
 {
-    let unread = buffer.len() - start;
-    if start < unread {
+    if start < buffer.len() - start {
         return start;
     }
-    buffer.copy_within(start.., 0);
-    buffer.truncate(unread);
+    move_to_front(buffer, start);
     0
 }
 
@@ -31,8 +29,17 @@ pub fn make_room(buffer: &mut Vec<u8>, start: usize, more: usize) -> usize
     if more <= buffer.capacity() - buffer.len() {
         return start;
     }
+    move_to_front(buffer, start);
+    0
+}
+
+/// Moves the bytes from `start` on to the front, and drops those before it.
+fn move_to_front(buffer: &mut Vec<u8>, start: usize)
+    requires { start ≤ vec_len buffer.old }
+    ensures capacity { vec_capacity buffer.new ≡ vec_capacity buffer.old }
+    ensures moved { buffer.new.items ≡ drop start buffer.old.items }
+{
     let unread = buffer.len() - start;
     buffer.copy_within(start.., 0);
     buffer.truncate(unread);
-    0
 }
