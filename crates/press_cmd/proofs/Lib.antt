@@ -13,3 +13,7 @@ pub mod StreamsOf
 pub mod WorkedStreams
 pub mod ExitTest
 pub mod Appending
+pub mod StoredLemmas
+pub mod CommandLengths
+pub mod Sound
+pub mod ReadParam

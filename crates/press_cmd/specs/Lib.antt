@@ -8,3 +8,4 @@ pub mod Kinds
 pub mod View
 pub mod Laws
 pub mod Streams
+pub mod Stored

@@ -1,6 +1,4 @@
 -- What the commands of the code stand for.
-pub mod Owned
-use Rattle.std.specs.Prelude.{ℕ, List, Option, Some, None}
 use Rattle.press_cmd.specs.Token.{Token, Escape, Control, Text, Uel, PjlLine, ForeignByte, param_of, broken_of}
 use Rattle.press_cmd.specs.declared.payload.Param.{Param}
 use Rattle.press_cmd.specs.declared.payload.Broken.{Broken}

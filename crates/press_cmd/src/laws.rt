@@ -1,11 +1,11 @@
 //! Laws of the grammar, each the contract of a function that does nothing.
 
 ghost use Rattle.press_cmd.specs.Laws.{NoCommandBeginsAnother, AtMostOneHead, AtMostOneSplit, AtLeastOneSplit, CuttingLaw};
+ghost use Rattle.press_cmd.specs.Stored.{IsSound, StoredReadsBack};
 ghost use Rattle.press_cmd.specs.Streams.{IsCommand};
 ghost use Rattle.press_cmd.specs.View.{token};
 
 use crate::command::Command;
-use crate::owned::Owned;
 
 /// Whole commands in one mode whose bytes begin alike are the same.
 pub fn no_command_begins_another()
@@ -40,9 +40,14 @@ pub fn comes_from_a_stream(command: &Command)
     let _ = command;
 }
 
-/// So is every command that owns its bytes.
-pub fn owned_comes_from_a_stream(owned: &Owned)
-    ensures { ∥ IsCommand owned.now ∥₁ }
+/// The parts of every command have their ranges. So it can be stored, and lent again by [`crate::stored`].
+pub fn every_command_is_sound(command: &Command)
+    ensures { IsSound (token command.now) }
 {
-    comes_from_a_stream(&owned.command());
+    let _ = command;
 }
+
+/// The number of a command's variant and its bytes determine it.
+pub fn stored_reads_back()
+    ensures { StoredReadsBack }
+{}

@@ -5,10 +5,9 @@ mod carried;
 mod command;
 pub mod laws;
 mod marks;
-mod owned;
 mod payload;
 pub mod pjl;
-mod stored;
+mod storing;
 mod variant;
 
 pub use carried::{carries_data, data_count, spells_exit};
@@ -17,6 +16,6 @@ pub use marks::{
     ESCAPE, LINE_FEED, LONGEST_LINE, PJL_MARK, UEL, differs, is_character, is_control, is_end,
     is_escape_end, is_group, is_text,
 };
-pub use owned::Owned;
 pub use payload::{Broken, ControlByte, EscapeByte, Param, PjlLine, TextByte};
+pub use storing::{bytes_count, stored, variant_number};
 pub use variant::Kind;

@@ -1,2 +1,3 @@
 mod StoreLemmas
 pub mod WorkedMacros
+mod RecordLemmas

@@ -2,3 +2,4 @@
 pub mod Macros
 pub mod Coding
 pub mod Lending
+pub mod Records

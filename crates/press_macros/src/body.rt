@@ -1,10 +1,12 @@
 //! The body of a macro that runs (PCL 5 Printer Language Technical Reference Manual, Macros).
 
-ghost use Rattle.std.specs.Prelude.{◌≡◌, option_map, slice_get, drop};
+ghost use Rattle.std.specs.Prelude.{◌≡◌, ◌↔◌, [], IsTrue, IfOk, option_map, slice_get, drop};
 ghost use Rattle.std.specs.Borrow.{sem};
 ghost use Rattle.press_cmd.specs.View.{token};
 
-use press_cmd::{Command, Owned};
+use crate::records::Records;
+use press_cmd::Command;
+use std::alloc::AllocError;
 use std::marker::Model;
 use std::rc::Rc;
 
@@ -14,28 +16,32 @@ use std::rc::Rc;
 /// Source: PCL 5 Printer Language Technical Reference Manual, Macros.
 #[derive(Drop)]
 pub struct Body {
-    commands: Rc<Vec<Owned>>,
-    /// How many commands were given.
-    given: usize,
+    commands: Rc<Records>,
+    /// Where the record of the next command begins.
+    place: usize,
 }
 
 impl Model for Body {
     ghost use Rattle.std.specs.Prelude.{List, drop};
     ghost use Rattle.press_cmd.specs.Token.{Token};
+    ghost use Rattle.press_macros.specs.Records.{encoded, decoded, AreRecordsFrom};
 
     ghost Value = { List Token };
 
-    ghost view = { λ body. drop body.given body.commands.value.items };
+    ghost view = { λ body. decoded (drop body.place (encoded body.commands.value)) };
+
+    ghost invariant = { λ body. AreRecordsFrom body.place (encoded body.commands.value) };
 }
 
 impl Body {
     ghost use Rattle.press_macros.specs.Lending.{KeepsBehindFirst};
 
     /// The body of these commands, from the first on.
-    pub(crate) fn of(commands: Rc<Vec<Owned>>) -> Self
-        ensures { result ≡ commands.value.items }
+    pub(crate) fn of(commands: Rc<Records>) -> Self
+        ensures { result ≡ commands.value }
     {
-        Body { commands, given: 0 }
+        commands.are_sound();
+        Body { commands, place: 0 }
     }
 
     /// Gives the first of the commands that are left, if one is left.
@@ -43,8 +49,29 @@ impl Body {
         ensures given { option_map token result ≡ slice_get self.old 0 }
         ensures* left { sem 𝓛 (KeepsBehindFirst self.entry) }
     {
-        let command = self.commands.as_slice().get(self.given)?;
-        self.given += 1;
-        Some(command.command())
+        let (command, behind) = self.commands.command_at(self.place)?;
+        self.place = behind;
+        Some(command)
+    }
+
+    /// Whether no command is left.
+    pub fn is_used_up(&self) -> bool
+        ensures { IsTrue result ↔ (self.now ≡ []) }
+    {
+        self.commands.command_at(self.place).is_none()
+    }
+
+    /// An equal body, which shares the commands.
+    ///
+    /// # Errors
+    ///
+    /// Where memory ran out.
+    pub fn copy(&self) -> Result<Self, AllocError>
+        ensures { IfOk result (λ body. body ≡ self.now) }
+    {
+        Ok(Body {
+            commands: self.commands.clone()?,
+            place: self.place,
+        })
     }
 }

@@ -6,6 +6,7 @@
 mod body;
 mod macro_store;
 mod open_definition;
+mod records;
 mod stored_macro;
 
 pub use body::Body;

@@ -1,11 +1,12 @@
 //! A macro definition that was begun and not ended (PCL 5 Printer Language Technical Reference Manual, Macros).
 
-ghost use Rattle.std.specs.Prelude.{◌≡◌, [], take, IfOk, IfErr, OnOk, OnErr};
+ghost use Rattle.std.specs.Prelude.{◌≡◌, [], IfOk, IfErr, OnOk, OnErr};
 ghost use Rattle.press_cmd.specs.View.{token};
 ghost use Rattle.press_macros.specs.Macros.{with_command, macro_of};
 
+use crate::records::Records;
 use crate::stored_macro::StoredMacro;
-use press_cmd::{Command, Owned};
+use press_cmd::Command;
 use std::alloc::{AllocError, Global};
 use std::marker::Model;
 
@@ -13,7 +14,7 @@ use std::marker::Model;
 #[derive(Drop)]
 pub(crate) struct OpenDefinition {
     id: u16,
-    commands: Vec<Owned>,
+    commands: Records,
 }
 
 impl Model for OpenDefinition {
@@ -21,7 +22,7 @@ impl Model for OpenDefinition {
 
     ghost Value = { Definition };
 
-    ghost view = { λ d. record { id = d.id; commands = d.commands.items } };
+    ghost view = { λ d. record { id = d.id; commands = d.commands } };
 }
 
 impl OpenDefinition {
@@ -31,7 +32,7 @@ impl OpenDefinition {
     {
         OpenDefinition {
             id,
-            commands: Vec::new(alloc),
+            commands: Records::new(alloc),
         }
     }
 
@@ -47,9 +48,7 @@ impl OpenDefinition {
         ensures recorded { OnOk result (self.new ≡ with_command self.old (token command.now)) }
         ensures unchanged { OnErr result (self.new ≡ self.old) }
     {
-        let owned = Owned::of(*self.commands.allocator(), command)?;
-        self.commands.push(owned)?;
-        Ok(())
+        self.commands.push(command)
     }
 
     /// The macro that was defined. An error gives the definition back.
@@ -68,14 +67,9 @@ impl OpenDefinition {
     pub fn copy(&self) -> Result<Self, AllocError>
         ensures { IfOk result (λ definition. definition ≡ self.now) }
     {
-        let alloc = *self.commands.allocator();
-        let mut commands = Vec::with_capacity(alloc, self.commands.len())?;
-        for owned in self.commands.iter() {
-            commands.push(Owned::of(alloc, &owned.command())?)?;
-        }
         Ok(OpenDefinition {
             id: self.id,
-            commands,
+            commands: self.commands.copy()?,
         })
     }
 }

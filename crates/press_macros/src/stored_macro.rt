@@ -3,7 +3,7 @@
 ghost use Rattle.std.specs.Prelude.{◌≡◌, false, IfOk, IfErr};
 
 use crate::body::Body;
-use press_cmd::Owned;
+use crate::records::Records;
 use std::alloc::AllocError;
 use std::marker::Model;
 use std::rc::Rc;
@@ -11,7 +11,7 @@ use std::rc::Rc;
 /// A macro. Its commands are shared with the bodies of it that run.
 #[derive(Drop)]
 pub(crate) struct StoredMacro {
-    commands: Rc<Vec<Owned>>,
+    commands: Rc<Records>,
     permanent: bool,
 }
 
@@ -20,17 +20,17 @@ impl Model for StoredMacro {
 
     ghost Value = { Macro };
 
-    ghost view = { λ m. record { commands = m.commands.value.items; permanent = m.permanent } };
+    ghost view = { λ m. record { commands = m.commands.value; permanent = m.permanent } };
 }
 
 impl StoredMacro {
     /// The temporary macro of these commands. An error gives them back.
-    pub fn of(commands: Vec<Owned>) -> Result<Self, Vec<Owned>>
+    pub fn of(commands: Records) -> Result<Self, Records>
         ensures made { IfOk result (λ made.
-            made ≡ record { commands = commands.items; permanent = false }) }
-        ensures given_back { IfErr result (λ back. back.items ≡ commands.items) }
+            made ≡ record { commands = commands; permanent = false }) }
+        ensures given_back { IfErr result (λ back. back ≡ commands) }
     {
-        match Rc::new(*commands.allocator(), commands) {
+        match Rc::new(commands.allocator(), commands) {
             Ok(commands) => Ok(StoredMacro {
                 commands,
                 permanent: false,

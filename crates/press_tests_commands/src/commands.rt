@@ -1,21 +1,24 @@
 //! Commands, their kinds and bytes.
 use press_cmd::{
-    Broken, Command, ControlByte, EscapeByte, Kind, Owned, PJL_MARK, Param, PjlLine, TextByte,
-    carries_data, data_count, differs, is_character, is_control, is_end, is_escape_end, is_group,
-    is_text, kind, pjl, spells_exit, write_command,
+    Broken, Command, ControlByte, EscapeByte, Kind, PJL_MARK, Param, PjlLine, TextByte,
+    bytes_count, carries_data, data_count, differs, is_character, is_control, is_end,
+    is_escape_end, is_group, is_text, kind, laws, pjl, spells_exit, stored, variant_number,
+    write_command,
 };
 use press_scan::is_broken;
 use press_units::is_field;
 use std::process::Abort;
 use std::test::Fail;
 
-/// The bytes that stay of a command which is owned and lent again, and whether its kind stays too.
+/// The bytes that stay of a command which is stored and lent again, and whether its kind stays too.
 fn kept(rt: &(impl Abort + AllocGlobal), command: &Command, bytes: &[u8]) -> Result<(), Fail> {
     let mut written = Vec::new(rt.alloc());
     write_command(command, &mut written)?;
     assert_eq!(rt; written.as_slice(), bytes);
-    let owned = Owned::of(rt.alloc(), command)?;
-    let lent = owned.command();
+    assert_eq!(rt; bytes_count(command), bytes.len());
+    laws::every_command_is_sound(command);
+    laws::stored_reads_back();
+    let lent = stored(variant_number(command), written.as_slice());
     assert_eq!(rt; kind(&lent), kind(command));
     let mut again = Vec::new(rt.alloc());
     write_command(&lent, &mut again)?;

@@ -4,6 +4,8 @@
 #[cfg(test)]
 mod commands;
 #[cfg(test)]
+mod macros;
+#[cfg(test)]
 mod pjl;
 #[cfg(test)]
 mod scanner;
