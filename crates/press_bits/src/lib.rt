@@ -1,13 +1,19 @@
 //! Pages of dots: black-and-white bitmaps, and the marks that rows and columns of dots leave on them.
 #![tactic(auto)]
 
+mod band;
+mod bands;
 mod bitmap;
 mod dot_bytes;
 mod dot_row;
+mod down;
 mod lanes;
+mod making;
 mod mode;
 mod painting;
 
-pub use bitmap::{Bitmap, BlankError, MAX_SIDE, WIDEST_ROW, white_bytes};
+pub use band::white_bytes;
+pub use bands::{Bands, MAX_SIDE, WIDEST_ROW};
+pub use bitmap::{Bitmap, BlankError};
 pub use dot_row::DotRow;
 pub use mode::Mode;

@@ -13,7 +13,7 @@ const SHORTEST_RUN: usize = 256;
 
 /// The dots of a row that lie on a page, along one side of it: `count` of them from dot `skip` of the row on, which lies at
 /// place `first`.
-#[derive(Clone, Copy)]
+#[derive(Clone, Copy, Debug)]
 pub(crate) struct Run {
     pub(crate) first: usize,
     pub(crate) skip: usize,
@@ -123,7 +123,7 @@ pub(crate) fn further(phase: usize, step: usize, dots: usize) -> usize
 }
 
 /// A narrow pattern eight times, side by side, in whole bytes.
-fn eightfold(pattern: DotRow<'_>) -> [u8; 7]
+pub(crate) fn eightfold(pattern: DotRow<'_>) -> [u8; 7]
     requires some { 1 ≤ pattern.dots }
     requires narrow { pattern.dots < 8 }
     ensures { (p : ℕ) → p < 8 * pattern.entry.dots
@@ -317,9 +317,11 @@ fn paint_eight_down(
     }
 }
 
-/// Paints a run of source dots, through a pattern of at least eight dots, down a column of lines of `bytes` bytes.
-fn paint_wide_down(
+/// Paints a run of source dots, through a pattern of at least eight dots, down a column of lines of `bytes` bytes, which
+/// begin so many lines below the pattern's dot 0.
+pub(crate) fn paint_wide_down(
     rows: &mut [u8],
+    above: usize,
     bytes: usize,
     column: usize,
     run: Run,
@@ -327,6 +329,7 @@ fn paint_wide_down(
     pattern: DotRow<'_>,
     mode: Mode,
 )
+    requires low { above < 2 ^ 32 }
     requires inside { column < 8 * bytes }
     requires within { (run.first + run.count) * bytes ≤ length rows.old }
     requires small { length rows.old < 2 ^ 40 }
@@ -336,9 +339,9 @@ fn paint_wide_down(
         ≡ mixed_dot (c == column && nat_le run.first n
         && nat_lt n (run.first + run.count)) mode
         (row_dot source.entry.bits.now (run.skip + (n - run.first)))
-        (repeated (row pattern.entry) n) (row_dot rows.old (8 * (n * bytes) + c)) }
+        (repeated (row pattern.entry) (above + n)) (row_dot rows.old (8 * (n * bytes) + c)) }
 {
-    let mut phase = run.first % pattern.dots;
+    let mut phase = (above + run.first) % pattern.dots;
     for index in 0..(run.count + 7) / 8 {
         let done = 8 * index;
         let dots = eight_dots(source.bits, run.skip + done);
@@ -357,38 +360,5 @@ fn paint_wide_down(
             );
         }
         phase = further(phase, 8, pattern.dots);
-    }
-}
-
-/// Paints a run of source dots, through a pattern, down a column of lines of `bytes` bytes.
-pub(crate) fn paint_down(
-    rows: &mut [u8],
-    bytes: usize,
-    column: usize,
-    run: Run,
-    source: DotRow<'_>,
-    pattern: DotRow<'_>,
-    mode: Mode,
-)
-    requires inside { column < 8 * bytes }
-    requires within { (run.first + run.count) * bytes ≤ length rows.old }
-    requires small { length rows.old < 2 ^ 40 }
-    requires enough { run.skip + run.count ≤ source.dots }
-    requires some { 1 ≤ pattern.dots }
-    ensures { (n c : ℕ) → c < 8 * bytes → row_dot rows.new (8 * (n * bytes) + c)
-        ≡ mixed_dot (c == column && nat_le run.first n
-        && nat_lt n (run.first + run.count)) mode
-        (row_dot source.entry.bits.now (run.skip + (n - run.first)))
-        (repeated (row pattern.entry) n) (row_dot rows.old (8 * (n * bytes) + c)) }
-{
-    if pattern.dots >= 8 {
-        paint_wide_down(rows, bytes, column, run, source, pattern, mode);
-    } else {
-        let eight_times = eightfold(pattern);
-        let unrolled = DotRow {
-            bits: &eight_times,
-            dots: 8 * pattern.dots,
-        };
-        paint_wide_down(rows, bytes, column, run, source, unrolled, mode);
     }
 }

@@ -6,7 +6,7 @@ ghost use Rattle.press_pattern.specs.Ink.{ink_of};
 ghost use Rattle.press_fill.specs.Fill.{fill_mark, filled};
 
 use crate::area::physical_area;
-use crate::paint::paint_area;
+use crate::paint::fill_area;
 use crate::placement::Placement;
 use crate::rect::Rect;
 use press_bits::{Bitmap, Mode};
@@ -33,7 +33,7 @@ fn placement_on(page: &Bitmap, orientation: Orientation) -> Placement
 ///
 /// # Errors
 ///
-/// Where memory ran out; the page is then as it was. A fill in portrait takes no memory.
+/// Where memory ran out; the page is then as it was.
 ///
 /// Source: PCL 5 Printer Language Technical Reference Manual, Rectangular Area Fill Graphics, and Logical Page Orientation
 /// command.
@@ -51,12 +51,10 @@ fn fill_with(
     let placement = placement_on(page, orientation);
     let area = physical_area(placement, rect);
     if let Orientation::Portrait = orientation {
-        paint_area(page, area, &ink.tile, ink.mode);
-        return Ok(());
+        return fill_area(page, area, &ink.tile, ink.mode);
     }
     let tile = placement.placed(alloc, &ink.tile)?;
-    paint_area(page, area, &tile.as_tile(), ink.mode);
-    Ok(())
+    fill_area(page, area, &tile.as_tile(), ink.mode)
 }
 
 /// Fills a rectangle of the frame with a pattern in a mode: all source dots are black, and the pattern's dots lie in the

@@ -1,12 +1,14 @@
 //! Areas of the page that are painted line by line through a tile.
 
-ghost use Rattle.std.specs.Prelude.{◌≡◌, ◌<◌, ◌≤◌, ◌+◌, ◌*◌, min, pos, replicate};
+ghost use Rattle.std.specs.Prelude.{◌≡◌, ◌<◌, ◌≤◌, ◌+◌, ◌*◌, min, pos, replicate, OnOk, OnErr};
 ghost use Rattle.press_bits.specs.Mark.{painted, row, row_mark};
+ghost use Rattle.press_bits.specs.Bands.{AreReady};
 ghost use Rattle.press_fill.specs.Area.{area_mark};
 
 use crate::area::Area;
-use press_bits::{Bitmap, DotRow, Mode, WIDEST_ROW};
+use press_bits::{Bands, Bitmap, DotRow, Mode, WIDEST_ROW};
 use press_pattern::Tile;
+use std::alloc::AllocError;
 
 /// How much of a length that begins at a place lies before an edge.
 fn cut_length(from: u32, length: u32, edge: u32) -> u32
@@ -18,41 +20,26 @@ fn cut_length(from: u32, length: u32, edge: u32) -> u32
     length.min(edge.saturating_sub(from))
 }
 
-/// Paints a row of source dots through a row of a pattern, on a page whose lines are all there.
-fn paint_ready(
-    page: &mut Bitmap,
-    x: i64,
-    y: i64,
-    source: DotRow<'_>,
-    pattern: DotRow<'_>,
-    mode: Mode,
-)
-    requires { 1 ≤ pattern.dots }
-    ensures { page.new
-        ≡ painted page.old (row_mark x y (row source.entry) (row pattern.entry) mode) }
-{
-    if page.paint_row(x, y, source, pattern, mode).is_err() {
-        unreachable!();
-    }
-}
-
 /// Paints so many columns of one line of the page, from x on, through a row of a pattern.
-fn paint_line(page: &mut Bitmap, x: u32, y: u32, columns: u32, pattern: DotRow<'_>, mode: Mode)
+fn paint_line(page: &mut Bands, x: u32, y: u32, columns: u32, pattern: DotRow<'_>, mode: Mode)
     requires narrow { columns ≤ 8 * WIDEST_ROW }
     requires some { 1 ≤ pattern.dots }
-    ensures { page.new ≡ painted page.old (row_mark (pos x) (pos y)
+    requires ready { AreReady page.old (pos y) 1 }
+    ensures painted { page.new.page ≡ painted page.old.page (row_mark (pos x) (pos y)
         (record { bits = replicate WIDEST_ROW 255; dots = columns }) (row pattern.entry) mode) }
+    ensures ready { page.new.ready ≡ page.old.ready }
 {
     let source = DotRow {
         bits: &[0xFF; WIDEST_ROW],
         dots: columns as usize,
     };
-    paint_ready(page, i64::from(x), i64::from(y), source, pattern, mode);
+    page.paint_row(i64::from(x), i64::from(y), source, pattern, mode);
 }
 
-/// Paints an area of the page through a tile that lies on it. Dots outside the page are dropped.
-pub(crate) fn paint_area(page: &mut Bitmap, area: Area, tile: &Tile<'_>, mode: Mode)
-    ensures { page.new ≡ painted page.old (area_mark area tile.now mode) }
+/// Paints an area of the page, whose lines are ready, through a tile that lies on it. Dots outside the page are dropped.
+fn paint_area(page: &mut Bands, area: Area, tile: &Tile<'_>, mode: Mode)
+    requires ready { AreReady page.old (pos area.down.start) area.down.length }
+    ensures { page.new.page ≡ painted page.old.page (area_mark area tile.now mode) }
 {
     let (x, y) = (area.across.start, area.down.start);
     let columns = cut_length(x, area.across.length, page.width());
@@ -64,4 +51,33 @@ pub(crate) fn paint_area(page: &mut Bitmap, area: Area, tile: &Tile<'_>, mode: M
         };
         paint_line(page, x, y + line, columns, pattern, mode);
     }
+}
+
+/// Makes the lines of an area of the page ready.
+fn ready_area(page: &mut Bands, area: Area) -> Result<(), AllocError>
+    ensures dots { page.new.page ≡ page.old.page }
+    ensures ready { OnOk result (AreReady page.new (pos area.down.start) area.down.length) }
+{
+    page.ready(i64::from(area.down.start), area.down.length as usize)
+}
+
+/// Fills an area of the page through a tile that lies on it: all lines that it needs are made before the first dot. Dots
+/// outside the page are dropped.
+///
+/// # Errors
+///
+/// Where memory ran out; the page is then as it was.
+pub(crate) fn fill_area(
+    page: &mut Bitmap,
+    area: Area,
+    tile: &Tile<'_>,
+    mode: Mode,
+) -> Result<(), AllocError>
+    ensures filled { OnOk result (page.new ≡ painted page.old (area_mark area tile.now mode)) }
+    ensures unchanged { OnErr result (page.new ≡ page.old) }
+{
+    let bands = page.bands();
+    ready_area(bands, area)?;
+    paint_area(bands, area, tile, mode);
+    Ok(())
 }

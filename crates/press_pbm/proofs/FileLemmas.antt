@@ -12,7 +12,7 @@ use Rattle.press_bits.specs.declared.bitmap.BlankError.{BlankError}
 use Rattle.press_bits.specs.declared.bitmap.BlankError.TheVariants as blanks
 use Rattle.press_pbm.specs.Header.{header_spelling, width_of, height_of}
 use Rattle.press_pbm.specs.File.{IsFile, Refused}
-use Rattle.press_pbm.specs.Reading.{past_longest, ReadHeader, StopsShort}
+use Rattle.press_pbm.specs.Reading.{past_longest, ReadHeader, RowsStop}
 use Rattle.press_pbm.specs.declared.fault.ReadPbmError.{ReadPbmError}
 use Rattle.press_pbm.specs.declared.fault.ReadPbmError.TheVariants.{NotPbm, BadSize, Truncated, ReadFault, NoMemory}
 
@@ -71,9 +71,9 @@ file_read width height had middle left old page rows header is white long reads 
       Consumes-trans had middle left (header_spelling header.parts) rows header.read reads,
     )
 
--- the input ended within the rows
+-- the input ended within the rows, or memory ran out
 pub rows_stopped : (error : ReadPbmError) (width height : ℕ) (had middle left : Option (List ℕ)) (old : Page) → ReadHeader (width, height) had middle → is_page_size width height ≡ true → old ≡ blank width height →
-    StopsShort error (old.height * bytes_per_line old.width) middle left → Refused error had left
+    RowsStop error (old.height * bytes_per_line old.width) middle left → Refused error had left
 rows_stopped Truncated width height had middle left old header is white (rows, few, reads, ends) =
     let (size, wide, high) = sizes width height had middle header is in
     let old_wide : old.width ≡ width_of header.parts = ap (λ (p : Page). p.width) white ∙ width-blank width height ∙ wide in
@@ -104,4 +104,4 @@ rows_stopped Truncated width height had middle left old header is white (rows, f
 rows_stopped ReadFault width height had middle left old header is white stopped = tt
 rows_stopped NotPbm width height had middle left old header is white stopped = absurd stopped
 rows_stopped BadSize width height had middle left old header is white stopped = absurd stopped
-rows_stopped NoMemory width height had middle left old header is white stopped = absurd stopped
+rows_stopped NoMemory width height had middle left old header is white stopped = tt

@@ -15,7 +15,7 @@ use Rattle.press_bits.specs.Lines.{bytes_per_line}
 use Rattle.press_bits.proofs.DotRowsLemmas.{width-page_of_rows, height-page_of_rows, page_of_rows-HasNoDotOutside, black_at-page_of_rows, white_page_of_rows}
 use Rattle.press_bits.proofs.LineLemmas.{row_dot-past}
 use Rattle.press_bits.proofs.MarkLemmas.{painted_by_effects, row_lands, repeated-eight_black, blackens, effect_where}
-use Rattle.press_pbm.specs.Reading.{StopsShort}
+use Rattle.press_pbm.specs.Reading.{StopsShort, RowsStop}
 use Rattle.press_pbm.specs.declared.fault.ReadPbmError.{ReadPbmError}
 use Rattle.press_pbm.specs.declared.fault.ReadPbmError.TheVariants.{NotPbm, BadSize, Truncated, ReadFault, NoMemory}
 
@@ -114,11 +114,11 @@ row_painted w h y dots line pattern rows row old new is solid shown at_line wide
 
 -- the rest of the rows was not read
 pub stopped_in_rows : (error : ReadPbmError) (had middle left : Option (List ℕ)) (rows : List ℕ) (n y height wanted : ℕ) → Consumes had middle rows → length rows ≡ y * n → y < height → wanted ≡ n →
-    StopsShort error wanted middle left → StopsShort error (height * n) had left
+    StopsShort error wanted middle left → RowsStop error (height * n) had left
 stopped_in_rows Truncated had middle left rows n y height wanted first long below_end one (read, few, more, ends) =
     let next : y + 1 ≤ height = omega arith in
     (rows ++ read, omega (arith, mul-le-mul_right n next, length-append rows read), Consumes-trans had middle left rows read first more, ends)
 stopped_in_rows ReadFault had middle left rows n y height wanted first long below_end one stopped = tt
 stopped_in_rows NotPbm had middle left rows n y height wanted first long below_end one stopped = stopped
 stopped_in_rows BadSize had middle left rows n y height wanted first long below_end one stopped = stopped
-stopped_in_rows NoMemory had middle left rows n y height wanted first long below_end one stopped = stopped
+stopped_in_rows NoMemory had middle left rows n y height wanted first long below_end one stopped = absurd stopped

@@ -67,3 +67,11 @@ StopsShort ReadFault wanted had left = ⊤
 StopsShort NotPbm wanted had left = ⊥
 StopsShort BadSize wanted had left = ⊥
 StopsShort NoMemory wanted had left = ⊥
+
+-- Fewer rows than were wanted were read: fewer bytes were, or memory ran out.
+abbrev pub RowsStop : ReadPbmError → (wanted : ℕ) → Option (List ℕ) → Option (List ℕ) → Type 0
+RowsStop Truncated wanted had left = StopsShort Truncated wanted had left
+RowsStop ReadFault wanted had left = ⊤
+RowsStop NotPbm wanted had left = ⊥
+RowsStop BadSize wanted had left = ⊥
+RowsStop NoMemory wanted had left = ⊤

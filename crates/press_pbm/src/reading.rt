@@ -6,7 +6,7 @@ ghost use Rattle.press_bits.specs.Page.{blank};
 ghost use Rattle.press_bits.specs.DotRows.{page_of_rows};
 ghost use Rattle.press_bits.specs.Lines.{bytes_per_line};
 ghost use Rattle.press_pbm.specs.File.{IsFile, Refused};
-ghost use Rattle.press_pbm.specs.Reading.{ReadHeader, StopsShort};
+ghost use Rattle.press_pbm.specs.Reading.{ReadHeader, StopsShort, RowsStop};
 
 use crate::fault::ReadPbmError;
 use crate::place::Place;
@@ -83,7 +83,7 @@ fn read_rows<R: Read>(input: &mut R, page: &mut Bitmap) -> Result<(), ReadPbmErr
         × Consumes (R.remaining input.old) (R.remaining input.new) rows
         × (page.new ≡ page_of_rows page.old.width page.old.height rows)) }
     ensures err { IfErr result (λ error.
-        StopsShort error (page.old.height * bytes_per_line page.old.width)
+        RowsStop error (page.old.height * bytes_per_line page.old.width)
         (R.remaining input.old) (R.remaining input.new)) }
 {
     let width = page.width() as usize;

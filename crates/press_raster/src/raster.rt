@@ -206,7 +206,8 @@ impl Raster {
         let dots = settings.dots_of_row(media.logical_width(), position.left);
         let bits = decoded(alloc, settings.method, data, &self.seed, bytes_for(dots))?;
         let row = DotRow { bits: &bits, dots };
-        paint_strip(page, alloc, media.orientation, corner, size, row, ink)?;
+        let bands = page.bands();
+        paint_strip(bands, alloc, media.orientation, corner, size, row, ink)?;
         self.seed = bits;
         self.position = Some(RasterPosition {
             rows: position.rows.saturating_add(1).min(MOST_ROWS),

@@ -5,12 +5,12 @@ ghost use Rattle.press_bits.specs.Lines.{bytes_per_line};
 ghost use Rattle.press_bits.specs.Mark.{painted, row, row_dot};
 ghost use Rattle.press_page.specs.Media.{turned};
 ghost use Rattle.press_raster.specs.Reading.{backward_from, tile_line, read_dot};
-ghost use Rattle.press_raster.specs.Along.{is_backward, dots_along};
+ghost use Rattle.press_raster.specs.Along.{is_backward, dots_along, StripReady};
 ghost use Rattle.press_raster.specs.Mark.{strip_mark, raster_mark};
 
 use crate::along::{frame, is_backward, paint_along};
 use crate::reading::Reading;
-use press_bits::{Bitmap, DotRow, white_bytes};
+use press_bits::{Bands, DotRow, white_bytes};
 use press_page::{Dot, Orientation};
 use press_pattern::{Ink, Tile};
 use std::alloc::{AllocError, Global};
@@ -48,7 +48,7 @@ fn tile_line<'a>(tile: &Tile<'a>, line: u32) -> DotRow<'a>
 /// Paints one line of the frame from a column on, where the columns of the frame run to the left or up the page, with source
 /// dots of which the last one stands first, and a line of the tile that was read backwards from the end of the page.
 fn paint_mirrored(
-    page: &mut Bitmap,
+    page: &mut Bands,
     orientation: Orientation,
     left: u32,
     line: u32,
@@ -57,16 +57,18 @@ fn paint_mirrored(
     mirrored: &[u8],
 )
     requires backward { is_backward orientation ≡ true }
+    requires ready { StripReady orientation page.old left line source.dots 1 }
     requires within { left + source.dots ≤ (turned orientation
-        (record { width = page.old.width; height = page.old.height })).width }
+        (record { width = page.old.page.width; height = page.old.page.height })).width }
     requires long { ink.now.tile.width ≤ 8 * length mirrored.now }
     requires mirrored { (i : ℕ) → i < 8 * length mirrored.now → row_dot mirrored.now i
         ≡ read_dot (backward_from ((turned orientation
-        (record { width = page.old.width; height = page.old.height })).width - 1))
+        (record { width = page.old.page.width; height = page.old.page.height })).width - 1))
         (tile_line ink.now.tile line) i }
-    ensures { page.new ≡ painted page.old (strip_mark orientation page.old.width page.old.height
-        left line (row source.entry).dots 1
+    ensures painted { page.new.page ≡ painted page.old.page
+        (strip_mark orientation page.old.page.width page.old.page.height left line (row source.entry).dots 1
         (dots_along (is_backward orientation) (row source.entry)) ink.now.tile ink.now.mode) }
+    ensures ready { page.new.ready ≡ page.old.ready }
 {
     let side = frame(page, orientation).width;
     let start = side - left - source.dots as u32;
@@ -93,7 +95,7 @@ fn mirror_line(tile: &Tile<'_>, line: u32, last: u32, room: &mut [u8])
 /// Paints one line of the frame from a column on, with these source dots, which stand the last one first where the columns
 /// of the frame run to the left or up the page; there then is room for a line of the tile.
 fn paint_line(
-    page: &mut Bitmap,
+    page: &mut Bands,
     orientation: Orientation,
     left: u32,
     line: u32,
@@ -101,13 +103,15 @@ fn paint_line(
     ink: &Ink<'_>,
     room: &mut [u8],
 )
+    requires ready { StripReady orientation page.old left line source.dots 1 }
     requires within { left + source.dots ≤ (turned orientation
-        (record { width = page.old.width; height = page.old.height })).width }
+        (record { width = page.old.page.width; height = page.old.page.height })).width }
     requires room { is_backward orientation ≡ true → ink.now.tile.width ≤ 8 * length room.old }
     requires small { length room.old < 2 ^ 32 }
-    ensures { page.new ≡ painted page.old (strip_mark orientation page.old.width page.old.height
-        left line (row source.entry).dots 1
+    ensures painted { page.new.page ≡ painted page.old.page
+        (strip_mark orientation page.old.page.width page.old.page.height left line (row source.entry).dots 1
         (dots_along (is_backward orientation) (row source.entry)) ink.now.tile ink.now.mode) }
+    ensures ready { page.new.ready ≡ page.old.ready }
 {
     if is_backward(orientation) {
         let last = frame(page, orientation).width - 1;
@@ -122,7 +126,7 @@ fn paint_line(
 /// Paints a strip whose lines have these source dots, which stand the last one first where the columns of the frame run to
 /// the left or up the page; there then is room for a line of the tile.
 fn paint_lines(
-    page: &mut Bitmap,
+    page: &mut Bands,
     orientation: Orientation,
     corner: Dot,
     lines: usize,
@@ -130,12 +134,13 @@ fn paint_lines(
     ink: &Ink<'_>,
     room: &mut [u8],
 )
+    requires ready { StripReady orientation page.old corner.x corner.y source.dots lines }
     requires within { corner.x + source.dots ≤ (turned orientation
-        (record { width = page.old.width; height = page.old.height })).width }
+        (record { width = page.old.page.width; height = page.old.page.height })).width }
     requires room { is_backward orientation ≡ true → ink.now.tile.width ≤ 8 * length room.old }
     requires small { length room.old < 2 ^ 32 }
-    ensures { page.new ≡ painted page.old (strip_mark orientation page.old.width page.old.height
-        corner.x corner.y (row source.entry).dots lines
+    ensures painted { page.new.page ≡ painted page.old.page
+        (strip_mark orientation page.old.page.width page.old.page.height corner.x corner.y (row source.entry).dots lines
         (dots_along (is_backward orientation) (row source.entry)) ink.now.tile ink.now.mode) }
 {
     let lines = cut_length(corner.y, lines, frame(page, orientation).height);
@@ -175,6 +180,34 @@ fn spread(
     Ok(bits)
 }
 
+/// Makes the lines of the page ready that a strip of the frame crosses.
+fn ready_strip(
+    page: &mut Bands,
+    orientation: Orientation,
+    corner: Dot,
+    columns: u32,
+    lines: u32,
+) -> Result<(), AllocError>
+    requires within { corner.x + columns ≤ (turned orientation
+        (record { width = page.old.page.width; height = page.old.page.height })).width }
+    ensures dots { page.new.page ≡ page.old.page }
+    ensures ready { OnOk result
+        (StripReady orientation page.new corner.x corner.y columns lines) }
+{
+    match orientation {
+        Orientation::Portrait => page.ready(i64::from(corner.y), lines as usize),
+        Orientation::Landscape => {
+            let first = page.height() - corner.x - columns;
+            page.ready(i64::from(first), columns as usize)
+        }
+        Orientation::ReversePortrait => {
+            let first = i64::from(page.height()) - i64::from(lines) - i64::from(corner.y);
+            page.ready(first, lines as usize)
+        }
+        Orientation::ReverseLandscape => page.ready(i64::from(corner.x), columns as usize),
+    }
+}
+
 /// Paints a raster row from a corner of the frame on, each of its dots `size` dots wide and high. Dots outside the page are
 /// dropped.
 ///
@@ -182,7 +215,7 @@ fn spread(
 ///
 /// Where memory ran out; the page is then as it was.
 pub(crate) fn paint_strip(
-    page: &mut Bitmap,
+    page: &mut Bands,
     alloc: Global,
     orientation: Orientation,
     corner: Dot,
@@ -193,16 +226,17 @@ pub(crate) fn paint_strip(
     requires some { 1 ≤ size }
     requires most { size ≤ 4 }
     requires dots { source.dots < 2 ^ 28 }
-    ensures painted { OnOk result (page.new ≡ painted page.old
-        (raster_mark orientation page.old corner size (row source.entry) ink.now)) }
-    ensures unchanged { OnErr result (page.new ≡ page.old) }
+    ensures painted { OnOk result (page.new.page ≡ painted page.old.page
+        (raster_mark orientation page.old.page corner size (row source.entry) ink.now)) }
+    ensures unchanged { OnErr result (page.new.page ≡ page.old.page) }
 {
-    let size = size as usize;
     let side = frame(page, orientation).width;
-    let columns = cut_length(corner.x, size * source.dots, side);
+    let columns = cut_length(corner.x, size as usize * source.dots, side);
     if columns == 0 {
         return Ok(());
     }
+    ready_strip(page, orientation, corner, columns, size)?;
+    let size = size as usize;
     let dots = columns as usize;
     let backward = is_backward(orientation);
     if size == 1 && !backward {

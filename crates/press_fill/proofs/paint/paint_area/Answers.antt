@@ -1,13 +1,29 @@
-use Rattle.std.proofs.Common.{◌≡◌, ◌∙◌, ℕ, ◌+◌, replicate, min, pos, ap, sym, arith}
+use Rattle.std.proofs.Common.{◌≡◌, ◌∙◌, ◌<◌, ℕ, ◌+◌, replicate, min, pos, true, ap, sym, refl, arith}
+use Rattle.std.specs.Prelude.{◌+ℤ◌, int_le}
+use Rattle.std.proofs.lemmas.Int.{ints}
+use Rattle.press_bits.specs.Page.{Page}
+use Rattle.press_bits.proofs.BandLemmas.{ready_within}
 use Rattle.press_bits.specs.Mark.{Row, painted, row_mark, box_mark}
-use Rattle.press_bits.proofs.MarkLemmas.{painted_box_none, painted_box_row, painted_box_cut, IsAllBlack-replicate}
+use Rattle.press_bits.proofs.MarkLemmas.{height-painted, painted_box_none, painted_box_row, painted_box_cut, IsAllBlack-replicate}
 use Rattle.press_pattern.specs.Tiling.{Tiling, tile_dot, tile_row}
 use Rattle.press_fill.proofs.FillLemmas.{repeated-tile_row}
 use Rattle.press_fill.proofs.paint.paint_area.Goals as goal
 
 pub loop-line-init : goal.loop-line-init
 loop-line-init c =
-    sym (painted_box_none c.args.page.now c.args.area.across.start c.args.area.down.start c.cut_length-columns.result (tile_dot c.args.tile.now) c.args.mode c.width.ensures.inside)
+    (sym (painted_box_none c.args.page.now.page c.args.area.across.start c.args.area.down.start c.cut_length-columns.result (tile_dot c.args.tile.now) c.args.mode c.width.ensures.inside), refl)
+
+pub paint_line-requires-clause-ready : goal.paint_line-requires-clause-ready
+paint_line-requires-clause-ready c =
+    ready_within c.args.page.now c.loop-line.page (pos c.args.area.down.start) (pos (c.args.area.down.start + c.loop-line.line)) c.args.area.down.length 1 c.loop-line.invariant.1
+    (ap (λ (p : Page). p.height) c.loop-line.invariant.0 ∙ height-painted c.args.page.now.page _)
+    (from c.args.area.down.start c.loop-line.line) (before c.args.area.down.start c.loop-line.line c.args.area.down.length (omega arith)) c.requires.ready
+  where
+    from : (y line : ℕ) → int_le (pos y) (pos (y + line)) ≡ true
+    from y line = grind (arith, ints)
+
+    before : (y line lines : ℕ) → line < lines → int_le (pos (y + line) +ℤ pos 1) (pos y +ℤ pos lines) ≡ true
+    before y line lines inside = grind (arith, ints)
 
 pub loop-line-preserved : goal.loop-line-preserved
 loop-line-preserved c =
@@ -17,10 +33,12 @@ loop-line-preserved c =
     let line = c.loop-line.line in
     let tile : Tiling = c.args.tile.now in
     let black : Row = record { bits = replicate 2048 255; dots = columns } in
-    let pattern : Row = record { bits = tile_row tile (y + line); dots = tile.width } in
-    c.paint_line.ensures
-    ∙ (λ i. painted (c.loop-line.invariant i) (row_mark (pos x) (pos (y + line)) black (record { bits = c.row.ensures.row i; dots = pattern_width i }) c.args.mode))
-    ∙ painted_box_row c.args.page.now x y line black pattern (tile_dot tile) c.args.mode (IsAllBlack-replicate 2048 columns (omega arith)) (λ column _ _. repeated-tile_row tile column (y + line))
+    let pattern : Row = record { bits = tile_row tile (y + line); dots = tile.width } in (
+      c.paint_line.ensures.painted
+          ∙ (λ i. painted (c.loop-line.invariant.0 i) (row_mark (pos x) (pos (y + line)) black (record { bits = c.row.ensures.row i; dots = pattern_width i }) c.args.mode))
+          ∙ painted_box_row c.args.page.now.page x y line black pattern (tile_dot tile) c.args.mode (IsAllBlack-replicate 2048 columns (omega arith)) (λ column _ _. repeated-tile_row tile column (y + line)),
+      c.paint_line.ensures.ready ∙ c.loop-line.invariant.1,
+    )
   where
     pattern_width : c.from.result ≡ c.args.tile.now.width
     pattern_width = omega arith
@@ -32,8 +50,8 @@ returns c =
     let columns = c.cut_length-columns.result in
     let lines = c.cut_length-lines.result in
     let last : c.loop-line.line ≡ lines = omega arith in
-    let right : min (x + columns) c.args.page.now.width ≡ min (x + c.args.area.across.length) c.args.page.now.width = omega arith in
-    let below : min (y + lines) c.args.page.now.height ≡ min (y + c.args.area.down.length) c.args.page.now.height = omega arith in
-    c.loop-line.invariant
-    ∙ ap (λ (n : ℕ). painted c.args.page.now (box_mark x y columns n (tile_dot c.args.tile.now) c.args.mode)) last
-    ∙ painted_box_cut c.args.page.now x y columns lines c.args.area.across.length c.args.area.down.length (tile_dot c.args.tile.now) c.args.mode right below
+    let right : min (x + columns) c.args.page.now.page.width ≡ min (x + c.args.area.across.length) c.args.page.now.page.width = omega arith in
+    let below : min (y + lines) c.args.page.now.page.height ≡ min (y + c.args.area.down.length) c.args.page.now.page.height = omega arith in
+    c.loop-line.invariant.0
+    ∙ ap (λ (n : ℕ). painted c.args.page.now.page (box_mark x y columns n (tile_dot c.args.tile.now) c.args.mode)) last
+    ∙ painted_box_cut c.args.page.now.page x y columns lines c.args.area.across.length c.args.area.down.length (tile_dot c.args.tile.now) c.args.mode right below

@@ -1,0 +1,289 @@
+//! Pages of dots that stand in bands of sixty-four lines. A band that is not there is white.
+#![tactic(auto)]
+
+ghost use Rattle.std.specs.Prelude.{◌≡◌, ℕ, ◌<◌, ◌≤◌, ◌+◌, ◌*◌, ◌≢◌, [], replicate, length, take, drop, pos, true, false, MatchOption, IfOk, OnOk, OnErr};
+ghost use Rattle.press_bits.specs.Page.{HasNoDotOutside, black_at, black_in_line, blank, count_black, is_page_size};
+ghost use Rattle.press_bits.specs.Mark.{painted, row, row_mark, column_mark};
+ghost use Rattle.press_bits.specs.Lines.{bytes_per_line, IsPageLine};
+ghost use Rattle.press_bits.specs.Bands.{AreReady, StaysReady, band_lines};
+
+use crate::band::Band;
+use crate::dot_bytes;
+use crate::dot_row::DotRow;
+use crate::down::paint_down;
+use crate::making::make_bands;
+use crate::mode::Mode;
+use crate::painting::run_within;
+use std::alloc::{AllocError, Global};
+use std::marker::Model;
+
+/// The most dots on a side of a bitmap.
+pub const MAX_SIDE: u32 = 16_384;
+
+/// The bytes of the widest row of dots.
+pub const WIDEST_ROW: usize = MAX_SIDE as usize / 8;
+
+/// How many lines a band has.
+pub(crate) const BAND: usize = 64;
+
+/// A page of black and white dots. Contracts see its dots, and which of its bands are there.
+#[derive(Drop)]
+pub struct Bands {
+    width: u32,
+    height: u32,
+    bands: Vec<Band>,
+}
+
+impl Model for Bands {
+    ghost use Rattle.press_bits.specs.Bands.{BandedPage, banded_code, banded, HasBands};
+
+    ghost Value = { BandedPage };
+
+    ghost coded = { banded_code };
+
+    ghost view = { λ b. banded b.width b.height b.bands.items };
+
+    ghost invariant = { λ b. HasBands b.width b.height b.bands.items };
+}
+
+/// How many bytes a line of this width takes.
+fn line_bytes(width: u32) -> usize
+    requires { width ≤ MAX_SIDE }
+    ensures { result ≡ bytes_per_line width }
+{
+    (width as usize + 7) / 8
+}
+
+/// The first of the bytes.
+fn front(bytes: &[u8], count: usize) -> &[u8]
+    requires { count ≤ length bytes.now }
+    ensures { result.now ≡ take count bytes.now }
+{
+    &bytes[..count]
+}
+
+/// The bytes of a line of a band.
+fn line_in(band: &Band, line: usize, count: usize) -> &[u8]
+    requires whole { length band.now ≡ band_lines * count }
+    requires within { line < band_lines }
+    requires small { count ≤ WIDEST_ROW }
+    ensures { result.now ≡ take count (drop (line * count) band.now) }
+{
+    let bytes = band.bytes();
+    let start = line * count;
+    &bytes[start..start + count]
+}
+
+/// The column or the line of a page, of which there are `side`, at which a place lies, if it lies on the page.
+fn place_within(at: i64, side: u32) -> Option<usize>
+    ensures { MatchOption result ((n : ℕ) → n < side → pos n ≢ at)
+        (λ place. (pos place ≡ at) × (place < side)) }
+{
+    if at < 0 || at >= i64::from(side) {
+        None
+    } else {
+        Some(at as usize)
+    }
+}
+
+/// So many bands that are not there.
+fn missing_bands(alloc: Global, count: usize) -> Result<Vec<Band>, AllocError>
+    ensures { IfOk result (λ bands. bands.items ≡ replicate count []) }
+{
+    let mut bands = Vec::with_capacity(alloc, count)?;
+    for made in 0..count {
+        bands.push(Band::missing(alloc))?;
+    }
+    Ok(bands)
+}
+
+/// Equal bands.
+fn copied(alloc: Global, bands: &Vec<Band>) -> Result<Vec<Band>, AllocError>
+    ensures { IfOk result (λ copy. copy.items ≡ bands.now.items) }
+{
+    let mut copy = Vec::with_capacity(alloc, bands.len())?;
+    for index in 0..bands.len() {
+        copy.push(bands[index].copy()?)?;
+    }
+    Ok(copy)
+}
+
+impl Bands {
+    /// A white page, of which no band is there.
+    ///
+    /// # Errors
+    ///
+    /// Where memory ran out.
+    pub(crate) fn blank(alloc: Global, width: u32, height: u32) -> Result<Self, AllocError>
+        requires { is_page_size width height ≡ true }
+        ensures { IfOk result (λ bands. bands.page ≡ blank width height) }
+    {
+        let bands = missing_bands(alloc, (height as usize + 63) / BAND)?;
+        Ok(Bands {
+            width,
+            height,
+            bands,
+        })
+    }
+
+    /// An equal page, of which the same bands are there.
+    ///
+    /// # Errors
+    ///
+    /// Where memory ran out.
+    pub(crate) fn copy(&self) -> Result<Self, AllocError>
+        ensures { IfOk result (λ bands. bands ≡ self.now) }
+    {
+        let alloc = *self.bands.allocator();
+        Ok(Bands {
+            width: self.width,
+            height: self.height,
+            bands: copied(alloc, &self.bands)?,
+        })
+    }
+
+    /// How many dots a line has.
+    pub fn width(&self) -> u32
+        ensures width { result ≡ self.now.page.width }
+        ensures some { 1 ≤ result }
+        ensures most { result ≤ MAX_SIDE }
+        ensures inside { HasNoDotOutside self.now.page }
+    {
+        self.width
+    }
+
+    /// How many lines the page has.
+    pub fn height(&self) -> u32
+        ensures height { result ≡ self.now.page.height }
+        ensures some { 1 ≤ result }
+        ensures most { result ≤ MAX_SIDE }
+        ensures inside { HasNoDotOutside self.now.page }
+    {
+        self.height
+    }
+
+    /// Whether the dot at column `x` of line `y` is black; `false` outside the page.
+    pub(crate) fn get(&self, x: u32, y: u32) -> bool
+        ensures dot { result ≡ black_at self.now.page x y }
+        ensures right { self.now.page.width ≤ x → result ≡ false }
+        ensures below { self.now.page.height ≤ y → result ≡ false }
+    {
+        if x >= self.width || y >= self.height {
+            return false;
+        }
+        dot_bytes::is_black(self.line(y), x as usize)
+    }
+
+    /// The bytes of a line: the most significant bit of the first byte is the leftmost dot, and 1 is black; the bits past the
+    /// last dot are 0, and so are all of a line whose band is not there.
+    ///
+    /// Source: PCL 5 Printer Language Technical Reference Manual, Raster Graphics, the bits of a raster row.
+    pub(crate) fn line(&self, y: u32) -> &[u8]
+        requires { y < self.now.page.height }
+        ensures { IsPageLine self.now.page y result.now }
+    {
+        let count = line_bytes(self.width);
+        let band = &self.bands[y as usize / BAND];
+        if !band.is_there() {
+            return front(&[0; WIDEST_ROW], count);
+        }
+        line_in(band, y as usize % BAND, count)
+    }
+
+    /// How many dots of a line are black.
+    fn black_in(&self, y: u32) -> u32
+        requires { y < self.now.page.height }
+        ensures { result ≡ black_in_line self.now.page y }
+    {
+        let band = &self.bands[y as usize / BAND];
+        if !band.is_there() {
+            return 0;
+        }
+        dot_bytes::count_black(self.line(y))
+    }
+
+    /// How many dots of the page are black.
+    pub(crate) fn count_black(&self) -> u32
+        ensures { result ≡ count_black self.now.page }
+    {
+        let mut black = 0;
+        for y in 0..self.height {
+            black += self.black_in(y);
+        }
+        black
+    }
+
+    /// Makes the bands of those of so many lines, from line `y` on, that are lines of the page.
+    ///
+    /// # Errors
+    ///
+    /// Where memory ran out. No dot changes, and each line that was ready is.
+    pub fn ready(&mut self, y: i64, lines: usize) -> Result<(), AllocError>
+        ensures dots { self.new.page ≡ self.old.page }
+        ensures stays { StaysReady self.old self.new }
+        ensures ok { OnOk result (AreReady self.new y lines) }
+    {
+        let run = run_within(y, lines, self.height);
+        if run.count == 0 {
+            return Ok(());
+        }
+        let size = BAND * line_bytes(self.width);
+        let alloc = *self.bands.allocator();
+        let end = (run.first + run.count - 1) / BAND + 1;
+        make_bands(&mut self.bands, alloc, run.first / BAND, end, size)
+    }
+
+    /// Paints a row of source dots through a row of a pattern: source dot 0 at column `x` of line `y`, and the others to its
+    /// right. The pattern's dot 0 lies at column 0 of the page, and the pattern is repeated over the line. Dots outside the
+    /// page are dropped. Takes no memory.
+    ///
+    /// Source: PCL 5 Printer Language Technical Reference Manual, The PCL Print Model, and Raster Graphics (the order of the
+    /// dots).
+    pub fn paint_row(&mut self, x: i64, y: i64, source: DotRow<'_>, pattern: DotRow<'_>, mode: Mode)
+        requires some { 1 ≤ pattern.dots }
+        requires ready { AreReady self.old y 1 }
+        ensures painted { self.new.page
+            ≡ painted self.old.page (row_mark x y (row source.entry) (row pattern.entry) mode) }
+        ensures ready { self.new.ready ≡ self.old.ready }
+    {
+        let Some(line) = place_within(y, self.height) else {
+            return;
+        };
+        let run = run_within(x, source.dots, self.width);
+        if run.count == 0 {
+            return;
+        }
+        let start = line % BAND * line_bytes(self.width);
+        self.bands[line / BAND].paint(start, run, source, pattern, mode);
+    }
+
+    /// Paints a column of source dots through a column of a pattern: source dot 0 at column `x` of line `y`, and the others
+    /// below it. The pattern's dot 0 lies at line 0 of the page, and the pattern is repeated down the page. Dots outside the
+    /// page are dropped. Takes no memory.
+    ///
+    /// Source: PCL 5 Printer Language Technical Reference Manual, The PCL Print Model, and Logical Page Orientation.
+    pub fn paint_column(
+        &mut self,
+        x: i64,
+        y: i64,
+        source: DotRow<'_>,
+        pattern: DotRow<'_>,
+        mode: Mode,
+    )
+        requires some { 1 ≤ pattern.dots }
+        requires ready { AreReady self.old y source.dots }
+        ensures painted { self.new.page
+            ≡ painted self.old.page (column_mark x y (row source.entry) (row pattern.entry) mode) }
+        ensures ready { self.new.ready ≡ self.old.ready }
+    {
+        let Some(column) = place_within(x, self.width) else {
+            return;
+        };
+        let run = run_within(y, source.dots, self.height);
+        if run.count == 0 {
+            return;
+        }
+        let bytes = line_bytes(self.width);
+        paint_down(&mut self.bands, bytes, column, run, source, pattern, mode);
+    }
+}
