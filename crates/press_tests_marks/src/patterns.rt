@@ -200,6 +200,13 @@ fn bad_headers(rt: HostRuntime) {
     assert!(rt; patterns.row_of(Kind::User, 1, 0).is_none());
 }
 
+#[test]
+fn faults_tell_their_number(rt: HostRuntime) -> Result<(), Fail> {
+    let told = format!(in rt.alloc(); "{}, {}", DefineError::BadHeader, DefineError::ShortData)?;
+    assert_eq!(rt; told.as_str(), "fault 201, fault 202");
+    Ok(())
+}
+
 fn exists(patterns: &Patterns, id: u16) -> bool {
     patterns.row_of(Kind::User, id, 0).is_some()
 }
