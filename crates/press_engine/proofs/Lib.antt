@@ -1,9 +1,14 @@
 pub mod ChangeLemmas
 pub mod DepthLaws
+pub mod EndsLemmas
+pub mod ItemsLemmas
 pub mod MachineLemmas
 pub mod PlaceLemmas
 pub mod Runs
 pub mod SendsLemmas
+pub mod StackLaws
+pub mod StackLemmas
+pub mod StepLemmas
 pub mod TraceLaws
 pub mod WorkedJobs
 pub mod WorkedStreams

@@ -14,10 +14,6 @@ module _ (one : Token → Machine → Run) where
   unfolding run_each
   run_each-none machine = refl
 
-  pub run_each-next : (command : Token) (commands : List Token) (machine : Machine) → run_each one (command ∷ commands) machine ≡ then_run (one command machine).outputs (run_each one commands (one command machine).machine)
-  unfolding run_each
-  run_each-next command commands machine = refl
-
   -- commands, and then others from the machine that they left
   pub run_each-append : (commands others : List Token) (machine : Machine) → run_each one (commands ++ others) machine ≡ then_run (run_each one commands machine).outputs (run_each one others (run_each one commands machine).machine)
   unfolding run_each

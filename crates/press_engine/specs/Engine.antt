@@ -1,7 +1,8 @@
 -- The engine as callers see it.
-use Rattle.std.specs.Prelude.{◌≡◌, ◌≢◌, ◌⊎◌, ℕ, pos, false, Option, Some, None, List, [], Result, Ok, Err, OnOk, MatchResult, if◌then◌else◌}
+use Rattle.std.specs.Prelude.{◌≡◌, ◌≢◌, ◌⊎◌, ℕ, pos, false, Option, Some, None, List, [], ◌∷◌, Result, Ok, Err, OnOk, MatchResult, if◌then◌else◌}
 use Rattle.std.specs.Borrow.{Bor}
 use Rattle.press_cmd.specs.Token.{Token}
+use Rattle.press_cmd.specs.declared.variant.Kind.{Kind}
 use Rattle.press_cursor.specs.declared.stack.CursorPosition.{CursorPosition}
 use Rattle.press_macros.specs.Macros.{defining}
 use Rattle.press_raster.specs.Graphics.{raster_position}
@@ -10,6 +11,9 @@ use Rattle.press_sink.specs.Sending.{Output, Complete, AtSheet, AtReply, ForMemo
 use Rattle.press_engine.specs.declared.engine.Engine.{Engine}
 use Rattle.press_engine.specs.declared.fault.EngineError.{EngineError}
 use Rattle.press_engine.specs.declared.fault.EngineError.TheVariants as engine_errors
+use Rattle.press_engine.specs.declared.frame.Frame.{Frame}
+use Rattle.press_engine.specs.declared.machine.Last.{Last}
+use Rattle.press_engine.specs.declared.machine.Last.TheVariants as lasts
 use Rattle.press_engine.specs.declared.machine.Machine.{Machine}
 use Rattle.press_engine.specs.declared.view.View.{View}
 use Rattle.press_engine.specs.declared.state.State.{State}
@@ -17,11 +21,16 @@ use Rattle.press_engine.specs.Outcome.{Outcome, Effect, Changes, Makes, GivesRep
 use Rattle.press_engine.specs.Closing.{after_close}
 use Rattle.press_engine.specs.Table.{effect_on}
 use Rattle.press_engine.specs.Machine.{Run, run}
+use Rattle.press_engine.specs.Stack.{owed}
 use Rattle.press_engine.specs.declared.effect.Source.TheVariants.{Stream}
 
 -- the engine's machine, and none where an earlier command had a fault
 abbrev pub live : Engine → Option Machine
 live engine = if engine.failed then None else Some engine.machine.value
+
+-- the bodies that run in it, the innermost first
+abbrev pub bodies : Engine → List Frame
+bodies engine = if engine.failed then [] else engine.bodies
 
 -- How far outputs went out, by what was answered.
 abbrev pub Sends : ℕ → List Output → Result (Unit {0}) EngineError → Told → Told → Type 0
@@ -47,6 +56,34 @@ pub record Carries (machine : Machine) (command : Token) (tag : ℕ) (result : R
 abbrev pub Runs : Option Machine → Token → ℕ → Result (Unit {0}) EngineError → Option Machine → Told → Told → Type 0
 Runs (Some machine) command tag result new before after = Carries machine command tag result new before after
 Runs None command tag result new before after = (new ≡ None) × (after ≡ before)
+
+-- a step that took a command of this kind
+abbrev pub IsOfKind : Last → Kind → Type 0
+IsOfKind lasts.Nothing kind = ⊥
+IsOfKind (lasts.Ran one) kind = kind ≡ one
+IsOfKind (lasts.Recorded one) kind = kind ≡ one
+
+-- whether a step was taken, by its answer
+abbrev pub whether : Result Kind EngineError → Result (Unit {0}) EngineError
+whether (Ok kind) = Ok tt
+whether (Err error) = Err error
+
+-- An engine that owed these items took a step. Where all went well, its machine is that of the first of them, what it still
+-- owes are the others, and the answer is the command's kind; else the engine has failed, and no body runs. The outputs of
+-- that item went out as far as the answer says.
+pub record TakesItem (owing : List Run) (tag : ℕ) (result : Result Kind EngineError) (new : Option Machine) (still : List Frame) (before after : Told) : Type 0 where
+  pub item : Run
+  pub others : List Run
+  pub due : owing ≡ item ∷ others
+  pub left : MatchResult result
+      (λ kind. IsOfKind item.machine.last kind × (new ≡ Some item.machine) × (others ≡ owed still item.machine))
+      (λ _. (new ≡ None) × (still ≡ []))
+  pub sends : Sends tag item.outputs (whether result) before after
+
+-- the same for any engine: one that has failed changes nothing, and nothing goes out
+abbrev pub TakesNext : Option Machine → (Machine → List Run) → ℕ → Result Kind EngineError → Option Machine → List Frame → Told → Told → Type 0
+TakesNext (Some machine) owing tag result new still before after = TakesItem (owing machine) tag result new still before after
+TakesNext None owing tag result new still before after = (new ≡ None) × (after ≡ before)
 
 -- whether something goes out, or the front that waits changes
 abbrev pub Shows : (before : State) → Outcome → Type 0

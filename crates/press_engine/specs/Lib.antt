@@ -17,6 +17,8 @@ pub mod Patterns
 pub mod Place
 pub mod Raster
 pub mod Rectangle
+pub mod Stack
+pub mod Stepping
 pub mod Table
 pub mod Trace
 pub use Rattle.press_bits.specs.Mark

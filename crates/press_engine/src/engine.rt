@@ -1,9 +1,10 @@
 //! The command table at work, over sinks of sheets and replies.
 
+use crate::bodies::Bodies;
 use crate::fault::EngineError;
-use crate::machine::{LEVELS, Machine};
+use crate::machine::Machine;
 use crate::view::View;
-use press_cmd::Command;
+use press_cmd::{Command, Kind};
 use press_sink::{ReplySink, SheetSink};
 use press_units::Pos;
 use std::alloc::{AllocError, Global};
@@ -17,16 +18,22 @@ pub struct Engine {
     alloc: Global,
     /// On the heap, so that an engine is moved as cheaply as what holds it.
     machine: Box<Machine>,
+    /// The bodies that run.
+    bodies: Bodies,
     /// Whether an earlier command had a fault.
     failed: bool,
 }
 
 impl Engine {
-    ghost use Rattle.std.specs.Prelude.{◌≡◌, ◌⊎◌, ◌↔◌, IfOk, IfErr, IfSome, IsErrOf, Some, None};
+    ghost use Rattle.std.specs.Prelude.{◌≡◌, ◌≢◌, ◌≤◌, ◌⊎◌, ◌↔◌, [], length, IsTrue, IfOk, IfErr, IfSome, IsErrOf, Some, None};
     ghost use Rattle.press_sink.specs.Told.{both, CanCount};
     ghost use Rattle.press_cmd.specs.View.{token};
-    ghost use Rattle.press_engine.specs.Machine.{power_on};
-    ghost use Rattle.press_engine.specs.Engine.{live, Runs, NeedsMemory, view_of};
+    ghost use Rattle.press_engine.specs.Machine.{power_on, levels};
+    ghost use Rattle.press_cmd.specs.Kinds.{kind_of};
+    ghost use Rattle.press_engine.specs.Laws.{most_bodies};
+    ghost use Rattle.press_engine.specs.Stack.{owed};
+    ghost use Rattle.press_engine.specs.Trace.{trace_at};
+    ghost use Rattle.press_engine.specs.Engine.{live, bodies, Runs, TakesNext, NeedsMemory, view_of};
 
     /// An engine after power on.
     ///
@@ -34,17 +41,96 @@ impl Engine {
     ///
     /// Where memory ran out.
     pub fn power_on(alloc: Global) -> Result<Self, AllocError>
-        ensures { IfOk result (λ engine. live engine ≡ Some power_on) }
+        ensures on { IfOk result (λ engine. live engine ≡ Some power_on) }
+        ensures none { IfOk result (λ engine. bodies engine ≡ []) }
     {
         Ok(Engine {
             alloc,
             machine: Box::new(alloc, Machine::power_on(alloc))?,
+            bodies: Bodies::none(alloc),
             failed: false,
         })
     }
 
+    /// Whether the next step is one of the stream: no body runs. At most four run at a time.
+    ///
+    /// Source: PCL 5 Printer Language Technical Reference Manual, Macros, Macro Control.
+    pub fn needs_command(&self) -> bool
+        ensures none { IsTrue result ↔ (bodies self.now ≡ []) }
+        ensures few { length (bodies self.now) ≤ most_bodies }
+    {
+        self.failed || self.bodies.is_empty()
+    }
+
+    /// Takes a command of the stream, where no body runs: one step. The answer is its kind. Where the body of a macro starts,
+    /// or an overlay before its page closes, that runs from then on: its commands are taken by [`Engine::step_inner`].
+    ///
+    /// Source: PCL 5 Printer Language Technical Reference Manual, Page Control Commands, and Macros.
+    ///
+    /// # Errors
+    ///
+    /// `SinkFault` (301) and `ReplyFault` (302): a sink had a fault. After these and after `NoMemory` the engine has
+    /// failed, and answers `Failed` (303) from then on.
+    pub fn step<S: SheetSink, R: ReplySink>(
+        &mut self,
+        command: Command<'_>,
+        tag: u64,
+        sheets: &mut S,
+        replies: &mut R,
+    ) -> Result<Kind, EngineError>
+        requires none { bodies self.old ≡ [] }
+        requires can_count { CanCount (both (S.told sheets.old) (R.told replies.old)) }
+        ensures takes { TakesNext (live self.old) (trace_at levels (token command.entry))
+            tag result (live self.new) (bodies self.new)
+            (both (S.told sheets.old) (R.told replies.old))
+            (both (S.told sheets.new) (R.told replies.new)) }
+        ensures kind { IfOk result (λ kind. kind ≡ kind_of (token command.entry)) }
+        ensures failed { IsErrOf result EngineError.Failed ↔ (live self.old ≡ None) }
+        ensures memory { IsErrOf result EngineError.NoMemory →
+            NeedsMemory (live self.old) (token command.entry) }
+    {
+        if self.failed {
+            return Err(EngineError::Failed);
+        }
+        let answer = self.bodies.step(&mut self.machine, self.alloc, command, tag, sheets, replies);
+        self.failed = answer.is_err();
+        answer
+    }
+
+    /// Takes the first command that is left of the innermost body that runs: one step. The answer is its kind. In the same step
+    /// each innermost body that is used up ends, and a page close that waited for its overlay is finished.
+    ///
+    /// Source: PCL 5 Printer Language Technical Reference Manual, Macros.
+    ///
+    /// # Errors
+    ///
+    /// As [`Engine::step`].
+    pub fn step_inner<S: SheetSink, R: ReplySink>(
+        &mut self,
+        tag: u64,
+        sheets: &mut S,
+        replies: &mut R,
+    ) -> Result<Kind, EngineError>
+        requires running { bodies self.old ≢ [] }
+        requires can_count { CanCount (both (S.told sheets.old) (R.told replies.old)) }
+        ensures takes { TakesNext (live self.old) (owed (bodies self.old))
+            tag result (live self.new) (bodies self.new)
+            (both (S.told sheets.old) (R.told replies.old))
+            (both (S.told sheets.new) (R.told replies.new)) }
+        ensures failed { IsErrOf result EngineError.Failed ↔ (live self.old ≡ None) }
+    {
+        if self.failed {
+            return Err(EngineError::Failed);
+        }
+        let answer = self
+            .bodies
+            .step_inner(&mut self.machine, self.alloc, tag, sheets, replies);
+        self.failed = answer.is_err();
+        answer
+    }
+
     /// Carries one command out whole, with the macro bodies that it starts, and delivers the sheets that it finishes under a tag,
-    /// each in its copies.
+    /// each in its copies: a step that takes it, and steps in the bodies that run until none does.
     ///
     /// Source: PCL 5 Printer Language Technical Reference Manual, Page Control Commands, and Macros.
     ///
@@ -59,20 +145,20 @@ impl Engine {
         sheets: &mut S,
         replies: &mut R,
     ) -> Result<(), EngineError>
-        requires { CanCount (both (S.told sheets.old) (R.told replies.old)) }
+        requires none { bodies self.old ≡ [] }
+        requires can_count { CanCount (both (S.told sheets.old) (R.told replies.old)) }
         ensures runs { Runs (live self.old) (token command.entry) tag result (live self.new)
             (both (S.told sheets.old) (R.told replies.old))
             (both (S.told sheets.new) (R.told replies.new)) }
         ensures failed { IsErrOf result EngineError.Failed ↔ (live self.old ≡ None) }
         ensures memory { IsErrOf result EngineError.NoMemory →
             NeedsMemory (live self.old) (token command.entry) }
+        ensures none { bodies self.new ≡ [] }
     {
         if self.failed {
             return Err(EngineError::Failed);
         }
-        let outcome = self
-            .machine
-            .run(self.alloc, LEVELS, command, tag, sheets, replies);
+        let outcome = self.bodies.run(&mut self.machine, self.alloc, command, tag, sheets, replies);
         self.failed = outcome.is_err();
         outcome
     }
@@ -84,6 +170,7 @@ impl Engine {
     /// `Failed` (303) where this engine has failed, and else `NoMemory` where memory ran out.
     pub fn copy(&self) -> Result<Self, EngineError>
         ensures copy { IfOk result (λ engine. live engine ≡ live self.now) }
+        ensures bodies { IfOk result (λ engine. bodies engine ≡ bodies self.now) }
         ensures failed { IsErrOf result EngineError.Failed ↔ (live self.now ≡ None) }
         ensures refused { IfErr result
             (λ error. (error ≡ EngineError.Failed) ⊎ (error ≡ EngineError.NoMemory)) }
@@ -94,9 +181,13 @@ impl Engine {
         let Ok(machine) = self.copy_machine() else {
             return Err(EngineError::NoMemory);
         };
+        let Ok(bodies) = self.bodies.copy() else {
+            return Err(EngineError::NoMemory);
+        };
         Ok(Engine {
             alloc: self.alloc,
             machine,
+            bodies,
             failed: false,
         })
     }

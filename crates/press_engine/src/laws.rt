@@ -1,6 +1,7 @@
 //! What the trace of commands, a table step an item, has to do with carrying them out whole.
 
 ghost use Rattle.press_engine.specs.Laws.{TraceTellsTheRun, TraceGoesOn, OneStepIsTheRun, AtMostFourBodies};
+ghost use Rattle.press_engine.specs.Stack.{InnerStepIsOwed, OuterStepIsOwed};
 
 /// The last item of the trace has the machine that the commands leave, and the outputs of all items joined are theirs.
 pub fn trace_tells_the_run()
@@ -20,4 +21,10 @@ pub fn one_step_is_the_run()
 /// No more than four bodies run at a time, and none after a whole command.
 pub fn at_most_four_bodies()
     ensures { AtMostFourBodies }
+{}
+
+/// Each table step gives the first of the items that the stack of running bodies owes, and leaves a stack that owes the others.
+pub fn each_step_is_owed()
+    ensures inner { InnerStepIsOwed }
+    ensures outer { OuterStepIsOwed }
 {}

@@ -1,6 +1,7 @@
 //! The engine: the command table of PCL 5 at work, on every page size and orientation.
 #![tactic(auto)]
 
+mod bodies;
 mod calls;
 mod canvas;
 mod closing;
@@ -9,6 +10,7 @@ mod effect;
 mod engine;
 mod fault;
 mod filling;
+mod frame;
 mod job_language;
 pub mod laws;
 mod machine;
@@ -23,6 +25,7 @@ mod rectangle;
 mod row;
 mod sender;
 mod state;
+mod stepping;
 mod view;
 
 pub use drawing::Drawing;

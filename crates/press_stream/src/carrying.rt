@@ -1,10 +1,10 @@
 //! Commands that a scanner holds, handed to an engine one by one.
 
-ghost use Rattle.std.specs.Prelude.{◌≡◌, IsSome, IsOk, IsErrOf};
+ghost use Rattle.std.specs.Prelude.{◌≡◌, [], IsSome, IsOk, IsErrOf};
 ghost use Rattle.press_cmd.specs.View.{token};
 ghost use Rattle.press_scan.specs.ScannerState.{buffer_size};
 ghost use Rattle.press_sink.specs.Told.{both, CanCount};
-ghost use Rattle.press_engine.specs.Engine.{live};
+ghost use Rattle.press_engine.specs.Engine.{live, bodies};
 ghost use Rattle.press_stream.specs.Answers.{CarriesOne, CarriesNext, Takes, WantsMemory};
 ghost use Rattle.press_stream.specs.State.{job_state, Fits};
 ghost use Rattle.press_stream.specs.declared.phase.Phase.TheVariants.{Running};
@@ -25,10 +25,13 @@ fn carry<S: SheetSink, P: ReplySink>(
     sheets: &mut S,
     replies: &mut P,
 ) -> Result<Kind, JobError>
+    requires none { bodies engine.old ≡ [] }
     requires can_count { CanCount (both (S.told sheets.old) (P.told replies.old)) }
-    ensures { CarriesOne (token command.entry) (live engine.old) tag result (live engine.new)
+    ensures carries { CarriesOne
+        (token command.entry) (live engine.old) tag result (live engine.new)
         (both (S.told sheets.old) (P.told replies.old))
         (both (S.told sheets.new) (P.told replies.new)) }
+    ensures none { bodies engine.new ≡ [] }
 {
     let kind = kind(&command);
     engine.run_command(command, tag, sheets, replies)?;
@@ -43,10 +46,13 @@ fn carry_next<S: SheetSink, P: ReplySink>(
     sheets: &mut S,
     replies: &mut P,
 ) -> Result<Option<Kind>, JobError>
+    requires none { bodies engine.old ≡ [] }
     requires can_count { CanCount (both (S.told sheets.old) (P.told replies.old)) }
-    ensures { CarriesNext scanner.old (live engine.old) tag result scanner.new (live engine.new)
+    ensures carries { CarriesNext
+        scanner.old (live engine.old) tag result scanner.new (live engine.new)
         (both (S.told sheets.old) (P.told replies.old))
         (both (S.told sheets.new) (P.told replies.new)) }
+    ensures none { bodies engine.new ≡ [] }
 {
     match scanner.next()? {
         Some(command) => Ok(Some(carry(engine, command, tag, sheets, replies)?)),
@@ -65,6 +71,7 @@ pub fn take<S: SheetSink, P: ReplySink>(
     replies: &mut P,
 ) -> Result<Step, JobError>
     requires running { IsSome (live engine.old) }
+    requires none { bodies engine.old ≡ [] }
     requires phase { phase.old ≡ Running }
     requires room { scanner.old.room ≡ buffer_size }
     requires can_count { CanCount (both (S.told sheets.old) (P.told replies.old)) }
@@ -75,6 +82,7 @@ pub fn take<S: SheetSink, P: ReplySink>(
     ensures fits { IsOk result → Fits scanner.new engine.new phase.new }
     ensures memory { IsErrOf result JobError.NoMemory
         → WantsMemory (job_state scanner.old engine.old Running) }
+    ensures none { bodies engine.new ≡ [] }
 {
     if let Some(kind) = carry_next(scanner, engine, tag, sheets, replies)? {
         return Ok(Step::Ran(kind));

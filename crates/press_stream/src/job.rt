@@ -30,6 +30,8 @@ pub struct Job {
 impl Model for Job {
     ghost use Rattle.press_stream.specs.State.{JobState, job_state, Fits};
     ghost use Rattle.std.specs.Coded.{codes};
+    ghost use Rattle.std.specs.Prelude.{◌≡◌, []};
+    ghost use Rattle.press_engine.specs.Engine.{bodies};
     ghost use Rattle.press_engine.specs.contracts.machine.Machine as machine;
 
     ghost Value = { JobState };
@@ -38,7 +40,7 @@ impl Model for Job {
 
     ghost view = { λ job. job_state job.scanner job.engine job.phase };
 
-    ghost invariant = { λ job. Fits job.scanner job.engine job.phase };
+    ghost invariant = { λ job. Fits job.scanner job.engine job.phase × (bodies job.engine ≡ []) };
 }
 
 impl Job {

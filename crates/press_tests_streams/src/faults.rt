@@ -49,6 +49,7 @@ fn faults_of(
             return Ok(faults);
         };
         assert!(rt; sheets.faults() < u64::MAX);
+        assert!(rt; engine.needs_command());
         faults.push(match engine.run_command(command, 0, sheets, &mut replies) {
             Ok(()) => "",
             Err(EngineError::SinkFault) => "301",

@@ -9,6 +9,8 @@ mod replies;
 mod rows;
 #[cfg(test)]
 mod sinks;
+#[cfg(test)]
+mod steps;
 mod stream_tables;
 #[cfg(test)]
 mod streams;

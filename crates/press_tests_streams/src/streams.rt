@@ -4,6 +4,7 @@ use crate::stream_tables::{Shows, TABLES};
 use press_cmd::Kind;
 use press_engine::{Engine, Last, View};
 use press_page::Binding;
+use press_pbm::write_pbm;
 use press_scan::Scanner;
 use press_sink::{ListReplies, ListSink};
 use std::test::Fail;
@@ -21,21 +22,35 @@ struct CarriedOut {
     sheets: usize,
 }
 
-/// Carries the commands of a stream out, and counts the sheets that go out.
-fn carry_out(rt: &HostRuntime, engine: &mut Engine, stream: &[u8]) -> Result<usize, Fail> {
+/// Carries the commands of a stream out, and keeps the sheets that go out.
+fn carry_into(
+    rt: &HostRuntime,
+    engine: &mut Engine,
+    stream: &[u8],
+    sheets: &mut ListSink,
+) -> Result<(), Fail> {
     let mut scanner = Scanner::new(rt.alloc());
     scanner.feed(stream)?;
-    let mut sheets = ListSink::new(rt.alloc());
     let mut replies = ListReplies::new(rt.alloc());
     for _ in 0..MOST_COMMANDS {
         let Some(command) = scanner.next()? else {
-            return Ok(sheets.deliveries().len());
+            return Ok(());
         };
-        let Ok(()) = engine.run_command(command, 0, &mut sheets, &mut replies) else {
+        if !engine.needs_command() {
+            return Err(Fail::from("a body still runs"));
+        }
+        let Ok(()) = engine.run_command(command, 0, sheets, &mut replies) else {
             return Err(Fail::from("a command was not carried out"));
         };
     }
     Err(Fail::from("too many commands"))
+}
+
+/// Carries the commands of a stream out, and counts the sheets that go out.
+fn carry_out(rt: &HostRuntime, engine: &mut Engine, stream: &[u8]) -> Result<usize, Fail> {
+    let mut sheets = ListSink::new(rt.alloc());
+    carry_into(rt, engine, stream, &mut sheets)?;
+    Ok(sheets.deliveries().len())
 }
 
 /// What a stream leaves of an engine after power on.
@@ -216,5 +231,36 @@ fn id_of_a_copy(engine: &Engine) -> Result<u16, Fail> {
 fn a_copy_shows_the_same(rt: HostRuntime) -> Result<(), Fail> {
     let left = carried_out(&rt, b"\x1B&f3Y")?;
     assert_eq!(rt; id_of_a_copy(&left.engine)?, 3);
+    Ok(())
+}
+
+/// The front of the first sheet of a stream, as a file.
+fn front_of(rt: &HostRuntime, pieces: &[&[u8]]) -> Result<Vec<u8>, Fail> {
+    let mut stream = Vec::new(rt.alloc());
+    for piece in pieces {
+        stream.extend_from_slice(piece)?;
+    }
+    let mut engine = Engine::power_on(rt.alloc())?;
+    let mut sheets = ListSink::new(rt.alloc());
+    carry_into(rt, &mut engine, stream.as_slice(), &mut sheets)?;
+    let first = sheets.deliveries().first().ok_or("no sheet")?;
+    let mut file = Vec::new(rt.alloc());
+    let Ok(()) = write_pbm(&first.sheet.front, &mut file) else {
+        return Err(Fail::from("the front was not written"));
+    };
+    Ok(file)
+}
+
+/// Each kind of command that a definition records, with a sequence that breaks, text, and data.
+const RECORDED: &[u8] =
+    b"\x1B9\x1B*p10x20Y\x1B*c30a2b0P\x1B*p40\r x\x1B%0A\x1B*r1A\x1B*b2W\x02\xF0\x1B*rB";
+
+#[test]
+fn a_macro_marks_as_its_commands_do(rt: HostRuntime) -> Result<(), Fail> {
+    let plain = front_of(&rt, &[RECORDED, b"\x0C"])?;
+    let executed = front_of(&rt, &[b"\x1B&f1y0X", RECORDED, b"\x1B&f1x2X\x0C"])?;
+    assert_eq!(rt; executed, plain);
+    let blank = front_of(&rt, &[b"\x1B*p10x20Y\x1B*c0P\x0C"])?;
+    assert!(rt; plain != blank);
     Ok(())
 }

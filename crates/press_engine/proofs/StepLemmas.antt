@@ -1,0 +1,188 @@
+-- What a step says of the bodies that run, of the command that it took, and of memory.
+use Rattle.std.proofs.Common.{◌≡◌, ◌≢◌, ◌⊎◌, ◌∙◌, ◌≤◌, arith, ℕ, zero, suc, List, [], ◌∷◌, ◌++◌, Option, Some, None, IsSome, Bool, true, false, option_to_list, if◌then◌else◌, Result, Ok, Err, inl, inr, refl, sym, ap, subst}
+use Rattle.std.specs.Result.{is_err}
+use Rattle.std.proofs.lemmas.List.{append-nil}
+use Rattle.press_cmd.specs.Token.{Token}
+use Rattle.press_cmd.specs.Kinds.{kind_of}
+use Rattle.press_cmd.specs.declared.variant.Kind.{Kind}
+use Rattle.press_sink.specs.Told.{Told}
+use Rattle.press_engine.specs.declared.effect.Closer.{Closer}
+use Rattle.press_engine.specs.declared.effect.Source.TheVariants.{Stream}
+use Rattle.press_engine.specs.declared.fault.EngineError.{EngineError}
+use Rattle.press_engine.specs.declared.frame.Frame.{Frame}
+use Rattle.press_engine.specs.declared.frame.FrameEnd.{FrameEnd}
+use Rattle.press_engine.specs.declared.frame.FrameEnd.TheVariants as ends_by
+use Rattle.press_engine.specs.declared.machine.Last.{Last}
+use Rattle.press_engine.specs.declared.machine.Last.TheVariants as lasts
+use Rattle.press_engine.specs.declared.machine.Machine.{Machine}
+use Rattle.press_engine.specs.declared.state.State.{State}
+use Rattle.press_engine.specs.Calls.{overlay_body}
+use Rattle.press_engine.specs.Engine.{Sends, IsOfKind, TakesItem, TakesMemory}
+use Rattle.press_engine.specs.Machine.{Run, then_run, with_state, taken, last_of, levels as LEVELS}
+use Rattle.press_engine.specs.Outcome.{Effect, Changes, Makes, GivesReply, Stays, Closes, Starts}
+use Rattle.press_engine.specs.Stack as stack
+use Rattle.press_engine.specs.Stack.{source_in, end_by, end_of, begun_in_overlay, begun_outside, begun_finished, begun_close_with, begins, ended_by, pops, Stepped, step_outer, step_inner, owed, Gives, IsNested, IsSound}
+use Rattle.press_engine.specs.Stepping.{GivesItem}
+use Rattle.press_engine.specs.Table.{effect_on, is_recorded}
+use Rattle.press_engine.proofs.ItemsLemmas.{ready-of, step-ready}
+use Rattle.press_engine.proofs.StackLemmas.{pops-nested, begins-nested, outer-wants}
+
+-- What a step took is not changed by what it begins, nor by ends.
+close_with-last : (body : Option (List Token)) (closer : Closer) (machine : Machine) → (begun_close_with body closer machine).item.machine.last ≡ machine.last
+close_with-last None closer machine = refl
+close_with-last (Some commands) closer machine = refl
+
+finished-last : (machine : Machine) (effect : Effect) → (begun_finished machine effect).item.machine.last ≡ machine.last
+finished-last machine (Changes state) = refl
+finished-last machine (Makes state) = refl
+finished-last machine (GivesReply reply state) = refl
+finished-last machine (Stays closer state) = refl
+finished-last machine (Closes closer state) = close_with-last (overlay_body state) closer (with_state state machine)
+finished-last machine (Starts commands end state) = refl
+
+in_overlay-last : (more : ℕ) (machine : Machine) (effect : Effect) → (begun_in_overlay more machine effect).item.machine.last ≡ machine.last
+in_overlay-last more machine (Changes state) = refl
+in_overlay-last more machine (Makes state) = refl
+in_overlay-last more machine (GivesReply reply state) = refl
+in_overlay-last more machine (Stays closer state) = refl
+in_overlay-last more machine (Closes closer state) = refl
+in_overlay-last more machine (Starts commands end state) = refl
+
+outside-last : (more : ℕ) (machine : Machine) (effect : Effect) → (begun_outside more machine effect).item.machine.last ≡ machine.last
+outside-last more machine (Changes state) = refl
+outside-last more machine (Makes state) = refl
+outside-last more machine (GivesReply reply state) = refl
+outside-last more machine (Stays closer state) = refl
+outside-last more machine (Closes closer state) = finished-last machine (Closes closer state)
+outside-last more machine (Starts commands end state) = refl
+
+begun-last : (in_overlay : Bool) (more : ℕ) (machine : Machine) (effect : Effect) → (stack.begun in_overlay more machine effect).item.machine.last ≡ machine.last
+begun-last true zero machine effect = refl
+begun-last true (suc more) machine effect = in_overlay-last more machine effect
+begun-last false zero machine effect = finished-last machine effect
+begun-last false (suc more) machine effect = outside-last more machine effect
+
+end-last : (end : FrameEnd) (depth : ℕ) (machine : Machine) → (end_by end depth machine).machine.last ≡ machine.last
+end-last (ends_by.Macro end) depth machine = refl
+end-last (ends_by.Close closer kept place) depth machine = refl
+
+ended-last : (body : List Token) (frames : List Frame) (frame : Frame) → ((item : Run) → (pops frames item).item.machine.last ≡ item.machine.last) → (item : Run) → (ended_by body frames frame (pops frames) item).item.machine.last ≡ item.machine.last
+ended-last [] frames frame outer item =
+    outer (then_run item.outputs (end_of frame item.machine)) ∙ end-last frame.end frame.depth item.machine
+ended-last (command ∷ rest) frames frame outer item = refl
+
+pops-last : (frames : List Frame) (item : Run) → (pops frames item).item.machine.last ≡ item.machine.last
+pops-last [] item = refl
+pops-last (frame ∷ frames) item = ended-last frame.body frames frame (pops-last frames) item
+
+begins-last : (in_overlay : Bool) (more : ℕ) (command : Token) (machine : Machine) → (begins in_overlay more command machine).item.machine.last ≡ last_of command machine.state
+begins-last in_overlay more command machine =
+    begun-last in_overlay more (taken command machine) (effect_on (source_in in_overlay more) command machine.state)
+
+pub outer-last : (command : Token) (machine : Machine) → (step_outer command machine).item.machine.last ≡ last_of command machine.state
+outer-last command machine =
+    let begin = begins false LEVELS command machine in
+    pops-last begin.started begin.item ∙ begins-last false LEVELS command machine
+
+pub inner-last : (frame : Frame) (command : Token) (rest : List Token) (frames : List Frame) (machine : Machine) → (step_inner frame command rest frames machine).item.machine.last ≡ last_of command machine.state
+inner-last frame command rest frames machine =
+    let begin = begins frame.in_overlay frame.levels command machine in
+    pops-last (begin.started ++ (record frame { body = rest } ∷ frames)) begin.item ∙ begins-last frame.in_overlay frame.levels command machine
+
+-- it is of the command's kind
+kind-if : (recorded : Bool) (kind : Kind) → IsOfKind (if recorded then lasts.Recorded kind else lasts.Ran kind) kind
+kind-if true kind = refl
+kind-if false kind = refl
+
+pub last-kind : (command : Token) (machine : Machine) (last : Last) → last ≡ last_of command machine.state → IsOfKind last (kind_of command)
+last-kind command machine last is =
+    let P : Last → Type 0 = λ last. IsOfKind last (kind_of command) in
+    subst P (sym is) (kind-if (is_recorded command machine.state) (kind_of command))
+
+some-last : (last : Last) (kind : Kind) → IsOfKind last kind → last ≢ lasts.Nothing
+some-last lasts.Nothing kind of_kind = absurd of_kind
+some-last (lasts.Ran one) kind of_kind = λ (nothing : lasts.Ran one ≡ lasts.Nothing). cc
+some-last (lasts.Recorded one) kind of_kind = λ (nothing : lasts.Recorded one ≡ lasts.Nothing). cc
+
+pub taken-last : (command : Token) (machine : Machine) (last : Last) → last ≡ last_of command machine.state → last ≢ lasts.Nothing
+taken-last command machine last is = some-last last (kind_of command) (last-kind command machine last is)
+
+-- A step of the code gives the first of the items that were owed.
+module _ (owing : List Run) (stepped : Stepped) (gives : Gives stepped owing) (tag : ℕ) (new : Machine) (still : List Frame) (before after : Told) where
+  pub item-given : (kind : Kind) → IsOfKind new.last kind → still ≡ stepped.frames → new ≡ stepped.item.machine → Sends tag stepped.item.outputs (Ok tt) before after → GivesItem owing tag (Ok kind) new still before after
+  item-given kind of_kind runs moves sends =
+      let P : Machine → Type 0 = λ machine. IsOfKind machine.last kind in
+      record {
+        item = stepped.item;
+        others = owed stepped.frames stepped.item.machine;
+        due = gives;
+        left = (subst P moves of_kind, moves, (λ i. owed (sym runs i) stepped.item.machine));
+        sends = sends;
+      }
+
+  pub item-stopped : (error : EngineError) → still ≡ [] → Sends tag stepped.item.outputs (Err error) before after → GivesItem owing tag (Err error) new still before after
+  item-stopped error none sends = record {
+    item = stepped.item;
+    others = owed stepped.frames stepped.item.machine;
+    due = gives;
+    left = none;
+    sends = sends;
+  }
+
+-- the bodies between two steps
+pub sound-outer : (command : Token) (machine : Machine) (still : List Frame) → still ≡ (step_outer command machine).frames → IsSound still
+sound-outer command machine still is =
+    let begin = begins false LEVELS command machine in
+    let started : IsNested begin.started = subst IsNested (append-nil begin.started) (begins-nested [] tt false LEVELS command machine (omega arith)) in
+    record {
+      ready = ready-of begin.started still begin.item is;
+      nested = subst IsNested (sym is) (pops-nested begin.started begin.item started);
+    }
+
+pub sound-inner : (frame : Frame) (command : Token) (rest : List Token) (outer frames still : List Frame) (machine : Machine) → frames ≡ record frame { body = command ∷ rest } ∷ outer → IsNested frames → still ≡ (step_inner frame command rest outer machine).frames → IsSound still
+sound-inner frame command rest outer frames still machine all nested is =
+    let begin = begins frame.in_overlay frame.levels command machine in
+    let within : IsNested (record frame { body = rest } ∷ outer) = subst IsNested all nested in
+    let started = begins-nested (record frame { body = rest } ∷ outer) within frame.in_overlay frame.levels command machine (omega arith) in
+    record {
+      ready = step-ready frame command rest outer still machine is;
+      nested = subst IsNested (sym is) (pops-nested (begin.started ++ (record frame { body = rest } ∷ outer)) begin.item started);
+    }
+
+-- an engine whose step gave an item
+pub item-taken : (owing : List Run) (tag : ℕ) (result : Result Kind EngineError) (machine : Machine) (still : List Frame) (failed : Bool) (before after : Told) → failed ≡ is_err result → GivesItem owing tag result machine still before after → TakesItem owing tag result (if failed then None else Some machine) (if failed then [] else still) before after
+item-taken owing tag (Ok kind) machine still true before after is gives = absurd cc
+item-taken owing tag (Ok kind) machine still false before after is gives = record {
+  item = gives.item;
+  others = gives.others;
+  due = gives.due;
+  left = (gives.left.0, (λ i. Some (gives.left.1 i)), gives.left.2);
+  sends = gives.sends;
+}
+item-taken owing tag (Err error) machine still true before after is gives = record {
+  item = gives.item;
+  others = gives.others;
+  due = gives.due;
+  left = (refl, refl);
+  sends = gives.sends;
+}
+item-taken owing tag (Err error) machine still false before after is gives = absurd cc
+
+-- there is a frame
+pub some-frames : (frames rest : List Frame) (frame : Frame) → frames ≡ frame ∷ rest → frames ≢ []
+some-frames frames rest frame is =
+    let P : List Frame → Type 0 = λ these. these ≢ [] in
+    subst P (sym is) (λ (none : frame ∷ rest ≡ []). cc)
+
+pub some-started : (started : Option Frame) (frames : List Frame) → IsSome started → option_to_list started ++ frames ≢ []
+some-started None frames some = absurd cc
+some-started (Some frame) frames some = λ (none : frame ∷ frames ≡ []). cc
+
+-- where the rest of a step of the stream may take memory, so may the command
+pub outer-memory : (command : Token) (machine : Machine) (one : stack.Begun) (frames : List Frame) → one ≡ begins false LEVELS command machine → frames ≡ [] → (one.item.outputs ≢ []) ⊎ (one.started ++ frames ≢ []) → TakesMemory (effect_on Stream command machine.state)
+outer-memory command machine one frames is none (inl some) =
+    let P : stack.Begun → Type 0 = λ this. this.item.outputs ≢ [] in
+    outer-wants command machine (inl (subst P is some))
+outer-memory command machine one frames is none (inr some) =
+    let begin = begins false LEVELS command machine in
+    outer-wants command machine (inr (λ nothing. some ((λ i. (is i).started ++ none i) ∙ append-nil begin.started ∙ nothing)))
