@@ -2,6 +2,7 @@
 use Rattle.std.proofs.Common.{◌≡◌, ◌∙◌, ◌⊎◌, ℕ, List, [], ◌∷◌, ◌++◌, length, refl, sym, ap, subst, inl, inr, append-nil}
 use Rattle.std.specs.Prelude.{Option, Some, None, Ok, codes}
 use Rattle.std.specs.Option.{ForSome}
+use Rattle.std.specs.Str.{IsUtf8}
 use Rattle.hex.specs.Hex.{decode_of}
 use Rattle.press_cmd.specs.Token.{Token, Broken, PjlLine, uel, param_of, bytes_of}
 use Rattle.press_cmd.specs.Carried.{data_count}
@@ -62,11 +63,11 @@ pub seen_fault : (f : ReadForm) (form : Form) (fault : LineFault) → form_seen 
 seen_fault f form fault is h = subst (λ (x : Form). HasFormFault x fault) (sym is) h
 
 -- a form that is read is the line's
-pub line_adds : (line : List ℕ) (form : Form) (old new : List ℕ) → form_of line ≡ Some form → FormAdds form old new → LineAdds line old new
-line_adds line form old new read added = (form, sound line form read, added)
+pub line_adds : (line : List ℕ) (form : Form) (old new : List ℕ) → IsUtf8 line → form_of line ≡ Some form → FormAdds form old new → LineAdds line old new
+line_adds line form old new text read added = (form, (text, sound line form read), added)
 
-pub line_fault : (line : List ℕ) (form : Form) (fault : LineFault) → form_of line ≡ Some form → HasFormFault form fault → HasLineFault line fault
-line_fault line form Line read h = absurd h
-line_fault line form Value read h = (form, sound line form read, h)
-line_fault line form Data read h = (form, sound line form read, h.0, h.1)
-line_fault line form NoMemory read h = tt
+pub line_fault : (line : List ℕ) (form : Form) (fault : LineFault) → IsUtf8 line → form_of line ≡ Some form → HasFormFault form fault → HasLineFault line fault
+line_fault line form Line text read h = absurd h
+line_fault line form Value text read h = (form, (text, sound line form read), h)
+line_fault line form Data text read h = (form, (text, sound line form read), h.0, h.1)
+line_fault line form NoMemory text read h = tt

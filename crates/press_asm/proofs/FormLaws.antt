@@ -14,7 +14,7 @@ use Rattle.hex.specs.declared.error.FromHexError.{FromHexError}
 use Rattle.hex.proofs.HexLemmas.{decode_of-ok, decode_sized-twice, decode_sized-ok}
 use Rattle.press_cmd.specs.Grammar.{IsCharacter, IsGroup, IsEnd, IsControl, IsText}
 use Rattle.press_cmd.proofs.ByteTests.{range-true, range-from, range-below}
-use Rattle.press_asm.specs.Form.{Form, Blank, ExitForm, EscapeForm, ParamForm, ControlForm, TextForm, ForeignForm, BrokenForm, LineForm, is_space, is_no_space, word, spaced, IsWord, HasForm}
+use Rattle.press_asm.specs.Form.{Form, Blank, ExitForm, EscapeForm, ParamForm, ControlForm, TextForm, ForeignForm, BrokenForm, LineForm, is_space, is_no_space, word, spaced, IsWord, Spells, HasForm}
 use Rattle.press_asm.specs.Reading.{are_digits, only_byte, byte_of, escape_in, control_form, text_form, foreign_form, split_group, param_ending, word_in, param_at, param_in, broken_in, line_in, named_in, is_blank, form_of}
 
 -- ---- the first space
@@ -159,8 +159,8 @@ control_complete b is =
 text_complete : (b : ℕ) → IsText b → text_form b ≡ Some (TextForm b)
 text_complete b is = ap (λ t. cond t (Some (TextForm b)) None) (range-from 32 255 b is)
 
--- The form that a line has is read.
-pub complete : (line : List ℕ) (form : Form) → HasForm line form → form_of line ≡ Some form
+-- The form that a line is spelled as is read.
+pub complete : (line : List ℕ) (form : Form) → Spells line form → form_of line ≡ Some form
 complete line Blank (inl e) = ap form_of e
 complete line Blank (inr e) = ap form_of e.1
 complete line ExitForm e = ap form_of e
@@ -172,9 +172,13 @@ complete line (ForeignForm b) h = ap form_of h.1 ∙ ap (option_and_then foreign
 complete line (BrokenForm d) h = ap form_of h.0 ∙ ap (λ t. cond t (Some (BrokenForm d)) None) (digits_complete d h.1 h.2)
 complete line (LineForm d) h = ap form_of h.0 ∙ ap (λ t. cond t (Some (LineForm d)) None) (digits_complete d h.1 h.2)
 
+-- A line is spelled as at most one form is.
+one_spelled : (line : List ℕ) (form form' : Form) → Spells line form → Spells line form' → form ≡ form'
+one_spelled line form form' h h' = let e : Some form ≡ Some form' = sym (complete line form h) ∙ complete line form' h' in cc
+
 -- A line has at most one form.
 pub one_form : (line : List ℕ) (form form' : Form) → HasForm line form → HasForm line form' → form ≡ form'
-one_form line form form' h h' = let e : Some form ≡ Some form' = sym (complete line form h) ∙ complete line form' h' in cc
+one_form line form form' h h' = one_spelled line form form' h.1 h'.1
 
 -- ---- what is read, the line has
 
@@ -259,11 +263,11 @@ digits_sound : (d : List ℕ) → are_digits d ≡ true → (list_all is_hex_dig
 digits_sound [] h = cc
 digits_sound (x ∷ d) h = (h, refl, λ e. cc e)
 
-word_has : (line text w d : List ℕ) (form : Form) → line ≡ codes "par " ++ text → text ≡ w ++ spaced d → list_all is_hex_digit d ≡ true → WordRead w d form → HasForm line form
+word_has : (line text w d : List ℕ) (form : Form) → line ≡ codes "par " ++ text → text ≡ w ++ spaced d → list_all is_hex_digit d ≡ true → WordRead w d form → Spells line form
 word_has line text w d form spelled cut digits r =
-    subst (λ (f : Form). HasForm line f) r.same (spelled ∙ ap (λ x. codes "par " ++ x) (cut ∙ ap (λ x. x ++ spaced d) r.spelled), r.is_word, digits)
+    subst (λ (f : Form). Spells line f) r.same (spelled ∙ ap (λ x. codes "par " ++ x) (cut ∙ ap (λ x. x ++ spaced d) r.spelled), r.is_word, digits)
 
-param_sound : (line text : List ℕ) (form : Form) → line ≡ codes "par " ++ text → param_in text ≡ Some form → HasForm line form
+param_sound : (line text : List ℕ) (form : Form) → line ≡ codes "par " ++ text → param_in text ≡ Some form → Spells line form
 param_sound line text form spelled h =
     elim (cut text) [
       | Word plain ↦ word_has line text text [] form spelled (sym (append-nil text)) refl (word_sound text [] form plain (sym (param_word text plain) ∙ h))
@@ -289,45 +293,45 @@ and_then_some : {X Y : Type 0} (f : X → Option Y) (o : Option X) (y : Y) → o
 and_then_some f None y h = cc
 and_then_some f (Some x) y h = (x, refl, h)
 
-control_sound : (line rest : List ℕ) (b : ℕ) (form : Form) → line ≡ codes "ctl " ++ rest → byte_of rest ≡ Some b → control_form b ≡ Some form → HasForm line form
+control_sound : (line rest : List ℕ) (b : ℕ) (form : Form) → line ≡ codes "ctl " ++ rest → byte_of rest ≡ Some b → control_form b ≡ Some form → Spells line form
 control_sound line rest b form spelled byte h =
     let found = passed (is_in_range 0 31 b && not (eqb b 27)) (ControlForm b) form h in
     let tests = and_parts (is_in_range 0 31 b) (not (eqb b 27)) found.0 in
-    subst (λ (f : Form). HasForm line f) found.1 ((rest, spelled, byte_sound rest b byte), (omega (arith, (range-true 0 31 b tests.0).1), eqb-false b 27 (not-true _ tests.1)))
+    subst (λ (f : Form). Spells line f) found.1 ((rest, spelled, byte_sound rest b byte), (omega (arith, (range-true 0 31 b tests.0).1), eqb-false b 27 (not-true _ tests.1)))
 
-text_sound : (line rest : List ℕ) (b : ℕ) (form : Form) → line ≡ codes "txt " ++ rest → byte_of rest ≡ Some b → text_form b ≡ Some form → HasForm line form
+text_sound : (line rest : List ℕ) (b : ℕ) (form : Form) → line ≡ codes "txt " ++ rest → byte_of rest ≡ Some b → text_form b ≡ Some form → Spells line form
 text_sound line rest b form spelled byte h =
     let found = passed (is_in_range 32 255 b) (TextForm b) form h in
-    subst (λ (f : Form). HasForm line f) found.1 ((rest, spelled, byte_sound rest b byte), range-true 32 255 b found.0)
+    subst (λ (f : Form). Spells line f) found.1 ((rest, spelled, byte_sound rest b byte), range-true 32 255 b found.0)
 
-foreign_sound : (line rest : List ℕ) (b : ℕ) (form : Form) → line ≡ codes "for " ++ rest → byte_of rest ≡ Some b → foreign_form b ≡ Some form → HasForm line form
+foreign_sound : (line rest : List ℕ) (b : ℕ) (form : Form) → line ≡ codes "for " ++ rest → byte_of rest ≡ Some b → foreign_form b ≡ Some form → Spells line form
 foreign_sound line rest b form spelled byte h =
-    let same : ForeignForm b ≡ form = cc h in subst (λ (f : Form). HasForm line f) same (rest, spelled, byte_sound rest b byte)
+    let same : ForeignForm b ≡ form = cc h in subst (λ (f : Form). Spells line f) same (rest, spelled, byte_sound rest b byte)
 
-escape_sound : (line rest : List ℕ) (form : Form) → line ≡ codes "esc " ++ rest → escape_in rest ≡ Some form → HasForm line form
+escape_sound : (line rest : List ℕ) (form : Form) → line ≡ codes "esc " ++ rest → escape_in rest ≡ Some form → Spells line form
 escape_sound line [] form spelled h = cc
 escape_sound line (b ∷ []) form spelled h =
     let found = passed (is_in_range 48 126 b) (EscapeForm b) form h in
-    subst (λ (f : Form). HasForm line f) found.1 (spelled, range-true 48 126 b found.0)
+    subst (λ (f : Form). Spells line f) found.1 (spelled, range-true 48 126 b found.0)
 escape_sound line (b ∷ c ∷ rest) form spelled h = cc
 
-broken_sound : (line rest : List ℕ) (form : Form) → line ≡ codes "brk " ++ rest → broken_in rest ≡ Some form → HasForm line form
+broken_sound : (line rest : List ℕ) (form : Form) → line ≡ codes "brk " ++ rest → broken_in rest ≡ Some form → Spells line form
 broken_sound line rest form spelled h =
     let found = passed (are_digits rest) (BrokenForm rest) form h in
     let digits = digits_sound rest found.0 in
-    subst (λ (f : Form). HasForm line f) found.1 (spelled, digits.0, digits.2)
+    subst (λ (f : Form). Spells line f) found.1 (spelled, digits.0, digits.2)
 
-line_sound : (line rest : List ℕ) (form : Form) → line ≡ codes "pjl " ++ rest → line_in rest ≡ Some form → HasForm line form
+line_sound : (line rest : List ℕ) (form : Form) → line ≡ codes "pjl " ++ rest → line_in rest ≡ Some form → Spells line form
 line_sound line rest form spelled h =
     let found = passed (are_digits rest) (LineForm rest) form h in
     let digits = digits_sound rest found.0 in
-    subst (λ (f : Form). HasForm line f) found.1 (spelled, digits.0, digits.2)
+    subst (λ (f : Form). Spells line f) found.1 (spelled, digits.0, digits.2)
 
 -- the name that stands
 named : (line name rest text : List ℕ) → line ≡ name ++ rest → bytes_eq name text ≡ true → line ≡ text ++ rest
 named line name rest text cut h = cut ∙ ap (λ x. x ++ rest) ((bytes_eq-Decides name text).0 h)
 
-named_sound : (line name rest : List ℕ) (form : Form) → line ≡ name ++ rest → named_in name rest ≡ Some form → HasForm line form
+named_sound : (line name rest : List ℕ) (form : Form) → line ≡ name ++ rest → named_in name rest ≡ Some form → Spells line form
 named_sound line name rest form cut h =
     elim (pick (bytes_eq name (codes "esc ")) _ _ form h) [
       | inl y ↦ escape_sound line rest form (named line name rest (codes "esc ") cut y.0) y.1
@@ -349,21 +353,21 @@ named_sound line name rest form cut h =
       ]
     ]
 
-blank_sound : (line : List ℕ) → is_blank line ≡ true → HasForm line Blank
+blank_sound : (line : List ℕ) → is_blank line ≡ true → Spells line Blank
 blank_sound [] h = inl refl
 blank_sound (b ∷ line) h = inr (line, ap (λ c. c ∷ line) (eqb-true b 59 h))
 
--- The form that is read, the line has.
-pub sound : (line : List ℕ) (form : Form) → form_of line ≡ Some form → HasForm line form
+-- The line is spelled as the form that is read.
+pub sound : (line : List ℕ) (form : Form) → form_of line ≡ Some form → Spells line form
 sound line form h =
     elim (pick (is_blank line) _ _ form h) [
-      | inl y ↦ let same : Blank ≡ form = cc y.1 in subst (λ (f : Form). HasForm line f) same (blank_sound line y.0)
+      | inl y ↦ let same : Blank ≡ form = cc y.1 in subst (λ (f : Form). Spells line f) same (blank_sound line y.0)
       | inr n ↦ elim (pick (bytes_eq line (codes "uel")) _ _ form n.1) [
-        | inl y ↦ let same : ExitForm ≡ form = cc y.1 in subst (λ (f : Form). HasForm line f) same ((bytes_eq-Decides line (codes "uel")).0 y.0)
+        | inl y ↦ let same : ExitForm ≡ form = cc y.1 in subst (λ (f : Form). Spells line f) same ((bytes_eq-Decides line (codes "uel")).0 y.0)
         | inr m ↦ named_sound line (take 4 line) (drop 4 line) form (sym (take-append-drop 4 line)) m.1
       ]
     ]
 
 -- Where none is read, the line has none.
 pub no_form : (line : List ℕ) → form_of line ≡ None → (form : Form) → HasForm line form → ⊥
-no_form line none form h = let e : None ≡ Some form = sym none ∙ complete line form h in cc
+no_form line none form h = let e : None ≡ Some form = sym none ∙ complete line form h.1 in cc

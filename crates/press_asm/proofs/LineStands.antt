@@ -6,8 +6,11 @@ use Rattle.std.specs.Prelude.{codes, Option, Some, None}
 use Rattle.std.specs.Option.{ForSome}
 use Rattle.std.specs.List.{list_all}
 use Rattle.std.specs.Int.{IsInRange}
+use Rattle.std.specs.Str.{IsAscii}
 use Rattle.std.proofs.lemmas.Bool.{and_parts, not-true, ne_eqb}
 use Rattle.std.proofs.lemmas.Bool.Decides.{nat_tests}
+use Rattle.std.proofs.lemmas.Str.{IsUtf8-from_ascii}
+use Rattle.std.proofs.lemmas.Str.Ascii.{IsAscii-nil, IsAscii-cons}
 use Rattle.std.proofs.lemmas.List.Folds.{list_all-append}
 use Rattle.std.proofs.lemmas.List.Sums.{list_all-from_AllPass}
 use Rattle.hex.specs.Hex.{is_hex_digit, encode_upper, IsBytes}
@@ -23,8 +26,8 @@ use Rattle.press_cmd.specs.View.{token, param_token, broken_token}
 use Rattle.press_cmd.specs.declared.command.Command.{Command}
 use Rattle.press_cmd.specs.declared.payload.Param.{Param}
 use Rattle.press_cmd.specs.declared.payload.Broken.{Broken as BrokenBytes}
-use Rattle.press_cmd.proofs.ByteTests.{range-from}
-use Rattle.press_asm.specs.Form.{ExitForm, EscapeForm, ParamForm, ControlForm, TextForm, ForeignForm, BrokenForm, LineForm, is_no_space, word, spaced, IsWord}
+use Rattle.press_cmd.proofs.ByteTests.{range-from, range-true}
+use Rattle.press_asm.specs.Form.{Form, ExitForm, EscapeForm, ParamForm, ControlForm, TextForm, ForeignForm, BrokenForm, LineForm, is_no_space, word, spaced, IsWord, Spells, Means}
 use Rattle.press_asm.specs.Written.{written_line, IsWritten, beginning}
 use Rattle.press_asm.proofs.Digits.{digits_first}
 
@@ -92,6 +95,17 @@ word_printable c (Some g) f e character group field end =
     let is = group g refl in
     one_printable c (g ∷ (f ++ (e ∷ []))) (omega (arith, character)) (omega (arith, character)) (one_printable g (f ++ (e ∷ [])) (omega (arith, is)) (omega (arith, is)) r)
 
+-- what is printable is text
+pub line_ascii : (line : List ℕ) → list_all is_printable line ≡ true → IsAscii line
+line_ascii [] h = IsAscii-nil
+line_ascii (b ∷ line) h =
+    let parts = and_parts (is_printable b) (list_all is_printable line) h in
+    IsAscii-cons b line (omega (arith, range-true 32 126 b parts.0)) (line_ascii line parts.1)
+
+written : (command : Token) (form : Form) → Spells (written_line command) form → Means form command → list_all is_printable (written_line command) ≡ true → IsWritten command
+written command form spelled means printable =
+    record { stands = (form, (IsUtf8-from_ascii (written_line command) (line_ascii (written_line command) printable), spelled), means); printable = printable }
+
 -- ---- parameters
 
 -- a word that spells the universal exit is that of no parameter
@@ -128,16 +142,10 @@ param_written c g f e d character group field end count other fits =
       end_class = end;
       no_exit = no_exit-word c g f e d group count other;
     } in
-    record {
-      stands = (
-        ParamForm c g f e (encode_upper d),
-        (param_line c g f e d, is_word, digits_all d fits),
-        (IsField-from_test f field, d, decode_of-encode_upper d fits, count, refl),
-      );
-      printable =
-          ap (list_all is_printable) (param_line c g f e d)
-          ∙ both_printable (word c g f e) (spaced (encode_upper d)) (word_printable c g f e character group field end) (spaced_printable (encode_upper d) (digits_printable d fits));
-    }
+    written (param_of c g f e d) (ParamForm c g f e (encode_upper d)) (param_line c g f e d, is_word, digits_all d fits)
+    (IsField-from_test f field, d, decode_of-encode_upper d fits, count, refl)
+    (ap (list_all is_printable) (param_line c g f e d)
+    ∙ both_printable (word c g f e) (spaced (encode_upper d)) (word_printable c g f e character group field end) (spaced_printable (encode_upper d) (digits_printable d fits)))
 
 -- ---- the other commands
 
@@ -146,39 +154,34 @@ one_fits b h zero = h
 one_fits b h (suc i) = omega arith
 
 pub uel_written : IsWritten Uel
-uel_written = record { stands = (ExitForm, refl, refl); printable = refl }
+uel_written = written Uel ExitForm refl refl refl
 
 pub escape_written : (b : ℕ) → IsEscapeEnd b → IsWritten (Escape b)
-escape_written b is = record { stands = (EscapeForm b, (refl, is), refl); printable = one_printable b [] (omega (arith, is)) (omega (arith, is)) refl }
+escape_written b is = written (Escape b) (EscapeForm b) (refl, is) refl (one_printable b [] (omega (arith, is)) (omega (arith, is)) refl)
 
 pub control_written : (b : ℕ) → IsControl b → IsWritten (Control b)
 control_written b is =
     let fits = one_fits b (omega (arith, is.0)) in
-    record { stands = (ControlForm b, ((encode_upper (b ∷ []), refl, decode_of-encode_upper (b ∷ []) fits), is), refl); printable = digits_printable (b ∷ []) fits }
+    written (Control b) (ControlForm b) ((encode_upper (b ∷ []), refl, decode_of-encode_upper (b ∷ []) fits), is) refl (digits_printable (b ∷ []) fits)
 
 pub text_written : (b : ℕ) → IsText b → IsWritten (Text b)
 text_written b is =
     let fits = one_fits b (omega (arith, is)) in
-    record { stands = (TextForm b, ((encode_upper (b ∷ []), refl, decode_of-encode_upper (b ∷ []) fits), is), refl); printable = digits_printable (b ∷ []) fits }
+    written (Text b) (TextForm b) ((encode_upper (b ∷ []), refl, decode_of-encode_upper (b ∷ []) fits), is) refl (digits_printable (b ∷ []) fits)
 
 pub foreign_written : (b : ℕ) → b < 256 → IsWritten (ForeignByte b)
 foreign_written b h =
     let fits = one_fits b h in
-    record { stands = (ForeignForm b, (encode_upper (b ∷ []), refl, decode_of-encode_upper (b ∷ []) fits), refl); printable = digits_printable (b ∷ []) fits }
+    written (ForeignByte b) (ForeignForm b) (encode_upper (b ∷ []), refl, decode_of-encode_upper (b ∷ []) fits) refl (digits_printable (b ∷ []) fits)
 
 no_line : (front : List ℕ) → front ++ (10 ∷ []) ≡ [] → ⊥
 no_line [] e = cc
 no_line (b ∷ front) e = cc
 
 pub line_written : (line : List ℕ) → IsPjlLine line → IsBytes line → IsWritten (PjlLine line)
-line_written line is fits = record {
-  stands = (
-    LineForm (encode_upper line),
-    (refl, digits_all line fits, digits_some line (λ e. no_line is.front (sym is.spelled ∙ e))),
-    (line, decode_of-encode_upper line fits, is, refl),
-  );
-  printable = digits_printable line fits;
-}
+line_written line is fits =
+    written (PjlLine line) (LineForm (encode_upper line)) (refl, digits_all line fits, digits_some line (λ e. no_line is.front (sym is.spelled ∙ e)))
+    (line, decode_of-encode_upper line fits, is, refl) (digits_printable line fits)
 
 abbrev has_some : List ℕ → Bool
 has_some [] = false
@@ -199,14 +202,9 @@ broken_some x h e =
     cc (sym some_ ∙ ap has_some e)
 
 pub broken_written : (bytes : List ℕ) → ∥ IsBroken bytes ∥₁ → IsBytes bytes → IsWritten (Broken bytes)
-broken_written bytes is fits = record {
-  stands = (
-    BrokenForm (encode_upper bytes),
-    (refl, digits_all bytes fits, digits_some bytes (broken_some bytes is)),
-    (bytes, decode_of-encode_upper bytes fits, refl),
-  );
-  printable = digits_printable bytes fits;
-}
+broken_written bytes is fits =
+    written (Broken bytes) (BrokenForm (encode_upper bytes)) (refl, digits_all bytes fits, digits_some bytes (broken_some bytes is))
+    (bytes, decode_of-encode_upper bytes fits, refl) (digits_printable bytes fits)
 
 -- the data of a parameter of these parts
 data_is : (c : ℕ) (g : Option ℕ) (f : List ℕ) (e : ℕ) (d : List ℕ) → data_of (param_of c g f e d) ≡ d

@@ -2,6 +2,7 @@
 use Rattle.std.specs.Prelude.{◌≡◌, ◌⊎◌, ℕ, Bool, not, ◌==◌, List, [], ◌∷◌, ◌++◌, length, codes, Option, None, option_to_list, Ok, IsTrue}
 use Rattle.std.specs.List.{list_all}
 use Rattle.std.specs.Option.{ForSome}
+use Rattle.std.specs.Str.{IsUtf8}
 use Rattle.hex.specs.Hex.{decode_of, is_hex_digit}
 use Rattle.press_units.specs.Field.{IsField}
 use Rattle.press_cmd.specs.Token.{Token, Escape, Control, Text, Broken, Uel, PjlLine, ForeignByte, param_of}
@@ -21,6 +22,31 @@ pub data Form : Type 0 where
   ForeignForm : ℕ → Form
   BrokenForm : List ℕ → Form
   LineForm : List ℕ → Form
+
+-- The name of each form, with the space behind it; a universal exit is its name alone.
+abbrev pub exit_line : List ℕ
+exit_line = codes "uel"
+
+abbrev pub escape_name : List ℕ
+escape_name = codes "esc "
+
+abbrev pub param_name : List ℕ
+param_name = codes "par "
+
+abbrev pub control_name : List ℕ
+control_name = codes "ctl "
+
+abbrev pub text_name : List ℕ
+text_name = codes "txt "
+
+abbrev pub foreign_name : List ℕ
+foreign_name = codes "for "
+
+abbrev pub broken_name : List ℕ
+broken_name = codes "brk "
+
+abbrev pub line_name : List ℕ
+line_name = codes "pjl "
 
 abbrev pub is_space : ℕ → Bool
 is_space byte = byte == 32
@@ -55,19 +81,23 @@ NamesByte name line byte = (digits : List ℕ) × (line ≡ name ++ digits) × (
 abbrev pub NamesDigits : List ℕ → List ℕ → List ℕ → Type 0
 NamesDigits name line digits = (line ≡ name ++ digits) × IsTrue (list_all is_hex_digit digits) × (digits ≡ [] → ⊥)
 
--- The line has the form.
-abbrev pub HasForm : List ℕ → Form → Type 0
-HasForm line Blank = (line ≡ []) ⊎ ((comment : List ℕ) × (line ≡ 59 ∷ comment))
-HasForm line ExitForm = line ≡ codes "uel"
-HasForm line (EscapeForm byte) = (line ≡ codes "esc " ++ (byte ∷ [])) × IsEscapeEnd byte
-HasForm line (ParamForm character group field end digits) =
-    (line ≡ codes "par " ++ (word character group field end ++ spaced digits)) × IsWord character group field end
+-- The line is spelled as the form is.
+abbrev pub Spells : List ℕ → Form → Type 0
+Spells line Blank = (line ≡ []) ⊎ ((comment : List ℕ) × (line ≡ 59 ∷ comment))
+Spells line ExitForm = line ≡ exit_line
+Spells line (EscapeForm byte) = (line ≡ escape_name ++ (byte ∷ [])) × IsEscapeEnd byte
+Spells line (ParamForm character group field end digits) =
+    (line ≡ param_name ++ (word character group field end ++ spaced digits)) × IsWord character group field end
     × IsTrue (list_all is_hex_digit digits)
-HasForm line (ControlForm byte) = NamesByte (codes "ctl ") line byte × IsControl byte
-HasForm line (TextForm byte) = NamesByte (codes "txt ") line byte × IsText byte
-HasForm line (ForeignForm byte) = NamesByte (codes "for ") line byte
-HasForm line (BrokenForm digits) = NamesDigits (codes "brk ") line digits
-HasForm line (LineForm digits) = NamesDigits (codes "pjl ") line digits
+Spells line (ControlForm byte) = NamesByte control_name line byte × IsControl byte
+Spells line (TextForm byte) = NamesByte text_name line byte × IsText byte
+Spells line (ForeignForm byte) = NamesByte foreign_name line byte
+Spells line (BrokenForm digits) = NamesDigits broken_name line digits
+Spells line (LineForm digits) = NamesDigits line_name line digits
+
+-- The line has the form: it is text, and is spelled so.
+abbrev pub HasForm : List ℕ → Form → Type 0
+HasForm line form = IsUtf8 line × Spells line form
 
 -- The form stands for the command: the digits are those of its bytes, a field is a value field, the data is as long
 -- as its value says, and a PJL line is one.

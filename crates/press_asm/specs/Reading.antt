@@ -4,7 +4,7 @@ use Rattle.std.specs.List.{list_all}
 use Rattle.std.specs.Int.{is_in_range}
 use Rattle.hex.specs.Hex.{decode_sized, is_hex_digit}
 use Rattle.hex.specs.declared.error.FromHexError.{FromHexError}
-use Rattle.press_asm.specs.Form.{Form, Blank, ExitForm, EscapeForm, ParamForm, ControlForm, TextForm, ForeignForm, BrokenForm, LineForm, is_space}
+use Rattle.press_asm.specs.Form.{Form, Blank, ExitForm, EscapeForm, ParamForm, ControlForm, TextForm, ForeignForm, BrokenForm, LineForm, is_space, exit_line, escape_name, param_name, control_name, text_name, foreign_name, broken_name, line_name}
 
 -- one or more digits
 abbrev pub are_digits : List ℕ → Bool
@@ -65,13 +65,13 @@ line_in digits = if are_digits digits then Some (LineForm digits) else None
 -- what follows a name of three letters and a space
 abbrev pub named_in : List ℕ → List ℕ → Option Form
 named_in name rest =
-    if bytes_eq name (codes "esc ") then escape_in rest
-    else if bytes_eq name (codes "par ") then param_in rest
-    else if bytes_eq name (codes "ctl ") then option_and_then control_form (byte_of rest)
-    else if bytes_eq name (codes "txt ") then option_and_then text_form (byte_of rest)
-    else if bytes_eq name (codes "for ") then option_and_then foreign_form (byte_of rest)
-    else if bytes_eq name (codes "brk ") then broken_in rest
-    else if bytes_eq name (codes "pjl ") then line_in rest
+    if bytes_eq name escape_name then escape_in rest
+    else if bytes_eq name param_name then param_in rest
+    else if bytes_eq name control_name then option_and_then control_form (byte_of rest)
+    else if bytes_eq name text_name then option_and_then text_form (byte_of rest)
+    else if bytes_eq name foreign_name then option_and_then foreign_form (byte_of rest)
+    else if bytes_eq name broken_name then broken_in rest
+    else if bytes_eq name line_name then line_in rest
     else None
 
 abbrev pub is_blank : List ℕ → Bool
@@ -82,5 +82,5 @@ is_blank (byte ∷ _) = byte == 59
 abbrev pub form_of : List ℕ → Option Form
 form_of line =
     if is_blank line then Some Blank
-    else if bytes_eq line (codes "uel") then Some ExitForm
+    else if bytes_eq line exit_line then Some ExitForm
     else named_in (take 4 line) (drop 4 line)

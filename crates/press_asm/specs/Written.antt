@@ -4,19 +4,19 @@ use Rattle.std.specs.List.{list_all}
 use Rattle.hex.specs.Hex.{encode_upper}
 use Rattle.press_units.specs.Ascii.{is_printable}
 use Rattle.press_cmd.specs.Token.{Token, Escape, Grouped, Ungrouped, Control, Text, Broken, Uel, PjlLine, ForeignByte, character_of, group_of, escape_byte}
-use Rattle.press_asm.specs.Form.{word, spaced, StandsFor}
+use Rattle.press_asm.specs.Form.{word, spaced, StandsFor, exit_line, escape_name, param_name, control_name, text_name, foreign_name, broken_name, line_name}
 
 -- the line of a command, with digits in upper case
 abbrev pub written_line : Token → List ℕ
-written_line (Escape byte) = codes "esc " ++ (byte ∷ [])
-written_line (Grouped character group field end payload) = codes "par " ++ (word character (Some group) field end ++ spaced (encode_upper payload))
-written_line (Ungrouped character field end payload) = codes "par " ++ (word character None field end ++ spaced (encode_upper payload))
-written_line (Control byte) = codes "ctl " ++ encode_upper (byte ∷ [])
-written_line (Text byte) = codes "txt " ++ encode_upper (byte ∷ [])
-written_line (Broken bytes) = codes "brk " ++ encode_upper bytes
-written_line Uel = codes "uel"
-written_line (PjlLine line) = codes "pjl " ++ encode_upper line
-written_line (ForeignByte byte) = codes "for " ++ encode_upper (byte ∷ [])
+written_line (Escape byte) = escape_name ++ (byte ∷ [])
+written_line (Grouped character group field end payload) = param_name ++ (word character (Some group) field end ++ spaced (encode_upper payload))
+written_line (Ungrouped character field end payload) = param_name ++ (word character None field end ++ spaced (encode_upper payload))
+written_line (Control byte) = control_name ++ encode_upper (byte ∷ [])
+written_line (Text byte) = text_name ++ encode_upper (byte ∷ [])
+written_line (Broken bytes) = broken_name ++ encode_upper bytes
+written_line Uel = exit_line
+written_line (PjlLine line) = line_name ++ encode_upper line
+written_line (ForeignByte byte) = foreign_name ++ encode_upper (byte ∷ [])
 
 -- the lines of commands as a text, each with its line feed
 abbrev pub text_of : List Token → List ℕ
@@ -25,7 +25,7 @@ text_of (command ∷ commands) = written_line command ++ (10 ∷ text_of command
 
 -- the name of a parameter's line, its character, and its group if it has one
 abbrev pub front_of : Token → List ℕ
-front_of command = codes "par " ++ (character_of command ∷ option_to_list (group_of command))
+front_of command = param_name ++ (character_of command ∷ option_to_list (group_of command))
 
 -- the beginning of a sequence that stands apart: the escape character, the character and the group
 abbrev pub beginning : Option (ℕ × ℕ) → List ℕ

@@ -42,15 +42,15 @@ fn split_line(text: &[u8]) -> (&[u8], &[u8])
 ///
 /// # Errors
 ///
-/// Of the first line that is not so, counted from 1: 401 `BadLine` where it has none of these forms, a byte is of another
-/// class, or it is `par %-12345X`; 402 `BadValue` where its field is no value field; 403 `BadData` where a digit is missing,
+/// Of the first line that is not so, counted from 1: 401 `BadLine` where it is no UTF-8, has none of these forms, a byte is of
+/// another class, or it is `par %-12345X`; 402 `BadValue` where its field is no value field; 403 `BadData` where a digit is missing,
 /// its data is not as long as its value says, or its bytes are no PJL line. `NoMemory` where memory ran out.
-pub fn assemble(alloc: Global, text: &str) -> Result<Vec<u8>, AssembleError>
+pub fn assemble(alloc: Global, text: &[u8]) -> Result<Vec<u8>, AssembleError>
     ensures ok { IfOk result (λ bytes. Assembles text.now bytes.items) }
     ensures refused { IfErr result (Refuses text.now) }
 {
     let mut out = Vec::new(alloc);
-    let mut rest = text.as_bytes();
+    let mut rest = text;
     let mut number = 0;
     while !rest.is_empty() {
         let (line, after) = split_line(rest);

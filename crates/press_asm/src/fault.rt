@@ -1,3 +1,4 @@
+//! Why a text is not assembled.
 use press_units::NO_MEMORY;
 use std::alloc::AllocError;
 use thiserror::Error;

@@ -8,6 +8,7 @@ ghost use Rattle.press_asm.specs.Form.{is_space};
 ghost use Rattle.press_asm.specs.Reading.{are_digits, byte_of, escape_in, control_form, text_form, param_in, param_at, word_in, split_group, named_in, form_of, is_blank};
 ghost use Rattle.press_asm.specs.View.{form_seen};
 
+use crate::names;
 use crate::word::Word;
 use hex::FromHex;
 use press_cmd::{
@@ -151,19 +152,19 @@ fn param_in(text: &[u8]) -> Option<Form<'_>>
 fn named_in<'a>(name: &[u8], rest: &'a [u8]) -> Option<Form<'a>>
     ensures { option_map form_seen result ≡ named_in name.now rest.now }
 {
-    if name == b"esc ".as_slice() {
+    if name == names::ESCAPE.as_slice() {
         escape_in(rest)
-    } else if name == b"par ".as_slice() {
+    } else if name == names::PARAM.as_slice() {
         param_in(rest)
-    } else if name == b"ctl ".as_slice() {
+    } else if name == names::CONTROL.as_slice() {
         control_in(byte_of(rest)?)
-    } else if name == b"txt ".as_slice() {
+    } else if name == names::TEXT.as_slice() {
         text_in(byte_of(rest)?)
-    } else if name == b"for ".as_slice() {
+    } else if name == names::FOREIGN.as_slice() {
         Some(Form::Foreign(byte_of(rest)?))
-    } else if name == b"brk ".as_slice() {
+    } else if name == names::BROKEN.as_slice() {
         are_digits(rest).then_some(Form::Broken(rest))
-    } else if name == b"pjl ".as_slice() {
+    } else if name == names::LINE.as_slice() {
         are_digits(rest).then_some(Form::PjlLine(rest))
     } else {
         None
@@ -184,7 +185,7 @@ pub fn form_of(line: &[u8]) -> Option<Form<'_>>
     if is_blank(line) {
         return Some(Form::Blank);
     }
-    if line == b"uel".as_slice() {
+    if line == names::EXIT.as_slice() {
         return Some(Form::Uel);
     }
     let (name, rest) = line.split_at(line.len().min(4));

@@ -1,12 +1,13 @@
 //! Forms judged, and their commands' bytes.
-ghost use Rattle.std.specs.Prelude.{◌≡◌, ◌++◌, ◌⊎◌, OnOk, IfOk, IfErr};
+ghost use Rattle.std.specs.Prelude.{◌≡◌, ◌↔◌, ◌++◌, ◌⊎◌, OnOk, IfOk, IfErr, IsTrue};
+ghost use Rattle.std.specs.Str.{IsUtf8};
 ghost use Rattle.hex.specs.Hex.{decode_of};
 ghost use Rattle.press_cmd.specs.Token.{bytes_of};
 ghost use Rattle.press_cmd.specs.View.{token};
 ghost use Rattle.press_asm.specs.declared.fault.LineFault.TheVariants.{Data, NoMemory};
-ghost use Rattle.press_asm.specs.Form.{ParamForm, BrokenForm, LineForm};
+ghost use Rattle.press_asm.specs.Form.{BrokenForm, LineForm};
 ghost use Rattle.press_asm.specs.Judged.{NoBytes, HasFormFault, HasLineFault, FormAdds, LineAdds};
-ghost use Rattle.press_asm.specs.View.{form_seen};
+ghost use Rattle.press_asm.specs.View.{form_seen, param_form};
 
 use crate::fault::LineFault;
 use crate::form::{Form, form_of};
@@ -16,6 +17,7 @@ use press_cmd::pjl::is_line;
 use press_cmd::{Command, Param, PjlLine, data_count, write_command};
 use press_units::is_field;
 use std::alloc::Global;
+use std::str;
 
 /// The bytes of digits.
 fn decoded(alloc: Global, digits: &[u8]) -> Result<Vec<u8>, LineFault>
@@ -42,10 +44,8 @@ fn add_command(command: &Command, out: &mut Vec<u8>) -> Result<(), LineFault>
 /// Appends a parameter, if its field is a value field and its data as long as its value says.
 fn add_param(alloc: Global, word: &Word, digits: &[u8], out: &mut Vec<u8>) -> Result<(), LineFault>
     ensures ok { OnOk result (FormAdds
-        (ParamForm word.now.character word.now.group word.now.field.now word.now.end digits.now)
-        out.old.items out.new.items) }
-    ensures err { IfErr result (HasFormFault
-        (ParamForm word.now.character word.now.group word.now.field.now word.now.end digits.now)) }
+        (param_form word.now digits.now) out.old.items out.new.items) }
+    ensures err { IfErr result (HasFormFault (param_form word.now digits.now)) }
 {
     if !is_field(word.field) {
         return Err(LineFault::Value);
@@ -98,11 +98,21 @@ fn add_form(alloc: Global, form: &Form, out: &mut Vec<u8>) -> Result<(), LineFau
     }
 }
 
-/// Appends the bytes of what a line stands for.
+/// Whether the bytes are text: UTF-8.
+fn is_text(line: &[u8]) -> bool
+    ensures { IsTrue result ↔ IsUtf8 line.now }
+{
+    str::from_utf8(line).is_ok()
+}
+
+/// Appends the bytes of what a line stands for. What is no UTF-8 has no form.
 pub fn add_text_line(alloc: Global, line: &[u8], out: &mut Vec<u8>) -> Result<(), LineFault>
     ensures ok { OnOk result (LineAdds line.now out.old.items out.new.items) }
     ensures err { IfErr result (HasLineFault line.now) }
 {
+    if !is_text(line) {
+        return Err(LineFault::Line);
+    }
     match form_of(line) {
         Some(form) => add_form(alloc, &form, out),
         None => Err(LineFault::Line),

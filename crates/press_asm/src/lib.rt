@@ -6,6 +6,7 @@ mod fault;
 mod form;
 mod judge;
 pub mod laws;
+mod names;
 mod word;
 mod write;
 mod written;

@@ -1,3 +1,4 @@
+//! The words of parameters.
 ghost use Rattle.std.specs.Prelude.{◌≡◌, codes};
 ghost use Rattle.std.specs.Option.{ForSome};
 ghost use Rattle.press_cmd.specs.Grammar.{IsCharacter, IsGroup, IsEnd};

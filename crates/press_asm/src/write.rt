@@ -2,11 +2,12 @@
 ghost use Rattle.std.specs.Prelude.{◌≡◌, ◌∷◌, [], ◌++◌, OnOk};
 ghost use Rattle.hex.specs.Hex.{encode_upper};
 ghost use Rattle.press_cmd.specs.View.{token, param_token, broken_token};
-ghost use Rattle.press_asm.specs.Form.{spaced};
+ghost use Rattle.press_asm.specs.Form.{escape_name, spaced};
 ghost use Rattle.press_asm.specs.Written.{written_line, front_of, beginning, IsWritten};
 
+use crate::names;
 use crate::written::is_written;
-use press_cmd::{Broken, Command, ESCAPE, LINE_FEED, Param};
+use press_cmd::{Broken, Command, ESCAPE, EscapeByte, LINE_FEED, Param};
 use std::alloc::AllocError;
 
 /// The sixteen digits.
@@ -42,15 +43,25 @@ fn write_spaced(payload: &[u8], out: &mut Vec<u8>) -> Result<(), AllocError>
     }
 }
 
+/// Appends the line of a two-character escape sequence.
+fn write_escape(escape: EscapeByte, out: &mut Vec<u8>) -> Result<(), AllocError>
+    ensures { OnOk result
+        (out.new.items ≡ out.old.items ++ (escape_name ++ escape.byte ∷ [])) }
+{
+    out.extend_from_slice(&names::ESCAPE)?;
+    out.extend_from_slice(&[escape.byte])
+}
+
 /// Appends the name of a parameter's line, its character, and its group if it has one.
 fn write_front(param: &Param, out: &mut Vec<u8>) -> Result<(), AllocError>
     ensures { OnOk result
         (out.new.items ≡ out.old.items ++ front_of (param_token param.now)) }
 {
+    out.extend_from_slice(&names::PARAM)?;
     let character = param.character();
     match param.group() {
-        Some(group) => out.extend_from_slice(&[b'p', b'a', b'r', b' ', character, group]),
-        None => out.extend_from_slice(&[b'p', b'a', b'r', b' ', character]),
+        Some(group) => out.extend_from_slice(&[character, group]),
+        None => out.extend_from_slice(&[character]),
     }
 }
 
@@ -80,7 +91,7 @@ fn write_broken(broken: &Broken, out: &mut Vec<u8>) -> Result<(), AllocError>
         (out.new.items ≡ out.old.items ++ written_line (broken_token broken.now)) }
 {
     let (sequence, bytes) = broken.parts();
-    out.extend_from_slice(b"brk ")?;
+    out.extend_from_slice(&names::BROKEN)?;
     write_sequence(sequence, out)?;
     write_digits(bytes, out)
 }
@@ -90,14 +101,14 @@ fn write_text(command: &Command, out: &mut Vec<u8>) -> Result<(), AllocError>
     ensures { OnOk result (out.new.items ≡ out.old.items ++ written_line (token command.now)) }
 {
     match command {
-        Command::Escape(escape) => out.extend_from_slice(&[b'e', b's', b'c', b' ', escape.byte]),
+        Command::Escape(escape) => write_escape(*escape, out),
         Command::Param(param) => write_param(param, out),
-        Command::Control(control) => write_named(b"ctl ", &[control.byte], out),
-        Command::Text(text) => write_named(b"txt ", &[text.byte], out),
+        Command::Control(control) => write_named(&names::CONTROL, &[control.byte], out),
+        Command::Text(text) => write_named(&names::TEXT, &[text.byte], out),
         Command::Broken(broken) => write_broken(broken, out),
-        Command::Uel => out.extend_from_slice(b"uel"),
-        Command::PjlLine(line) => write_named(b"pjl ", line.bytes, out),
-        Command::Foreign(byte) => write_named(b"for ", &[*byte], out),
+        Command::Uel => out.extend_from_slice(&names::EXIT),
+        Command::PjlLine(line) => write_named(&names::LINE, line.bytes, out),
+        Command::Foreign(byte) => write_named(&names::FOREIGN, &[*byte], out),
     }
 }
 

@@ -20,6 +20,7 @@ use Rattle.press_scan.specs.Reached.{Reached, Remains}
 use Rattle.press_scan.proofs.ReachedLaws.{feeds_reach, end_reaches}
 use Rattle.press_asm.specs.Text.{is_feed, in_front, lines_of, all_bytes, LinesStand}
 use Rattle.press_asm.specs.Written.{written_line, text_of, IsWritten, AreWritten}
+use Rattle.press_asm.proofs.LineStands.{line_ascii}
 use Rattle.press_disasm.specs.Disassembly.{IsDisassembly, IsListed}
 use Rattle.press_disasm.proofs.ReadAgain.{read_again}
 use Rattle.press_disasm.proofs.Standing.{stand_give, one_give}
@@ -90,12 +91,6 @@ lines_stand [] h = refl
 lines_stand (c ∷ cs) h =
     subst (λ (lines : List (List ℕ)). LinesStand lines (c ∷ cs)) (sym (first_line (written_line c) (text_of cs) h.0.printable)) (h.0.stands, lines_stand cs h.1)
 
-line_ascii : (line : List ℕ) → list_all is_printable line ≡ true → IsAscii line
-line_ascii [] h = IsAscii-nil
-line_ascii (b ∷ line) h =
-    let parts = and_parts (is_printable b) (list_all is_printable line) h in
-    IsAscii-cons b line (omega (arith, range-true 32 126 b parts.0)) (line_ascii line parts.1)
-
 text_ascii : (cs : List Token) → AreWritten cs → IsAscii (text_of cs)
 text_ascii [] h = IsAscii-nil
 text_ascii (c ∷ cs) h = IsAscii-append (written_line c) (10 ∷ text_of cs) (line_ascii (written_line c) h.0.printable) (IsAscii-cons 10 (text_of cs) (omega arith) (text_ascii cs h.1))
@@ -113,6 +108,7 @@ pub disassembled : (bytes text : List ℕ) → IsListed bytes text → IsDisasse
 disassembled bytes text l = record {
   commands = l.commands;
   closed = l.closed;
+  listed = l.listed;
   stand = stands bytes text l;
   assembles = record { commands = l.commands; give = stand_give (lines_of text) l.commands (stands bytes text l); spelled = refl };
   again = λ assembled a.

@@ -1,3 +1,4 @@
+//! The disassembler.
 ghost use Rattle.std.specs.Prelude.{◌≡◌, ◌++◌, length, IfOk};
 ghost use Rattle.std.specs.String.{string_bytes};
 ghost use Rattle.press_disasm.specs.Disassembly.{IsDisassembly, IsListed};

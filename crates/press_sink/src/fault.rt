@@ -1,3 +1,4 @@
+//! Why sheets and replies do not go out, and what is told then (this profile).
 use press_units::NO_MEMORY;
 use std::alloc::AllocError;
 use thiserror::Error;

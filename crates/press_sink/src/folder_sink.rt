@@ -1,3 +1,4 @@
+//! The sink that writes a file for each side of a sheet (Netpbm, the raw form of the PBM format).
 ghost use Rattle.std.specs.Prelude.{◌≡◌, IfOk, IfErr, IsErrOf, OnOk, OnErr, ◌<◌, None, option_map};
 ghost use Rattle.std.specs.String.{string_bytes};
 ghost use Rattle.press_sink.specs.Kept.{name_parts, next_number, file_faults};

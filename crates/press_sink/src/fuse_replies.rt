@@ -1,3 +1,4 @@
+//! A reply sink that has one fault, for tests.
 ghost use Rattle.std.specs.Prelude.{◌≡◌, ◌≢◌, ◌<◌, Some, IsErrOf, take};
 ghost use Rattle.press_sink.specs.Told.{Replies, HandsOn, most_faults, replies_with_own_faults};
 ghost use Rattle.press_sink.specs.Kept.{inner_replies, replies_left, passed_front, left_after, own_reply_faults};

@@ -1,3 +1,4 @@
+//! The reply sink that keeps the bytes of all replies.
 ghost use Rattle.std.specs.Prelude.{◌≡◌, [], Some};
 ghost use Rattle.press_sink.specs.Kept.{replied};
 

@@ -1,3 +1,4 @@
+//! The sheet sink that keeps each sheet.
 ghost use Rattle.std.specs.Prelude.{◌≡◌, [], Some};
 ghost use Rattle.press_sink.specs.Kept.{deliveries};
 

@@ -1,3 +1,4 @@
+//! Printed sheets (PCL 5 Printer Language Technical Reference Manual, Simplex/Duplex Print command).
 ghost use Rattle.std.specs.Prelude.{◌≡◌, IfOk};
 
 use press_bits::Bitmap;

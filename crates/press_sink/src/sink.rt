@@ -1,3 +1,4 @@
+//! Where finished sheets and replies go (this profile).
 ghost use Rattle.std.specs.Prelude.{◌≡◌, ◌<◌, ℕ};
 ghost use Rattle.press_sink.specs.Told.{SheetsTold, RepliesTold, Delivers, Replies, most_faults};
 

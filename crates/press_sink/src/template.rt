@@ -1,3 +1,4 @@
+//! Templates of file names, in which the number of a side has its place (this profile).
 ghost use Rattle.std.specs.Prelude.{◌≡◌, IfOk, IfErr, IsErrOf, MatchOption};
 ghost use Rattle.press_sink.specs.Template.{IsTemplate, IsNoTemplate, side_name};
 ghost use Rattle.press_sink.specs.Kept.{template_parts};

@@ -1,3 +1,4 @@
+//! The reply sink over a writer.
 ghost use Rattle.std.specs.Prelude.{◌≡◌};
 ghost use Rattle.press_pbm.specs.Spelling.{Writes};
 ghost use Rattle.press_sink.specs.Kept.{reply_writer, write_faults};
