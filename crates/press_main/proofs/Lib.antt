@@ -6,3 +6,4 @@ pub mod PrintedLemmas
 mod SessionLemmas
 mod WordsLemmas
 pub mod WorkedWords
+pub mod ProgramLemmas

@@ -1,5 +1,5 @@
 -- Lines of sheets, one sheet after another.
-use Rattle.std.proofs.Common.{◌≡◌, ◌∙◌, ◌<◌, ℕ, ◌+◌, List, [], ◌∷◌, ◌++◌, length, take, get_or, Option, Some, None, option_map, Result, Ok, Err, is_err, IfSome, OnOk, false, refl, sym, ap, subst, arith, suc}
+use Rattle.std.proofs.Common.{◌≡◌, ◌∙◌, ◌<◌, ℕ, ◌+◌, List, [], ◌∷◌, ◌++◌, length, take, get_or, Option, Some, None, Result, Ok, Err, is_ok, IfSome, OnOk, Bool, true, false, refl, sym, ap, subst, arith, suc}
 use Rattle.std.specs.Io.KnownBytes.{Appends}
 use Rattle.std.proofs.lemmas.List.{append_assoc, append-nil, take_more, length-take}
 use Rattle.std.proofs.lemmas.Option.{same_Some}
@@ -17,7 +17,7 @@ use Rattle.press_stream.specs.Answers.{Reads, fault_of}
 use Rattle.press_stream.specs.Printed.{Printed}
 use Rattle.press_main.specs.declared.listing_sink.ListedSheet.{ListedSheet}
 use Rattle.press_main.specs.Listed.{deliveries_of}
-use Rattle.press_main.specs.Listing.{sheet_lines, lines_from, Lists}
+use Rattle.press_main.specs.Listing.{sheet_lines, lines_from, Lists, took, ListsPrinted, status_of_listing}
 use Rattle.press_main.specs.Printing.{machine_of, status_of_fault}
 
 -- the fact of an answer that had no error
@@ -61,30 +61,36 @@ read_all : (bytes : List ℕ) (left : Option (List ℕ)) (read : List ℕ) → R
 read_all bytes None read reads = absurd reads.lost
 read_all bytes (Some rest) read reads = sym (reads.lost ∙ ap (λ last. read ++ last) (reads.at_end refl) ∙ append-nil read)
 
--- what the sinks took of a stream that was printed is listed
-pub lists-printed : (printed : Result JobState JobError) (known left old new : Option (List ℕ)) (tag : ℕ) (before after : Told) (deliveries : List Delivery) (replies : List ℕ) → before.sheets.delivered ≡ Some [] → before.replies.replied ≡ Some [] → after.sheets.delivered ≡ Some deliveries → after.replies.replied ≡ Some replies → Printed known left tag (fault_of printed) (machine_of printed) before after → is_err printed ≡ false → Appends old new (lines_from 1 (sheets_in deliveries) ++ replies) → IfSome known (λ bytes. Lists bytes old new)
-lists-printed (Ok job) None left old new tag before after deliveries replies p q r s prints no_fault appends = tt
-lists-printed (Ok job) (Some bytes) left old new tag before after deliveries replies p q r s prints no_fault appends =
-    let commands = prints.printed.commands in
-    let went = prints.printed.went in
+-- what the sinks took of a stream that was printed, where it had no fault and its listing was written
+pub lists-printed : (printed : Result JobState JobError) (written : Bool) (known left old new : Option (List ℕ)) → ListsPrinted printed written known left old new → status_of_listing (fault_of printed) written ≡ 0 → IfSome known (λ bytes. Lists bytes old new)
+lists-printed printed false known left old new stream zero = absurd cc
+lists-printed (Err error) true known left old new stream zero = absurd cc
+lists-printed (Ok job) true None left old new stream zero = tt
+lists-printed (Ok job) true (Some bytes) left old new stream zero =
+    let commands = stream.prints.printed.commands in
+    let went = stream.prints.printed.went in
     let outputs = (meaning_of (with_exit commands)).outputs in
     let sheets = sheets_of outputs in
-    let told : deliveries ≡ under_tag tag sheets = same_Some deliveries (under_tag tag sheets) (sym r ∙ went.delivered ∙ ap (λ one. option_map (λ all. all ++ under_tag tag sheets) one) p) in
-    let all_sheets : sheets_in deliveries ≡ sheets = ap sheets_in told ∙ sheets_in-tagged tag sheets in
-    let P : Option (List ℕ) → Type 0 = λ one. Appends one (Some replies) (reply_bytes_of outputs) in
-    let Q : Option (List ℕ) → Type 0 = λ one. Appends before.replies.replied one (reply_bytes_of outputs) in
-    let all_replies : replies ≡ reply_bytes_of outputs = subst P q (subst Q s went.replied) in
+    let told : stream.deliveries ≡ under_tag 0 sheets = same_Some stream.deliveries (under_tag 0 sheets) went.delivered in
+    let all_sheets : sheets_in stream.deliveries ≡ sheets = ap sheets_in told ∙ sheets_in-tagged 0 sheets in
+    let all_replies : stream.replies ≡ reply_bytes_of outputs = went.replied in
     let R : List ℕ → Type 0 = λ lines. Appends old new lines in
     let S : List ℕ → Type 0 = λ all. Closed all commands in
-    (commands, subst S (read_all bytes left prints.bytes prints.read) prints.printed.closed, subst R (ap (λ (all : List Sides). lines_from 1 all ++ replies) all_sheets ∙ ap (λ (all : List ℕ). lines_from 1 sheets ++ all) all_replies) appends)
-lists-printed (Err error) known left old new tag before after deliveries replies p q r s prints no_fault appends = absurd (true≢false no_fault)
+    (commands, subst S (read_all bytes left stream.prints.bytes stream.prints.read) stream.prints.printed.closed, subst R (ap (λ (all : List Sides). lines_from 1 all ++ stream.replies) all_sheets ∙ ap (λ (all : List ℕ). lines_from 1 sheets ++ all) all_replies) (stream.lists refl))
+
+-- what the sinks tell, and what is listed of it
+pub lists-stream : (printed : Result JobState JobError) (written : Bool) (had left old new : Option (List ℕ)) (first last deliveries : List Delivery) (nothing all replies : List ℕ) → first ≡ [] → nothing ≡ [] → last ≡ deliveries → all ≡ replies → Printed had left 0 (fault_of printed) (machine_of printed) (took first nothing) (took last all) → (written ≡ true → Appends old new (lines_from 1 (sheets_in deliveries) ++ replies)) → ListsPrinted printed written had left old new
+lists-stream printed written had left old new first last deliveries nothing all replies p q r s prints lists =
+    let P : Told → Told → Type 0 = λ before after. Printed had left 0 (fault_of printed) (machine_of printed) before after in
+    let begun : took first nothing ≡ took [] [] = cc (p, q) in
+    let ended : took last all ≡ took deliveries replies = cc (r, s) in
+    record { deliveries = deliveries; replies = replies; prints = subst (λ (told : Told). P told (took deliveries replies)) begun (subst (P (took first nothing)) ended prints); lists = lists }
 
 -- a listing that had no fault
-pub at_no_fault : {X E : Type 0} (P : Type 0) (result : Result X E) → OnOk result P → is_err result ≡ false → P
-at_no_fault P (Ok value) h no_fault = h
-at_no_fault P (Err error) h no_fault = absurd (true≢false no_fault)
+pub at_is_ok : {X E : Type 0} (P : Type 0) (result : Result X E) → OnOk result P → is_ok result ≡ true → P
+at_is_ok P (Ok value) h ok = h
+at_is_ok P (Err error) h ok = absurd cc
 
--- where the status is 0, printing had no fault
-pub no_fault-status : (printed : Result JobState JobError) → status_of_fault (fault_of printed) ≡ 0 → is_err printed ≡ false
-no_fault-status (Ok job) zero = refl
-no_fault-status (Err error) zero = absurd cc
+-- the status of a stream and its listing
+pub status-written : (printed : Result JobState JobError) (written : Bool) (status : ℕ) → written ≡ true → status ≡ status_of_fault (fault_of printed) → status ≡ status_of_listing (fault_of printed) written
+status-written printed written status is told = rw is told

@@ -1,7 +1,10 @@
 -- What the words of the command line come to.
-use Rattle.std.proofs.Common.{◌≡◌, ◌∙◌, ◌⊎◌, ◌<◌, List, [], ◌∷◌, length, Option, Some, None, option_map, Result, Ok, Err, IfOk, IfErr, IsErrAnd, refl, sym, ap, inl, inr, arith}
+use Rattle.std.proofs.Common.{false, ◌≡◌, ◌∙◌, ◌⊎◌, ◌<◌, List, [], ◌∷◌, length, Option, Some, None, option_map, Result, Ok, Err, IfOk, IfErr, IsErrAnd, refl, sym, ap, inl, inr, arith}
 use Rattle.std.specs.Prelude.{option_and_then, ok_or}
-use Rattle.clap.specs.Words.{Row, Text, all_of, first_of, first_value, matched_of, raw_values, rows_of, fault_of, subcommand_of, IsAmong, HasKind, kind_of}
+use Rattle.clap.specs.Built.{AddsSubcommand}
+use Rattle.clap.specs.declared.builder.command.Command.{Command}
+use Rattle.clap.specs.declared.builder.command.Command.TheViews.{out-Command}
+use Rattle.clap.specs.Words.{App, app_of, shape_of, with_subcommand, Row, Text, all_of, first_of, first_value, matched_of, raw_values, rows_of, fault_of, subcommand_of, IsAmong, HasKind, kind_of}
 use Rattle.clap.specs.declared.error.Error.{Error}
 use Rattle.clap.specs.declared.error.kind.ErrorKind.{ErrorKind}
 use Rattle.clap.specs.declared.error.kind.ErrorKind.TheVariants.{OutOfMemory}
@@ -20,6 +23,10 @@ value_by_rows found id = first_value-rows found id
 -- and all of them
 pub values_by_rows : (found : Found) (id : Text) → option_map raw_values (matched_of found id) ≡ all_of id (rows_of found)
 values_by_rows found id = raw_values-rows found id
+
+-- a command line with one subcommand more
+pub subcommand_added : (old sub new : Command) (before app : App) → AddsSubcommand old sub new → (out-Command sub).has_globals ≡ false → app_of old ≡ before → app_of sub ≡ app → app_of new ≡ with_subcommand before app.top
+subcommand_added old sub new before app adds local p q = adds.shape local ∙ ap (λ (one : App). with_subcommand one (shape_of sub)) p ∙ ap (λ (one : App). with_subcommand before one.top) q
 
 -- with a word behind the program's name, what the command line makes of them
 asked_with_words : (words : List Text) → 1 < length words → asked words ≡ asked_without (fault_of press_app words) words

@@ -1,8 +1,11 @@
 -- Streams and assembly text, over readers and writers.
-use Rattle.std.specs.Prelude.{ℕ, List, Option}
+use Rattle.std.specs.Prelude.{◌≡◌, ℕ, List, Option, ⊤}
 use Rattle.std.specs.Io.KnownBytes.{Consumes, IsAtEnd, Appends}
-use Rattle.press_asm.specs.Text.{Assembles}
+use Rattle.press_pbm.specs.Spelling.{AppendsFront}
+use Rattle.press_asm.specs.Text.{Assembles, Refuses}
 use Rattle.press_disasm.specs.Disassembly.{IsDisassembly}
+use Rattle.press_main.specs.declared.assembly.TextError.{TextError}
+use Rattle.press_main.specs.declared.assembly.TextError.TheVariants.{Input, Refused, WriteFault, NoOutput, NoMemory}
 
 -- A reader was read to its end, and these were its bytes.
 pub record ReadWhole (had left : Option (List ℕ)) (bytes : List ℕ) : Type 0 where
@@ -21,6 +24,19 @@ pub record AssembledTo (had left old new : Option (List ℕ)) : Type 0 where
   pub assembled : Assembled had left bytes
   pub written : Appends old new bytes
 
+-- Why a reader gave no stream, by the fault: its text is refused so; else it was not read to its end, or memory ran out.
+abbrev pub TextRefused : (had left : Option (List ℕ)) → TextError → Type 0
+TextRefused had left (Refused why) = (text : List ℕ) × ReadWhole had left text × Refuses text why
+TextRefused had left (Input why) = ⊤
+TextRefused had left NoMemory = ⊤
+TextRefused had left other = ⊥
+
+-- What was written of a text that was not assembled to a writer, by the fault: a front of its bytes, where a write failed; else
+-- nothing.
+abbrev pub StopsAssembling : (had left old new : Option (List ℕ)) → TextError → Type 0
+StopsAssembling had left old new WriteFault = (bytes : List ℕ) × Assembled had left bytes × AppendsFront old new bytes
+StopsAssembling had left old new why = TextRefused had left why × (new ≡ old)
+
 -- What a reader had is a stream, and this is its disassembly.
 pub record Disassembled (had left : Option (List ℕ)) (text : List ℕ) : Type 0 where
   pub bytes : List ℕ
@@ -32,3 +48,15 @@ pub record DisassembledTo (had left old new : Option (List ℕ)) : Type 0 where
   pub text : List ℕ
   pub disassembled : Disassembled had left text
   pub written : Appends old new text
+
+-- Why a reader gave no text: it was not read to its end, or memory ran out.
+abbrev pub StreamUnread : TextError → Type 0
+StreamUnread (Input why) = ⊤
+StreamUnread NoMemory = ⊤
+StreamUnread other = ⊥
+
+-- What was written of a stream that was not disassembled to a writer, by the fault: a front of its text, where a write failed;
+-- else nothing.
+abbrev pub StopsDisassembling : (had left old new : Option (List ℕ)) → TextError → Type 0
+StopsDisassembling had left old new NoOutput = (text : List ℕ) × Disassembled had left text × AppendsFront old new text
+StopsDisassembling had left old new why = StreamUnread why × (new ≡ old)

@@ -8,6 +8,7 @@ pub mod Listing
 pub mod Measured
 pub mod Numbering
 pub mod Printing
+pub mod Program
 pub mod Sessions
 pub mod View
 pub mod Words

@@ -1,13 +1,20 @@
 -- The listing of sheets.
-use Rattle.std.specs.Prelude.{ℕ, ◌+◌, List, [], ◌∷◌, ◌++◌, Option, Some, None, codes}
+use Rattle.std.specs.Prelude.{◌≡◌, ℕ, ◌+◌, Bool, true, false, List, [], ◌∷◌, ◌++◌, Option, Some, None, Result, codes}
 use Rattle.std.specs.Fmt.{decimal}
 use Rattle.std.specs.Io.KnownBytes.{Appends}
 use Rattle.press_bits.specs.Page.{Page}
 use Rattle.press_cmd.specs.Token.{Token}
 use Rattle.press_cmd.specs.Split.{Closed}
 use Rattle.press_sink.specs.Sides.{Sides}
-use Rattle.press_sink.specs.Sending.{Output, sheets_of, reply_bytes_of}
+use Rattle.press_sink.specs.declared.sheet.Delivery.{Delivery}
+use Rattle.press_sink.specs.Told.{Told, both}
+use Rattle.press_sink.specs.Sending.{Output, sheets_of, sheets_in, reply_bytes_of}
+use Rattle.press_stream.specs.declared.fault.JobError.{JobError}
+use Rattle.press_stream.specs.State.{JobState}
+use Rattle.press_stream.specs.Answers.{fault_of}
 use Rattle.press_stream.specs.Meaning.{meaning_of, with_exit}
+use Rattle.press_stream.specs.Printed.{Printed}
+use Rattle.press_main.specs.Printing.{machine_of, status_of_fault}
 use Rattle.press_main.specs.declared.measures.Measures.{Measures}
 use Rattle.press_main.specs.Measured.{measures_of}
 
@@ -41,3 +48,27 @@ listing_of outputs = lines_from 1 (sheets_of outputs) ++ reply_bytes_of outputs
 -- Where a writer's bytes are known: it wrote the listing of the meaning of a stream of these bytes, and nothing else.
 abbrev pub Lists : List ℕ → Option (List ℕ) → Option (List ℕ) → Type 0
 Lists bytes old new = (commands : List Token) × Closed bytes commands × Appends old new (listing_of (meaning_of (with_exit commands)).outputs)
+
+-- what the sinks of a listing tell that took these sheets and replies
+abbrev pub took : List Delivery → List ℕ → Told
+took deliveries replies = both (record { delivered = Some deliveries; faults = 0 }) (record { replied = Some replies; faults = 0 })
+
+-- A stream was printed, and unless its listing cannot be written, what went out of it, by the fault that it had or had not, is
+-- listed, and nothing else is written.
+pub record ListsPrinted (printed : Result JobState JobError) (written : Bool) (had left old new : Option (List ℕ)) : Type 0 where
+  pub deliveries : List Delivery
+  pub replies : List ℕ
+  pub prints : Printed had left 0 (fault_of printed) (machine_of printed) (took [] []) (took deliveries replies)
+  pub lists : written ≡ true → Appends old new (lines_from 1 (sheets_in deliveries) ++ replies)
+
+-- the status after a stream and its listing
+abbrev pub status_of_listing : Option JobError → (written : Bool) → ℕ
+status_of_listing error true = status_of_fault error
+status_of_listing error false = 1
+
+-- The same, with its status: 0 exactly where the stream had no fault and its listing was written.
+pub record PrintsListing (status : ℕ) (had left old new : Option (List ℕ)) : Type 0 where
+  pub printed : Result JobState JobError
+  pub written : Bool
+  pub stream : ListsPrinted printed written had left old new
+  pub answers : status ≡ status_of_listing (fault_of printed) written

@@ -3,6 +3,8 @@ use Rattle.std.specs.Prelude.{List, [], ◌∷◌, Option, Some, None, Bool, tru
 use Rattle.std.specs.Option.{option_map_or}
 use Rattle.std.specs.Str.{bytes_eq}
 use Rattle.clap.specs.Words.{App, Row, Rule, Text, new_app, new_rule, with_rule, with_subcommand, subcommand_of, first_of, all_of, fault_of}
+use Rattle.press_main.specs.declared.words.Subcommand.{Subcommand}
+use Rattle.press_main.specs.declared.words.Subcommand.TheVariants.{Print, Asm, Disasm, Write, Press}
 use Rattle.clap.specs.declared.builder.action.ArgAction.TheVariants.{Append, SetTrue}
 
 -- Where an input is read: from standard input, or from the file of this name.
@@ -55,21 +57,11 @@ write_app = with_rule (with_rule (with_rule (new_app (codes "write")) (needed_ru
 abbrev pub session_app : App
 session_app = new_app (codes "press")
 
--- the subcommands of the program, one after another
-abbrev pub printing_app : App
-printing_app = with_subcommand (new_app (codes "press")) print_app.top
-
-abbrev pub assembling_app : App
-assembling_app = with_subcommand printing_app asm_app.top
-
-abbrev pub disassembling_app : App
-disassembling_app = with_subcommand assembling_app disasm_app.top
-
-abbrev pub writing_app : App
-writing_app = with_subcommand disassembling_app write_app.top
-
+-- The command line: the subcommands of the program.
 abbrev pub press_app : App
-press_app = with_subcommand writing_app session_app.top
+press_app =
+    with_subcommand (with_subcommand (with_subcommand (with_subcommand (with_subcommand (new_app (codes "press"))
+    print_app.top) asm_app.top) disasm_app.top) write_app.top) session_app.top
 
 -- a flag is set where its value is `true`
 abbrev pub is_set : Text → List Row → Bool
@@ -83,13 +75,6 @@ source_of name = if bytes_eq name (codes "-") then Standard else FileNamed name
 abbrev pub made_of : List Row → Option Made
 made_of rows = if is_set (codes "list") rows then Some Listed else option_map FilesBy (first_of (codes "out") rows)
 
--- what the values of the words of a subcommand ask to be made
-abbrev pub made_by : Text → List Row → Option Made
-made_by subcommand rows =
-    if bytes_eq subcommand (codes "asm") then option_map StreamTo (first_of (codes "out") rows)
-    else if bytes_eq subcommand (codes "disasm") then Some AsText
-    else made_of rows
-
 -- the images that `write` names, in the order of the words
 abbrev pub images_of : List Row → List Text
 images_of rows = unwrap_or (all_of (codes "images") rows) []
@@ -99,21 +84,43 @@ abbrev pub job_asked : List Row → Option Asked
 job_asked rows =
     option_and_then (λ ticket. option_map (λ name. record { source = FileNamed ticket; made = JobTo name (images_of rows) }) (first_of (codes "out") rows)) (first_of (codes "ticket") rows)
 
--- what the values of the words of another subcommand ask for
-abbrev pub input_asked : Text → List Row → Option Asked
-input_asked subcommand rows =
-    option_and_then (λ name. option_map (λ made. record { source = source_of name; made = made }) (made_by subcommand rows)) (first_of (codes "in") rows)
+-- what the values of the words of `print`, of `asm` and of `disasm` ask for
+abbrev pub print_asked : List Row → Option Asked
+print_asked rows =
+    option_and_then (λ name. option_map (λ made. record { source = source_of name; made = made }) (made_of rows)) (first_of (codes "in") rows)
+
+abbrev pub asm_asked : List Row → Option Asked
+asm_asked rows =
+    option_and_then (λ name. option_map (λ made. record { source = source_of name; made = StreamTo made }) (first_of (codes "out") rows)) (first_of (codes "in") rows)
+
+abbrev pub disasm_asked : List Row → Option Asked
+disasm_asked rows = option_map (λ name. record { source = source_of name; made = AsText }) (first_of (codes "in") rows)
 
 -- what `press` asks for: the events stand on standard input
 abbrev pub session_asked : Asked
 session_asked = record { source = Standard; made = Answered }
 
+-- the subcommand of a name
+abbrev pub subcommand_named : Text → Option Subcommand
+subcommand_named name =
+    if bytes_eq name (codes "print") then Some Print
+    else if bytes_eq name (codes "asm") then Some Asm
+    else if bytes_eq name (codes "disasm") then Some Disasm
+    else if bytes_eq name (codes "write") then Some Write
+    else if bytes_eq name (codes "press") then Some Press
+    else None
+
 -- what the values of the words of a subcommand ask for
+abbrev pub asked_of : Subcommand → List Row → Option Asked
+asked_of Print rows = print_asked rows
+asked_of Asm rows = asm_asked rows
+asked_of Disasm rows = disasm_asked rows
+asked_of Write rows = job_asked rows
+asked_of Press rows = Some session_asked
+
+-- the same by its name
 abbrev pub asked_by : Text → List Row → Option Asked
-asked_by subcommand rows =
-    if bytes_eq subcommand (codes "write") then job_asked rows
-    else if bytes_eq subcommand (codes "press") then Some session_asked
-    else input_asked subcommand rows
+asked_by name rows = option_and_then (λ subcommand. asked_of subcommand rows) (subcommand_named name)
 
 -- what words ask for in which the command line finds these faults
 abbrev pub asked_without : {K : Type 0} → List K → List Text → Option Asked

@@ -1,9 +1,11 @@
+//! Streams that are printed to files.
 ghost use Rattle.std.specs.Prelude.{◌≡◌, ◌≤◌, ◌<◌, ◌⊎◌};
 ghost use Rattle.press_sink.specs.Told.{most_faults};
 ghost use Rattle.press_sink.specs.Template.{IsNoTemplate};
 ghost use Rattle.press_main.specs.Files.{PrintsFiles, PrintsTo, PrintsNothing};
 
 use crate::stream::{print_stream, told_status};
+use crate::telling::told;
 use press_sink::{FolderSink, SheetSink, WriteReplies};
 use std::alloc::Global;
 use std::fs::Files;
@@ -37,10 +39,10 @@ pub fn print_files<F: Files + Drop, R: Read, W: Write + Drop, E: Write>(
 {
     match FolderSink::open(alloc, files, template) {
         Ok(mut sheets) => print_to(alloc, reader, &mut sheets, out, err),
-        Err(error) => {
-            let _ = writeln!(err, "{error}");
-            Finished { status: 1, out }
-        }
+        Err(error) => Finished {
+            status: told(&error, err),
+            out,
+        },
     }
 }
 

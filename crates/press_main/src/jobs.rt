@@ -14,9 +14,9 @@ ghost use Rattle.press_main.specs.Jobs.{
 };
 ghost use Rattle.press_main.specs.declared.jobs.JobFileError.{JobFileError};
 
-use crate::assembly::told;
 use crate::inputs::{InputError, read_all};
 use crate::named_inputs::{NamedInputs, open_named};
+use crate::telling::told;
 use press_bits::Bitmap;
 use press_pbm::{ReadPbmError, read_pbm};
 use press_ticket::{Ticket, TicketError, read_ticket};

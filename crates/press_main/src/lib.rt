@@ -16,6 +16,7 @@ mod named_inputs;
 mod program;
 mod sessions;
 mod stream;
+mod telling;
 mod words;
 
 pub use assembly::{asm_text, disasm_bytes};

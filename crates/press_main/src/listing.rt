@@ -1,17 +1,19 @@
+//! The listings of streams and of presses.
 ghost use Rattle.std.specs.Prelude.{◌≡◌, ◌≤◌, ◌++◌, IfSome, OnOk};
 ghost use Rattle.std.specs.Io.KnownBytes.{Appends};
-ghost use Rattle.press_main.specs.Listing.{measured_line, sheet_lines, lines_from, Lists};
+ghost use Rattle.press_main.specs.Listing.{measured_line, sheet_lines, lines_from, Lists, ListsPrinted, PrintsListing};
 ghost use Rattle.press_main.specs.Listed.{deliveries_of};
 ghost use Rattle.press_main.specs.EntryListing.{entry_mark, entry_measured_line, entry_sheet_lines, entry_lines, entry_listing};
 ghost use Rattle.press_main.specs.EntrySheets.{kept, entry_deliveries_of};
 ghost use Rattle.press_sink.specs.Sending.{sheets_in};
 
-use crate::assembly::NO_OUTPUT;
 use crate::entry_sheets::{EntrySheet, EntrySheets};
 use crate::listing_sink::{ListedSheet, ListingSink};
 use crate::measures::Measures;
 use crate::stream::{print_stream, told_status};
+use crate::telling::{NO_OUTPUT, told};
 use press_sink::ListReplies;
+use press_stream::{Job, JobError};
 use std::alloc::Global;
 use std::io::{self, Read, Write};
 
@@ -28,17 +30,35 @@ pub fn print_list<R: Read, W: Write, E: Write>(
     ensures status { result ≤ 1 }
     ensures lists { result ≡ 0 → IfSome (R.remaining reader.old) (λ bytes.
         Lists bytes (W.contents out.old) (W.contents out.new)) }
+    ensures printed { PrintsListing result (R.remaining reader.old) (R.remaining reader.new)
+        (W.contents out.old) (W.contents out.new) }
+{
+    let stream = list_stream(alloc, reader, out);
+    let status = told_status(&stream.printed, err);
+    if stream.written {
+        status
+    } else {
+        told(&NO_OUTPUT, err)
+    }
+}
+
+/// A stream that was printed and listed: how it ended, and whether its listing was written.
+#[derive(Drop)]
+struct ListedStream {
+    printed: Result<Job, JobError>,
+    written: bool,
+}
+
+/// Prints the stream that a reader has, and lists what went out of it, whatever fault it had.
+fn list_stream<R: Read, W: Write>(alloc: Global, reader: &mut R, out: &mut W) -> ListedStream
+    ensures { ListsPrinted result.printed result.written (R.remaining reader.old)
+        (R.remaining reader.new) (W.contents out.old) (W.contents out.new) }
 {
     let mut sheets = ListingSink::new(alloc);
     let mut replies = ListReplies::new(alloc);
     let printed = print_stream(alloc, reader, 0, &mut sheets, &mut replies);
-    let listed = list(out, sheets.sheets(), replies.bytes());
-    let status = told_status(&printed, err);
-    if listed.is_err() {
-        let _ = writeln!(err, "{NO_OUTPUT}");
-        return 1;
-    }
-    status
+    let written = list(out, sheets.sheets(), replies.bytes()).is_ok();
+    ListedStream { printed, written }
 }
 
 /// Lists the sides of the sheets, and then the replies.

@@ -1,3 +1,4 @@
+//! The sink that keeps what a listing tells.
 ghost use Rattle.std.specs.Prelude.{◌≡◌, option_map};
 ghost use Rattle.press_main.specs.Measured.{measures_of};
 

@@ -1,3 +1,4 @@
+//! What a listing tells of a side.
 ghost use Rattle.std.specs.Prelude.{◌≡◌};
 ghost use Rattle.press_main.specs.Measured.{measures_of};
 

@@ -1,48 +1,70 @@
 //! What the words ask for, done.
-ghost use Rattle.std.specs.Prelude.{◌≡◌};
-ghost use Rattle.press_main.specs.View.{status_of};
+ghost use Rattle.std.specs.Prelude.{◌≡◌, ◌≢◌, map, IfOk, None};
+ghost use Rattle.std.specs.String.{string_bytes};
+ghost use Rattle.press_main.specs.Program.{Assembling, Makes, Performs, Runs, Writing};
+ghost use Rattle.press_main.specs.View.{made_seen, request_seen, status_of};
+ghost use Rattle.press_main.specs.Words.{asked};
 
-use crate::assembly::{asm_text, disasm_bytes, told};
-use crate::files::print_files;
+use crate::assembly::{asm_text, disasm_bytes};
+use crate::files::{Finished, print_files};
 use crate::inputs::InputError;
 use crate::jobs::write_files;
 use crate::listing::print_list;
 use crate::made_file::MadeFile;
-use crate::named_inputs::NamedFiles;
+use crate::named_inputs::NamedInputs;
 use crate::sessions::press_lines;
+use crate::telling::told;
 use crate::words::{Input, Output, Refusal, Request, request_of};
 use press_units::NO_MEMORY;
-use std::alloc::Global;
-use std::fs;
+use std::alloc::{AllocError, Global};
 use std::fs::Files;
 use std::io::{Read, Write};
 
-/// Does what the words ask for, the program's name among them. The answer is the status.
-pub fn run_words<F: Files, S: Read, W: Write + Drop, E: Write>(
+/// Does what the words ask for, the program's name among them. Inputs are opened by their names in `inputs`, and files are made in
+/// `files`. The answer has the status, and standard output.
+pub fn run_words<I: NamedInputs, F: Files, S: Read, W: Write + Drop, E: Write>(
     alloc: Global,
+    inputs: &I,
     files: &F,
     words: &[String],
     input: &mut S,
     mut out: W,
     err: &mut E,
-) -> u8 {
-    let Ok(texts) = words
-        .iter()
-        .map(|word| word.as_str())
-        .collect::<Vec<&str>>(alloc)
-    else {
-        let _ = writeln!(err, "{NO_MEMORY}");
-        return 1;
+) -> Finished<W>
+    ensures { Runs (asked (map string_bytes words.now)) (I.bytes inputs.now) result.status
+        (S.remaining input.old) (S.remaining input.new)
+        (W.contents out) (W.contents result.out) }
+{
+    let Ok(texts) = texts_of(alloc, words) else {
+        return Finished {
+            status: told(&NO_MEMORY, err),
+            out,
+        };
     };
     match request_of(alloc, &texts) {
-        Ok(request) => print(alloc, files, &request, input, out, err),
-        Err(refusal) => refuse(&refusal, &mut out, err),
+        Ok(request) => perform(alloc, inputs, files, &request, input, out, err),
+        Err(refusal) => Finished {
+            status: refuse(&refusal, &mut out, err),
+            out,
+        },
     }
+}
+
+/// The texts of words.
+fn texts_of(alloc: Global, words: &[String]) -> Result<Vec<&str>, AllocError>
+    ensures { IfOk result (λ texts. map (λ text. text.now) texts.items ≡ map string_bytes words.now) }
+{
+    let mut texts = Vec::new(alloc);
+    for word in words {
+        texts.push(word.as_str())?;
+    }
+    Ok(texts)
 }
 
 /// Tells why the words ask for nothing: help on `out`, all else on `err`. The answer is the status.
 fn refuse<W: Write, E: Write>(refusal: &Refusal, out: &mut W, err: &mut E) -> u8
-    ensures { result ≡ status_of refusal.now }
+    ensures status { result ≡ status_of refusal.now }
+    ensures stays { result ≢ 0 → W.contents out.new ≡ W.contents out.old }
 {
     let status = refusal.status();
     if status == 0 {
@@ -54,60 +76,113 @@ fn refuse<W: Write, E: Write>(refusal: &Refusal, out: &mut W, err: &mut E) -> u8
     status
 }
 
-/// Opens the input, and makes what is asked for.
-fn print<F: Files, S: Read, W: Write + Drop, E: Write>(
+/// Opens the input of a request, and makes of it what is asked for.
+fn perform<I: NamedInputs, F: Files, S: Read, W: Write + Drop, E: Write>(
     alloc: Global,
+    inputs: &I,
     files: &F,
     request: &Request<'_>,
     input: &mut S,
     out: W,
     err: &mut E,
-) -> u8 {
-    let Input::File(name) = request.input else {
-        return print_from(alloc, files, input, &request.output, out, err);
-    };
-    match fs::open(files, name) {
-        Ok(mut file) => print_from(alloc, files, &mut file, &request.output, out, err),
-        Err(_) => told(&InputError::ReadFault, err),
+) -> Finished<W>
+    ensures { Performs (request_seen request.now).source (request_seen request.now).made
+        (I.bytes inputs.now) result.status (S.remaining input.old) (S.remaining input.new)
+        (W.contents out) (W.contents result.out) }
+{
+    match request.input {
+        Input::Standard => make(alloc, inputs, files, input, &request.output, out, err),
+        Input::File(name) => match inputs.open(name) {
+            Ok(mut file) => make(alloc, inputs, files, &mut file, &request.output, out, err),
+            Err(_) => Finished {
+                status: told(&InputError::ReadFault, err),
+                out,
+            },
+        },
     }
 }
 
 /// Makes what is asked for of what a reader has.
-fn print_from<F: Files, R: Read, W: Write + Drop, E: Write>(
+fn make<I: NamedInputs, F: Files, R: Read, W: Write + Drop, E: Write>(
     alloc: Global,
+    inputs: &I,
     files: &F,
     reader: &mut R,
     output: &Output<'_>,
     mut out: W,
     err: &mut E,
-) -> u8 {
+) -> Finished<W>
+    ensures { Makes (made_seen output.now) (I.bytes inputs.now) result.status
+        (R.remaining reader.old) (R.remaining reader.new)
+        (W.contents out) (W.contents result.out) }
+{
     match output {
-        Output::Listing => print_list(alloc, reader, &mut out, err),
-        Output::Files(template) => print_files(alloc, files, reader, template, out, err).status,
-        Output::Session => press_lines(alloc, &NamedFiles { files }, reader, &mut out, err),
-        Output::Text => disasm_bytes(alloc, reader, &mut out, err),
-        Output::Assembled(name) => asm_text(alloc, reader, &mut MadeFile::new(files, name), err),
-        Output::Job(name, images) => write_named(alloc, files, reader, name, images, err),
+        Output::Listing => {
+            let status = print_list(alloc, reader, &mut out, err);
+            Finished { status, out }
+        }
+        Output::Files(template) => print_files(alloc, files, reader, template, out, err),
+        Output::Session => {
+            let status = press_lines(alloc, inputs, reader, &mut out, err);
+            Finished { status, out }
+        }
+        Output::Text => {
+            let status = disasm_bytes(alloc, reader, &mut out, err);
+            Finished { status, out }
+        }
+        Output::Assembled(name) => {
+            let status = asm_file(alloc, files, reader, name, err);
+            Finished { status, out }
+        }
+        Output::Job(name, images) => {
+            let status = write_file(alloc, inputs, files, reader, name, images, err);
+            Finished { status, out }
+        }
     }
 }
 
-/// Writes the job of the ticket that a reader has, with the images of these files, to the file of this name. The file is made
-/// once the images are found to fit.
-fn write_named<F: Files, R: Read, E: Write>(
+/// Writes the bytes of the assembly text that a reader has to the file of this name, which is made once the text is assembled.
+fn asm_file<F: Files, R: Read, E: Write>(
     alloc: Global,
+    files: &F,
+    reader: &mut R,
+    name: &str,
+    err: &mut E,
+) -> u8
+    ensures { Assembling result (R.remaining reader.old) (R.remaining reader.new) None None }
+{
+    asm_text(alloc, reader, &mut MadeFile::new(files, name), err)
+}
+
+/// Writes the job of the ticket that a reader has, with the images of the inputs of these names, to the file of this name. The file
+/// is made once the images are found to fit.
+fn write_file<I: NamedInputs, F: Files, R: Read, E: Write>(
+    alloc: Global,
+    inputs: &I,
     files: &F,
     reader: &mut R,
     name: &str,
     images: &[&str],
     err: &mut E,
-) -> u8 {
-    let Ok(words) = images
-        .iter()
-        .map(|image| image.as_bytes())
-        .collect::<Vec<&[u8]>>(alloc)
-    else {
+) -> u8
+    ensures { Writing result (R.remaining reader.old) (R.remaining reader.new)
+        (map (I.bytes inputs.now) (map (λ image. image.now) images.now)) None None }
+{
+    let Ok(words) = names_of(alloc, images) else {
         return told(&NO_MEMORY, err);
     };
     let mut out = MadeFile::new(files, name);
-    write_files(alloc, reader, &NamedFiles { files }, &words, &mut out, err)
+    write_files(alloc, reader, inputs, &words, &mut out, err)
+}
+
+/// The bytes of names.
+fn names_of<'a>(alloc: Global, texts: &[&'a str]) -> Result<Vec<&'a [u8]>, AllocError>
+    ensures { IfOk result (λ names.
+        map (λ name. name.now) names.items ≡ map (λ text. text.now) texts.now) }
+{
+    let mut names = Vec::new(alloc);
+    for text in texts {
+        names.push(text.as_bytes())?;
+    }
+    Ok(names)
 }

@@ -4,13 +4,13 @@ ghost use Rattle.std.specs.Io.KnownBytes.{Appends, IsAtEnd};
 ghost use Rattle.press_stream.specs.Pieces.{most_reads};
 ghost use Rattle.press_main.specs.Sessions.{turn_text, PlaysOn, PlaysToItsEnd, Plays, delivered_by};
 
-use crate::assembly::{NO_OUTPUT, told};
 use crate::entry_sheets::EntrySheets;
 use crate::event_lines::{LineEvent, event_of, words_of};
 use crate::inputs::{InputError, read_all};
 use crate::jobs::{JobFileError, images_named};
 use crate::listing::list_delivered;
 use crate::named_inputs::{NamedInputs, open_named};
+use crate::telling::{NO_OUTPUT, told};
 use press_core::{OperatorCommand, Press, Turn, TurnError};
 use press_stream::{MOST_READS, PIECE, Piece, ReadCount, read_piece};
 use press_units::NO_MEMORY;

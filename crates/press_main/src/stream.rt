@@ -1,9 +1,11 @@
+//! Streams that are printed from a reader to two sinks.
 ghost use Rattle.std.specs.Prelude.{◌≡◌};
 ghost use Rattle.press_sink.specs.Told.{both, CanCount};
 ghost use Rattle.press_stream.specs.Answers.{fault_of};
 ghost use Rattle.press_stream.specs.Printed.{Printed};
 ghost use Rattle.press_main.specs.Printing.{machine_of, status_of_fault};
 
+use crate::telling::told;
 use press_sink::{ReplySink, SheetSink};
 use press_stream::{Job, JobError};
 use std::alloc::Global;
@@ -40,9 +42,6 @@ pub fn told_status<E: Write>(printed: &Result<Job, JobError>, err: &mut E) -> u8
 {
     match printed {
         Ok(_) => 0,
-        Err(fault) => {
-            let _ = writeln!(err, "{fault}");
-            1
-        }
+        Err(fault) => told(fault, err),
     }
 }

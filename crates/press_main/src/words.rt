@@ -1,8 +1,9 @@
+//! The words of the command line, and what they ask for.
 ghost use Rattle.std.specs.Prelude.{◌≡◌, ◌↔◌, ◌⊎◌, IfOk, IfErr, IsTrue, Some, None, map, option_map, option_and_then, codes, false};
 ghost use Rattle.clap.specs.Words.{app_of, rule_of, new_rule, kind_of, first_of, rows_of, found_of, subcommand_of, subcommand_rows_of, fault_of, FailsBy};
 ghost use Rattle.clap.specs.declared.builder.command.Command.TheViews.{out-Command};
 ghost use Rattle.clap.specs.declared.error.kind.ErrorKind.TheVariants.{OutOfMemory};
-ghost use Rattle.press_main.specs.Words.{list_rule, needed_rule, images_rule, print_app, asm_app, disasm_app, write_app, session_app, printing_app, assembling_app, disassembling_app, writing_app, press_app, source_of, made_of, made_by, images_of, job_asked, input_asked, asked_by, asked, is_set};
+ghost use Rattle.press_main.specs.Words.{list_rule, needed_rule, images_rule, print_app, asm_app, disasm_app, write_app, session_app, press_app, source_of, made_of, images_of, print_asked, asm_asked, disasm_asked, job_asked, subcommand_named, asked_of, asked_by, asked, is_set};
 ghost use Rattle.press_main.specs.View.{source_seen, made_seen, request_seen, status_of, IsForMemory};
 
 use clap::error::ErrorKind;
@@ -11,9 +12,26 @@ use press_units::NO_MEMORY;
 use std::alloc::{AllocError, Global};
 use std::fmt;
 
-/// An example of each subcommand, for help.
-const EXAMPLES: &str =
-    "Examples:\n  press print page.pcl page-%d.pbm\n  press asm page.asm page.pcl\n  press disasm page.pcl\n  press write ticket.json job.prn page-1.pbm page-2.pbm\n  press press < events.txt";
+/// An example of each subcommand, and each fault with what to do, for help.
+const AFTER_HELP: &str = "Examples:
+  press print page.pcl page-%d.pbm
+  press asm page.asm page.pcl
+  press disasm page.pcl
+  press write ticket.json job.prn page-1.pbm page-2.pbm
+  press press < events.txt
+
+Faults, of which one line stands on standard error, and what to do:
+  fault 111, 112, 113   an image is no P4 file, has a bad size, or is cut: make it again
+  fault 114             an image cannot be read: look at the file
+  fault 115, 301, 614   a file cannot be made or written: look at its folder and the disk
+  fault 121             %d does not stand once in the names of the sides: write page-%d.pbm
+  fault 302, output     standard output cannot be written: look who reads it
+  fault 304             an input cannot be opened or read: look at its name
+  fault 401, 402, 403   a line of the text has no form, no value, or data that does not fit
+  fault 601 to 605      the ticket is refused: look at the key that is told, or at its pages
+  fault 611, 612, 613   an image is missing, too wide or too tall: name one for each page, or scale it
+  fault memory          memory ran out: give it more, or print a smaller stream
+docs/FAULTS.md says more of each, docs/ASSEMBLY.md of texts, docs/TICKETS.md of tickets.";
 
 /// Where an input is read.
 #[derive(Debug, Drop)]
@@ -113,22 +131,22 @@ fn list_flag<'a>(alloc: Global) -> Arg<'a>
         .help("Lists the sheets and writes no file")
 }
 
-/// The word for the stream.
-fn input_word<'a>(alloc: Global) -> Arg<'a>
-    ensures rule { rule_of result ≡ needed_rule (codes "in") }
+/// A word that has to be there.
+fn needed_word<'a>(alloc: Global, id: &'a str, help: &'a str) -> Arg<'a>
+    ensures rule { rule_of result ≡ needed_rule id.entry.now }
     ensures local { result.global ≡ false }
 {
-    Arg::new(alloc, "in")
-        .required(true)
-        .help("The file of the stream, or - for standard input")
+    Arg::new(alloc, id).required(true).help(help)
 }
 
 /// The word for the template.
-fn output_word<'a>(alloc: Global) -> Arg<'a>
+fn template_word<'a>(alloc: Global) -> Arg<'a>
     ensures rule { rule_of result ≡ new_rule (codes "out") }
     ensures local { result.global ≡ false }
 {
-    Arg::new(alloc, "out").help("The names of the files, with %d for the number of the side")
+    Arg::new(alloc, "out").help(
+        "The names of the files of the sides, with %d for the number of the side, from 1",
+    )
 }
 
 /// The subcommand `print`.
@@ -139,18 +157,12 @@ fn print_command<'a>(alloc: Global) -> Result<Command<'a>, AllocError>
     Command::new(alloc, "print")
         .about("Prints a stream to files, or lists its sheets")
         .arg(list_flag(alloc))?
-        .arg(input_word(alloc))?
-        .arg(output_word(alloc))
-}
-
-/// The name of a file that is made.
-fn made_word<'a>(alloc: Global) -> Arg<'a>
-    ensures rule { rule_of result ≡ needed_rule (codes "out") }
-    ensures local { result.global ≡ false }
-{
-    Arg::new(alloc, "out")
-        .required(true)
-        .help("The file that is made")
+        .arg(needed_word(
+            alloc,
+            "in",
+            "The file of the stream of PJL and PCL 5, or - for standard input",
+        ))?
+        .arg(template_word(alloc))
 }
 
 /// The subcommand `asm`.
@@ -160,8 +172,16 @@ fn asm_command<'a>(alloc: Global) -> Result<Command<'a>, AllocError>
 {
     Command::new(alloc, "asm")
         .about("Makes a stream of assembly text")
-        .arg(input_word(alloc))?
-        .arg(made_word(alloc))
+        .arg(needed_word(
+            alloc,
+            "in",
+            "The file of the assembly text, or - for standard input",
+        ))?
+        .arg(needed_word(
+            alloc,
+            "out",
+            "The file of the stream, which is made or replaced",
+        ))
 }
 
 /// The subcommand `disasm`.
@@ -170,18 +190,12 @@ fn disasm_command<'a>(alloc: Global) -> Result<Command<'a>, AllocError>
     ensures local { IfOk result (λ command. (out-Command command).has_globals ≡ false) }
 {
     Command::new(alloc, "disasm")
-        .about("Writes a stream as assembly text")
-        .arg(input_word(alloc))
-}
-
-/// The word for the ticket.
-fn ticket_word<'a>(alloc: Global) -> Arg<'a>
-    ensures rule { rule_of result ≡ needed_rule (codes "ticket") }
-    ensures local { result.global ≡ false }
-{
-    Arg::new(alloc, "ticket")
-        .required(true)
-        .help("The file of the ticket")
+        .about("Writes a stream as assembly text to standard output")
+        .arg(needed_word(
+            alloc,
+            "in",
+            "The file of the stream, or - for standard input",
+        ))
 }
 
 /// The words for the images.
@@ -189,9 +203,9 @@ fn images_word<'a>(alloc: Global) -> Arg<'a>
     ensures rule { rule_of result ≡ images_rule }
     ensures local { result.global ≡ false }
 {
-    Arg::new(alloc, "images")
-        .action(ArgAction::Append)
-        .help("The P4 files of the pages, from the first one")
+    Arg::new(alloc, "images").action(ArgAction::Append).help(
+        "The P4 files of the pages, from the first one, one for each page",
+    )
 }
 
 /// The subcommand `write`.
@@ -201,8 +215,12 @@ fn write_command<'a>(alloc: Global) -> Result<Command<'a>, AllocError>
 {
     Command::new(alloc, "write")
         .about("Writes the job of a ticket and the images of its pages")
-        .arg(ticket_word(alloc))?
-        .arg(made_word(alloc))?
+        .arg(needed_word(alloc, "ticket", "The file of the ticket, JSON"))?
+        .arg(needed_word(
+            alloc,
+            "out",
+            "The file of the stream, which is made or replaced",
+        ))?
         .arg(images_word(alloc))
 }
 
@@ -212,50 +230,22 @@ fn press_command<'a>(alloc: Global) -> Command<'a>
     ensures local { (out-Command result).has_globals ≡ false }
 {
     Command::new(alloc, "press").about(
-        "Runs a press by the events on standard input, and lists its sheets",
+        "Runs a press by the lines of events on standard input, and lists its sheets",
     )
-}
-
-/// The command line with `print` alone.
-fn printing<'a>(alloc: Global) -> Result<Command<'a>, AllocError>
-    ensures app { IfOk result (λ command. app_of command ≡ printing_app) }
-    ensures local { IfOk result (λ command. (out-Command command).has_globals ≡ false) }
-{
-    Command::new(alloc, "press")
-        .about("A digital press: it prints PJL and PCL 5")
-        .after_help(EXAMPLES)
-        .subcommand(print_command(alloc)?)
-}
-
-/// The command line with `print` and `asm`.
-fn assembling<'a>(alloc: Global) -> Result<Command<'a>, AllocError>
-    ensures app { IfOk result (λ command. app_of command ≡ assembling_app) }
-    ensures local { IfOk result (λ command. (out-Command command).has_globals ≡ false) }
-{
-    printing(alloc)?.subcommand(asm_command(alloc)?)
-}
-
-/// The command line with `print`, `asm` and `disasm`.
-fn disassembling<'a>(alloc: Global) -> Result<Command<'a>, AllocError>
-    ensures app { IfOk result (λ command. app_of command ≡ disassembling_app) }
-    ensures local { IfOk result (λ command. (out-Command command).has_globals ≡ false) }
-{
-    assembling(alloc)?.subcommand(disasm_command(alloc)?)
-}
-
-/// The command line with `print`, `asm`, `disasm` and `write`.
-fn writing<'a>(alloc: Global) -> Result<Command<'a>, AllocError>
-    ensures app { IfOk result (λ command. app_of command ≡ writing_app) }
-    ensures local { IfOk result (λ command. (out-Command command).has_globals ≡ false) }
-{
-    disassembling(alloc)?.subcommand(write_command(alloc)?)
 }
 
 /// The command line that is taken.
 fn command<'a>(alloc: Global) -> Result<Command<'a>, AllocError>
     ensures { IfOk result (λ command. app_of command ≡ press_app) }
 {
-    writing(alloc)?.subcommand(press_command(alloc))
+    Command::new(alloc, "press")
+        .about("A digital press: it prints PJL and PCL 5")
+        .after_help(AFTER_HELP)
+        .subcommand(print_command(alloc)?)?
+        .subcommand(asm_command(alloc)?)?
+        .subcommand(disasm_command(alloc)?)?
+        .subcommand(write_command(alloc)?)?
+        .subcommand(press_command(alloc))
 }
 
 /// The matches of words, the program's name among them.
@@ -299,22 +289,6 @@ fn output_of<'a>(matches: &ArgMatches<'a>) -> Option<Output<'a>>
     Some(Output::Files(template))
 }
 
-/// What the matches of a subcommand ask to be made.
-#[tactic(auto, using(crate::proofs::WordsLemmas::value_by_rows))]
-fn made_by<'a>(subcommand: &str, matches: &ArgMatches<'a>) -> Option<Output<'a>>
-    ensures { option_map made_seen result
-        ≡ made_by subcommand.now (rows_of (found_of matches.now)) }
-{
-    if subcommand == "asm" {
-        let name = matches.get_str("out")?;
-        return Some(Output::Assembled(name));
-    }
-    if subcommand == "disasm" {
-        return Some(Output::Text);
-    }
-    output_of(matches)
-}
-
 /// The images that the matches of `write` name.
 #[tactic(auto, using(crate::proofs::WordsLemmas::values_by_rows))]
 fn images_of<'a>(alloc: Global, matches: &ArgMatches<'a>) -> Result<Vec<&'a str>, AllocError>
@@ -349,35 +323,103 @@ fn job_request<'a>(
     }))
 }
 
-/// What the matches of a subcommand with a stream or assembly text ask for.
+/// What the matches of `print` ask for.
 #[tactic(auto, using(crate::proofs::WordsLemmas::value_by_rows))]
-fn input_request<'a>(subcommand: &str, matches: &ArgMatches<'a>) -> Option<Request<'a>>
-    ensures { option_map request_seen result
-        ≡ input_asked subcommand.now (rows_of (found_of matches.now)) }
+fn print_request<'a>(matches: &ArgMatches<'a>) -> Option<Request<'a>>
+    ensures { option_map request_seen result ≡ print_asked (rows_of (found_of matches.now)) }
 {
     let name = matches.get_str("in")?;
-    let output = made_by(subcommand, matches)?;
+    let output = output_of(matches)?;
     Some(Request {
         input: input_named(name),
         output,
     })
 }
 
+/// What the matches of `asm` ask for.
+#[tactic(auto, using(crate::proofs::WordsLemmas::value_by_rows))]
+fn asm_request<'a>(matches: &ArgMatches<'a>) -> Option<Request<'a>>
+    ensures { option_map request_seen result ≡ asm_asked (rows_of (found_of matches.now)) }
+{
+    let name = matches.get_str("in")?;
+    let made = matches.get_str("out")?;
+    Some(Request {
+        input: input_named(name),
+        output: Output::Assembled(made),
+    })
+}
+
+/// What the matches of `disasm` ask for.
+#[tactic(auto, using(crate::proofs::WordsLemmas::value_by_rows))]
+fn disasm_request<'a>(matches: &ArgMatches<'a>) -> Option<Request<'a>>
+    ensures { option_map request_seen result ≡ disasm_asked (rows_of (found_of matches.now)) }
+{
+    let name = matches.get_str("in")?;
+    Some(Request {
+        input: input_named(name),
+        output: Output::Text,
+    })
+}
+
+/// A subcommand.
+#[derive(Clone, Copy)]
+enum Subcommand {
+    Print,
+    Asm,
+    Disasm,
+    Write,
+    Press,
+}
+
+/// The subcommand of this name.
+fn subcommand_named(name: &str) -> Option<Subcommand>
+    ensures { result ≡ subcommand_named name.now }
+{
+    if name == "print" {
+        Some(Subcommand::Print)
+    } else if name == "asm" {
+        Some(Subcommand::Asm)
+    } else if name == "disasm" {
+        Some(Subcommand::Disasm)
+    } else if name == "write" {
+        Some(Subcommand::Write)
+    } else if name == "press" {
+        Some(Subcommand::Press)
+    } else {
+        None
+    }
+}
+
 /// What the matches of a subcommand ask for.
 fn subcommand_request<'a>(
     alloc: Global,
-    subcommand: &str,
+    subcommand: Subcommand,
     matches: &ArgMatches<'a>,
 ) -> Result<Option<Request<'a>>, AllocError>
     ensures { IfOk result (λ found. option_map request_seen found
-        ≡ asked_by subcommand.now (rows_of (found_of matches.now))) }
+        ≡ asked_of subcommand (rows_of (found_of matches.now))) }
 {
-    if subcommand == "write" {
-        job_request(alloc, matches)
-    } else if subcommand == "press" {
-        Ok(Some(SESSION))
-    } else {
-        Ok(input_request(subcommand, matches))
+    match subcommand {
+        Subcommand::Print => Ok(print_request(matches)),
+        Subcommand::Asm => Ok(asm_request(matches)),
+        Subcommand::Disasm => Ok(disasm_request(matches)),
+        Subcommand::Write => job_request(alloc, matches),
+        Subcommand::Press => Ok(Some(SESSION)),
+    }
+}
+
+/// What the matches of the subcommand of this name ask for.
+fn named_request<'a>(
+    alloc: Global,
+    name: &str,
+    matches: &ArgMatches<'a>,
+) -> Result<Option<Request<'a>>, AllocError>
+    ensures { IfOk result (λ found. option_map request_seen found
+        ≡ asked_by name.now (rows_of (found_of matches.now))) }
+{
+    match subcommand_named(name) {
+        Some(subcommand) => subcommand_request(alloc, subcommand, matches),
+        None => Ok(None),
     }
 }
 
@@ -388,7 +430,7 @@ fn request_in<'a>(alloc: Global, matches: &ArgMatches<'a>) -> Result<Option<Requ
     ensures memory { IfErr result (λ error. kind_of error ≡ OutOfMemory) }
 {
     match matches.subcommand() {
-        Some((subcommand, values)) => Ok(subcommand_request(alloc, subcommand, values)?),
+        Some((name, values)) => Ok(named_request(alloc, name, values)?),
         None => Ok(None),
     }
 }
