@@ -1,0 +1,103 @@
+-- Events, some after others.
+use Rattle.std.proofs.Common.{◌≡◌, ◌∙◌, ◌<◌, ◌+◌, ℕ, List, [], ◌∷◌, ◌++◌, length, take, get_or, map, Option, Some, None, option_map, Result, Ok, Vec, refl, sym, ap, subst}
+use Rattle.std.specs.List.{flat_map}
+use Rattle.std.proofs.lemmas.Grind.{flat_map-append}
+use Rattle.std.proofs.lemmas.List.{append_assoc, append-nil, map-append, take_more}
+use Rattle.std.specs.declared.alloc.AllocError.{AllocError}
+use Rattle.std.specs.declared.alloc.Global.{Global}
+use Rattle.press_bits.specs.Page.{Page}
+use Rattle.press_sink.specs.declared.sheet.Delivery.{Delivery}
+use Rattle.press_sink.specs.Told.{SheetsTold, most_faults}
+use Rattle.press_core.specs.declared.operator.OperatorCommand.{OperatorCommand}
+use Rattle.press_core.specs.declared.turn.Turn.{Turn}
+use Rattle.press_core.specs.declared.turn.TurnError.{TurnError}
+use Rattle.press_core.specs.Events.{Event, Message, TurnOf, Operator, EventAnswer, Response, Turned, Nothing, Happening, Happens, Leads, response_to}
+use Rattle.press_core.specs.Turns.{FaultsAfter, WereHandedOut}
+use Rattle.press_core.specs.World.{World}
+use Rattle.press_theorem.specs.Events.{HappenAll, line_of}
+
+Leads-join : (world middle last : World) (happenings others : List Happening) → Leads world happenings middle → Leads middle others last → Leads world (happenings ++ others) last
+Leads-join world middle last [] others first second = subst (λ (w : World). Leads w others last) first second
+Leads-join world middle last (happening ∷ happenings) others first second =
+    (first.0, Leads-join happening.next middle last happenings others first.1 second)
+
+took-join : (before middle after : Option (List Delivery)) (first second : List Delivery) → middle ≡ option_map (λ all. all ++ first) before → after ≡ option_map (λ all. all ++ second) middle → after ≡ option_map (λ all. all ++ (first ++ second)) before
+took-join None middle after first second one two = two ∙ ap (option_map (λ all. all ++ second)) one
+took-join (Some all) middle after first second one two = two ∙ ap (option_map (λ all. all ++ second)) one ∙ ap Some (append_assoc all first second)
+
+-- a sink that took nothing
+took-nothing : (all : Option (List Delivery)) → all ≡ option_map (λ all. all ++ []) all
+took-nothing None = refl
+took-nothing (Some all) = ap Some (sym (append-nil all))
+
+-- nothing happened
+pub HappenAll-none : (world : World) (told : SheetsTold) (bytes : List ℕ) → HappenAll world [] world told told bytes bytes
+HappenAll-none world told bytes = record {
+  happenings = [];
+  are = refl;
+  leads = refl;
+  told = took-nothing told.delivered;
+  no_fault = refl;
+  responses = sym (append-nil bytes);
+}
+
+-- one event happened
+HappenAll-one : (world last : World) (event : Event) (answer : EventAnswer) (handed : List Delivery) (before after : SheetsTold) (old new : List ℕ) → Happens world event answer handed last → after.delivered ≡ option_map (λ all. all ++ handed) before.delivered → after.faults ≡ before.faults → new ≡ old ++ line_of answer → HappenAll world (event ∷ []) last before after old new
+HappenAll-one world last event answer handed before after old new happens told faults responses = record {
+  happenings = record { event = event; answer = answer; handed = handed; next = last } ∷ [];
+  are = refl;
+  leads = (happens, refl);
+  told = told ∙ ap (λ (sheets : List Delivery). option_map (λ all. all ++ sheets) before.delivered) (sym (append-nil handed));
+  no_fault = faults;
+  responses = responses ∙ ap (λ (line : List ℕ). old ++ line) (sym (append-nil (line_of answer)));
+}
+
+-- a message was answered
+pub message-happened : (world last : World) (text : List ℕ) (images : List Page) (result : Result (Vec ℕ Global) AllocError) (response : Vec ℕ Global) (told : SheetsTold) (line old new : List ℕ) → result ≡ Ok response → Happens world (Message text images) (response_to result) [] last → line ≡ response.items → new ≡ old ++ (line ++ 10 ∷ []) → HappenAll world (Message text images ∷ []) last told told old new
+message-happened world last text images result response told line old new answer happens is appended =
+    HappenAll-one world last (Message text images) (Response (Some response.items)) [] told told old new
+    (subst (λ (one : Result (Vec ℕ Global) AllocError). Happens world (Message text images) (response_to one) [] last) answer happens)
+    (took-nothing told.delivered) refl
+    (appended ∙ ap (λ (bytes : List ℕ). old ++ (bytes ++ 10 ∷ [])) is)
+
+-- a turn was taken
+pub turn-happened : (world last : World) (most : ℕ) (result : Result Turn TurnError) (turn : Turn) (before after : SheetsTold) (bytes : List ℕ) → result ≡ Ok turn → ((handed : List Delivery) × Happens world (TurnOf most) (Turned result) handed last × WereHandedOut handed result before after) → HappenAll world (TurnOf most ∷ []) last before after bytes bytes
+turn-happened world last most result turn before after bytes answer taken =
+    HappenAll-one world last (TurnOf most) (Turned result) taken.0 before after bytes bytes taken.1 taken.2.told
+    (subst (λ (one : Result Turn TurnError). FaultsAfter one before.faults after.faults) answer taken.2.faults)
+    (sym (append-nil bytes))
+
+-- the operator asked for something
+pub operator-happened : (world last : World) (command : OperatorCommand) (told : SheetsTold) (bytes : List ℕ) → Happens world (Operator command) Nothing [] last → HappenAll world (Operator command ∷ []) last told told bytes bytes
+operator-happened world last command told bytes happens =
+    HappenAll-one world last (Operator command) Nothing [] told told bytes bytes happens (took-nothing told.delivered) refl (sym (append-nil bytes))
+
+-- events, and then others
+pub HappenAll-then : (world middle last : World) (events others all : List Event) (before between after : SheetsTold) (old written new : List ℕ) → all ≡ events ++ others → HappenAll world events middle before between old written → HappenAll middle others last between after written new → HappenAll world all last before after old new
+HappenAll-then world middle last events others all before between after old written new is first second = record {
+  happenings = first.happenings ++ second.happenings;
+  are =
+      map-append (λ (happening : Happening). happening.event) first.happenings second.happenings
+      ∙ ap (λ (some : List Event). some ++ map (λ (happening : Happening). happening.event) second.happenings) first.are
+      ∙ ap (λ (some : List Event). events ++ some) second.are
+      ∙ sym is;
+  leads = Leads-join world middle last first.happenings second.happenings first.leads second.leads;
+  told =
+      took-join before.delivered between.delivered after.delivered _ _ first.told second.told
+      ∙ ap (λ (sheets : List Delivery). option_map (λ all. all ++ sheets) before.delivered) (sym (flat_map-append (λ (happening : Happening). happening.handed) first.happenings second.happenings));
+  no_fault = second.no_fault ∙ first.no_fault;
+  responses =
+      second.responses
+      ∙ ap (λ (some : List ℕ). some ++ flat_map (λ (happening : Happening). line_of happening.answer) second.happenings) first.responses
+      ∙ append_assoc old (flat_map (λ (happening : Happening). line_of happening.answer) first.happenings) (flat_map (λ (happening : Happening). line_of happening.answer) second.happenings)
+      ∙ ap (λ (some : List ℕ). old ++ some) (sym (flat_map-append (λ (happening : Happening). line_of happening.answer) first.happenings second.happenings));
+}
+
+-- the first events, and one more
+pub events-next : {A : Type 0} (f : A → Event) (events : List A) (i : ℕ) (event : A) → i < length events → event ≡ get_or events i event → map f (take (i + 1) events) ≡ map f (take i events) ++ f event ∷ []
+events-next {A} f events i event inside is =
+    ap (map f) (take_more events i event inside ∙ ap (λ (one : A). take i events ++ one ∷ []) (sym is)) ∙ map-append f (take i events) (event ∷ [])
+
+-- the sink can count as before
+pub can_count-then : (before after : SheetsTold) → after.faults ≡ before.faults → before.faults < most_faults → after.faults < most_faults
+can_count-then before after is can = subst (λ (n : ℕ). n < most_faults) (sym is) can

@@ -1,0 +1,31 @@
+use Rattle.std.proofs.Common.{◌+◌, [], ◌∷◌, map, take, subst}
+use Rattle.std.proofs.lemmas.List.{take_all}
+use Rattle.press_theorem.specs.Events.{HappenAll, event_of}
+use Rattle.press_theorem.proofs.EventLemmas.{HappenAll-none, HappenAll-then, events-next, can_count-then}
+use Rattle.press_theorem.proofs.events.carry_out_events.Goals as goal
+
+pub loop-event-init : goal.loop-event-init
+loop-event-init g c = record {
+  happened = HappenAll-none c.args.press.now _ c.args.responses.now.items;
+  can_count = c.requires;
+}
+
+pub loop-event-preserved : goal.loop-event-preserved
+loop-event-preserved g c =
+    let told = g.S.SheetSink.told in
+    let events = c.args.events.now in
+    let i = c.loop-event.event-index in
+    let event = c.event-item.result in
+    let so_far = c.loop-event.invariant in
+    let more = c.in_ok-carry_out.ensures in
+    record {
+      happened = HappenAll-then c.args.press.now c.loop-event.press c.carry_out.new.press (map event_of (take i events)) (event_of event ∷ []) (map event_of (take (i + 1) events)) _ _ _ _ c.loop-event.responses.items _ (events-next event_of events i event c.loop-event-test.true c.event-item.is) so_far.happened more;
+      can_count = can_count-then (told c.loop-event.sheets) (told c.carry_out.new.sheets) more.no_fault so_far.can_count;
+    }
+
+pub returns : goal.returns
+returns g c =
+    let told = g.S.SheetSink.told in
+    let events = c.args.events.now in
+    let i = c.loop-event.event-index in
+    subst (λ (some : _). HappenAll c.args.press.now (map event_of some) c.loop-event.press (told c.args.sheets.now) (told c.loop-event.sheets) c.args.responses.now.items c.loop-event.responses.items) (take_all i events c.loop-event-test.false) c.loop-event.invariant.happened

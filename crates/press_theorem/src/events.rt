@@ -1,0 +1,80 @@
+//! What happens to a press, one event after another (CIP4 JDF 1.5, the queue and JMF messages).
+ghost use Rattle.std.specs.Prelude.{◌≡◌, ◌<◌, [], ◌∷◌, ◌++◌, OnOk, map};
+ghost use Rattle.press_sink.specs.Told.{most_faults};
+ghost use Rattle.press_theorem.specs.Events.{HappenAll, event_of};
+
+use press_bits::Bitmap;
+use press_core::{OperatorCommand, Press, TurnError};
+use press_sink::SheetSink;
+use std::alloc::AllocError;
+
+/// What happens to a press.
+#[derive(Clone, Copy)]
+pub enum PressEvent<'a> {
+    /// A message comes, with the images of a new entry's pages.
+    Message {
+        text: &'a [u8],
+        images: &'a [Bitmap],
+    },
+    /// A turn is taken, of at most so many steps.
+    Turn(u64),
+    /// The operator asks for something.
+    Operator(OperatorCommand),
+}
+
+/// Lets the events happen to a press, one after another. Each response is appended with a line feed. In whatever order messages,
+/// turns and commands of the operator come, the press goes from world to world as its rows say, and the sink takes the sheets
+/// that are handed out, each under the number of its entry, and nothing else.
+///
+/// # Errors
+///
+/// `SinkFault` (301) and `NoMemory`: the events before it happened. Of the turn that met it the entry is aborted, as
+/// [`Press::turn`] says; a message that met it changed nothing, or has no response.
+pub fn carry_out_events<S: SheetSink>(
+    press: &mut Press,
+    events: &[PressEvent<'_>],
+    sheets: &mut S,
+    responses: &mut Vec<u8>,
+) -> Result<(), TurnError>
+    requires { (S.told sheets.old).faults < most_faults }
+    ensures { OnOk result (HappenAll press.old (map event_of events.now) press.new
+        (S.told sheets.old) (S.told sheets.new) responses.old.items responses.new.items) }
+{
+    for event in events {
+        carry_out(press, *event, sheets, responses)?;
+    }
+    Ok(())
+}
+
+/// Lets one event happen.
+fn carry_out<S: SheetSink>(
+    press: &mut Press,
+    event: PressEvent<'_>,
+    sheets: &mut S,
+    responses: &mut Vec<u8>,
+) -> Result<(), TurnError>
+    requires { (S.told sheets.old).faults < most_faults }
+    ensures { OnOk result (HappenAll press.old (event_of event.entry ∷ []) press.new
+        (S.told sheets.old) (S.told sheets.new) responses.old.items responses.new.items) }
+{
+    match event {
+        PressEvent::Message { text, images } => {
+            let response = press.message(text, images)?;
+            append_line(&response, responses)?;
+        }
+        PressEvent::Turn(most) => {
+            press.turn(most, sheets)?;
+        }
+        PressEvent::Operator(command) => press.operator(command),
+    }
+    Ok(())
+}
+
+/// Appends a line with its line feed.
+fn append_line(line: &[u8], out: &mut Vec<u8>) -> Result<(), AllocError>
+    ensures { OnOk result (out.new.items ≡ out.old.items ++ (line.now ++ 10 ∷ [])) }
+{
+    out.extend_from_slice(line)?;
+    out.push(b'\n')?;
+    Ok(())
+}
