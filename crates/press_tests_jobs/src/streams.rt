@@ -130,6 +130,48 @@ const PAGES: [Row; 11] = [
     ),
 ];
 
+/// Streams that mark pages by boxes, raster rows, patterns, macros and overlays, and one that fills the cursor's stack.
+const MARKS: [Row; 7] = [
+    (b"\x1B*p10x20Y\x1B*c3a2b0P\x0C", &[2_550_010], b""),
+    (
+        b"\x1B*t300R\x1B*r0A\x1B*b3m2W\x00\xFF\x1B*b0W\x1B*b0m0W\x1B*b3m0W\x1B*rC\x0C",
+        &[2_550_001],
+        b"",
+    ),
+    (
+        b"\x1B*p0x0Y\x1B*c16a1b0P\x1B*t300R\x1B*r8S\x1B*v1N\x1B*r1A\x1B*b0W\x1B*rC\x0C",
+        &[2_550_000],
+        b"",
+    ),
+    (
+        b"\x1B*c5G\x1B*c16W\x00\x00\x01\x00\x00\x08\x00\x08\xFF\xFF\xFF\xFF\xFF\xFF\xFF\xFF\x1B*p0x0Y\x1B*c2a1b4P\x0C",
+        &[2_550_100],
+        b"",
+    ),
+    (
+        b"\x1B*p0x0Y\x1B&f1y0X\x1B*c1a1b0P\x1B*p+2X\x1B&f3X\x1B&f1X\x1B&f3X\x0C",
+        &[2_550_100],
+        b"",
+    ),
+    (
+        b"\x1B&f2y0X\x1B*c4a1b0P\x0C\x1B&f1X\x1B&f4X\x0C\x0C",
+        &[2_550_001; 2],
+        b"",
+    ),
+    // The last pop leaves the cursor one dot from the left edge.
+    (
+        b"\x1B*p1X\x1B&f0S\x1B*p2X\x1B&f0S\x1B*p3X\x1B&f0S\x1B*p4X\x1B&f0S\x1B*p5X\x1B&f0S\
+          \x1B*p6X\x1B&f0S\x1B*p7X\x1B&f0S\x1B*p8X\x1B&f0S\x1B*p9X\x1B&f0S\x1B*p10X\x1B&f0S\
+          \x1B*p11X\x1B&f0S\x1B*p12X\x1B&f0S\x1B*p13X\x1B&f0S\x1B*p14X\x1B&f0S\x1B*p15X\x1B&f0S\
+          \x1B*p16X\x1B&f0S\x1B*p17X\x1B&f0S\x1B*p18X\x1B&f0S\x1B*p19X\x1B&f0S\x1B*p20X\x1B&f0S\
+          \x1B*p21X\x1B&f0S\x1B&f1S\x1B&f1S\x1B&f1S\x1B&f1S\x1B&f1S\x1B&f1S\x1B&f1S\x1B&f1S\x1B&f1S\
+          \x1B&f1S\x1B&f1S\x1B&f1S\x1B&f1S\x1B&f1S\x1B&f1S\x1B&f1S\x1B&f1S\x1B&f1S\x1B&f1S\x1B&f1S\
+          \x1B&f1S\x1B*p-1X\x1B*c1a1b0P\x0C",
+        &[2_550_001],
+        b"",
+    ),
+];
+
 /// Streams with lines of the job language.
 const JOBS: [Row; 6] = [
     (
@@ -229,6 +271,11 @@ fn pieces_make_no_difference(rt: &(impl Abort + AllocGlobal), rows: &[Row]) -> R
 #[test]
 fn pages_come_in_pieces(rt: HostRuntime) -> Result<(), Fail> {
     pieces_make_no_difference(&rt, &PAGES)
+}
+
+#[test]
+fn marks_come_in_pieces(rt: HostRuntime) -> Result<(), Fail> {
+    pieces_make_no_difference(&rt, &MARKS)
 }
 
 #[test]

@@ -1,7 +1,8 @@
 //! Turns of a press.
 use press_bits::Bitmap;
-use press_core::{DeviceStatus, Press, Turn, TurnError};
+use press_core::{DeviceStatus, OperatorCommand, Press, Turn, TurnError};
 use press_sink::{FuseSink, ListSink, SheetSink};
+use press_theorem::{PressEvent, carry_out_events};
 use std::alloc::Global;
 use std::process::Abort;
 use std::test::Fail;
@@ -76,5 +77,49 @@ fn a_fault_of_the_sink_aborts_its_entry_alone(rt: HostRuntime) -> Result<(), Fai
     let tags = tags_of(rt.alloc(), &sink)?;
     assert_eq!(rt; tags.as_slice(), [1, 2, 2, 2].as_slice());
     assert_eq!(rt; sink.faults(), 1);
+    Ok(())
+}
+
+/// What a list of events leaves of a press at its beginning: its status, how many sheets entry 1 delivered, the sheets that the
+/// sink took, and the responses.
+#[derive(Drop)]
+struct Left {
+    status: DeviceStatus,
+    delivered: Option<u64>,
+    sheets: usize,
+    responses: Vec<u8>,
+}
+
+impl Left {
+    fn behind(alloc: Global, events: &[PressEvent<'_>]) -> Result<Self, Fail> {
+        let mut press = Press::new(alloc);
+        let mut sheets = ListSink::new(alloc);
+        let mut responses = Vec::new(alloc);
+        carry_out_events(&mut press, events, &mut sheets, &mut responses)?;
+        Ok(Left {
+            status: press.status().status,
+            delivered: press.delivered(1),
+            sheets: sheets.deliveries().len(),
+            responses,
+        })
+    }
+}
+
+#[test]
+fn events_happen_one_after_another(rt: HostRuntime) -> Result<(), Fail> {
+    let images = [Bitmap::blank(rt.alloc(), 8, 1)?];
+    let message = PressEvent::Message {
+        text: SUBMIT,
+        images: &images,
+    };
+    let pause = PressEvent::Operator(OperatorCommand::Pause);
+    let go_on = PressEvent::Operator(OperatorCommand::Continue);
+    let turn = PressEvent::Turn(u64::MAX);
+    let paused = Left::behind(rt.alloc(), &[message, pause, turn])?;
+    assert_eq!(rt; (paused.delivered, paused.sheets), (Some(0), 0));
+    assert_eq!(rt; paused.status, DeviceStatus::Stopped);
+    let printed = Left::behind(rt.alloc(), &[message, pause, turn, go_on, turn])?;
+    assert_eq!(rt; (printed.delivered, printed.sheets), (Some(3), 3));
+    assert_eq!(rt; printed.responses.last(), Some(&b'\n'));
     Ok(())
 }
