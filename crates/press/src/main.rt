@@ -1,7 +1,7 @@
 //! The program, which does what its words ask for.
 #![tactic(auto)]
 
-use press_main::run_words;
+use press_main::{NamedFiles, run_words};
 use press_units::NO_MEMORY;
 use std::env;
 use std::io::{self, ErrorKind};
@@ -24,7 +24,9 @@ fn main(rt: HostRuntime) -> ExitCode {
     let mut input = rt.stdin();
     let out = io::writer(&rt);
     let mut err = rt.stderr();
-    ExitCode::from(run_words(rt.alloc(), &rt, &words, &mut input, out, &mut err))
+    let inputs = NamedFiles { files: &rt };
+    let finished = run_words(rt.alloc(), &inputs, &rt, &words, &mut input, out, &mut err);
+    ExitCode::from(finished.status)
 }
 
 /// The words of the command line, the program's name among them.
