@@ -1,10 +1,13 @@
 -- Which form a line has, read from the left: the one that it has by the grammar, where it has one.
-use Rattle.std.specs.Prelude.{ℕ, ◌+◌, Bool, true, false, not, ◌==◌, ◌&&◌, if◌then◌else◌, List, [], ◌∷◌, take, drop, reverse, position, codes, bytes_eq, Option, Some, None, Result, Ok, option_and_then}
+use Rattle.std.specs.Prelude.{ℕ, ◌+◌, Bool, true, false, not, ◌==◌, ◌&&◌, if◌then◌else◌, List, [], ◌∷◌, take, drop, reverse}
+use Rattle.std.specs.Prelude.{position, codes, bytes_eq, Option, Some, None, Result, Ok, option_and_then}
 use Rattle.std.specs.List.{list_all}
 use Rattle.std.specs.Int.{is_in_range}
 use Rattle.hex.specs.Hex.{decode_sized, is_hex_digit}
 use Rattle.hex.specs.declared.error.FromHexError.{FromHexError}
-use Rattle.press_asm.specs.Form.{Form, Blank, ExitForm, EscapeForm, ParamForm, ControlForm, TextForm, ForeignForm, BrokenForm, LineForm, is_space, exit_line, escape_name, param_name, control_name, text_name, foreign_name, broken_name, line_name}
+use Rattle.press_asm.specs.Form.{Form, Blank, ExitForm, EscapeForm, ParamForm, ControlForm, TextForm, ForeignForm, BrokenForm}
+use Rattle.press_asm.specs.Form.{LineForm, is_space, exit_line, escape_name, param_name, control_name, text_name, foreign_name}
+use Rattle.press_asm.specs.Form.{broken_name, line_name}
 
 -- one or more digits
 abbrev pub are_digits : List ℕ → Bool

@@ -3,7 +3,9 @@
 //! Source: PJL Technical Reference Manual, the syntax of PJL commands.
 ghost use Rattle.std.specs.Prelude.{◌≡◌, ◌↔◌, true, false, IsTrue, MatchOption, position, bytes_eq};
 ghost use Rattle.std.specs.List.{before_first, after_first, list_all};
-ghost use Rattle.press_cmd.specs.Language.{is_white, is_equals, begins_white, trimmed_front, trimmed_end, trimmed, without_end, line_text, command_word, command_rest, name_of, assigned_value, raised, enters_language};
+ghost use Rattle.press_cmd.specs.Language.{is_white, is_equals, begins_white, trimmed_front, trimmed_end, trimmed, without_end};
+ghost use Rattle.press_cmd.specs.Language.{line_text, command_word, command_rest, name_of, assigned_value, raised};
+ghost use Rattle.press_cmd.specs.Language.{enters_language};
 ghost use Rattle.press_cmd.specs.Grammar.{BeginsLine, IsPjlLine, is_line_byte};
 
 use crate::marks::{ESCAPE, LINE_FEED, LONGEST_LINE, PJL_MARK, differs};

@@ -81,7 +81,9 @@ fn destination(origin: i64, distance: Pos) -> i64
 
 impl Cursor {
     ghost use Rattle.std.specs.Prelude.{◌≡◌, ◌<◌, ◌≤◌, ◌^◌, pos, true, length, is_some, unsigned_abs};
-    ghost use Rattle.press_cursor.specs.Cursor.{position, at, home, moved_home, moved_x, moved_y, moved_rows, moved_to_first_line, clamped, pushed, popped, is_left_of, is_right_of, at_least, at_most};
+    ghost use Rattle.press_cursor.specs.Cursor.{position, at, home, moved_home, moved_x, moved_y, moved_rows};
+    ghost use Rattle.press_cursor.specs.Cursor.{moved_to_first_line, clamped, pushed, popped, is_left_of, is_right_of, at_least};
+    ghost use Rattle.press_cursor.specs.Cursor.{at_most};
     ghost use Rattle.press_cursor.specs.Stack.{most_pushed, has_room, newest};
 
     /// The cursor at home, with nothing pushed: on the left margin, three quarters of a line below the top margin.

@@ -18,7 +18,8 @@ use Rattle.press_engine.specs.declared.state.State.{State}
 use Rattle.press_engine.specs.Motion.{to_first_line, to_home}
 use Rattle.press_macros.specs.Macros.{abandoned}
 use Rattle.press_engine.specs.Counts.{counted}
-use Rattle.press_engine.specs.Outcome.{Outcome, done, after_outputs, Effect, Changes, Makes, GivesReply, Stays, Closes, Starts, reset_fields, ended_raster, is_marked, with_environment, with_macros}
+use Rattle.press_engine.specs.Outcome.{Outcome, done, after_outputs, Effect, Changes, Makes, GivesReply, Stays, Closes, Starts}
+use Rattle.press_engine.specs.Outcome.{reset_fields, ended_raster, is_marked, with_environment, with_macros}
 use Rattle.press_engine.specs.Outputs.{copies_out}
 use Rattle.press_engine.specs.Place.{blank_page}
 

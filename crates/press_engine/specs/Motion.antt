@@ -4,9 +4,11 @@ use Rattle.std.specs.Prelude.{ℕ, ℤ, pos, Bool, true, false, is_some, ◌==�
 use Rattle.std.specs.Ordering.{int_eq}
 use Rattle.press_units.specs.Measure.{pcl_unit}
 use Rattle.press_units.specs.Position.{position_of}
-use Rattle.press_cursor.specs.Cursor.{moved_x, moved_y, moved_rows, moved_to_first_line, moved_home, clamped, is_left_of, is_right_of, at_least, at_most, pushed, popped}
+use Rattle.press_cursor.specs.Cursor.{moved_x, moved_y, moved_rows, moved_to_first_line, moved_home, clamped, is_left_of}
+use Rattle.press_cursor.specs.Cursor.{is_right_of, at_least, at_most, pushed, popped}
 use Rattle.press_cursor.specs.Stack.{has_room, newest}
-use Rattle.press_page.specs.Environment.{asked_top, asked_left, asked_right, set_top_margin, set_perforation_skip, set_left_margin, set_right_margin, passes_text}
+use Rattle.press_page.specs.Environment.{asked_top, asked_left, asked_right, set_top_margin, set_perforation_skip}
+use Rattle.press_page.specs.Environment.{set_left_margin, set_right_margin, passes_text}
 use Rattle.press_page.specs.Settings.{half_line}
 use Rattle.press_engine.specs.declared.effect.Closer.TheVariants as closers
 use Rattle.press_engine.specs.declared.effect.Source.{Source}

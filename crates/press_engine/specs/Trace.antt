@@ -10,7 +10,8 @@ use Rattle.press_engine.specs.declared.effect.Source.TheVariants as sources
 use Rattle.press_engine.specs.declared.machine.Machine.{Machine}
 use Rattle.press_engine.specs.Calls.{overlay_body}
 use Rattle.press_engine.specs.Outcome.{Effect, Closes, Starts}
-use Rattle.press_engine.specs.Machine.{Run, quiet, then_run, with_state, taken, enter_body, leave_body, state_of, run_in_overlay, overlay_levels, enter_overlay, leave_overlay, finish_without_overlay, levels, source_at}
+use Rattle.press_engine.specs.Machine.{Run, quiet, then_run, with_state, taken, enter_body, leave_body, state_of, run_in_overlay}
+use Rattle.press_engine.specs.Machine.{overlay_levels, enter_overlay, leave_overlay, finish_without_overlay, levels, source_at}
 use Rattle.press_engine.specs.Table.{effect_on}
 
 -- the machine after the last of the items; the one before, where there is none

@@ -18,7 +18,10 @@ impl State {
     ghost use Rattle.press_engine.specs.Motion.{to_home};
     ghost use Rattle.press_engine.specs.Outcome.{after_outputs, is_marked, with_environment};
     ghost use Rattle.press_engine.specs.Outputs.{outputs_of, finished_of};
-    ghost use Rattle.press_engine.specs.Closing.{page_now, status_count, with_sheets, with_language, reset_by, close_page, front_alone, overlay_off, blank_front, turn_to, change_page, after_close, finish_effect, close_if_marked, reset, select_page_size, select_orientation, select_sides, eject_page, select_side};
+    ghost use Rattle.press_engine.specs.Closing.{page_now, status_count, with_sheets, with_language, reset_by, close_page};
+    ghost use Rattle.press_engine.specs.Closing.{front_alone, overlay_off, blank_front, turn_to, change_page, after_close};
+    ghost use Rattle.press_engine.specs.Closing.{finish_effect, close_if_marked, reset, select_page_size, select_orientation};
+    ghost use Rattle.press_engine.specs.Closing.{select_sides, eject_page, select_side};
 
     /// Whether a mark was made on the page.
     pub fn is_marked(&self) -> bool

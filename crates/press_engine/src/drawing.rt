@@ -3,7 +3,8 @@
 
 ghost use Rattle.std.specs.Prelude.{◌≡◌};
 ghost use Rattle.press_units.specs.Value.{whole_part};
-ghost use Rattle.press_engine.specs.Drawing.{initial_drawing, set_rectangle_width, set_rectangle_height, set_pattern_id, is_opaque, set_source_transparency, set_pattern_transparency};
+ghost use Rattle.press_engine.specs.Drawing.{initial_drawing, set_rectangle_width, set_rectangle_height, set_pattern_id};
+ghost use Rattle.press_engine.specs.Drawing.{is_opaque, set_source_transparency, set_pattern_transparency};
 
 use crate::rectangle::{Rectangle, size_of};
 use press_bits::Mode;

@@ -20,7 +20,10 @@ impl State {
     ghost use Rattle.std.specs.Prelude.{◌≡◌};
     ghost use Rattle.press_units.specs.Value.{whole_part};
     ghost use Rattle.press_engine.specs.Effects.{effect_of};
-    ghost use Rattle.press_engine.specs.Motion.{move_along, move_down, move_rows, to_left_margin, to_first_line, to_home, feed, returned, line_feed, carriage_return, form_feed, half_line_feed, push_or_pop, change_top_margin, change_perforation_skip, change_left_margin, change_right_margin};
+    ghost use Rattle.press_engine.specs.Motion.{move_along, move_down, move_rows, to_left_margin, to_first_line, to_home, feed};
+    ghost use Rattle.press_engine.specs.Motion.{returned, line_feed, carriage_return, form_feed, half_line_feed, push_or_pop};
+    ghost use Rattle.press_engine.specs.Motion.{change_top_margin, change_perforation_skip, change_left_margin};
+    ghost use Rattle.press_engine.specs.Motion.{change_right_margin};
 
     /// Moves along the line by a value of so many units.
     pub fn move_along(&mut self, unit: Unit, value: Value)

@@ -1,7 +1,10 @@
 //! Which command has which row (PCL 5 Printer Language Technical Reference Manual, the commands by their sequences).
 
 ghost use Rattle.std.specs.Prelude.{◌≡◌};
-ghost use Rattle.press_engine.specs.Operation.{operation_of, row_at, escape_rows, control_rows, percent_rows, and_a_rows, and_f_rows, and_k_rows, and_l_rows, and_u_rows, star_b_rows, star_c_rows, star_p_rows, star_r_rows, star_t_rows, star_v_rows, grouped_operation, parameter_operation};
+ghost use Rattle.press_engine.specs.Operation.{operation_of, row_at, escape_rows, control_rows, percent_rows, and_a_rows};
+ghost use Rattle.press_engine.specs.Operation.{and_f_rows, and_k_rows, and_l_rows, and_u_rows, star_b_rows, star_c_rows};
+ghost use Rattle.press_engine.specs.Operation.{star_p_rows, star_r_rows, star_t_rows, star_v_rows, grouped_operation};
+ghost use Rattle.press_engine.specs.Operation.{parameter_operation};
 
 use press_cmd::Kind;
 

@@ -37,7 +37,8 @@ impl State {
     ghost use Rattle.press_raster.specs.Settings.{set_resolution, set_source_width, set_source_height};
     ghost use Rattle.press_engine.specs.Effects.{effect_of};
     ghost use Rattle.press_engine.specs.Engine.{TakesMemory};
-    ghost use Rattle.press_engine.specs.Raster.{while_off, start_at, start_raster, end_raster_and_method, rows_down, offset_raster, row_place, with_row, transfer_row, transfer};
+    ghost use Rattle.press_engine.specs.Raster.{while_off, start_at, start_raster, end_raster_and_method, rows_down};
+    ghost use Rattle.press_engine.specs.Raster.{offset_raster, row_place, with_row, transfer_row, transfer};
 
     /// `*t#R`: the resolution of raster graphics, while it is off.
     pub fn set_raster_resolution(&mut self, value: Value)

@@ -87,7 +87,8 @@ impl Machine {
     ghost use Rattle.press_engine.specs.Machine.{run, quiet, with_state, taken};
     ghost use Rattle.press_engine.specs.declared.frame.Frame.{Frame};
     ghost use Rattle.press_cmd.specs.View.{token};
-    ghost use Rattle.press_engine.specs.Stack.{HasNext, step_outer, step_inner, source_in, begun, begun_body, begun_close_with, end_by, leave_overlay_with, finish_close};
+    ghost use Rattle.press_engine.specs.Stack.{HasNext, step_outer, step_inner, source_in, begun, begun_body, begun_close_with};
+    ghost use Rattle.press_engine.specs.Stack.{end_by, leave_overlay_with, finish_close};
     ghost use Rattle.press_engine.specs.Outputs.{outputs_of};
     ghost use Rattle.press_engine.specs.declared.effect.Source.TheVariants.{Stream};
     ghost use Rattle.press_engine.specs.Stepping.{begun_of, TakesFirst, Ends, TakesStep, finished};

@@ -2,7 +2,8 @@
 
 ghost use Rattle.std.specs.Prelude.{◌≡◌, IfOk, IsErr, OnOk, OnErr, IsSome, IsNone};
 ghost use Rattle.press_cmd.specs.View.{token};
-ghost use Rattle.press_macros.specs.Macros.{no_macros, defining, begun, recorded, definition_ended, abandoned, body_of, without, all_deleted, permanent_macros, macro_made};
+ghost use Rattle.press_macros.specs.Macros.{no_macros, defining, begun, recorded, definition_ended, abandoned, body_of, without};
+ghost use Rattle.press_macros.specs.Macros.{all_deleted, permanent_macros, macro_made};
 
 use crate::body::Body;
 use crate::open_definition::OpenDefinition;

@@ -7,7 +7,9 @@ use Rattle.press_units.specs.declared.position.Resolution.TheVariants.{Dpi300}
 use Rattle.press_cursor.specs.declared.logical_page.LogicalPage.{LogicalPage}
 use Rattle.press_page.specs.Margins.{default_top, default_text_length, default_margins, top_margin_of, text_length_of, left_margin_of, right_margin_of}
 use Rattle.press_page.specs.Media.{page_size_of, orientation_of, sides_of, logical_width, logical_length, logical_page, with_sides}
-use Rattle.press_page.specs.Settings.{measure_of, line_termination_of, horizontal_motion_of, vertical_motion_of, line_spacing_of, skip_change_of, copies_of, default_vertical_motion, default_horizontal_motion, default_settings}
+use Rattle.press_page.specs.Settings.{measure_of, line_termination_of, horizontal_motion_of, vertical_motion_of, line_spacing_of}
+use Rattle.press_page.specs.Settings.{skip_change_of, copies_of, default_vertical_motion, default_horizontal_motion}
+use Rattle.press_page.specs.Settings.{default_settings}
 use Rattle.press_page.specs.declared.defaults.Defaults.{Defaults}
 use Rattle.press_page.specs.declared.environment.PageEnv.{PageEnv}
 use Rattle.press_page.specs.declared.media.Binding.TheVariants.{LongEdge}

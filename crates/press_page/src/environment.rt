@@ -45,7 +45,14 @@ fn passes(limit: i64, y: i64, distance: u16) -> bool
 impl PageEnv {
     ghost use Rattle.std.specs.Prelude.{◌≡◌, ◌<◌, ◌^◌, is_some, unsigned_abs};
     ghost use Rattle.press_page.specs.Place.{cursor_dot};
-    ghost use Rattle.press_page.specs.Environment.{reset_environment, logical_page_of, set_unit_of_measure, set_line_termination, set_horizontal_motion, set_vertical_motion, set_line_spacing, with_top, asked_top, set_top_margin, set_text_length, set_perforation_skip, skip_moves_top, asked_left, set_left_margin, asked_right, set_right_margin, clear_margins, with_default_margins, closes_page, asked_page_size, with_page_size, set_page_size, asked_orientation, with_orientation, set_orientation, asked_sides, with_printed_sides, set_sides, set_copies, text_end, passes_text};
+    ghost use Rattle.press_page.specs.Environment.{reset_environment, logical_page_of, set_unit_of_measure, set_line_termination};
+    ghost use Rattle.press_page.specs.Environment.{set_horizontal_motion, set_vertical_motion, set_line_spacing, with_top};
+    ghost use Rattle.press_page.specs.Environment.{asked_top, set_top_margin, set_text_length, set_perforation_skip};
+    ghost use Rattle.press_page.specs.Environment.{skip_moves_top, asked_left, set_left_margin, asked_right, set_right_margin};
+    ghost use Rattle.press_page.specs.Environment.{clear_margins, with_default_margins, closes_page, asked_page_size};
+    ghost use Rattle.press_page.specs.Environment.{with_page_size, set_page_size, asked_orientation, with_orientation};
+    ghost use Rattle.press_page.specs.Environment.{set_orientation, asked_sides, with_printed_sides, set_sides, set_copies};
+    ghost use Rattle.press_page.specs.Environment.{text_end, passes_text};
 
     /// The page environment after power on, `ESC E` and a universal exit.
     pub fn reset_from(defaults: &Defaults) -> Self

@@ -2,7 +2,9 @@
 //! Reference Manual, Page Control Commands).
 
 ghost use Rattle.std.specs.Prelude.{◌≡◌, ◌≤◌, ◌<◌, ◌*◌};
-ghost use Rattle.press_page.specs.Media.{page_size_of, orientation_of, sides_of, sized, dimensions_of, turned, offset_of, scale, physical_page, frame, offset, logical_width, logical_length, logical_page, with_sides, printed_sides};
+ghost use Rattle.press_page.specs.Media.{page_size_of, orientation_of, sides_of, sized, dimensions_of, turned, offset_of, scale};
+ghost use Rattle.press_page.specs.Media.{physical_page, frame, offset, logical_width, logical_length, logical_page, with_sides};
+ghost use Rattle.press_page.specs.Media.{printed_sides};
 
 use crate::numbered::find_numbered;
 use crate::place::{Dot, Extent, to_frame, to_physical};

@@ -2,7 +2,9 @@
 //! the commands of these names).
 
 ghost use Rattle.std.specs.Prelude.{◌≡◌, ◌<◌, ◌^◌};
-ghost use Rattle.press_page.specs.Settings.{measure_of, line_termination_of, terminated, horizontal_motion_of, vertical_motion_of, line_spacing_of, skip_change_of, copies_of, half_line, default_settings};
+ghost use Rattle.press_page.specs.Settings.{measure_of, line_termination_of, terminated, horizontal_motion_of};
+ghost use Rattle.press_page.specs.Settings.{vertical_motion_of, line_spacing_of, skip_change_of, copies_of, half_line};
+ghost use Rattle.press_page.specs.Settings.{default_settings};
 
 use press_units::{POSITIONS_PER_INCH, Unit, UnitOfMeasure, Value, to_pos};
 

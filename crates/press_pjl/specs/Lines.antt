@@ -1,6 +1,7 @@
 -- What each line does (PJL Technical Reference Manual, the PJL commands; what is accepted, and that a line that sets the
 -- current values acts as a universal exit, are this profile's).
-use Rattle.std.specs.Prelude.{ℕ, ◌==◌, ◌&&◌, Bool, true, false, nat_eq, if◌then◌else◌, List, [], ◌∷◌, length, Option, Some, None, unwrap_or, option_map, bytes_eq, codes}
+use Rattle.std.specs.Prelude.{ℕ, ◌==◌, ◌&&◌, Bool, true, false, nat_eq, if◌then◌else◌, List, [], ◌∷◌, length, Option, Some, None}
+use Rattle.std.specs.Prelude.{unwrap_or, option_map, bytes_eq, codes}
 use Rattle.std.specs.List.{starts_with}
 use Rattle.press_cmd.specs.Token.{pjl_mark}
 use Rattle.press_cmd.specs.Language.{begins_white, raised, trimmed, line_text, command_word, command_rest, name_of, assigned_value}

@@ -118,7 +118,8 @@ impl PjlEnv {
     ghost use Rattle.std.specs.Prelude.{◌≡◌, ◌≢◌, [], false, IfOk, OnErr, IsErr};
     ghost use Rattle.press_cmd.specs.Language.{name_of, assigned_value};
     ghost use Rattle.press_pjl.specs.Variables.{assigned};
-    ghost use Rattle.press_pjl.specs.Lines.{power_on_language, asked_switch, sets_current, sets_default, initializes, switches, where_known, where_alone, language_row, after_line};
+    ghost use Rattle.press_pjl.specs.Lines.{power_on_language, asked_switch, sets_current, sets_default, initializes, switches};
+    ghost use Rattle.press_pjl.specs.Lines.{where_known, where_alone, language_row, after_line};
 
     /// The environment after power on: factory values, and no replies after sheets.
     pub fn power_on() -> Self

@@ -1,5 +1,6 @@
 -- What each command does to the queue, and what it answers (JDF 1.5, the queue commands; this profile).
-use Rattle.std.specs.Prelude.{ℕ, ◌+◌, ℤ, Bool, true, false, ◌&&◌, ◌||◌, if◌then◌else◌, nat_eq, nat_le, List, length, Option, Some, None, option_map, Result, Ok, Err, is_some}
+use Rattle.std.specs.Prelude.{ℕ, ◌+◌, ℤ, Bool, true, false, ◌&&◌, ◌||◌, if◌then◌else◌, nat_eq, nat_le, List, length, Option, Some}
+use Rattle.std.specs.Prelude.{None, option_map, Result, Ok, Err, is_some}
 use Rattle.std.specs.Option.{option_map_or}
 use Rattle.press_units.specs.Limits.{greatest_of_64_bits}
 use Rattle.press_queue.specs.declared.command.EntryCommand.{EntryCommand}
@@ -12,7 +13,8 @@ use Rattle.press_queue.specs.declared.status.Status.TheVariants as statuses
 use Rattle.press_queue.specs.declared.status.End.{End}
 use Rattle.press_queue.specs.declared.status.QueueStatus.{QueueStatus}
 use Rattle.press_queue.specs.declared.status.QueueStatus.TheVariants as standings
-use Rattle.press_queue.specs.Entries.{entry_numbered, with_entry, with_status, without_entry, put, put_again, moved_to, first_waiting, first_running, running_ones, count_in_flight}
+use Rattle.press_queue.specs.Entries.{entry_numbered, with_entry, with_status, without_entry, put, put_again, moved_to}
+use Rattle.press_queue.specs.Entries.{first_waiting, first_running, running_ones, count_in_flight}
 use Rattle.press_queue.specs.Legal.{is_legal}
 use Rattle.press_queue.specs.Priority.{priority_of, position_within}
 use Rattle.press_queue.specs.State.{QueueState}

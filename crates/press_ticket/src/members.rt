@@ -5,7 +5,8 @@ ghost use Rattle.std.specs.List.{list_all};
 ghost use Rattle.serde_json.specs.View.{view, items_view, members_view};
 ghost use Rattle.press_units.specs.Ascii.{is_printable};
 ghost use Rattle.press_ticket.specs.declared.fault.TicketError.TheVariants.{NoMemory, NotProfile};
-ghost use Rattle.press_ticket.specs.Members.{is_ticket_key, least_unknown, as_whole, as_version, is_job_id, as_job_id, as_pair, pairs_of, as_run_list, as_media, as_sides};
+ghost use Rattle.press_ticket.specs.Members.{is_ticket_key, least_unknown, as_whole, as_version, is_job_id, as_job_id, as_pair};
+ghost use Rattle.press_ticket.specs.Members.{pairs_of, as_run_list, as_media, as_sides};
 
 use crate::fault::TicketError;
 use crate::key::Key;

@@ -1,6 +1,7 @@
 -- Value fields: the text between the group character and the character that ends a parameter
 -- (PCL 5 Printer Language Technical Reference Manual, the syntax of escape sequences).
-use Rattle.std.specs.Prelude.{◌≡◌, ◌≤◌, ◌==◌, ◌&&◌, ◌||◌, ℕ, Bool, true, List, [], ◌∷◌, ◌++◌, length, nat_le, if◌then◌else◌, Option, Some, None, option_to_list, IfSome, ◌⊎◌}
+use Rattle.std.specs.Prelude.{◌≡◌, ◌≤◌, ◌==◌, ◌&&◌, ◌||◌, ℕ, Bool, true, List, [], ◌∷◌, ◌++◌, length, nat_le, if◌then◌else◌}
+use Rattle.std.specs.Prelude.{Option, Some, None, option_to_list, IfSome, ◌⊎◌}
 use Rattle.std.specs.List.{All, list_all}
 use Rattle.std.specs.Char.{IsAsciiDigit, is_ascii_digit}
 

@@ -1,7 +1,8 @@
 -- The number that a value field stands for, in ten-thousandths
 -- (PCL 5 Printer Language Technical Reference Manual, value fields; the digits kept, and that what is out of range is cut
 -- to it, are this profile's).
-use Rattle.std.specs.Prelude.{◌≡◌, ℕ, ℤ, pos, neg_ℤ, ◌+◌, ◌-◌, ◌*◌, ◌==◌, Bool, false, min, if◌then◌else◌, List, [], ◌∷◌, ◌++◌, take, drop, replicate, position, int_div, Option, Some, None, unwrap_or, is_some}
+use Rattle.std.specs.Prelude.{◌≡◌, ℕ, ℤ, pos, neg_ℤ, ◌+◌, ◌-◌, ◌*◌, ◌==◌, Bool, false, min, if◌then◌else◌, List, [], ◌∷◌, ◌++◌}
+use Rattle.std.specs.Prelude.{take, drop, replicate, position, int_div, Option, Some, None, unwrap_or, is_some}
 use Rattle.std.specs.Option.{option_map}
 use Rattle.std.specs.List.{fold, before_first}
 use Rattle.press_units.specs.Field.{Parts, AreParts, spelling, is_sign, is_point}

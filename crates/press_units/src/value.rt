@@ -4,7 +4,8 @@ ghost use Rattle.std.specs.Prelude.{◌≡◌, ◌<◌, ◌+◌, ◌-◌, ◌*�
 ghost use Rattle.std.specs.List.{All, slice_index_or, before_first};
 ghost use Rattle.std.specs.Char.{IsAsciiDigit};
 ghost use Rattle.press_units.specs.Field.{IsField, is_value_field, is_point};
-ghost use Rattle.press_units.specs.Value.{IsNumberOf, is_signed, sign_of, unsigned_part, fraction_of, with_sign, tenthousandths_of, whole_part, number_of, four_digits, lowest, highest};
+ghost use Rattle.press_units.specs.Value.{IsNumberOf, is_signed, sign_of, unsigned_part, fraction_of, with_sign};
+ghost use Rattle.press_units.specs.Value.{tenthousandths_of, whole_part, number_of, four_digits, lowest, highest};
 
 /// The most bytes that a value field has.
 pub const LONGEST_FIELD: usize = 32;

@@ -1,7 +1,8 @@
 -- The job of a ticket: a list of commands, part after part (PJL Technical Reference Manual, the universal exit; PCL 5 Printer
 -- Language Technical Reference Manual).
 use Prim.Native.Char.{code}
-use Rattle.std.specs.Prelude.{ℕ, ◌<◌, ⊤, IfSome, ◌/◌, ◌%◌, ◌&&◌, ◌==◌, nat_lt, Bool, true, false, if◌then◌else◌, List, [], ◌∷◌, ◌++◌, length, map, replicate, Option, Some, None}
+use Rattle.std.specs.Prelude.{ℕ, ◌<◌, ⊤, IfSome, ◌/◌, ◌%◌, ◌&&◌, ◌==◌, nat_lt, Bool, true, false, if◌then◌else◌, List, [], ◌∷◌}
+use Rattle.std.specs.Prelude.{◌++◌, length, map, replicate, Option, Some, None}
 use Rattle.std.specs.List.{flat_map}
 use Rattle.press_bits.specs.Page.{Page}
 use Rattle.press_cmd.specs.Token.{Token, Escape, Control, Uel}
