@@ -5,7 +5,7 @@ use press_sink::Sheet;
 use press_stream::JobError;
 use press_theorem::print_ticket;
 use press_ticket::read_ticket;
-use press_writer::{WriterError, check, write_job};
+use press_writer::{JobWriter, WriterError, check, write_job};
 use std::alloc::Global;
 use std::process::Abort;
 use std::test::Fail;
@@ -40,9 +40,29 @@ fn a_failed_write_is_told(rt: HostRuntime) -> Result<(), Fail> {
     let ticket = read_ticket(rt.alloc(), TICKET)?;
     let images = dots(rt.alloc())?;
     check(&ticket, &images)?;
-    let mut output = FuseWrite::new(Vec::new(rt.alloc()), 2);
+    let mut output = FuseWrite::new(Vec::new(rt.alloc()), 0);
     let written = write_job(rt.alloc(), &ticket, &images, &mut output);
     assert!(rt; matches!(written, Err(WriterError::WriteFault)));
+    Ok(())
+}
+
+/// What stands before the first page of a job on both sides of Letter.
+const HEAD: &[u8] = b"\x1B%-12345X\x1BE\x1B&l2A\x1B&l0O\x1B&l1S\x1B&l0E\x1B*t300R";
+
+#[test]
+fn a_job_comes_in_pieces(rt: HostRuntime) -> Result<(), Fail> {
+    let ticket = read_ticket(rt.alloc(), TICKET)?;
+    let images = dots(rt.alloc())?;
+    let mut whole = Vec::new(rt.alloc());
+    write_job(rt.alloc(), &ticket, &images, &mut whole)?;
+    let mut writer = JobWriter::open(rt.alloc(), &ticket, &images)?;
+    let mut bytes = Vec::new(rt.alloc());
+    assert!(rt; writer.piece(&images, &mut bytes)?);
+    assert_eq!(rt; bytes.as_slice(), HEAD);
+    assert!(rt; writer.piece(&images, &mut bytes)?);
+    assert!(rt; writer.piece(&images, &mut bytes)?);
+    assert!(rt; HEAD.len() + 2 <= bytes.len());
+    assert_eq!(rt; whole.get(..bytes.len()), Some(bytes.as_slice()));
     Ok(())
 }
 

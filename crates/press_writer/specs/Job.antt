@@ -9,6 +9,8 @@ use Rattle.press_cmd.specs.Token.{Token, Escape, Control, Uel}
 use Rattle.press_page.specs.Media.{size_number, orientation_number, sides_number}
 use Rattle.press_page.specs.Settings.{most_copies}
 use Rattle.press_page.specs.declared.media.Orientation.TheVariants.{Portrait}
+use Rattle.press_ticket.specs.declared.media.Media.{Media}
+use Rattle.press_ticket.specs.declared.media.Sides.{Sides}
 use Rattle.press_ticket.specs.Ticket.{JobTicket}
 use Rattle.press_writer.specs.declared.part.Part.{Part}
 use Rattle.press_writer.specs.declared.part.Part.TheVariants.{Head, Front, Back, Tail}
@@ -33,12 +35,15 @@ abbrev pub form_feed_command : Token
 form_feed_command = Control (code "\u{c}")
 
 -- Before the first page: the universal exit, a reset, the medium in portrait, no margin at the top, and the raster resolution.
-abbrev pub head : JobTicket → List Token
-head ticket =
-    Uel ∷ printer_reset ∷ command PageSize (size_number (page_size ticket.media))
+abbrev pub head_of : Media → Sides → List Token
+head_of media sides =
+    Uel ∷ printer_reset ∷ command PageSize (size_number (page_size media))
     ∷ command Orientation (orientation_number Portrait)
-    ∷ command SimplexDuplex (sides_number (wanted_sides ticket.sides)) ∷ command TopMargin 0
+    ∷ command SimplexDuplex (sides_number (wanted_sides sides)) ∷ command TopMargin 0
     ∷ command RasterResolution 300 ∷ []
+
+abbrev pub head : JobTicket → List Token
+head ticket = head_of ticket.media ticket.sides
 
 -- behind the last page
 abbrev pub tail : List Token
@@ -53,15 +58,15 @@ abbrev pub back_of : List Page → Option ℕ → List Token
 back_of images (Some number) = page (image_of images number)
 back_of images None = command SideSelection front_side ∷ []
 
--- The commands of a part.
-abbrev pub part_commands : JobTicket → List Page → Part → List Token
-part_commands ticket images Head = head ticket
-part_commands ticket images (Front number copies) = command Copies copies ∷ page (image_of images number)
-part_commands ticket images (Back number) = back_of images number
-part_commands ticket images Tail = tail
+-- The commands of a part, by the medium and the sides of the job; and by its ticket.
+abbrev pub commands_of_part : Media → Sides → List Page → Part → List Token
+commands_of_part media sides images Head = head_of media sides
+commands_of_part media sides images (Front number copies) = command Copies copies ∷ page (image_of images number)
+commands_of_part media sides images (Back number) = back_of images number
+commands_of_part media sides images Tail = tail
 
-abbrev pub part_bytes : JobTicket → List Page → Part → List ℕ
-part_bytes ticket images part = written (part_commands ticket images part)
+abbrev pub part_commands : JobTicket → List Page → Part → List Token
+part_commands ticket images = commands_of_part ticket.media ticket.sides images
 
 -- there are images of so many pages, and of the part's among them
 abbrev pub FitsPart : (count : ℕ) → Part → Type 0

@@ -9,3 +9,5 @@ pub mod Job
 pub mod Printing
 pub mod Laws
 pub mod Plan
+pub mod Left
+pub mod Inside

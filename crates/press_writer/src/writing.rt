@@ -1,51 +1,44 @@
-//! The bytes of a job, part by part.
+//! The bytes of a whole job.
 
-ghost use Rattle.std.specs.Prelude.{◌≡◌, ◌<◌, ◌++◌, ◌⊎◌, [], None, Err, length, OnOk, OnErr, IfSome, IsSome, IfErr};
-ghost use Rattle.std.specs.List.{flat_map};
+ghost use Rattle.std.specs.Prelude.{◌≡◌, ◌++◌, ◌⊎◌, [], None, Err, length, OnOk, OnErr, IfSome, IsSome, IfErr};
 ghost use Rattle.std.specs.Io.KnownBytes.{Appends};
 ghost use Rattle.press_pbm.specs.Spelling.{AppendsFront, Writes};
 ghost use Rattle.press_writer.specs.declared.fault.WriterError.TheVariants.{WriteFault, NoMemory};
 ghost use Rattle.press_writer.specs.Fitting.{refusal};
-ghost use Rattle.press_writer.specs.Job.{head, tail, page, back_of, part_commands, part_bytes, FitsPart, job_bytes};
-ghost use Rattle.press_writer.specs.Plan.{IsSmall, HasItsImages, plan_parts};
+ghost use Rattle.press_writer.specs.Job.{head_of, tail, job_bytes};
+ghost use Rattle.press_writer.specs.Left.{HasImages, bytes_left};
 ghost use Rattle.press_writer.specs.Printing.{PrintsTheTicket};
 ghost use Rattle.press_writer.specs.Sequences.{written};
 
-use crate::checking::check;
-use crate::commands::{push_command, push_commands};
+use crate::commands::push_commands;
 use crate::fault::WriterError;
+use crate::job_writer::JobWriter;
 use crate::media::{page_size, printed_sides};
-use crate::part::Part;
-use crate::picture::push_picture;
-use crate::plan::Plan;
 use crate::sequence::Sequence;
 use press_bits::Bitmap;
 use press_cmd::{ESCAPE, UEL};
 use press_page::{Numbered, Orientation};
 use press_pbm::write_whole;
-use press_ticket::Ticket;
+use press_ticket::{Media, Sides, Ticket};
 use std::alloc::{AllocError, Global};
 use std::io::Write;
 
 /// A printer reset.
 const RESET: [u8; 2] = [ESCAPE, b'E'];
 
-/// A form feed.
-const FORM_FEED: u8 = 12;
+/// How many bytes of a job are held before they are written.
+const WRITE_SIZE: usize = 65_536;
 
 /// Appends what stands before the first page.
-fn push_head(out: &mut Vec<u8>, ticket: &Ticket) -> Result<(), AllocError>
-    ensures { OnOk result (out.new.items ≡ out.old.items ++ written (head ticket.now)) }
+pub(crate) fn push_head(out: &mut Vec<u8>, media: Media, sides: Sides) -> Result<(), AllocError>
+    ensures { OnOk result (out.new.items ≡ out.old.items ++ written (head_of media sides)) }
 {
     out.extend_from_slice(&UEL)?;
     out.extend_from_slice(&RESET)?;
     let settings = [
-        (Sequence::PageSize, page_size(ticket.media()).number()),
+        (Sequence::PageSize, page_size(media).number()),
         (Sequence::Orientation, Orientation::Portrait.number()),
-        (
-            Sequence::SimplexDuplex,
-            printed_sides(ticket.sides()).number(),
-        ),
+        (Sequence::SimplexDuplex, printed_sides(sides).number()),
         (Sequence::TopMargin, 0),
         (Sequence::RasterResolution, 300),
     ];
@@ -53,7 +46,7 @@ fn push_head(out: &mut Vec<u8>, ticket: &Ticket) -> Result<(), AllocError>
 }
 
 /// Appends what stands behind the last page.
-fn push_tail(out: &mut Vec<u8>) -> Result<(), AllocError>
+pub(crate) fn push_tail(out: &mut Vec<u8>) -> Result<(), AllocError>
     ensures { OnOk result (out.new.items ≡ out.old.items ++ written tail) }
 {
     out.extend_from_slice(&RESET)?;
@@ -61,55 +54,7 @@ fn push_tail(out: &mut Vec<u8>) -> Result<(), AllocError>
     Ok(())
 }
 
-/// Appends a page with an image.
-fn push_page(alloc: Global, out: &mut Vec<u8>, image: &Bitmap) -> Result<(), AllocError>
-    ensures { OnOk result (out.new.items ≡ out.old.items ++ written (page image.now)) }
-{
-    push_picture(alloc, out, image)?;
-    out.push(FORM_FEED)?;
-    Ok(())
-}
-
-/// Appends the back of a sheet.
-fn push_back(
-    alloc: Global,
-    out: &mut Vec<u8>,
-    images: &[Bitmap],
-    back: Option<u16>,
-) -> Result<(), AllocError>
-    requires { IfSome back (λ number. number < length images.now) }
-    ensures { OnOk result (out.new.items ≡ out.old.items ++ written (back_of images.now back)) }
-{
-    match back {
-        Some(number) => push_page(alloc, out, &images[usize::from(number)]),
-        None => push_command(out, Sequence::SideSelection, 1),
-    }
-}
-
-/// Appends a part of the job.
-fn push_part(
-    alloc: Global,
-    out: &mut Vec<u8>,
-    ticket: &Ticket,
-    images: &[Bitmap],
-    part: Part,
-) -> Result<(), AllocError>
-    requires { FitsPart (length images.now) part }
-    ensures { OnOk result (out.new.items
-        ≡ out.old.items ++ written (part_commands ticket.now images.now part)) }
-{
-    match part {
-        Part::Head => push_head(out, ticket),
-        Part::Front(number, copies) => {
-            push_command(out, Sequence::Copies, u32::from(copies))?;
-            push_page(alloc, out, &images[usize::from(number)])
-        }
-        Part::Back(number) => push_back(alloc, out, images, number),
-        Part::Tail => push_tail(out),
-    }
-}
-
-/// Writes all the bytes of a part, or a front of them.
+/// Writes all these bytes, or a front of them.
 fn write_bytes<W: Write>(output: &mut W, bytes: &[u8]) -> Result<(), WriterError>
     ensures written { Writes result (W.contents output.old) (W.contents output.new) bytes.now }
     ensures fault { IfErr result (λ error. error ≡ WriteFault) }
@@ -120,26 +65,26 @@ fn write_bytes<W: Write>(output: &mut W, bytes: &[u8]) -> Result<(), WriterError
     }
 }
 
-/// Writes the parts of a job one after another, each from memory of its own.
-fn write_parts<W: Write>(
+/// Writes what is left of a job, piece after piece.
+fn write_pieces<W: Write>(
     alloc: Global,
-    ticket: &Ticket,
+    writer: &mut JobWriter,
     images: &[Bitmap],
-    plan: &Plan,
     output: &mut W,
 ) -> Result<(), WriterError>
-    requires small { IsSmall plan.now }
-    requires images { HasItsImages (length images.now) plan.now }
+    requires { HasImages (length images.now) writer.old }
     ensures written { Writes result (W.contents output.old) (W.contents output.new)
-        (flat_map (part_bytes ticket.now images.now) (plan_parts plan.now)) }
+        (bytes_left writer.old images.now) }
     ensures fault { IfErr result (λ error. (error ≡ WriteFault) ⊎ (error ≡ NoMemory)) }
 {
-    for index in 0..plan.part_count() {
-        let mut part = Vec::new(alloc);
-        push_part(alloc, &mut part, ticket, images, plan.part_at(index))?;
-        write_bytes(output, &part)?;
+    let mut held = Vec::new(alloc);
+    while writer.piece(images, &mut held)? {
+        if held.len() >= WRITE_SIZE {
+            write_bytes(output, &held)?;
+            held.clear();
+        }
     }
-    Ok(())
+    write_bytes(output, &held)
 }
 
 /// Writes the job of a ticket with these images: the commands by which its sets are printed, in order.
@@ -173,7 +118,6 @@ pub fn write_job<W: Write>(
     ensures fault { refusal ticket.now images.now ≡ None
         → IfErr result (λ error. (error ≡ WriteFault) ⊎ (error ≡ NoMemory)) }
 {
-    check(ticket, images)?;
-    let plan = Plan::of(alloc, ticket)?;
-    write_parts(alloc, ticket, images, &plan, output)
+    let mut writer = JobWriter::open(alloc, ticket, images)?;
+    write_pieces(alloc, &mut writer, images, output)
 }

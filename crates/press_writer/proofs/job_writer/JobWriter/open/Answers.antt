@@ -1,0 +1,24 @@
+use Rattle.std.specs.List.{flat_map}
+use Rattle.press_writer.specs.Job.{commands_of_part}
+use Rattle.press_writer.specs.Sequences.{written}
+use Rattle.press_writer.proofs.EachLemmas.{plan-fits, plan-parts}
+use Rattle.press_writer.proofs.TicketLemmas.{jobs-print}
+use Rattle.press_writer.proofs.job_writer.JobWriter.open.Goals as goal
+
+pub returns-clause-bytes : goal.returns-clause-bytes
+returns-clause-bytes c =
+    let ticket = c.args.ticket.now in
+    let images = c.args.images.now in
+    λ j. written (flat_map (commands_of_part (c.media.ensures j) (c.sides.ensures j) images) (plan-parts ticket c.in_ok-plan.plan c.in_ok-plan.ensures.plan j))
+
+pub returns-clause-images : goal.returns-clause-images
+returns-clause-images c = record {
+  begun = tt;
+  parts = plan-fits c.args.ticket.now c.args.images.now c.in_ok-plan.plan c.in_ok-plan.ensures.plan c.in_ok-check.ensures.ok c.in_ok-plan.ensures.within;
+}
+
+pub returns-in_err-plan-clause-prints : goal.returns-in_err-plan-clause-prints
+returns-in_err-plan-clause-prints c = λ none. jobs-print c.args.ticket.now c.args.images.now none c.in_ok-check.ensures.images
+
+pub returns-clause-prints : goal.returns-clause-prints
+returns-clause-prints c = λ none. jobs-print c.args.ticket.now c.args.images.now none c.in_ok-check.ensures.images
