@@ -1,5 +1,5 @@
 -- Pages in bands: bands that are made are white, and a row that is painted into one is its mark.
-use Rattle.std.proofs.Common.{◌≡◌, ◌≢◌, ℕ, ◌+◌, ◌-◌, ◌*◌, ◌/◌, ◌%◌, ◌<◌, ◌≤◌, ◌⊎◌, min, Bool, true, false, ◌&&◌, zero, suc, List, [], ◌∷◌, length, map, replicate, take, drop, get_or, set, Result, Ok, Err, OnOk, refl, sym, ap, ◌∙◌, subst, inl, inr, arith}
+use Rattle.std.proofs.Common.{◌≡◌, ◌≢◌, ℕ, ◌+◌, ◌-◌, ◌*◌, ◌/◌, ◌%◌, ◌<◌, ◌≤◌, ◌⊎◌, min, max, Bool, true, false, ◌&&◌, zero, suc, List, [], ◌∷◌, length, map, replicate, take, drop, get_or, set, Result, Ok, Err, OnOk, refl, sym, ap, ◌∙◌, subst, inl, inr, arith}
 use Rattle.std.specs.Prelude.{nat_lt, nat_le, nat_eq, ℤ, pos, ◌+ℤ◌, int_le, int_lt, unsigned_abs}
 use Rattle.std.specs.declared.alloc.AllocError.{AllocError}
 use Rattle.std.proofs.Math.ListN.{get_or-map}
@@ -221,6 +221,23 @@ of_run y first skip lines count h n place clipped from before = (begun y first s
 
     left : (y : ℤ) (first skip lines count h n : ℕ) → pos first ≡ y +ℤ pos skip → count ≡ min (lines - skip) (h - first) → first ≤ n → n < first + count → int_lt (pos n) (y +ℤ pos lines) ≡ true
     left y first skip lines count h n place clipped from before = grind (arith, ints)
+
+-- a line of the run in band k
+abbrev pub line_of : (k first : ℕ) → ℕ
+line_of k first = max (64 * k) first
+
+-- it lies in the run, and in the band
+pub line_inside : (k first count : ℕ) → 0 < count → first / 64 ≤ k → 64 * k < first + count → (first ≤ line_of k first) × (line_of k first < first + count) × (line_of k first / 64 ≡ k)
+line_inside k first count some from before = (behind k first, left k first count some from before, here k first from)
+  where
+    behind : (k first : ℕ) → first ≤ max (64 * k) first
+    behind k first = omega arith
+
+    left : (k first count : ℕ) → 0 < count → first / 64 ≤ k → 64 * k < first + count → max (64 * k) first < first + count
+    left k first count some from before = omega arith
+
+    here : (k first : ℕ) → first / 64 ≤ k → max (64 * k) first / 64 ≡ k
+    here k first from = omega arith
 
 right_of_row : (e : Bool) (left count q w : ℕ) → left + count ≤ w → w ≤ q → ((e && nat_le left q) && nat_lt q (left + count)) ≡ false
 right_of_row e left count q w fits right = grind (arith, nat_tests)

@@ -1,11 +1,11 @@
 //! Pages of dots that stand in bands of sixty-four lines. A band that is not there is white.
 #![tactic(auto)]
 
-ghost use Rattle.std.specs.Prelude.{◌≡◌, ℕ, ◌<◌, ◌≤◌, ◌+◌, ◌*◌, ◌≢◌, [], replicate, length, take, drop, pos, true, false, MatchOption, IfOk, OnOk, OnErr};
+ghost use Rattle.std.specs.Prelude.{◌≡◌, ℕ, ◌<◌, ◌≤◌, ◌+◌, ◌*◌, ◌≢◌, ◌↔◌, [], replicate, length, take, drop, pos, true, false, vec_len, MatchOption, IfOk, IsTrue, OnOk, OnErr};
 ghost use Rattle.press_bits.specs.Page.{HasNoDotOutside, black_at, black_in_line, blank, count_black, is_page_size};
 ghost use Rattle.press_bits.specs.Mark.{painted, row, row_mark, column_mark};
 ghost use Rattle.press_bits.specs.Lines.{bytes_per_line, IsPageLine};
-ghost use Rattle.press_bits.specs.Bands.{AreReady, StaysReady, band_lines};
+ghost use Rattle.press_bits.specs.Bands.{AreReady, StaysReady, band_at, band_lines, is_there};
 
 use crate::band::Band;
 use crate::dot_bytes;
@@ -95,6 +95,20 @@ fn missing_bands(alloc: Global, count: usize) -> Result<Vec<Band>, AllocError>
         bands.push(Band::missing(alloc))?;
     }
     Ok(bands)
+}
+
+/// Whether the bands from `first` on and before `end` are all there.
+fn are_there(bands: &Vec<Band>, first: usize, end: usize) -> bool
+    requires { end ≤ vec_len bands.now }
+    ensures { IsTrue result ↔ ((k : ℕ) → first ≤ k → k < end
+        → is_there (band_at bands.now.items k) ≡ true) }
+{
+    for index in first..end {
+        if !bands[index].is_there() {
+            return false;
+        }
+    }
+    true
 }
 
 /// Equal bands.
@@ -211,6 +225,18 @@ impl Bands {
             black += self.black_in(y);
         }
         black
+    }
+
+    /// Whether those of so many lines, from line `y` on, that are lines of the page are ready.
+    pub fn are_ready(&self, y: i64, lines: usize) -> bool
+        ensures { IsTrue result ↔ AreReady self.now y lines }
+    {
+        let run = run_within(y, lines, self.height);
+        if run.count == 0 {
+            return true;
+        }
+        let past = (run.first + run.count - 1) / BAND + 1;
+        are_there(&self.bands, run.first / BAND, past)
     }
 
     /// Makes the bands of those of so many lines, from line `y` on, that are lines of the page.

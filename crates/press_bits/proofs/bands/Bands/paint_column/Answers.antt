@@ -1,4 +1,4 @@
-use Rattle.std.proofs.Common.{◌≡◌, ℕ, ◌+◌, ◌*◌, ◌/◌, ◌<◌, ◌≤◌, max, Bool, List, true, length, sym, ap, ◌∙◌, subst, arith, pos, ◌+ℤ◌, w64}
+use Rattle.std.proofs.Common.{◌≡◌, ℕ, ◌*◌, ◌<◌, Bool, List, true, length, sym, ap, ◌∙◌, subst, arith, pos, ◌+ℤ◌, w64}
 use Rattle.std.proofs.lemmas.Int.{to_z-of_z}
 use Rattle.press_bits.specs.Page.{HasNoDotOutside}
 use Rattle.press_bits.specs.Mark.{painted, row, column_mark}
@@ -6,7 +6,7 @@ use Rattle.press_bits.specs.Lines.{bytes_per_line}
 use Rattle.press_bits.specs.declared.mode.Mode.{Mode}
 use Rattle.press_bits.specs.Bands.{BandedPage, is_there, band_at, PaintedDown}
 use Rattle.press_bits.proofs.MarkLemmas.{unmarked, effect_at-column_mark, row_off_line, row_off_columns}
-use Rattle.press_bits.proofs.BandLemmas.{width-page_of_bands, height-page_of_bands, no_dot_outside, band_ready, there_long, of_run, same_flags}
+use Rattle.press_bits.proofs.BandLemmas.{width-page_of_bands, height-page_of_bands, no_dot_outside, band_ready, there_long, of_run, line_of, line_inside, same_flags}
 use Rattle.press_bits.proofs.DownLemmas.{painted_bands, down_has}
 use Rattle.press_bits.proofs.bands.Bands.paint_column.Goals as goal
 
@@ -31,22 +31,6 @@ returns-then-run-eq0-clause-painted c =
     (c.in-Some.ensures.0 ∙ to_z-of_z w64 c.args.x c.ranges.x)
     c.run_within-run.ensures.count c.if-run-eq0.true
     (subst (λ m. n < m) (sym (ap (λ (s : BandedPage). s.page.height) c.self.view_is) ∙ height-page_of_bands _ _ _) high))
-
--- a line of the run in band k
-abbrev line_of : (k first : ℕ) → ℕ
-line_of k first = max (64 * k) first
-
-line_inside : (k first count : ℕ) → 0 < count → first / 64 ≤ k → 64 * k < first + count → (first ≤ line_of k first) × (line_of k first < first + count) × (line_of k first / 64 ≡ k)
-line_inside k first count some from before = (behind k first, left k first count some from before, here k first from)
-  where
-    behind : (k first : ℕ) → first ≤ max (64 * k) first
-    behind k first = omega arith
-
-    left : (k first count : ℕ) → 0 < count → first / 64 ≤ k → 64 * k < first + count → max (64 * k) first < first + count
-    left k first count some from before = omega arith
-
-    here : (k first : ℕ) → first / 64 ≤ k → max (64 * k) first / 64 ≡ k
-    here k first from = omega arith
 
 pub paint_down-requires-clause-there : goal.paint_down-requires-clause-there
 paint_down-requires-clause-there c = λ k from before.
