@@ -16,4 +16,5 @@ pub use band::white_bytes;
 pub use bands::{Bands, MAX_SIDE, WIDEST_ROW};
 pub use bitmap::{Bitmap, BlankError};
 pub use dot_row::DotRow;
+pub use lanes::lanes_from;
 pub use mode::Mode;

@@ -11,6 +11,12 @@ use crate::mode::Mode;
 /// The fewest dots that are painted by lanes.
 const SHORTEST_RUN: usize = 256;
 
+/// Where white dots of source and pattern change nothing.
+const TRANSPARENT: Mode = Mode {
+    source_opaque: false,
+    pattern_opaque: false,
+};
+
 /// The dots of a row that lie on a page, along one side of it: `count` of them from dot `skip` of the row on, which lies at
 /// place `first`.
 #[derive(Clone, Copy, Debug)]
@@ -310,10 +316,12 @@ fn paint_eight_down(
         (byte_dot source (n - first)) (byte_dot tile (n - first))
         (row_dot rows.old (8 * (n * bytes) + c)) }
 {
-    if count == 8 {
+    if count < 8 {
+        stamp_down(rows, bytes, column, first, count, source, tile, mode);
+    } else if mode.source_opaque || mode.pattern_opaque {
         stamp_down(rows, bytes, column, first, 8, source, tile, mode);
     } else {
-        stamp_down(rows, bytes, column, first, count, source, tile, mode);
+        stamp_down(rows, bytes, column, first, 8, source, tile, TRANSPARENT);
     }
 }
 
