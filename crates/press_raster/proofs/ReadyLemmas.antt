@@ -1,13 +1,13 @@
 -- Lines of the page that strips of the frame cross, and that are ready.
-use Rattle.std.proofs.Common.{◌≡◌, ℕ, ◌+◌, ◌-◌, ◌<◌, true, false, refl, sym, ap, ◌∙◌, subst, arith}
-use Rattle.std.specs.Prelude.{ℤ, pos, ◌+ℤ◌, ◌-ℤ◌, int_le}
+use Rattle.std.proofs.Common.{◌≡◌, ℕ, ◌+◌, ◌-◌, ◌<◌, true, false, sym, subst, arith}
+use Rattle.std.specs.Prelude.{ℤ, pos, ◌+ℤ◌, int_le}
 use Rattle.std.proofs.lemmas.Int.{ints}
 use Rattle.std.proofs.lemmas.Bool.{true≢false}
 use Rattle.press_bits.specs.Bands.{BandedPage, AreReady}
 use Rattle.press_bits.proofs.BandLemmas.{ready_within}
 use Rattle.press_page.specs.declared.media.Orientation.{Orientation}
 use Rattle.press_page.specs.declared.media.Orientation.TheVariants.{Portrait, Landscape, ReversePortrait, ReverseLandscape}
-use Rattle.press_raster.specs.Along.{is_backward, along_lines, strip_lines, AlongReady, StripReady}
+use Rattle.press_raster.specs.Along.{is_backward, strip_lines, AlongReady, StripReady}
 use Rattle.press_raster.proofs.StripLemmas.{frame_of}
 
 itself : (y : ℤ) → int_le y y ≡ true

@@ -3,7 +3,7 @@ use Rattle.std.proofs.Common.{◌≡◌, ℕ, ◌+◌, ◌-◌, ◌*◌, ◌/◌
 use Rattle.std.specs.Prelude.{nat_lt, nat_le, nat_eq, pos, if◌then◌else◌}
 use Rattle.std.proofs.lemmas.Bool.Decides.{nat_tests}
 use Rattle.press_bits.specs.DotRule.{DotEffect, dot_rule, dot_after}
-use Rattle.press_bits.specs.DotRule.DotEffect.{Unchanged}
+use Rattle.press_bits.specs.DotRule.DotEffect.{MadeWhite, Unchanged}
 use Rattle.press_bits.specs.Mark.{Row, effect_at, painted, row_dot, repeated, row_mark}
 use Rattle.press_bits.specs.Page.{Page, HasNoDotOutside}
 use Rattle.press_bits.specs.declared.mode.Mode.{Mode}
@@ -82,6 +82,14 @@ no_columns x y h column line = grind (arith, nat_tests)
 columns_of : (x y w h column line : ℕ) → in_box x y w h column line ≡ true → (x ≤ column) × (column < x + w)
 columns_of x y w h column line inside = grind (arith, nat_tests)
 
+white_effect : (inside : Bool) (mode : Mode) (source pattern : Bool) → mode.source_opaque ≡ false → source ≡ false → effect_where inside mode source pattern ≡ Unchanged
+white_effect inside mode source pattern transparent white =
+    ap (λ s. effect_where inside mode s pattern) white ∙ left_so inside (ap (λ o. if o then MadeWhite else Unchanged) transparent)
+  where
+    left_so : (inside : Bool) {effect : DotEffect} → effect ≡ Unchanged → (if inside then effect else Unchanged) ≡ Unchanged
+    left_so true is = is
+    left_so false is = refl
+
 module _ (orientation : Orientation) (page : Page) where
   -- a strip without columns, or without lines, paints nothing
   pub painted_strip_no_columns : (left top lines : ℕ) (dots : ℕ → Bool) (tile : Tiling) (mode : Mode) → HasNoDotOutside page →
@@ -101,6 +109,17 @@ module _ (orientation : Orientation) (page : Page) where
       let dot = placed_dot orientation page.width page.height x y in
       effect_at-strip_mark orientation page.width page.height left top columns 0 dots tile mode x y
       ∙ ap (λ t. effect_where t mode (dots (dot.0 - left)) (tile_dot tile dot.0 dot.1)) (box_none left top columns dot.0 dot.1))
+
+  -- nor does a strip of white dots that are transparent
+  pub painted_strip_white : (left top columns lines : ℕ) (dots : ℕ → Bool) (tile : Tiling) (mode : Mode) → HasNoDotOutside page →
+      mode.source_opaque ≡ false → ((i : ℕ) → dots i ≡ false) →
+      page ≡ painted page (strip_mark orientation page.width page.height left top columns lines dots tile mode)
+  painted_strip_white left top columns lines dots tile mode none transparent white =
+      unmarked page (strip_mark orientation page.width page.height left top columns lines dots tile mode) none
+      (λ x y _ _.
+      let dot = placed_dot orientation page.width page.height x y in
+      effect_at-strip_mark orientation page.width page.height left top columns lines dots tile mode x y
+      ∙ white_effect (in_box left top columns lines dot.0 dot.1) mode (dots (dot.0 - left)) (tile_dot tile dot.0 dot.1) transparent (white (dot.0 - left)))
 
   -- what lies outside the frame may be cut off a strip
   pub painted_strip_cut : (left top columns lines columns' lines' : ℕ) (dots : ℕ → Bool) (tile : Tiling) (mode : Mode) →

@@ -2,6 +2,7 @@
 #![tactic(auto)]
 
 mod along;
+mod backward;
 mod decoding;
 mod raster;
 mod reading;

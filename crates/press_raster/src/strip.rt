@@ -209,7 +209,7 @@ fn ready_strip(
 }
 
 /// Paints a raster row from a corner of the frame on, each of its dots `size` dots wide and high. Dots outside the page are
-/// dropped.
+/// dropped. A row that marks nothing makes no line ready.
 ///
 /// # Errors
 ///
@@ -233,6 +233,9 @@ pub(crate) fn paint_strip(
     let side = frame(page, orientation).width;
     let columns = cut_length(corner.x, size as usize * source.dots, side);
     if columns == 0 {
+        return Ok(());
+    }
+    if !ink.mode.source_opaque && source.is_white() {
         return Ok(());
     }
     ready_strip(page, orientation, corner, columns, size)?;

@@ -4,7 +4,7 @@ use Rattle.press_bits.specs.Page.{Page}
 use Rattle.press_page.specs.declared.place.Extent.{Extent}
 use Rattle.press_raster.specs.Along.{is_backward, dots_along}
 use Rattle.press_raster.specs.Mark.{strip_mark}
-use Rattle.press_raster.proofs.StripLemmas.{frame_of, painted_strip_no_columns, painted_raster}
+use Rattle.press_raster.proofs.StripLemmas.{frame_of, painted_strip_no_columns, painted_strip_white, painted_raster}
 use Rattle.press_raster.proofs.strip.paint_strip.Goals as goal
 
 pub returns-then-columns-eq0-clause-painted : goal.returns-then-columns-eq0-clause-painted
@@ -19,6 +19,12 @@ returns-then-columns-eq0-clause-painted c =
     ∙ c.cut_length-columns.ensures.same_end
     ∙ (λ i. min (c.args.corner.x + c.if-columns-eq0.true i) (side i)))
     (λ i _. refl)
+
+pub returns-then-is_white-clause-painted : goal.returns-then-is_white-clause-painted
+returns-then-is_white-clause-painted c =
+    let source : Row = row c.args.source in
+    painted_strip_white c.args.orientation c.args.page.now.page c.args.corner.x c.args.corner.y (c.args.size * source.dots) c.args.size (λ i. row_dot source.bits (i / c.args.size)) c.args.ink.now.tile c.args.ink.now.mode
+    c.frame-side.ensures.inside c.if-not-ink.true (λ i. c.is_white.ensures c.if-is_white.true (i / c.args.size))
 
 whole : (i : ℕ) → i ≡ i / 1
 whole i = omega arith
