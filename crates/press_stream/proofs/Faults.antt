@@ -21,7 +21,7 @@ pub Faults-then : (old between new : JobState) (bytes more : List ℕ) (given : 
 Faults-then old between new bytes more given tag errors.SinkFault before middle after goes faults = (faults.0, Stops-then old between bytes more given tag AtSheet before middle after goes faults.1)
 Faults-then old between new bytes more given tag errors.ReplyFault before middle after goes faults = (faults.0, Stops-then old between bytes more given tag AtReply before middle after goes faults.1)
 Faults-then old between new bytes more given tag errors.NoMemory before middle after goes faults = (faults.0, Stops-then old between bytes more given tag ForMemory before middle after goes faults.1)
-Faults-then old between new bytes more given tag errors.Failed before middle after goes faults = absurd (none_is_no_some between.machine _ faults.0 goes.carried.left)
+Faults-then old between new bytes more given tag errors.Failed before middle after goes faults = absurd (none_is_no_some between.machine _ faults.0 goes.carried.ends)
 Faults-then old between new bytes more given tag errors.ReadFault before middle after goes faults = absurd faults
 Faults-then old between new bytes more given tag errors.AfterEnd before middle after goes faults = absurd faults
 

@@ -6,17 +6,20 @@ use Rattle.press_cmd.specs.Mode.{Mode}
 use Rattle.press_cmd.specs.Split.{Steps, ClosedFrom, closing}
 use Rattle.press_cmd.specs.Token.{Token, Uel}
 use Rattle.press_cmd.proofs.Splits.{some_split, steps-more, steps-then}
-use Rattle.press_scan.specs.Gives.{Passes, IsDone, IsNext}
+use Rattle.press_scan.specs.Gives.{Passes, IsDone}
 use Rattle.press_scan.specs.ScannerState.{ScannerState}
 use Rattle.press_sink.specs.Told.{Told, CanCount, most_faults}
-use Rattle.press_sink.specs.Sending.{Ending, Complete, ForMemory, WentOut}
+use Rattle.press_sink.specs.Sending.{Output, Ending, Complete, ForMemory, WentOut}
 use Rattle.press_sink.proofs.SendingLemmas.{TookAll-none, WentOut-then, WentOut-stopped}
+use Rattle.press_engine.specs.declared.frame.Frame.{Frame}
 use Rattle.press_engine.specs.declared.machine.Machine.{Machine}
-use Rattle.press_engine.specs.Machine.{Run, run, run_all}
-use Rattle.press_engine.proofs.Runs.{run_all-none, run_all-one, run_all-append}
+use Rattle.press_engine.specs.Machine.{Run}
+use Rattle.press_engine.specs.Stack.{owed}
+use Rattle.press_engine.specs.Trace.{last_machine, joined, trace}
 use Rattle.press_stream.specs.State.{JobState, with_piece, input_ended}
-use Rattle.press_stream.specs.Meaning.{with_exit, Carried, Stopped, Owes, Goes, Stops}
-use Rattle.press_stream.specs.Answers.{StopsAtDue}
+use Rattle.press_stream.specs.Meaning.{with_exit, left, Carried, Stopped, StoppedAt, Owes, Goes, Stops}
+use Rattle.press_stream.specs.Answers.{TakesOf, StopsAtDue}
+use Rattle.press_stream.proofs.Items.{joined-append, left-none, left-append, left-then, last-append}
 
 -- the value of an option that has one
 pub some_of : {X : Type 0} (option : Option X) → IsSome option → (value : X) × (option ≡ Some value)
@@ -28,73 +31,72 @@ same_some : {X : Type 0} (option : Option X) (one other : X) → option ≡ Some
 same_some option one other p q = cc
 
 -- no command changes nothing
-pub Carried-none : (machine : Option Machine) (tag : ℕ) (told : Told) → IsSome machine → Carried [] machine machine tag told told
-Carried-none machine tag told running =
-    let some = some_of machine running in
-    let P : Run → Type 0 = λ run. WentOut tag run.outputs Complete told told in
+pub Carried-none : (old new : JobState) (tag : ℕ) (told : Told) → IsSome old.machine → new.machine ≡ old.machine → new.bodies ≡ old.bodies → Carried [] [] old new tag told told
+Carried-none old new tag told running same still =
+    let some = some_of old.machine running in
     record {
       from = some.0;
       starts = some.1;
-      left = some.1 ∙ ap (λ (run : Run). Some run.machine) (sym (run_all-none some.0));
-      went = subst P (sym (run_all-none some.0)) (TookAll-none tag told);
+      ends = same ∙ some.1;
+      are = left-none old.bodies some.0 ∙ ap (λ (bodies : List Frame). owed bodies some.0) (sym still);
+      went = TookAll-none tag told;
     }
 
 -- commands, and then others
-pub Carried-then : (commands others : List Token) (old between new : Option Machine) (tag : ℕ) (before middle after : Told) → Carried commands old between tag before middle → Carried others between new tag middle after → Carried (commands ++ others) old new tag before after
-Carried-then commands others old between new tag before middle after first second =
+pub Carried-then : (commands others : List Token) (items more : List Run) (old between new : JobState) (tag : ℕ) (before middle after : Told) → Carried commands items old between tag before middle → Carried others more between new tag middle after → Carried (commands ++ others) (items ++ more) old new tag before after
+Carried-then commands others items more old between new tag before middle after first second =
     let from = first.from in
-    let same : second.from ≡ (run_all commands from).machine = same_some between second.from _ second.starts first.left in
-    let joined = run_all-append commands others from in
-    let P : Run → Type 0 = λ run. WentOut tag run.outputs Complete before after in
-    let Q : Machine → Type 0 = λ machine. WentOut tag (run_all others machine).outputs Complete middle after in
+    let at = last_machine from items in
+    let same : second.from ≡ at = same_some between.machine second.from at second.starts first.ends in
+    let last = last-append items more from in
+    let P : List Output → Type 0 = λ outputs. WentOut tag outputs Complete before after in
+    let second_are : left others between.bodies at ≡ more ++ owed new.bodies (last_machine at more) = subst (λ (machine : Machine). left others between.bodies machine ≡ more ++ owed new.bodies (last_machine machine more)) same second.are in
     record {
       from = from;
       starts = first.starts;
-      left = second.left ∙ ap (λ (machine : Machine). Some (run_all others machine).machine) same ∙ ap (λ (run : Run). Some run.machine) (sym joined);
-      went = subst P (sym joined) (WentOut-then tag (run_all commands from).outputs (run_all others (run_all commands from).machine).outputs Complete before middle after first.went (subst Q same second.went));
+      ends = second.ends ∙ ap (λ (machine : Machine). Some (last_machine machine more)) same ∙ ap (λ (machine : Machine). Some machine) (sym last);
+      are =
+          left-then commands others old.bodies between.bodies from items first.are
+          ∙ ap (λ (rest : List Run). items ++ rest) second_are
+          ∙ sym (append_assoc items more (owed new.bodies (last_machine at more)))
+          ∙ ap (λ (machine : Machine). (items ++ more) ++ owed new.bodies machine) (sym last);
+      went = subst P (sym (joined-append items more)) (WentOut-then tag (joined items) (joined more) Complete before middle after first.went second.went);
     }
 
 -- commands, and then others that stopped
-pub Stopped-then : (commands others : List Token) (old between : Option Machine) (tag : ℕ) (ending : Ending) (before middle after : Told) → Carried commands old between tag before middle → Stopped others between tag ending middle after → Stopped (commands ++ others) old tag ending before after
-Stopped-then commands others old between tag ending before middle after first second =
+pub Stopped-then : (commands others : List Token) (items : List Run) (old between : JobState) (tag : ℕ) (ending : Ending) (before middle after : Told) → Carried commands items old between tag before middle → Stopped others between tag ending middle after → Stopped (commands ++ others) old tag ending before after
+Stopped-then commands others items old between tag ending before middle after first second =
     let from = first.from in
-    let same : second.from ≡ (run_all commands from).machine = same_some between second.from _ second.starts first.left in
-    let joined = run_all-append commands others from in
-    let P : Run → Type 0 = λ run. WentOut tag run.outputs ending before after in
-    let Q : Machine → Type 0 = λ machine. WentOut tag (run_all others machine).outputs ending middle after in
+    let at = last_machine from items in
+    let same : second.from ≡ at = same_some between.machine second.from at second.starts first.ends in
+    let more = left others between.bodies at in
+    let P : List Output → Type 0 = λ outputs. WentOut tag outputs ending before after in
+    let Q : Machine → Type 0 = λ machine. WentOut tag (joined (left others between.bodies machine)) ending middle after in
+    let is = left-then commands others old.bodies between.bodies from items first.are in
     record {
       from = from;
       starts = first.starts;
-      went = subst P (sym joined) (WentOut-then tag (run_all commands from).outputs (run_all others (run_all commands from).machine).outputs ending before middle after first.went (subst Q same second.went));
+      went = subst P (sym (ap joined is ∙ joined-append items more)) (WentOut-then tag (joined items) (joined more) ending before middle after first.went (subst Q same second.went));
     }
 
--- commands that stopped, and others behind them
-pub Stopped-more : (commands others : List Token) (old : Option Machine) (tag : ℕ) (ending : Ending) (before after : Told) → (ending ≡ Complete → ⊥) → Stopped commands old tag ending before after → Stopped (commands ++ others) old tag ending before after
-Stopped-more commands others old tag ending before after stops stopped =
+-- an item that stopped, and what was left behind it
+pub Stopped-more : (given others : List Token) (job : JobState) (tag : ℕ) (ending : Ending) (before after : Told) → (ending ≡ Complete → ⊥) → StoppedAt given job tag ending before after → Stopped (given ++ others) job tag ending before after
+Stopped-more given others job tag ending before after stops stopped =
     let from = stopped.from in
-    let joined = run_all-append commands others from in
-    let P : Run → Type 0 = λ run. WentOut tag run.outputs ending before after in
+    let all = left given job.bodies from in
+    let more = stopped.others ++ trace others (last_machine from all) in
+    let P : List Output → Type 0 = λ outputs. WentOut tag outputs ending before after in
+    let is : left (given ++ others) job.bodies from ≡ stopped.item ∷ more =
+    left-append given others job.bodies from ∙ ap (λ (front : List Run). front ++ trace others (last_machine from all)) stopped.are in
     record {
       from = from;
       starts = stopped.starts;
-      went = subst P (sym joined) (WentOut-stopped tag (run_all commands from).outputs (run_all others (run_all commands from).machine).outputs ending before after stops stopped.went);
+      went = subst P (sym (ap joined is)) (WentOut-stopped tag stopped.item.outputs (joined more) ending before after stops stopped.went);
     }
 
--- one command that was carried out
-pub Carried-one : (command : Token) (machine : Machine) (old new : Option Machine) (tag : ℕ) (before after : Told) → old ≡ Some machine → new ≡ Some (run command machine).machine → WentOut tag (run command machine).outputs Complete before after → Carried (command ∷ []) old new tag before after
-Carried-one command machine old new tag before after starts left went =
-    let same = run_all-one command machine in
-    let P : Run → Type 0 = λ run. WentOut tag run.outputs Complete before after in
-    record { from = machine; starts = starts; left = left ∙ ap (λ (run : Run). Some run.machine) (sym same); went = subst P (sym same) went }
-
-pub Stopped-one : (command : Token) (machine : Machine) (old : Option Machine) (tag : ℕ) (ending : Ending) (before after : Told) → old ≡ Some machine → WentOut tag (run command machine).outputs ending before after → Stopped (command ∷ []) old tag ending before after
-Stopped-one command machine old tag ending before after starts went =
-    let P : Run → Type 0 = λ run. WentOut tag run.outputs ending before after in
-    record { from = machine; starts = starts; went = subst P (sym (run_all-one command machine)) went }
-
 -- where all went out, the sinks can count as before
-pub can_count-then : (commands : List Token) (old new : Option Machine) (tag : ℕ) (before after : Told) → Carried commands old new tag before after → CanCount before → CanCount after
-can_count-then commands old new tag before after carried can = record {
+pub can_count-then : (commands : List Token) (items : List Run) (old new : JobState) (tag : ℕ) (before after : Told) → Carried commands items old new tag before after → CanCount before → CanCount after
+can_count-then commands items old new tag before after carried can = record {
   sheets = subst (λ (n : ℕ). n < most_faults) (sym carried.went.sheet_faults) can.sheets;
   replies = subst (λ (n : ℕ). n < most_faults) (sym carried.went.reply_faults) can.replies;
 }
@@ -125,16 +127,18 @@ closed-then from bytes commands closed mode rest steps ends = (
 
 pub Goes-none : (job : JobState) (tag : ℕ) (told : Told) → IsSome job.machine → Goes job [] [] tag job told told
 Goes-none job tag told running = record {
+  items = [];
   so_far = λ going. (going, (refl, append-nil job.held.bytes));
   to_end = λ more commands owes. owes;
-  carried = Carried-none job.machine tag told running;
+  carried = Carried-none job job tag told running refl refl;
 }
 
 pub Goes-push : (job : JobState) (piece : List ℕ) (tag : ℕ) (told : Told) → IsSome job.machine → job.held.ended ≡ false → Goes job piece [] tag (with_piece piece job) told told
 Goes-push job piece tag told running going = record {
+  items = [];
   so_far = λ _. (going, (refl, refl));
   to_end = λ more commands owes. (λ ended. absurd (true≢false (sym ended ∙ going)), owed job.exited more commands owes.1);
-  carried = Carried-none job.machine tag told running;
+  carried = Carried-none job (with_piece piece job) tag told running refl refl;
 } where
   owed : (exited : Bool) (more : List ℕ) (commands : List Token) → MatchBool exited (commands ≡ []) ((closed : List Token) × ClosedFrom job.held.mode ((job.held.bytes ++ piece) ++ more) closed × (commands ≡ with_exit closed)) → MatchBool exited (commands ≡ []) ((closed : List Token) × ClosedFrom job.held.mode (job.held.bytes ++ (piece ++ more)) closed × (commands ≡ with_exit closed))
   owed true more commands none = none
@@ -144,13 +148,15 @@ Goes-push job piece tag told running going = record {
 
 pub Goes-ends : (job : JobState) (tag : ℕ) (told : Told) → IsSome job.machine → Goes job [] [] tag (input_ended job) told told
 Goes-ends job tag told running = record {
+  items = [];
   so_far = λ going. absurd (true≢false going);
   to_end = λ more commands owes. (λ _. owes.0 refl, owes.1);
-  carried = Carried-none job.machine tag told running;
+  carried = Carried-none job (input_ended job) tag told running refl refl;
 }
 
 pub Goes-then : (old between new : JobState) (bytes more : List ℕ) (given others : List Token) (tag : ℕ) (before middle after : Told) → Goes old bytes given tag between before middle → Goes between more others tag new middle after → Goes old (bytes ++ more) (given ++ others) tag new before after
 Goes-then old between new bytes more given others tag before middle after first second = record {
+  items = first.items ++ second.items;
   so_far = λ going.
       let last = second.so_far going in
       let start = first.so_far last.0 in
@@ -161,8 +167,16 @@ Goes-then old between new bytes more given others tag before middle after first 
       let P : List ℕ → Type 0 = λ all. Owes old all ((given ++ others) ++ commands) in
       let Q : List Token → Type 0 = λ all. Owes old (bytes ++ (more ++ last)) all in
       subst P (sym (append_assoc bytes more last)) (subst Q (sym (append_assoc given others commands)) (first.to_end (more ++ last) (others ++ commands) (second.to_end last commands owes)));
-  carried = Carried-then given others old.machine between.machine new.machine tag before middle after first.carried second.carried;
+  carried = Carried-then given others first.items second.items old between new tag before middle after first.carried second.carried;
 }
+
+-- the items of both, one after the other
+pub Goes-items : (old between new : JobState) (bytes more : List ℕ) (given others : List Token) (tag : ℕ) (before middle after : Told)
+    → (first : Goes old bytes given tag between before middle) (second : Goes between more others tag new middle after)
+    → (all : Goes old (bytes ++ more) (given ++ others) tag new before after) × (all.items ≡ first.items ++ second.items)
+unfolding Goes-then
+Goes-items old between new bytes more given others tag before middle after first second =
+    (Goes-then old between new bytes more given others tag before middle after first second, refl)
 
 -- the next command of what a scanner holds
 passes_owed : (held next : ScannerState) (command : Token) (more : List ℕ) (closed : List Token) → Passes held command next → (next.ended ≡ true → more ≡ []) → ClosedFrom next.mode (next.bytes ++ more) closed → ClosedFrom held.mode (held.bytes ++ more) (command ∷ closed)
@@ -179,64 +193,90 @@ passes_owed held next command more closed passes none_after ends = by held.ended
       let steps = steps-more held.mode held.bytes more (command ∷ []) next.mode next.bytes (used, next.bytes, next.mode, bytes_are, head, (refl, refl)) in
       closed-then held.mode (held.bytes ++ more) (command ∷ []) closed next.mode (next.bytes ++ more) steps ends
 
-pub passes-to_end : (held next : ScannerState) (old new : Option Machine) (command : Token) (more : List ℕ) (commands : List Token) → Passes held command next → Owes (record { held = next; machine = new; exited = false }) more commands → Owes (record { held = held; machine = old; exited = false }) more (command ∷ commands)
-passes-to_end held next old new command more commands passes owes = (
-  λ ended. owes.0 (passes.ended ∙ ended),
-  (command ∷ owes.1.0, passes_owed held next command more owes.1.0 passes owes.0 owes.1.1, ap (λ all. command ∷ all) owes.1.2),
-)
+pub passes-to_end : (old new : JobState) (command : Token) (more : List ℕ) (commands : List Token) → old.exited ≡ false → new.exited ≡ false → Passes old.held command new.held → Owes new more commands → Owes old more (command ∷ commands)
+passes-to_end old new command more commands going still passes owes =
+    let P : Bool → Type 0 = λ exited. MatchBool exited (commands ≡ []) ((closed : List Token) × ClosedFrom new.held.mode (new.held.bytes ++ more) closed × (commands ≡ with_exit closed)) in
+    let Q : Bool → Type 0 = λ exited. MatchBool exited (command ∷ commands ≡ []) ((closed : List Token) × ClosedFrom old.held.mode (old.held.bytes ++ more) closed × (command ∷ commands ≡ with_exit closed)) in
+    let owing = subst P still owes.1 in (
+      λ ended. owes.0 (passes.ended ∙ ended),
+      subst Q (sym going) (command ∷ owing.0, passes_owed old.held new.held command more owing.0 passes owes.0 owing.1, ap (λ all. command ∷ all) owing.2),
+    )
 
-pub Goes-command : (held next : ScannerState) (old new : Option Machine) (command : Token) (tag : ℕ) (before after : Told) → Passes held command next → Carried (command ∷ []) old new tag before after → Goes (record { held = held; machine = old; exited = false }) [] (command ∷ []) tag (record { held = next; machine = new; exited = false }) before after
-Goes-command held next old new command tag before after passes carried = record {
+unfoldable pub Goes-command : (old new : JobState) (command : Token) (items : List Run) (tag : ℕ) (before after : Told) → old.exited ≡ false → new.exited ≡ false → Passes old.held command new.held → Carried (command ∷ []) items old new tag before after → Goes old [] (command ∷ []) tag new before after
+Goes-command old new command items tag before after not_exited still_not passes carried = record {
+  items = items;
   so_far = λ going.
-      let still : held.ended ≡ false = sym passes.ended ∙ going in
+      let still : old.held.ended ≡ false = sym passes.ended ∙ going in
       let (used, bytes_are, head) = passes.head still in
-      (still, (used, next.bytes, next.mode, append-nil held.bytes ∙ bytes_are, head, (refl, refl)));
-  to_end = λ more commands owes. passes-to_end held next old new command more commands passes owes;
+      (still, (used, new.held.bytes, new.held.mode, append-nil old.held.bytes ∙ bytes_are, head, (refl, refl)));
+  to_end = λ more commands owes. passes-to_end old new command more commands not_exited still_not passes owes;
   carried = carried;
 }
 
-pub Stops-command : (held next : ScannerState) (old : Option Machine) (command : Token) (more : List ℕ) (tag : ℕ) (ending : Ending) (before after : Told) → (ending ≡ Complete → ⊥) → Passes held command next → (held.ended ≡ true → more ≡ []) → Stopped (command ∷ []) old tag ending before after → Stops (record { held = held; machine = old; exited = false }) more tag ending before after
-Stops-command held next old command more tag ending before after stops passes none_after stopped =
-    let others = Owes-some (record { held = next; machine = old; exited = false }) more (λ ended. none_after (sym passes.ended ∙ ended)) in
-    (command ∷ others.0, passes-to_end held next old old command more others.0 passes others.1, Stopped-more (command ∷ []) others.0 old tag ending before after stops stopped)
+-- a step in a body that runs
+unfoldable pub Goes-inside : (old new : JobState) (items : List Run) (tag : ℕ) (before after : Told) → new.held ≡ old.held → new.exited ≡ old.exited → Carried [] items old new tag before after → Goes old [] [] tag new before after
+Goes-inside old new items tag before after held exited carried = record {
+  items = items;
+  so_far = λ going.
+      let P : ScannerState → Type 0 = λ (now : ScannerState). (now.ended ≡ false) → (old.held.ended ≡ false) × Steps old.held.mode (old.held.bytes ++ []) [] now.mode now.bytes in
+      subst P (sym held) (λ still. (still, (refl, append-nil old.held.bytes))) going;
+  to_end = λ more commands owes.
+      let Q : ScannerState → Bool → Type 0 = λ now out. (now.ended ≡ true → more ≡ []) × MatchBool out (commands ≡ []) ((closed : List Token) × ClosedFrom now.mode (now.bytes ++ more) closed × (commands ≡ with_exit closed)) in
+      subst (λ (out : Bool). Q old.held out) exited (subst (λ (now : ScannerState). Q now new.exited) held owes);
+  carried = carried;
+}
 
 -- the exit that is added
-exit_owed : (held : ScannerState) (machine : Option Machine) → held.ended ≡ true → IsDone held → Owes (record { held = held; machine = machine; exited = false }) [] (Uel ∷ [])
-exit_owed held machine ended done =
-    let P : List ℕ → Type 0 = λ all. ClosedFrom held.mode all [] in
-    (λ _. refl, ([], subst P (sym (append-nil held.bytes)) (done.closed ended), refl))
+pub exit_owed : (job : JobState) → job.exited ≡ false → job.held.ended ≡ true → IsDone job.held → Owes job [] (Uel ∷ [])
+exit_owed job going ended done =
+    let P : List ℕ → Type 0 = λ all. ClosedFrom job.held.mode all [] in
+    let Q : Bool → Type 0 = λ exited. MatchBool exited (Uel ∷ [] ≡ []) ((closed : List Token) × ClosedFrom job.held.mode (job.held.bytes ++ []) closed × (Uel ∷ [] ≡ with_exit closed)) in
+    (λ _. refl, subst Q (sym going) ([], subst P (sym (append-nil job.held.bytes)) (done.closed ended), refl))
 
-pub Goes-exit : (held : ScannerState) (old new : Option Machine) (tag : ℕ) (before after : Told) → held.ended ≡ true → IsDone held → Carried (Uel ∷ []) old new tag before after → Goes (record { held = held; machine = old; exited = false }) [] (Uel ∷ []) tag (record { held = held; machine = new; exited = true }) before after
-Goes-exit held old new tag before after ended done carried = record {
-  so_far = λ going. absurd (true≢false (sym ended ∙ going));
-  to_end = λ more commands owes.
-      let P : List ℕ → Type 0 = λ all. Owes (record { held = held; machine = old; exited = false }) all (Uel ∷ commands) in
-      let Q : List Token → Type 0 = λ all. Owes (record { held = held; machine = old; exited = false }) [] (Uel ∷ all) in
-      subst P (sym (owes.0 ended)) (subst Q (sym owes.1) (exit_owed held old ended done));
-  carried = carried;
-}
+unfoldable pub Goes-exit : (old new : JobState) (items : List Run) (tag : ℕ) (before after : Told) → old.exited ≡ false → new.exited ≡ true → new.held ≡ old.held → old.held.ended ≡ true → IsDone old.held → Carried (Uel ∷ []) items old new tag before after → Goes old [] (Uel ∷ []) tag new before after
+Goes-exit old new items tag before after going exited held ended done carried =
+    let still : new.held.ended ≡ true = ap (λ (now : ScannerState). now.ended) held ∙ ended in
+    record {
+      items = items;
+      so_far = λ now. absurd (true≢false (sym still ∙ now));
+      to_end = λ more commands owes.
+          let P : List ℕ → Type 0 = λ all. Owes old all (Uel ∷ commands) in
+          let Q : List Token → Type 0 = λ all. Owes old [] (Uel ∷ all) in
+          let R : Bool → Type 0 = λ out. MatchBool out (commands ≡ []) ((closed : List Token) × ClosedFrom new.held.mode (new.held.bytes ++ more) closed × (commands ≡ with_exit closed)) in
+          let none : commands ≡ [] = subst R exited owes.1 in
+          subst P (sym (owes.0 still)) (subst Q (sym none) (exit_owed old going ended done));
+      carried = carried;
+    }
 
-pub Stops-exit : (held : ScannerState) (old : Option Machine) (more : List ℕ) (tag : ℕ) (ending : Ending) (before after : Told) → held.ended ≡ true → more ≡ [] → IsDone held → Stopped (Uel ∷ []) old tag ending before after → Stops (record { held = held; machine = old; exited = false }) more tag ending before after
-Stops-exit held old more tag ending before after ended none done stopped =
-    let P : List ℕ → Type 0 = λ all. Stops (record { held = held; machine = old; exited = false }) all tag ending before after in
-    subst P (sym none) (Uel ∷ [], exit_owed held old ended done, stopped)
+-- Whatever a step takes of the stream, something is owed behind it.
+taken_owed : (job : JobState) (given : List Token) (more : List ℕ) → (job.held.ended ≡ true → more ≡ []) → TakesOf job given → (others : List Token) × Owes job more (given ++ others)
+taken_owed job given more none_after (inl (_, none)) =
+    let owed = Owes-some job more none_after in
+    let P : List Token → Type 0 = λ front. Owes job more (front ++ owed.0) in
+    (owed.0, subst P (sym none) owed.1)
+taken_owed job given more none_after (inr (command, (_, going, inl (next, passes)), is)) =
+    let new : JobState = record { held = next; machine = job.machine; bodies = job.bodies; exited = false } in
+    let others = Owes-some new more (λ ended. none_after (sym passes.ended ∙ ended)) in
+    let P : List Token → Type 0 = λ front. Owes job more (front ++ others.0) in
+    (others.0, subst P (sym is) (passes-to_end job new command more others.0 going refl passes others.1))
+taken_owed job given more none_after (inr (command, (_, going, inr (ended, done, exit)), is)) =
+    let P : List Token → Type 0 = λ front. Owes job more (front ++ []) in
+    let Q : Token → Type 0 = λ one. Owes job more (one ∷ []) in
+    let R : List ℕ → Type 0 = λ all. Owes job all (Uel ∷ []) in
+    ([], subst P (sym is) (subst Q (sym exit) (subst R (sym (none_after ended)) (exit_owed job going ended done))))
 
 -- a step that stopped
 pub Stops-due : (job : JobState) (bytes : List ℕ) (tag : ℕ) (ending : Ending) (before after : Told) → (ending ≡ Complete → ⊥) → (job.held.ended ≡ true → bytes ≡ []) → StopsAtDue job tag ending before after → Stops job bytes tag ending before after
-Stops-due job bytes tag ending before after stops none_after (command, (exited, next), stopped) = by job.exited exited next where
-  by : (exited : Bool) → exited ≡ false → IsNext job.held command ⊎ ((job.held.ended ≡ true) × IsDone job.held × (command ≡ Uel)) → Stops (record { held = job.held; machine = job.machine; exited = exited }) bytes tag ending before after
-  by true e next = absurd (true≢false e)
-  by false e (inl (next, passes)) = Stops-command job.held next job.machine command bytes tag ending before after stops passes none_after stopped
-  by false e (inr (ended, done, is)) =
-      let P : Token → Type 0 = λ one. Stopped (one ∷ []) job.machine tag ending before after in
-      Stops-exit job.held job.machine bytes tag ending before after ended (none_after ended) done (subst P is stopped)
+Stops-due job bytes tag ending before after stops none_after (given, takes, stopped) =
+    let owed = taken_owed job given bytes none_after takes in
+    (given ++ owed.0, owed.1, Stopped-more given owed.0 job tag ending before after stops stopped)
 
 -- a job that stopped after it had gone on
 pub Stops-then : (old between : JobState) (bytes more : List ℕ) (given : List Token) (tag : ℕ) (ending : Ending) (before middle after : Told) → Goes old bytes given tag between before middle → Stops between more tag ending middle after → Stops old (bytes ++ more) tag ending before after
 Stops-then old between bytes more given tag ending before middle after goes stops = (
   given ++ stops.0,
   goes.to_end more stops.0 stops.1,
-  Stopped-then given stops.0 old.machine between.machine tag ending before middle after goes.carried stops.2,
+  Stopped-then given stops.0 goes.items old between tag ending before middle after goes.carried stops.2,
 )
 
 -- memory ran out before anything went out
@@ -244,4 +284,4 @@ pub Stops-memory : (job : JobState) (bytes : List ℕ) (tag : ℕ) (told : Told)
 Stops-memory job bytes tag told running none_after =
     let owed = Owes-some job bytes none_after in
     let some = some_of job.machine running in
-    (owed.0, owed.1, record { from = some.0; starts = some.1; went = record { taken = []; others = (run_all owed.0 some.0).outputs; outputs_are = refl; took = TookAll-none tag told } })
+    (owed.0, owed.1, record { from = some.0; starts = some.1; went = record { taken = []; others = joined (left owed.0 job.bodies some.0); outputs_are = refl; took = TookAll-none tag told } })

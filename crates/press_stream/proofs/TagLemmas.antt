@@ -100,9 +100,10 @@ Goes-under old new bytes given tag other before after from goes same =
       told.0,
       told.1,
       record {
+        items = goes.items;
         so_far = goes.so_far;
         to_end = goes.to_end;
-        carried = record { from = goes.carried.from; starts = goes.carried.starts; left = goes.carried.left; went = told.2 };
+        carried = record { from = goes.carried.from; starts = goes.carried.starts; ends = goes.carried.ends; are = goes.carried.are; went = told.2 };
       },
     )
 

@@ -1,14 +1,17 @@
 -- What a job answers.
-use Rattle.std.specs.Prelude.{◌≡◌, ◌<◌, ℕ, List, [], ◌∷◌, ◌++◌, Option, Some, None, IsSome, Result, Ok, Err, true, false, ◌⊎◌, ⊤}
+use Rattle.std.specs.Prelude.{◌≡◌, ◌≢◌, ◌≤◌, ◌+◌, ℕ, List, [], ◌∷◌, ◌++◌, Option, Some, None, IsSome, Result, Ok, Err, true, false, ◌⊎◌, ⊤, length}
 use Rattle.std.specs.Io.KnownBytes.{Consumes, IsAtEnd}
 use Rattle.press_cmd.specs.Token.{Token, Uel}
-use Rattle.press_cmd.specs.Kinds.{kind_of}
 use Rattle.press_cmd.specs.declared.variant.Kind.{Kind}
 use Rattle.press_scan.specs.ScannerState.{ScannerState}
 use Rattle.press_scan.specs.Gives.{Passes, IsDone, IsNext}
 use Rattle.press_sink.specs.Told.{Told}
-use Rattle.press_sink.specs.Sending.{Ending, AtSheet, AtReply, ForMemory}
-use Rattle.press_engine.specs.Engine.{NeedsMemory}
+use Rattle.press_sink.specs.Sending.{Ending, Complete, AtSheet, AtReply, ForMemory, WentOut}
+use Rattle.press_engine.specs.Engine.{IsOfKind, NeedsMemory}
+use Rattle.press_engine.specs.Machine.{Run, levels}
+use Rattle.press_engine.specs.Stack.{owed}
+use Rattle.press_engine.specs.Trace.{trace_at}
+use Rattle.press_engine.specs.declared.frame.Frame.{Frame}
 use Rattle.press_engine.specs.declared.machine.Machine.{Machine}
 use Rattle.press_engine.specs.declared.fault.EngineError.{EngineError}
 use Rattle.press_engine.specs.declared.fault.EngineError.TheVariants as engine_errors
@@ -16,8 +19,8 @@ use Rattle.press_stream.specs.declared.fault.JobError.{JobError}
 use Rattle.press_stream.specs.declared.fault.JobError.TheVariants as errors
 use Rattle.press_stream.specs.declared.step.Step.{Step}
 use Rattle.press_stream.specs.declared.step.Step.TheVariants as answers
-use Rattle.press_stream.specs.State.{JobState, IsHungry, IsOver, IsAfterEnd, with_piece, most_steps}
-use Rattle.press_stream.specs.Meaning.{Carried, Stopped, Goes, Stops}
+use Rattle.press_stream.specs.State.{JobState, IsHungry, IsOver, IsAfterEnd, with_piece, most_commands}
+use Rattle.press_stream.specs.Meaning.{StoppedAt, Goes, Stops}
 
 -- an engine's error as a job's
 abbrev pub job_error : EngineError → JobError
@@ -26,24 +29,47 @@ job_error engine_errors.ReplyFault = errors.ReplyFault
 job_error engine_errors.Failed = errors.Failed
 job_error engine_errors.NoMemory = errors.NoMemory
 
--- One command was handed to an engine. Memory ran out only where the command may take some.
-abbrev pub CarriesOne : Token → Option Machine → ℕ → Result Kind JobError → Option Machine → Told → Told → Type 0
-CarriesOne command old tag (Ok kind) new before after = (kind ≡ kind_of command) × Carried (command ∷ []) old new tag before after
-CarriesOne command old tag (Err errors.SinkFault) new before after = (new ≡ None) × Stopped (command ∷ []) old tag AtSheet before after
-CarriesOne command old tag (Err errors.ReplyFault) new before after = (new ≡ None) × Stopped (command ∷ []) old tag AtReply before after
-CarriesOne command old tag (Err errors.NoMemory) new before after =
-    (new ≡ None) × Stopped (command ∷ []) old tag ForMemory before after × NeedsMemory old command
-CarriesOne command old tag (Err errors.Failed) new before after = (old ≡ None) × (new ≡ None) × (after ≡ before)
-CarriesOne command old tag (Err errors.ReadFault) new before after = ⊥
-CarriesOne command old tag (Err errors.AfterEnd) new before after = ⊥
+-- An engine did the first of the items that were left, whose command has this kind; what its bodies owe now are the others.
+pub record DidOne (owing : Machine → List Run) (old : Option Machine) (tag : ℕ) (kind : Kind) (new : Option Machine) (still : List Frame) (before after : Told) : Type 0 where
+  pub from : Machine
+  pub starts : old ≡ Some from
+  pub item : Run
+  pub is_kind : IsOfKind item.machine.last kind
+  pub ends : new ≡ Some item.machine
+  pub are : owing from ≡ item ∷ owed still item.machine
+  pub went : WentOut tag item.outputs Complete before after
+
+-- It stopped in that item, and its outputs went out as far as the ending says.
+pub record StoppedIn (owing : Machine → List Run) (old : Option Machine) (tag : ℕ) (ending : Ending) (before after : Told) : Type 0 where
+  pub from : Machine
+  pub starts : old ≡ Some from
+  pub item : Run
+  pub others : List Run
+  pub are : owing from ≡ item ∷ others
+  pub went : WentOut tag item.outputs ending before after
+
+-- A step of an engine to which these items were left.
+abbrev pub Carries : (Machine → List Run) → Option Machine → ℕ → Result Kind JobError → Option Machine → List Frame → Told → Told → Type 0
+Carries owing old tag (Ok kind) new still before after = DidOne owing old tag kind new still before after
+Carries owing old tag (Err errors.SinkFault) new still before after = (new ≡ None) × StoppedIn owing old tag AtSheet before after
+Carries owing old tag (Err errors.ReplyFault) new still before after = (new ≡ None) × StoppedIn owing old tag AtReply before after
+Carries owing old tag (Err errors.NoMemory) new still before after = (new ≡ None) × StoppedIn owing old tag ForMemory before after
+Carries owing old tag (Err errors.Failed) new still before after = (old ≡ None) × (new ≡ None) × (after ≡ before)
+Carries owing old tag (Err errors.ReadFault) new still before after = ⊥
+Carries owing old tag (Err errors.AfterEnd) new still before after = ⊥
+
+-- One command was handed to an engine in which no body ran. Memory ran out only where the command may take some.
+abbrev pub CarriesOne : Token → Option Machine → ℕ → Result Kind JobError → Option Machine → List Frame → Told → Told → Type 0
+CarriesOne command old tag result new still before after =
+    Carries (trace_at levels command) old tag result new still before after × (result ≡ Err errors.NoMemory → NeedsMemory old command)
 
 -- The next command that a scanner holds was handed to an engine; or it holds none, and nothing changed.
-abbrev pub CarriesNext : ScannerState → Option Machine → ℕ → Result (Option Kind) JobError → ScannerState → Option Machine → Told → Told → Type 0
-CarriesNext held old tag (Ok (Some kind)) next new before after =
-    (command : Token) × Passes held command next × CarriesOne command old tag (Ok kind) new before after
-CarriesNext held old tag (Ok None) next new before after = IsDone held × (next ≡ held) × (new ≡ old) × (after ≡ before)
-CarriesNext held old tag (Err error) next new before after =
-    (command : Token) × Passes held command next × CarriesOne command old tag (Err error) new before after
+abbrev pub CarriesNext : ScannerState → Option Machine → ℕ → Result (Option Kind) JobError → ScannerState → Option Machine → List Frame → Told → Told → Type 0
+CarriesNext held old tag (Ok (Some kind)) next new still before after =
+    (command : Token) × Passes held command next × CarriesOne command old tag (Ok kind) new still before after
+CarriesNext held old tag (Ok None) next new still before after = IsDone held × (next ≡ held) × (new ≡ old) × (still ≡ []) × (after ≡ before)
+CarriesNext held old tag (Err error) next new still before after =
+    (command : Token) × Passes held command next × CarriesOne command old tag (Err error) new still before after
 
 -- A job stopped at a fault, and has failed for good: so much went out as the fault's ending says. A job that had failed
 -- before lets nothing out.
@@ -91,25 +117,35 @@ IsEarly (Err errors.Failed) = ⊤
 IsEarly (Err errors.AfterEnd) = ⊤
 IsEarly _ = ⊥
 
--- One command of this kind was carried out.
-pub record RanOne (old : JobState) (tag : ℕ) (kind : Kind) (new : JobState) (before after : Told) : Type 0 where
-  pub command : Token
-  pub is_kind : kind ≡ kind_of command
-  pub goes : Goes old [] (command ∷ []) tag new before after
-  pub fewer : most_steps new < most_steps old
-  pub still : new.held.ended ≡ old.held.ended
-
--- The command that comes next: the first of what the scanner holds, or the universal exit that is added where nothing is left.
+-- The command of the stream that comes next, where no body runs: the first of what the scanner holds, or the universal exit
+-- that is added where nothing is left.
 abbrev pub IsDue : JobState → Token → Type 0
 IsDue job command =
-    (job.exited ≡ false) × (IsNext job.held command ⊎ ((job.held.ended ≡ true) × IsDone job.held × (command ≡ Uel)))
+    (job.bodies ≡ []) × (job.exited ≡ false)
+    × (IsNext job.held command ⊎ ((job.held.ended ≡ true) × IsDone job.held × (command ≡ Uel)))
 
--- The command that comes next was carried out, and of its outputs so much went out as the ending says.
+-- what a step takes of the stream: nothing while a body runs, and else the command that comes next
+abbrev pub TakesOf : JobState → List Token → Type 0
+TakesOf job given =
+    ((job.bodies ≢ []) × (given ≡ [])) ⊎ ((command : Token) × IsDue job command × (given ≡ command ∷ []))
+
+-- A table step was taken: the first item of what is left of the job, whose command has this kind.
+pub record RanOne (old : JobState) (tag : ℕ) (kind : Kind) (new : JobState) (before after : Told) : Type 0 where
+  pub given : List Token
+  pub takes : TakesOf old given
+  pub goes : Goes old [] given tag new before after
+  pub item : Run
+  pub one : goes.items ≡ item ∷ []
+  pub is_kind : IsOfKind item.machine.last kind
+  pub fewer : length given + most_commands new ≤ most_commands old
+  pub still : new.held.ended ≡ old.held.ended
+
+-- The item that comes next was begun, and of its outputs so much went out as the ending says.
 abbrev pub StopsAtDue : JobState → ℕ → Ending → Told → Told → Type 0
 StopsAtDue job tag ending before after =
-    (command : Token) × IsDue job command × Stopped (command ∷ []) job.machine tag ending before after
+    (given : List Token) × TakesOf job given × StoppedAt given job tag ending before after
 
--- A step stopped at a fault: so much went out of the command that comes next.
+-- A step stopped at a fault: so much went out of the item that comes next.
 abbrev pub StepFaults : JobState → ℕ → JobError → JobState → Told → Told → Type 0
 StepFaults old tag error new before after = FaultsBy (λ ending. StopsAtDue old tag ending before after) old error new before after
 
@@ -124,14 +160,20 @@ Takes old tag (Err error) new before after = StepFaults old tag error new before
 abbrev pub IsIdle : JobState → Type 0
 IsIdle job = IsHungry job ⊎ IsOver job
 
--- the command that comes next may take memory
+-- what comes next may take memory: a body runs, or the command of the stream may
 abbrev pub WantsMemory : JobState → Type 0
-WantsMemory job = (command : Token) × IsDue job command × NeedsMemory job.machine command
+WantsMemory job = (job.bodies ≢ []) ⊎ ((command : Token) × IsDue job command × NeedsMemory job.machine command)
 
--- The job goes on, by commands that it carries out, to where the one that comes next may take memory.
+-- The job goes on, by commands that it takes, to where what comes next may take memory.
 abbrev pub ComesToWant : JobState → ℕ → Told → Type 0
 ComesToWant job tag told =
     (given : List Token) × (last : JobState) × (between : Told) × Goes job [] given tag last told between × WantsMemory last
+
+-- A job did what was left of the bodies that run, and took no command of the stream.
+abbrev pub RunsOut : JobState → ℕ → Result (Unit {0}) JobError → JobState → Told → Told → Type 0
+RunsOut old tag (Ok _) new before after =
+    Goes old [] [] tag new before after × (new.bodies ≡ []) × (most_commands new ≤ most_commands old) × (new.held.ended ≡ old.held.ended)
+RunsOut old tag (Err error) new before after = FaultsBefore old [] tag error new before after
 
 -- A job carried out what it holds, until it is hungry or no step is left.
 abbrev pub Drains : JobState → ℕ → Result (Unit {0}) JobError → JobState → Told → Told → Type 0

@@ -1,6 +1,6 @@
 //! A stream that is carried out as its pieces come.
 
-use crate::carrying::take;
+use crate::carrying::{carry_inner, take};
 use crate::fault::JobError;
 use crate::phase::Phase;
 use crate::reading::{MOST_READS, PIECE, Piece, ReadCount, read_piece};
@@ -14,9 +14,9 @@ use std::marker::Model;
 
 /// A stream that is carried out as its pieces come: what a scanner finds in them is handed to an engine.
 ///
-/// Contracts see what the scanner holds, the engine's machine (none once the job has failed), and whether the universal exit
-/// that is added at the end of the stream was carried out. Each call speaks from what was held before it; the law
-/// `laws::chain` says that what went out is then that of all bytes handed in.
+/// Contracts see what the scanner holds, the engine's machine (none once the job has failed), the bodies that run in it, and
+/// whether the universal exit that is added at the end of the stream was taken. Each call speaks from what was held before it;
+/// the law `laws::chain` says that what went out is then that of all bytes handed in.
 ///
 /// Every call that is lent sinks delivers sheets under the tag. After `SinkFault` (301), `ReplyFault` (302), `ReadFault`
 /// (304) and `NoMemory` the job has failed, and answers `Failed` (303) from then on.
@@ -30,25 +30,24 @@ pub struct Job {
 impl Model for Job {
     ghost use Rattle.press_stream.specs.State.{JobState, job_state, Fits};
     ghost use Rattle.std.specs.Coded.{codes};
-    ghost use Rattle.std.specs.Prelude.{◌≡◌, []};
-    ghost use Rattle.press_engine.specs.Engine.{bodies};
+    ghost use Rattle.press_engine.specs.contracts.frame.Frame as frame;
     ghost use Rattle.press_engine.specs.contracts.machine.Machine as machine;
 
     ghost Value = { JobState };
 
-    ghost coded = { Prim.hlevel (codes, machine.the_row.coded) };
+    ghost coded = { Prim.hlevel (codes, machine.the_row.coded, frame.the_row.coded) };
 
     ghost view = { λ job. job_state job.scanner job.engine job.phase };
 
-    ghost invariant = { λ job. Fits job.scanner job.engine job.phase × (bodies job.engine ≡ []) };
+    ghost invariant = { λ job. Fits job.scanner job.engine job.phase };
 }
 
 impl Job {
-    ghost use Rattle.std.specs.Prelude.{◌≡◌, ◌<◌, ◌≤◌, ◌↔◌, length, take, false, None, IfOk, IfSome, IsTrue, IsSome, IsErrOf};
+    ghost use Rattle.std.specs.Prelude.{◌≡◌, ◌≢◌, ◌<◌, ◌≤◌, ◌↔◌, [], length, take, false, None, IfOk, IfSome, IsTrue, IsSome, IsErrOf};
     ghost use Rattle.press_sink.specs.Told.{both, CanCount};
     ghost use Rattle.press_engine.specs.Engine.{view_of};
     ghost use Rattle.press_stream.specs.State.{opened, with_piece, input_ended, IsHungry, IsOver, IsAfterEnd};
-    ghost use Rattle.press_stream.specs.Answers.{Pushes, IsGoing, IsEarly, Takes, WantsMemory, Drains, ComesToWant, Feeds, Finishes, RunsReader};
+    ghost use Rattle.press_stream.specs.Answers.{Pushes, IsGoing, IsEarly, Takes, WantsMemory, RunsOut, Drains, ComesToWant, Feeds, Finishes, RunsReader};
     ghost use Rattle.press_stream.specs.Pieces.{most_reads, no_reads, HasFault};
 
     /// A job at the beginning of a stream, with an engine after power on.
@@ -91,9 +90,12 @@ impl Job {
         self.scanner.end_input();
     }
 
-    /// Takes a step: one command is carried out whole, with the bodies that it starts. After the end of input the last step
-    /// is the universal exit that is added. `Hungry`: no whole command is there; `Ended`: no step is left; neither changes
-    /// anything.
+    /// Takes a table step: one command of the innermost body that runs, or, where none runs, of the stream. In the same step
+    /// each innermost body that is used up ends, and a page close that waited for its overlay is finished. After the end of
+    /// input the last command of the stream is the universal exit that is added. `Hungry`: no whole command is there, and no
+    /// body runs; `Ended`: no step is left; neither changes anything.
+    ///
+    /// Source: PCL 5 Printer Language Technical Reference Manual, Macros.
     ///
     /// # Errors
     ///
@@ -110,9 +112,12 @@ impl Job {
             (both (S.told sheets.new) (P.told replies.new)) }
         ensures memory { IsErrOf result JobError.NoMemory → WantsMemory self.old }
     {
+        if !self.is_idle() {
+            return self.step_inside(tag, sheets, replies);
+        }
         match self.phase {
             Phase::Failed => Err(JobError::Failed),
-            Phase::Over => Ok(Step::Ended),
+            Phase::Exited => Ok(Step::Ended),
             Phase::Running => {
                 let answer = take(
                     &mut self.scanner,
@@ -130,12 +135,40 @@ impl Job {
         }
     }
 
+    /// Takes the next command of the innermost body that runs.
+    fn step_inside<S: SheetSink, P: ReplySink>(
+        &mut self,
+        tag: u64,
+        sheets: &mut S,
+        replies: &mut P,
+    ) -> Result<Step, JobError>
+        requires inside { self.old.bodies ≢ [] }
+        requires can_count { CanCount (both (S.told sheets.old) (P.told replies.old)) }
+        ensures { Takes self.old tag result self.new
+            (both (S.told sheets.old) (P.told replies.old))
+            (both (S.told sheets.new) (P.told replies.new)) }
+    {
+        match carry_inner(&mut self.engine, tag, sheets, replies) {
+            Ok(kind) => Ok(Step::Ran(kind)),
+            Err(fault) => {
+                self.phase = Phase::Failed;
+                Err(fault)
+            }
+        }
+    }
+
     /// Whether no step is left. Before the end of input, and in a job that has failed, it is false.
     pub fn ended(&self) -> bool
-        ensures over { IsTrue result ↔ IsOver self.now }
-        ensures exited { result ≡ self.now.exited }
+        ensures { IsTrue result ↔ IsOver self.now }
     {
-        matches!(self.phase, Phase::Over)
+        matches!(self.phase, Phase::Exited) && self.engine.needs_command()
+    }
+
+    /// Whether no body runs.
+    fn is_idle(&self) -> bool
+        ensures { IsTrue result ↔ (self.now.bodies ≡ []) }
+    {
+        matches!(self.phase, Phase::Failed) || self.engine.needs_command()
     }
 
     /// What can be seen of the engine. Of a job that has failed nothing is said.
@@ -270,6 +303,27 @@ impl Job {
         }
     }
 
+    /// Takes steps until no body runs.
+    fn run_out<S: SheetSink, P: ReplySink>(
+        &mut self,
+        tag: u64,
+        sheets: &mut S,
+        replies: &mut P,
+    ) -> Result<(), JobError>
+        requires running { IsSome self.old.machine }
+        requires can_count { CanCount (both (S.told sheets.old) (P.told replies.old)) }
+        ensures runs_out { RunsOut self.old tag result self.new
+            (both (S.told sheets.old) (P.told replies.old))
+            (both (S.told sheets.new) (P.told replies.new)) }
+        ensures memory { IsErrOf result JobError.NoMemory
+            → ComesToWant self.old tag (both (S.told sheets.old) (P.told replies.old)) }
+    {
+        while !self.is_idle() {
+            self.step(tag, sheets, replies)?;
+        }
+        Ok(())
+    }
+
     /// Takes steps until there is none to take.
     fn drain<S: SheetSink, P: ReplySink>(
         &mut self,
@@ -285,7 +339,10 @@ impl Job {
         ensures memory { IsErrOf result JobError.NoMemory
             → ComesToWant self.old tag (both (S.told sheets.old) (P.told replies.old)) }
     {
-        while let Step::Ran(_) = self.step(tag, sheets, replies)? {}
+        self.run_out(tag, sheets, replies)?;
+        while let Step::Ran(_) = self.step(tag, sheets, replies)? {
+            self.run_out(tag, sheets, replies)?;
+        }
         Ok(())
     }
 

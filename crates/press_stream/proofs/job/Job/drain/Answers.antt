@@ -1,35 +1,71 @@
-use Rattle.std.proofs.Common.{[], ◌∷◌, ◌++◌, ◌∙◌, Err, refl, ap}
+use Rattle.std.proofs.Common.{[], ◌++◌, ◌∙◌, Err, refl, ap, arith}
 use Rattle.std.proofs.lemmas.Result.{err_from_is_err_and}
 use Rattle.press_stream.specs.declared.fault.JobError.{JobError}
 use Rattle.press_stream.proofs.Carries.{same_fault}
-use Rattle.press_stream.proofs.Going.{Goes-none, can_count-then}
+use Rattle.press_stream.proofs.Going.{can_count-then}
 use Rattle.press_stream.proofs.Faults.{FaultsBefore-after, FaultsBefore-step, Goes-after}
+use Rattle.press_stream.proofs.RunningOut.{one_taken, Wants-after}
 use Rattle.press_stream.proofs.job.Job.drain.Goals as goal
 
-pub loop-init : goal.loop-init
-loop-init g c = record {
-  given = [];
-  goes = Goes-none c.args.self.now c.args.tag _ c.requires.running;
-  still = refl;
-  can_count = c.requires.can_count;
-}
+pub returns-in_err-run_out-clause-drains : goal.returns-in_err-run_out-clause-drains
+returns-in_err-run_out-clause-drains g c =
+    let p = err_from_is_err_and c.from_residual.result c.from_residual.ensures.1 in
+    rw (p.1, p.2) (rw c.in_err-run_out.was at c.run_out.ensures.runs_out)
+
+pub loop-self-init : goal.loop-self-init
+loop-self-init g c =
+    let out = rw c.in_ok-run_out.was at c.run_out.ensures.runs_out in
+    record {
+      given = [];
+      goes = out.0;
+      still = out.3;
+      can_count = can_count-then [] out.0.items c.args.self.now c.run_out.new.self c.args.tag _ _ out.0.carried c.requires.can_count;
+      idle = out.1;
+    }
 
 pub returns-in_err-step-clause-drains : goal.returns-in_err-step-clause-drains
 returns-in_err-step-clause-drains g c =
-    let p = err_from_is_err_and c.from_residual.result c.from_residual.ensures.1 in
-    rw (p.1, p.2) (FaultsBefore-after c.args.self.now c.loop.self c.step.new.self [] c.loop.invariant.given c.args.tag _ _ _ _ c.loop.invariant.still c.loop.invariant.goes (FaultsBefore-step c.loop.self c.step.new.self c.args.tag _ _ _ (rw c.in_err-step.was at c.step.ensures.takes)))
+    let p = err_from_is_err_and c.from_residual-in_err-step.result c.from_residual-in_err-step.ensures.1 in
+    rw (p.1, p.2) (FaultsBefore-after c.args.self.now c.loop-self.self c.step.new.self [] c.loop-self.invariant.given c.args.tag _ _ _ _ c.loop-self.invariant.still c.loop-self.invariant.goes (FaultsBefore-step c.loop-self.self c.step.new.self c.args.tag _ _ _ (rw c.in_err-step.was at c.step.ensures.takes)))
 
 pub returns-in_err-step-clause-memory : goal.returns-in_err-step-clause-memory
 returns-in_err-step-clause-memory g c =
-    let p = err_from_is_err_and c.from_residual.result c.from_residual.ensures.1 in
-    rw (p.1, p.2) (λ e. (c.loop.invariant.given, c.loop.self, _, c.loop.invariant.goes, c.step.ensures.memory (c.in_err-step.was ∙ ap (λ (fault : JobError). Err fault) (same_fault _ _ _ refl e))))
+    let p = err_from_is_err_and c.from_residual-in_err-step.result c.from_residual-in_err-step.ensures.1 in
+    rw (p.1, p.2) (λ e. (c.loop-self.invariant.given, c.loop-self.self, _, c.loop-self.invariant.goes, c.step.ensures.memory (c.in_err-step.was ∙ ap (λ (fault : JobError). Err fault) (same_fault _ _ _ refl e))))
 
-pub loop-preserved : goal.loop-preserved
-loop-preserved g c =
+pub returns-in_err-run_out-2-clause-drains : goal.returns-in_err-run_out-2-clause-drains
+returns-in_err-run_out-2-clause-drains g c =
+    let p = err_from_is_err_and c.from_residual-in_err-run_out-2.result c.from_residual-in_err-run_out-2.ensures.1 in
     let ran = rw (c.in_ok-step.was, c.in-Ran.is) at c.step.ensures.takes in
+    let so_far = c.loop-self.invariant in
+    let goes = Goes-after c.args.self.now c.loop-self.self c.step.new.self [] so_far.given ran.given c.args.tag _ _ _ so_far.goes ran.goes in
+    rw (p.1, p.2) (FaultsBefore-after c.args.self.now c.step.new.self c.run_out-in-Ran.new.self [] (so_far.given ++ ran.given) c.args.tag _ _ _ _ (ran.still ∙ so_far.still) goes (rw c.in_err-run_out-2.was at c.run_out-in-Ran.ensures.runs_out))
+
+pub returns-in_err-run_out-2-clause-memory : goal.returns-in_err-run_out-2-clause-memory
+returns-in_err-run_out-2-clause-memory g c =
+    let p = err_from_is_err_and c.from_residual-in_err-run_out-2.result c.from_residual-in_err-run_out-2.ensures.1 in
+    let ran = rw (c.in_ok-step.was, c.in-Ran.is) at c.step.ensures.takes in
+    let so_far = c.loop-self.invariant in
+    let goes = Goes-after c.args.self.now c.loop-self.self c.step.new.self [] so_far.given ran.given c.args.tag _ _ _ so_far.goes ran.goes in
+    rw (p.1, p.2) (λ e. Wants-after c.args.self.now c.step.new.self (so_far.given ++ ran.given) c.args.tag _ _ goes (c.run_out-in-Ran.ensures.memory (c.in_err-run_out-2.was ∙ ap (λ (fault : JobError). Err fault) (same_fault _ _ _ refl e))))
+
+pub loop-self-preserved : goal.loop-self-preserved
+loop-self-preserved g c =
+    let ran = rw (c.in_ok-step.was, c.in-Ran.is) at c.step.ensures.takes in
+    let out = rw c.in_ok-run_out-2.was at c.run_out-in-Ran.ensures.runs_out in
+    let so_far = c.loop-self.invariant in
+    let goes = Goes-after c.args.self.now c.loop-self.self c.step.new.self [] so_far.given ran.given c.args.tag _ _ _ so_far.goes ran.goes in
+    let can = can_count-then ran.given ran.goes.items c.loop-self.self c.step.new.self c.args.tag _ _ ran.goes.carried so_far.can_count in
     record {
-      given = c.loop.invariant.given ++ ran.command ∷ [];
-      goes = Goes-after c.args.self.now c.loop.self c.step.new.self [] c.loop.invariant.given (ran.command ∷ []) c.args.tag _ _ _ c.loop.invariant.goes ran.goes;
-      still = ran.still ∙ c.loop.invariant.still;
-      can_count = can_count-then (ran.command ∷ []) c.loop.self.machine c.step.new.self.machine c.args.tag _ _ ran.goes.carried c.loop.invariant.can_count;
+      given = (so_far.given ++ ran.given) ++ [];
+      goes = Goes-after c.args.self.now c.step.new.self c.run_out-in-Ran.new.self [] (so_far.given ++ ran.given) [] c.args.tag _ _ _ goes out.0;
+      still = out.3 ∙ ran.still ∙ so_far.still;
+      can_count = can_count-then [] out.0.items c.step.new.self c.run_out-in-Ran.new.self c.args.tag _ _ out.0.carried can;
+      idle = out.1;
     }
+
+pub loop-self-smaller : goal.loop-self-smaller
+loop-self-smaller g c =
+    let ran = rw (c.in_ok-step.was, c.in-Ran.is) at c.step.ensures.takes in
+    let out = rw c.in_ok-run_out-2.was at c.run_out-in-Ran.ensures.runs_out in
+    omega (arith, one_taken c.loop-self.self ran.given c.loop-self.invariant.idle ran.takes, ran.fewer, out.2)

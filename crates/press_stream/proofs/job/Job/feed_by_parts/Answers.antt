@@ -31,7 +31,7 @@ loop-rest-preserved g c =
           ∙ ap (λ (xs : List ℕ). (so_far.fed ++ take c.take-count.result c.loop-rest.rest.now) ++ xs) (sym (take_rest c.loop-rest.rest.now c.take-count.result));
       goes = Goes-then c.args.self.now c.loop-rest.self c.drain.new.self so_far.fed (take c.take-count.result c.loop-rest.rest.now) so_far.given taken.0 c.args.tag _ _ _ so_far.goes taken.1;
       hungry = taken.2;
-      can_count = can_count-then taken.0 c.loop-rest.self.machine c.drain.new.self.machine c.args.tag _ _ taken.1.carried so_far.can_count;
+      can_count = can_count-then taken.0 taken.1.items c.loop-rest.self c.drain.new.self c.args.tag _ _ taken.1.carried so_far.can_count;
     }
 
 pub returns-in_err-drain : goal.returns-in_err-drain

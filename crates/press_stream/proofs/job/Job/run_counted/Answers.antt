@@ -34,7 +34,7 @@ loop-count-preserved-in-Continue-branch-2 g c =
       lost = Consumes-trans (g.R.Read.remaining c.args.reader.now) (g.R.Read.remaining c.loop-count.reader) (g.R.Read.remaining c.read_piece.new.reader) so_far.bytes piece so_far.lost gives.1;
       goes = Goes-then c.args.self.now c.loop-count.self c.feed.new.self so_far.bytes piece so_far.given fed.0 c.args.tag _ _ _ so_far.goes fed.1;
       hungry = fed.2;
-      can_count = can_count-then fed.0 c.loop-count.self.machine c.feed.new.self.machine c.args.tag _ _ fed.1.carried so_far.can_count;
+      can_count = can_count-then fed.0 fed.1.items c.loop-count.self c.feed.new.self c.args.tag _ _ fed.1.carried so_far.can_count;
       few = search rules;
       going = search rules;
     }

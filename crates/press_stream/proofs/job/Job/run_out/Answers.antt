@@ -1,0 +1,44 @@
+use Rattle.std.proofs.Common.{[], ◌∙◌, Err, refl, ap, inl, arith}
+use Rattle.std.proofs.lemmas.Result.{err_from_is_err_and}
+use Rattle.press_stream.specs.declared.fault.JobError.{JobError}
+use Rattle.press_stream.proofs.Carries.{same_fault}
+use Rattle.press_stream.proofs.Going.{Goes-none, can_count-then}
+use Rattle.press_stream.proofs.Faults.{FaultsBefore-after, FaultsBefore-step}
+use Rattle.press_stream.proofs.Inside.{not_idle}
+use Rattle.press_stream.proofs.RunningOut.{ran_inside, one_fewer, Goes-more}
+use Rattle.press_stream.proofs.job.Job.run_out.Goals as goal
+
+pub loop-self-init : goal.loop-self-init
+loop-self-init g c = record {
+  goes = Goes-none c.args.self.now c.args.tag _ c.requires.running;
+  fewer = omega arith;
+  still = refl;
+  can_count = c.requires.can_count;
+}
+
+pub returns-in_err-step-clause-runs_out : goal.returns-in_err-step-clause-runs_out
+returns-in_err-step-clause-runs_out g c =
+    let p = err_from_is_err_and c.from_residual.result c.from_residual.ensures.1 in
+    rw (p.1, p.2) (FaultsBefore-after c.args.self.now c.loop-self.self c.step.new.self [] [] c.args.tag _ _ _ _ c.loop-self.invariant.still c.loop-self.invariant.goes (FaultsBefore-step c.loop-self.self c.step.new.self c.args.tag _ _ _ (rw c.in_err-step.was at c.step.ensures.takes)))
+
+pub returns-in_err-step-clause-memory : goal.returns-in_err-step-clause-memory
+returns-in_err-step-clause-memory g c =
+    let p = err_from_is_err_and c.from_residual.result c.from_residual.ensures.1 in
+    rw (p.1, p.2) (λ e. ([], c.loop-self.self, _, c.loop-self.invariant.goes, c.step.ensures.memory (c.in_err-step.was ∙ ap (λ (fault : JobError). Err fault) (same_fault _ _ _ refl e))))
+
+pub loop-self-preserved : goal.loop-self-preserved
+loop-self-preserved g c =
+    let takes = rw c.in_ok-step.was at c.step.ensures.takes in
+    let inside = not_idle c.is_idle.result _ c.is_idle.ensures c.loop-self-test.true in
+    let (given, none, goes, item, one, fewer, still) = ran_inside c.loop-self.self c.step.new.self c.args.tag _ _ _ inside takes in
+    record {
+      goes = Goes-more c.args.self.now c.loop-self.self c.step.new.self c.args.tag _ _ _ _ inside c.loop-self.invariant.goes takes;
+      fewer = omega (arith, fewer, c.loop-self.invariant.fewer);
+      still = still ∙ c.loop-self.invariant.still;
+      can_count = can_count-then given goes.items c.loop-self.self c.step.new.self c.args.tag _ _ goes.carried c.loop-self.invariant.can_count;
+    }
+
+pub loop-self-smaller : goal.loop-self-smaller
+loop-self-smaller g c =
+    let takes = rw c.in_ok-step.was at c.step.ensures.takes in
+    one_fewer c.loop-self.self c.step.new.self c.args.tag _ _ _ (not_idle c.is_idle.result _ c.is_idle.ensures c.loop-self-test.true) takes

@@ -1,0 +1,20 @@
+use Rattle.std.proofs.Common.{◌≡◌, ◌≤◌, [], length}
+use Rattle.press_sink.specs.Told.{both, CanCount}
+use Rattle.press_stream.specs.State.{most_commands}
+use Rattle.press_stream.specs.Meaning.{Goes}
+use Rattle.press_stream.proofs.RunningOut.{still_owed}
+use Rattle.press_stream.proofs.job.Job.run_out.Given as goal
+
+-- the job has gone on by some items of the bodies that run
+abbrev pub invariant-loop-self : goal.invariant-loop-self
+invariant-loop-self g l =
+    record {
+      goes : Goes l.initial.self [] [] l.tag l.self (both (g.S.SheetSink.told l.initial.sheets) (g.P.ReplySink.told l.initial.replies)) (both (g.S.SheetSink.told l.sheets) (g.P.ReplySink.told l.replies));
+      fewer : most_commands l.self ≤ most_commands l.initial.self;
+      still : l.self.held.ended ≡ l.initial.self.held.ended;
+      can_count : CanCount (both (g.S.SheetSink.told l.sheets) (g.P.ReplySink.told l.replies));
+    }
+
+-- so many items are left of them
+abbrev pub decreases-loop-self : goal.decreases-loop-self
+decreases-loop-self g l = length (still_owed l.self)
