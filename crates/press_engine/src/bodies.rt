@@ -55,7 +55,7 @@ impl Bodies {
     ghost use Rattle.press_engine.specs.Engine.{Performs, TakesMemory};
     ghost use Rattle.press_engine.specs.Laws.{most_bodies};
     ghost use Rattle.press_engine.specs.Machine.{run, levels};
-    ghost use Rattle.press_engine.specs.Stack.{owed};
+    ghost use Rattle.press_engine.specs.Stack.{IsReady, owed};
     ghost use Rattle.press_engine.specs.Stepping.{GivesItem};
     ghost use Rattle.press_engine.specs.Table.{effect_on};
     ghost use Rattle.press_engine.specs.Trace.{trace_at};
@@ -82,6 +82,7 @@ impl Bodies {
     pub fn is_empty(&self) -> bool
         ensures empty { IsTrue result ↔ (self.now ≡ []) }
         ensures few { length self.now ≤ most_bodies }
+        ensures ready { IsReady self.now }
     {
         self.frames.is_empty()
     }

@@ -31,7 +31,7 @@ impl Engine {
     ghost use Rattle.press_engine.specs.Machine.{power_on, levels};
     ghost use Rattle.press_cmd.specs.Kinds.{kind_of};
     ghost use Rattle.press_engine.specs.Laws.{most_bodies};
-    ghost use Rattle.press_engine.specs.Stack.{owed};
+    ghost use Rattle.press_engine.specs.Stack.{IsReady, owed};
     ghost use Rattle.press_engine.specs.Trace.{trace_at};
     ghost use Rattle.press_engine.specs.Engine.{live, bodies, Runs, TakesNext, NeedsMemory, view_of};
 
@@ -52,12 +52,13 @@ impl Engine {
         })
     }
 
-    /// Whether the next step is one of the stream: no body runs. At most four run at a time.
+    /// Whether the next step is one of the stream: no body runs. At most four run at a time, and the innermost has a command.
     ///
     /// Source: PCL 5 Printer Language Technical Reference Manual, Macros, Macro Control.
     pub fn needs_command(&self) -> bool
         ensures none { IsTrue result ↔ (bodies self.now ≡ []) }
         ensures few { length (bodies self.now) ≤ most_bodies }
+        ensures ready { IsReady (bodies self.now) }
     {
         self.failed || self.bodies.is_empty()
     }

@@ -1,9 +1,9 @@
 -- Steps of an engine, and those of the job round it.
-use Rattle.std.proofs.Common.{◌≡◌, ◌≢◌, ◌∙◌, ◌↔◌, ◌≤◌, ◌+◌, ℕ, List, [], ◌∷◌, ◌++◌, length, true, false, Option, Some, None, Result, Ok, Err, IsSome, IsErrOf, refl, sym, ap, subst, inl, inr, arith}
+use Rattle.std.proofs.Common.{◌≡◌, ◌≢◌, ◌∙◌, ◌↔◌, ℕ, List, [], ◌∷◌, true, false, Option, Some, None, Result, Ok, Err, IsSome, IsErrOf, refl, sym, ap, subst, inl, inr, arith}
 use Rattle.std.proofs.lemmas.Bool.{false≢true}
 use Rattle.press_cmd.specs.Token.{Token, Uel}
 use Rattle.press_cmd.specs.declared.variant.Kind.{Kind}
-use Rattle.press_scan.specs.Gives.{Passes, IsDone}
+use Rattle.press_scan.specs.Gives.{IsDone}
 use Rattle.press_scan.specs.ScannerState.{ScannerState, buffer_size}
 use Rattle.press_sink.specs.Told.{Told}
 use Rattle.press_sink.specs.Sending.{Output, Ending, Complete, AtSheet, AtReply, ForMemory, WentOut}
@@ -17,7 +17,7 @@ use Rattle.press_engine.specs.Stack.{owed}
 use Rattle.press_engine.specs.Trace.{trace_at}
 use Rattle.press_stream.specs.declared.fault.JobError.{JobError}
 use Rattle.press_stream.specs.declared.fault.JobError.TheVariants as errors
-use Rattle.press_stream.specs.Answers.{job_error, DidOne, StoppedIn, Carries, CarriesOne, CarriesNext, TakesOf, RanOne, StepFaults, IsDue, WantsMemory}
+use Rattle.press_stream.specs.Answers.{job_error, DidOne, StoppedIn, Carries, CarriesOne, CarriesNext, TakesOf, RanOne, StepFaults, WantsMemory}
 use Rattle.press_stream.specs.Meaning.{left, Carried, StoppedAt}
 use Rattle.press_stream.specs.State.{JobState}
 use Rattle.press_stream.proofs.Items.{joined-one, left-none, left-one}

@@ -1,5 +1,5 @@
 -- Jobs that stopped at a fault, chained.
-use Rattle.std.proofs.Common.{◌≡◌, ◌∙◌, inl, inr, ℕ, List, [], ◌∷◌, ◌++◌, true, false, Option, IsSome, Some, None, Result, Ok, Err, refl, sym, ap, subst, append_assoc}
+use Rattle.std.proofs.Common.{◌≡◌, ◌∙◌, inl, inr, ℕ, List, [], ◌∷◌, ◌++◌, false, Option, IsSome, Some, None, Result, Ok, Err, refl, sym, ap, subst, append_assoc}
 use Rattle.std.proofs.lemmas.Bool.{true≢false}
 use Rattle.std.proofs.lemmas.List.{append-nil}
 use Rattle.press_cmd.specs.Token.{Token}
@@ -10,7 +10,7 @@ use Rattle.press_stream.specs.declared.fault.JobError.TheVariants as errors
 use Rattle.press_stream.specs.State.{JobState, IsHungry, with_piece, input_ended}
 use Rattle.press_stream.specs.Meaning.{Goes}
 use Rattle.press_stream.specs.Answers.{Drains, Feeds, Finishes, Faults, FaultsBefore, StepFaults}
-use Rattle.press_stream.proofs.Going.{Goes-then, Goes-push, Goes-ends, Stops-then, Stops-due, Stops-memory}
+use Rattle.press_stream.proofs.Going.{Goes-then, Goes-push, Goes-ends, Stops-then, Stops-due}
 
 -- a job that has failed has no machine
 none_is_no_some : {X : Type 0} (option : Option X) (value : X) → option ≡ None → option ≡ Some value → ⊥

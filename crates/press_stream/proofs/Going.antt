@@ -1,5 +1,5 @@
 -- How a job goes on.
-use Rattle.std.proofs.Common.{◌≡◌, ◌∙◌, ◌<◌, ◌⊎◌, inl, inr, ℕ, List, [], ◌∷◌, ◌++◌, Bool, true, false, Option, Some, None, IsSome, MatchBool, refl, sym, ap, subst}
+use Rattle.std.proofs.Common.{◌≡◌, ◌∙◌, ◌<◌, inl, inr, ℕ, List, [], ◌∷◌, ◌++◌, Bool, true, false, Option, Some, None, IsSome, MatchBool, refl, sym, ap, subst}
 use Rattle.std.proofs.lemmas.Bool.{false≢true, true≢false}
 use Rattle.std.proofs.lemmas.List.{append_assoc, append-nil}
 use Rattle.press_cmd.specs.Mode.{Mode}
@@ -27,7 +27,7 @@ some_of (Some value) some = (value, refl)
 some_of None some = absurd (false≢true some)
 
 -- an option has one value
-same_some : {X : Type 0} (option : Option X) (one other : X) → option ≡ Some one → option ≡ Some other → one ≡ other
+pub same_some : {X : Type 0} (option : Option X) (one other : X) → option ≡ Some one → option ≡ Some other → one ≡ other
 same_some option one other p q = cc
 
 -- no command changes nothing

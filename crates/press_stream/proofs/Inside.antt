@@ -1,12 +1,11 @@
 -- Steps in a body that runs.
-use Rattle.std.proofs.Common.{◌≡◌, ◌≢◌, ◌∙◌, ◌↔◌, ℕ, List, [], Bool, true, false, Option, Some, None, Result, Ok, Err, IsSome, IsTrue, refl, sym, ap, subst}
+use Rattle.std.proofs.Common.{◌≡◌, ◌≢◌, ◌∙◌, ◌↔◌, ℕ, List, [], Bool, false, Ok, Err, IsTrue, refl, sym, subst}
 use Rattle.std.proofs.lemmas.Bool.{false≢true}
 use Rattle.press_cmd.specs.declared.variant.Kind.{Kind}
 use Rattle.press_scan.specs.ScannerState.{ScannerState}
 use Rattle.press_sink.specs.Told.{Told}
 use Rattle.press_engine.specs.declared.engine.Engine.{Engine}
 use Rattle.press_engine.specs.declared.frame.Frame.{Frame}
-use Rattle.press_engine.specs.declared.machine.Machine.{Machine}
 use Rattle.press_engine.specs.Engine.{live, bodies}
 use Rattle.press_engine.specs.Stack.{owed}
 use Rattle.press_stream.specs.declared.fault.JobError.{JobError}
@@ -31,11 +30,6 @@ ran : (held : ScannerState) (engine new : Engine) (phase : Phase) (tag : ℕ) (k
 ran held engine new phases.Running tag kind before after inside did = RanOne-inside (job_state held engine phases.Running) (job_state held new phases.Running) tag kind before after inside refl refl did
 ran held engine new phases.Exited tag kind before after inside did = RanOne-inside (job_state held engine phases.Exited) (job_state held new phases.Exited) tag kind before after inside refl refl did
 ran held engine new phases.Failed tag kind before after inside did = absurd (inside refl)
-
-pub ran_fits : (held : ScannerState) (engine new : Engine) (phase : Phase) (tag : ℕ) (kind : Kind) (before after : Told) → Fits held engine phase → Carries (owed (bodies engine)) (live engine) tag (Ok kind) (live new) (bodies new) before after → Fits held new phase
-ran_fits held engine new phases.Running tag kind before after fits did = (subst (λ (machine : Option Machine). IsSome machine) (sym did.ends) refl, fits.1)
-ran_fits held engine new phases.Exited tag kind before after fits did = (subst (λ (machine : Option Machine). IsSome machine) (sym did.ends) refl, fits.1, fits.2)
-ran_fits held engine new phases.Failed tag kind before after fits did = tt
 
 -- a step that stopped
 stopped : (held : ScannerState) (engine new : Engine) (phase : Phase) (tag : ℕ) (error : JobError) (before after : Told) → Fits held engine phase → (job_state held engine phase).bodies ≢ [] → Carries (owed (bodies engine)) (live engine) tag (Err error) (live new) (bodies new) before after → StepFaults (job_state held engine phase) tag error (job_state held new phases.Failed) before after

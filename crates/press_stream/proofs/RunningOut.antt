@@ -1,5 +1,5 @@
 -- Bodies that run, until none does.
-use Rattle.std.proofs.Common.{◌≡◌, ◌≢◌, ◌∙◌, ◌<◌, ◌≤◌, ◌+◌, ℕ, List, [], ◌∷◌, ◌++◌, length, Option, Some, None, Ok, refl, sym, ap, subst, inl, inr, arith}
+use Rattle.std.proofs.Common.{◌≡◌, ◌≢◌, ◌∙◌, ◌<◌, ◌≤◌, ◌+◌, ℕ, List, [], ◌∷◌, ◌++◌, length, Option, Some, None, Ok, sym, ap, subst, inl, inr, arith}
 use Rattle.press_sink.specs.Told.{Told}
 use Rattle.press_cmd.specs.Token.{Token}
 use Rattle.press_engine.specs.declared.frame.Frame.{Frame}

@@ -1,4 +1,3 @@
-use Rattle.std.proofs.Common.{refl}
 use Rattle.std.proofs.lemmas.Result.{err_from_is_err_and}
 use Rattle.press_stream.proofs.Faults.{Feeds-stopped, Feeds-then, hungry_of}
 use Rattle.press_stream.proofs.job.Job.feed.Goals as goal

@@ -1,4 +1,4 @@
-use Rattle.std.proofs.Common.{◌≡◌, ◌∙◌, ℕ, List, [], ◌++◌, take, drop, refl, sym, ap, append_assoc}
+use Rattle.std.proofs.Common.{◌∙◌, ℕ, List, [], ◌++◌, take, drop, refl, sym, ap, append_assoc}
 use Rattle.std.proofs.lemmas.List.{take-append-drop, take_rest}
 use Rattle.std.proofs.lemmas.Result.{err_from_is_err_and}
 use Rattle.press_stream.proofs.Going.{Goes-none, Goes-then, can_count-then}

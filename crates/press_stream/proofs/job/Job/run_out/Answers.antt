@@ -1,4 +1,4 @@
-use Rattle.std.proofs.Common.{[], ◌∙◌, Err, refl, ap, inl, arith}
+use Rattle.std.proofs.Common.{[], ◌∙◌, Err, refl, ap, arith}
 use Rattle.std.proofs.lemmas.Result.{err_from_is_err_and}
 use Rattle.press_stream.specs.declared.fault.JobError.{JobError}
 use Rattle.press_stream.proofs.Carries.{same_fault}
@@ -29,7 +29,7 @@ returns-in_err-step-clause-memory g c =
 pub loop-self-preserved : goal.loop-self-preserved
 loop-self-preserved g c =
     let takes = rw c.in_ok-step.was at c.step.ensures.takes in
-    let inside = not_idle c.is_idle.result _ c.is_idle.ensures c.loop-self-test.true in
+    let inside = not_idle c.is_idle.result _ c.is_idle.ensures.none c.loop-self-test.true in
     let (given, none, goes, item, one, fewer, still) = ran_inside c.loop-self.self c.step.new.self c.args.tag _ _ _ inside takes in
     record {
       goes = Goes-more c.args.self.now c.loop-self.self c.step.new.self c.args.tag _ _ _ _ inside c.loop-self.invariant.goes takes;
@@ -41,4 +41,4 @@ loop-self-preserved g c =
 pub loop-self-smaller : goal.loop-self-smaller
 loop-self-smaller g c =
     let takes = rw c.in_ok-step.was at c.step.ensures.takes in
-    one_fewer c.loop-self.self c.step.new.self c.args.tag _ _ _ (not_idle c.is_idle.result _ c.is_idle.ensures c.loop-self-test.true) takes
+    one_fewer c.loop-self.self c.step.new.self c.args.tag _ _ _ (not_idle c.is_idle.result _ c.is_idle.ensures.none c.loop-self-test.true) takes

@@ -1,6 +1,6 @@
 use Rattle.std.proofs.Common.{◌≢◌, [], sym, subst}
 use Rattle.press_stream.specs.State.{JobState}
-use Rattle.press_stream.proofs.Inside.{engine_inside, job_ran, ran_fits, job_stopped}
+use Rattle.press_stream.proofs.Inside.{engine_inside, job_ran, job_stopped}
 use Rattle.press_stream.proofs.job.Job.step_inside.Goals as goal
 
 pub returns-in-Ok : goal.returns-in-Ok

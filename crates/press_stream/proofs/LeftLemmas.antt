@@ -1,0 +1,128 @@
+-- What is left of a job, from step to step.
+use Rattle.std.proofs.Common.{◌≡◌, ◌≢◌, ◌∙◌, ◌↔◌, inl, inr, ℕ, List, [], ◌∷◌, ◌++◌, Bool, true, false, IsTrue, MatchBool, refl, sym, ap, subst}
+use Rattle.std.proofs.lemmas.Bool.{false≢true}
+use Rattle.press_cmd.specs.Token.{Token}
+use Rattle.press_cmd.specs.Split.{ClosedFrom}
+use Rattle.press_cmd.proofs.Splits.{closed_once}
+use Rattle.press_cmd.specs.declared.variant.Kind.{Kind}
+use Rattle.press_sink.specs.Told.{Told}
+use Rattle.press_engine.specs.declared.frame.Frame.{Frame}
+use Rattle.press_engine.specs.declared.machine.Machine.{Machine}
+use Rattle.press_engine.specs.Machine.{Run, levels}
+use Rattle.press_engine.specs.Stack.{owed, HasNext, IsReady}
+use Rattle.press_engine.specs.Trace.{last_machine, trace_each, trace_at}
+use Rattle.press_engine.proofs.StackLaws.{inner-owed, outer-owed}
+use Rattle.press_stream.specs.declared.phase.Phase.{Phase}
+use Rattle.press_stream.specs.declared.phase.Phase.TheVariants as phases
+use Rattle.press_stream.specs.State.{JobState, IsOver, is_exited}
+use Rattle.press_stream.specs.Meaning.{with_exit, left, Owes}
+use Rattle.press_stream.specs.Answers.{RanOne}
+use Rattle.press_stream.specs.Left.{LeftOf, StepsOn, LeftGoesOn}
+use Rattle.press_stream.proofs.Items.{left-none, left-then}
+use Rattle.press_stream.proofs.Going.{Owes-some, same_some}
+
+-- the commands that a job owes are one list
+Owes-one : (job : JobState) (bytes : List ℕ) (commands others : List Token) → Owes job bytes commands → Owes job bytes others → commands ≡ others
+Owes-one job bytes commands others owes other = at_exit job.exited owes.1 other.1
+  where
+    at_exit : (exited : Bool)
+        → MatchBool exited (commands ≡ []) ((closed : List Token) × ClosedFrom job.held.mode (job.held.bytes ++ bytes) closed × (commands ≡ with_exit closed))
+        → MatchBool exited (others ≡ []) ((closed : List Token) × ClosedFrom job.held.mode (job.held.bytes ++ bytes) closed × (others ≡ with_exit closed))
+        → commands ≡ others
+    at_exit true is are = is ∙ sym are
+    at_exit false (c, closed, is) (d, other, are) = is ∙ ap with_exit (closed_once job.held.mode (job.held.bytes ++ bytes) c d closed other) ∙ sym are
+
+left_steps : (old new : JobState) (tag : ℕ) (kind : Kind) (before after : Told) (items : List Run) → LeftOf old items → (ran : RanOne old tag kind new before after) → StepsOn new items ran.item
+left_steps old new tag kind before after items is ran =
+    let later = Owes-some new [] (λ _. refl) in
+    let rest = later.0 in
+    let goes = ran.goes in
+    let from = goes.carried.from in
+    let at = last_machine from goes.items in
+    let same : is.from ≡ from = same_some old.machine is.from from is.starts goes.carried.starts in
+    let commands : is.commands ≡ ran.given ++ rest = Owes-one old [] is.commands (ran.given ++ rest) is.owes (goes.to_end [] rest later.1) in
+    record {
+      others = left rest new.bodies at;
+      are =
+          is.are ∙ (λ j. left (commands j) old.bodies (same j))
+          ∙ left-then ran.given rest old.bodies new.bodies from goes.items goes.carried.are
+          ∙ ap (λ (done : List Run). done ++ left rest new.bodies at) ran.one;
+      still = record { from = at; starts = goes.carried.ends; commands = rest; owes = later.1; are = refl };
+    }
+
+-- ---- nothing is left exactly of a job that is over
+
+no_commands : (job : JobState) (commands : List Token) → job.exited ≡ true → Owes job [] commands → commands ≡ []
+no_commands job commands exited owes =
+    subst (λ (out : Bool). MatchBool out (commands ≡ []) ((closed : List Token) × ClosedFrom job.held.mode (job.held.bytes ++ []) closed × (commands ≡ with_exit closed))) exited owes.1
+
+nothing_left : (job : JobState) (items : List Run) → job.bodies ≡ [] → job.exited ≡ true → LeftOf job items → items ≡ []
+nothing_left job items idle exited is =
+    is.are
+    ∙ ap (λ (commands : List Token). left commands job.bodies is.from) (no_commands job is.commands exited is.owes)
+    ∙ left-none job.bodies is.from
+    ∙ ap (λ (bodies : List Frame). owed bodies is.from) idle
+
+left_over : (job : JobState) (items : List Run) → IsOver job → LeftOf job items → items ≡ []
+left_over job items over is = nothing_left job items over.idle over.exited is
+
+pub left_goes_on : LeftGoesOn
+left_goes_on = record { steps = left_steps; over = left_over }
+
+-- something is owed by bodies of which the innermost has a command
+some-then : (items others : List Run) → items ++ others ≡ [] → items ≡ []
+some-then [] others is = refl
+some-then (item ∷ items) others is = absurd cc
+
+then-some : (items others : List Run) → items ++ others ≡ [] → others ≡ []
+then-some [] others is = is
+then-some (item ∷ items) others is = absurd cc
+
+ready_owes : (bodies : List Frame) (machine : Machine) → HasNext bodies → owed bodies machine ≡ [] → ⊥
+ready_owes bodies machine (frame, command, rest, outer, is) none =
+    let some = inner-owed frame command rest outer machine in
+    nothing (sym some ∙ ap (λ (frames : List Frame). owed frames machine) (sym is) ∙ none) where
+      nothing : {item : Run} {others : List Run} → item ∷ others ≡ [] → ⊥
+      nothing e = cc
+
+-- a command has an item
+command_owes : (command : Token) (commands : List Token) (bodies : List Frame) (machine : Machine) → left (command ∷ commands) bodies machine ≡ [] → ⊥
+unfolding trace_each
+command_owes command commands bodies machine none =
+    let at = last_machine machine (owed bodies machine) in
+    let items : List Run = trace_at levels command at in
+    let these : trace_at levels command at ≡ [] = some-then items _ (then-some (owed bodies machine) _ none) in
+    nothing (sym (outer-owed command at) ∙ these) where
+      nothing : {item : Run} {others : List Run} → item ∷ others ≡ [] → ⊥
+      nothing e = cc
+
+exit_owes : (closed : List Token) (bodies : List Frame) (machine : Machine) → left (with_exit closed) bodies machine ≡ [] → ⊥
+exit_owes [] bodies machine none = command_owes _ [] bodies machine none
+exit_owes (command ∷ closed) bodies machine none = command_owes command (with_exit closed) bodies machine none
+
+-- Before the exit something is left.
+pub left_before_exit : (job : JobState) (items : List Run) → job.exited ≡ false → LeftOf job items → items ≡ [] → ⊥
+left_before_exit job items going is none =
+    let some = subst (λ (out : Bool). MatchBool out (is.commands ≡ []) ((closed : List Token) × ClosedFrom job.held.mode (job.held.bytes ++ []) closed × (is.commands ≡ with_exit closed))) going is.owes.1 in
+    exit_owes some.0 job.bodies is.from (ap (λ (commands : List Token). left commands job.bodies is.from) (sym some.2) ∙ sym is.are ∙ none)
+
+-- While a body runs something is left.
+pub left_inside : (job : JobState) (items : List Run) → HasNext job.bodies → LeftOf job items → items ≡ [] → ⊥
+left_inside job items next is none =
+    ready_owes job.bodies is.from next (some-then (owed job.bodies is.from) _ (sym is.are ∙ none))
+
+-- whether something is left, by what tells whether a body runs, and before the exit
+pub tells_left : (job : JobState) (idle : Bool) (items : List Run) → (IsTrue idle ↔ (job.bodies ≡ [])) → IsReady job.bodies → job.exited ≡ true → LeftOf job items → IsTrue idle ↔ (items ≡ [])
+tells_left job idle items tells ready exited is =
+    (λ still. nothing_left job items (tells.0 still) exited is, λ none. by_ready none ready) where
+      by_ready : items ≡ [] → IsReady job.bodies → IsTrue idle
+      by_ready none (inl empty) = tells.1 empty
+      by_ready none (inr next) = absurd (left_inside job items next is none)
+
+pub tells_before : (job : JobState) (items : List Run) → job.exited ≡ false → LeftOf job items → IsTrue false ↔ (items ≡ [])
+tells_before job items going is = (λ e. absurd (false≢true e), λ none. absurd (left_before_exit job items going is none))
+
+pub not_exited : (phase : Phase) → phase ≢ phases.Exited → is_exited phase ≡ false
+not_exited phases.Running other = refl
+not_exited phases.Failed other = refl
+not_exited phases.Exited other = absurd (other refl)
