@@ -2,11 +2,9 @@
 use Rattle.std.proofs.Common.{◌≡◌, ◌∙◌, ◌+◌, ◌-◌, ◌<◌, ◌≤◌, ◌++◌, ℕ, List, [], ◌∷◌, ◌⊎◌, inl, inr, length, take, drop, Option, Some, None, IsSome, Result, Ok, Err, refl, sym, ap, subst, arith, rules, nat_eq, is_some, Bool, false, true≢false}
 use Rattle.std.proofs.Math.Seq.{take-add}
 use Rattle.std.proofs.lemmas.List.{append_assoc, append-nil, drop-drop, map-append}
-use Rattle.press_cmd.specs.Token.{Token}
+use Rattle.press_engine.specs.Machine.{Run}
 use Rattle.press_engine.specs.Counts.{counted}
-use Rattle.press_engine.specs.declared.machine.Machine.{Machine}
-use Rattle.press_engine.specs.Machine.{Run, run_all, power_on}
-use Rattle.press_engine.proofs.Runs.{run_all-none, run_all-append}
+use Rattle.press_engine.specs.Trace.{joined}
 use Rattle.press_sink.specs.declared.sheet.Delivery.{Delivery}
 use Rattle.press_sink.specs.Sending.{sheets_of, under_tag, sheets_in}
 use Rattle.press_sink.specs.Sides.{Sides}
@@ -16,40 +14,37 @@ use Rattle.press_core.specs.declared.turn.TurnError.{TurnError}
 use Rattle.press_core.specs.declared.turn.TurnError.TheVariants as errors
 use Rattle.press_core.specs.Handing.{HandsOver, TakesSteps}
 use Rattle.press_core.specs.Jobs.{Advances}
-use Rattle.press_core.specs.Turns.{IsJobOf, WereHandedOut, machine_at, place_in_job, sheets_from, steps_from}
+use Rattle.press_core.specs.Turns.{IsJobOf, WereHandedOut, place_in_job, sheets_from, steps_from}
 use Rattle.press_core.specs.Work.{Work, at_place, counting, with_delivered, without_job}
 use Rattle.press_core.proofs.HandingLemmas.{handed_twice}
 use Rattle.press_core.proofs.JobLemmas.{IsJobOf-some}
 
 -- ---- the sheets of steps
 
-machine_after : (place steps : ℕ) (commands : List Token) → (run_all (take steps (drop place commands)) (machine_at place commands)).machine ≡ machine_at (place + steps) commands
-machine_after place steps commands =
-    sym (ap (λ cs. (run_all cs power_on).machine) (take-add place steps commands)
-    ∙ ap (λ (run : Run). run.machine) (run_all-append (take place commands) (take steps (drop place commands)) power_on))
+joined-append : (items others : List Run) → joined (items ++ others) ≡ joined items ++ joined others
+joined-append [] others = refl
+joined-append (item ∷ items) others =
+    ap (λ more. item.outputs ++ more) (joined-append items others) ∙ sym (append_assoc item.outputs (joined items) (joined others))
 
 -- steps, and then others
-pub sheets_from-more : (place steps more : ℕ) (commands : List Token)
-    → sheets_from place (steps + more) commands ≡ sheets_from place steps commands ++ sheets_from (place + steps) more commands
-sheets_from-more place steps more commands =
-    let first = take steps (drop place commands) in
-    let from = machine_at place commands in
-    let split : take (steps + more) (drop place commands) ≡ first ++ take more (drop (place + steps) commands) =
-    take-add steps more (drop place commands) ∙ ap (λ cs. first ++ take more cs) (drop-drop steps place commands) in
-    ap (λ cs. sheets_of (run_all cs from).outputs) split
-    ∙ ap (λ (run : Run). sheets_of run.outputs) (run_all-append first (take more (drop (place + steps) commands)) from)
-    ∙ sheets_of-append (run_all first from).outputs _
-    ∙ ap (λ (m : Machine). sheets_of (run_all first from).outputs ++ sheets_of (run_all (take more (drop (place + steps) commands)) m).outputs) (machine_after place steps commands)
+pub sheets_from-more : (place steps more : ℕ) (items : List Run)
+    → sheets_from place (steps + more) items ≡ sheets_from place steps items ++ sheets_from (place + steps) more items
+sheets_from-more place steps more items =
+    let first = take steps (drop place items) in
+    let others = take more (drop (place + steps) items) in
+    let split : take (steps + more) (drop place items) ≡ first ++ others =
+    take-add steps more (drop place items) ∙ ap (λ cs. first ++ take more cs) (drop-drop steps place items) in
+    ap (λ these. sheets_of (joined these)) split ∙ ap sheets_of (joined-append first others) ∙ sheets_of-append (joined first) (joined others)
 
-no_sheets : (place : ℕ) (commands : List Token) → sheets_from place 0 commands ≡ []
-no_sheets place commands = ap (λ (run : Run). sheets_of run.outputs) (run_all-none (machine_at place commands))
+no_sheets : (place : ℕ) (items : List Run) → sheets_from place 0 items ≡ []
+no_sheets place items = refl
 
 -- ---- no step
 
 pub no_steps : (number : ℕ) (work : Work) (told : SheetsTold) → IsSome work.place → TakesSteps number 0 work (Ok 0) work told told
 no_steps number work told begun = record {
   sheets = [];
-  steps = λ commands job. (omega arith, sym (no_sheets (place_in_job work) commands));
+  steps = λ items job. (omega arith, sym (no_sheets (place_in_job work) items));
   left = at_place_in_job work.place refl begun;
   were = record { told = told-nothing told.delivered; faults = refl };
 } where
@@ -65,9 +60,9 @@ no_steps number work told begun = record {
 pub placed_at : (number taken : ℕ) (old now : Work) (before after : SheetsTold) → TakesSteps number taken old (Ok taken) now before after → place_in_job now ≡ place_in_job old + taken
 placed_at number taken old now before after took = ap place_in_job took.left
 
-same_job : (number taken : ℕ) (old now : Work) (before after : SheetsTold) (commands : List Token) → TakesSteps number taken old (Ok taken) now before after
-    → IsJobOf old commands → IsJobOf now commands
-same_job number taken old now before after commands took job = subst (λ (w : Work). IsJobOf w commands) (sym took.left) job
+same_job : (number taken : ℕ) (old now : Work) (before after : SheetsTold) (items : List Run) → TakesSteps number taken old (Ok taken) now before after
+    → IsJobOf old items → IsJobOf now items
+same_job number taken old now before after items took job = subst (λ (w : Work). IsJobOf w items) (sym took.left) job
 
 -- its job has begun
 pub still_begun : (number taken : ℕ) (old now : Work) (before after : SheetsTold) → TakesSteps number taken old (Ok taken) now before after → IsSome now.place
@@ -75,42 +70,42 @@ still_begun number taken old now before after took = ap (λ (w : Work). is_some 
 
 -- a work that is not over is before the end of its job
 pub may_step : (work : Work) (over : Bool) → over ≡ false → IsSome work.place
-    → (IsSome work.place → (commands : List Token) → IsJobOf work commands → over ≡ nat_eq (place_in_job work) (length commands))
-    → (IsSome work.place → (commands : List Token) → IsJobOf work commands → place_in_job work ≤ length commands)
-    → (commands : List Token) → IsJobOf work commands → place_in_job work < length commands
-may_step work over going begun ends within commands job =
-    let apart : nat_eq (place_in_job work) (length commands) ≡ false = sym (ends begun commands job) ∙ going in
-    grind (arith, rules, apart, within begun commands job)
+    → (IsSome work.place → (items : List Run) → IsJobOf work items → over ≡ nat_eq (place_in_job work) (length items))
+    → (IsSome work.place → (items : List Run) → IsJobOf work items → place_in_job work ≤ length items)
+    → (items : List Run) → IsJobOf work items → place_in_job work < length items
+may_step work over going begun ends within items job =
+    let apart : nat_eq (place_in_job work) (length items) ≡ false = sym (ends begun items job) ∙ going in
+    grind (arith, rules, apart, within begun items job)
 
 -- What a work handed out at its next step, as far as no fault came.
 record OneStep (number : ℕ) (old now next : Work) (taken : ℕ) (handed others : List Sides) : Type 0 where
-  pub here : (commands : List Token) → IsJobOf old commands → sheets_from (place_in_job old + taken) 1 commands ≡ handed ++ others
-  pub within : (commands : List Token) → IsJobOf old commands → place_in_job old + taken < length commands
+  pub here : (items : List Run) → IsJobOf old items → sheets_from (place_in_job old + taken) 1 items ≡ handed ++ others
+  pub within : (items : List Run) → IsJobOf old items → place_in_job old + taken < length items
   pub next_is : next ≡ at_place (place_in_job old + taken + 1) now
 
 one_step : (number taken : ℕ) (old now next : Work) (deliveries : List Delivery) (result : Result (Unit {0}) TurnError) (before between after : SheetsTold) (count : ℕ)
     → TakesSteps number taken old (Ok taken) now before between → Advances number now next deliveries
     → (hands : HandsOver number (sheets_in deliveries) result between after next.delivered count)
-    → ((commands : List Token) → IsJobOf now commands → place_in_job now < length commands)
+    → ((items : List Run) → IsJobOf now items → place_in_job now < length items)
     → OneStep number old now next taken hands.handed hands.others
 one_step number taken old now next deliveries result before between after count took advances hands going =
     let here = placed_at number taken old now before between took in
     let some = IsJobOf-some old in
     record {
-      here = λ commands job.
-          let advanced = advances commands (same_job number taken old now before between commands took job) in
-          sym (sheets_in-tagged number (sheets_from (place_in_job old + taken) 1 commands))
-          ∙ sym (ap (λ n. sheets_in (under_tag number (sheets_from n 1 commands))) here)
+      here = λ items job.
+          let advanced = advances items (same_job number taken old now before between items took job) in
+          sym (sheets_in-tagged number (sheets_from (place_in_job old + taken) 1 items))
+          ∙ sym (ap (λ n. sheets_in (under_tag number (sheets_from n 1 items))) here)
           ∙ sym (ap sheets_in advanced.1) ∙ hands.sheets_are;
-      within = λ commands job. subst (λ n. n < length commands) here (going commands (same_job number taken old now before between commands took job));
+      within = λ items job. subst (λ n. n < length items) here (going items (same_job number taken old now before between items took job));
       next_is = (advances some.0 (same_job number taken old now before between some.0 took some.1)).0 ∙ ap (λ n. at_place (n + 1) now) here;
     }
 
 -- the sheets of the steps so far, and of one more
-with_one : (place taken : ℕ) (commands : List Token) (sheets handed others : List Sides) → sheets ≡ sheets_from place taken commands
-    → sheets_from (place + taken) 1 commands ≡ handed ++ others → sheets_from place (taken + 1) commands ≡ (sheets ++ handed) ++ others
-with_one place taken commands sheets handed others are here =
-    sheets_from-more place taken 1 commands ∙ ap (λ l. l ++ sheets_from (place + taken) 1 commands) (sym are)
+with_one : (place taken : ℕ) (items : List Run) (sheets handed others : List Sides) → sheets ≡ sheets_from place taken items
+    → sheets_from (place + taken) 1 items ≡ handed ++ others → sheets_from place (taken + 1) items ≡ (sheets ++ handed) ++ others
+with_one place taken items sheets handed others are here =
+    sheets_from-more place taken 1 items ∙ ap (λ l. l ++ sheets_from (place + taken) 1 items) (sym are)
     ∙ ap (λ l. sheets ++ l) here ∙ sym (append_assoc sheets handed others)
 
 -- what was handed out so far, and what of one step more
@@ -137,18 +132,18 @@ counts_on number taken old now next deliveries result before between after count
 pub one_more : (number taken : ℕ) (old now next : Work) (deliveries : List Delivery) (before between after : SheetsTold) (count : ℕ)
     → TakesSteps number taken old (Ok taken) now before between → Advances number now next deliveries
     → HandsOver number (sheets_in deliveries) (Ok tt) between after next.delivered count
-    → ((commands : List Token) → IsJobOf now commands → place_in_job now < length commands)
+    → ((items : List Run) → IsJobOf now items → place_in_job now < length items)
     → TakesSteps number (taken + 1) old (Ok (taken + 1)) (record next { delivered = count }) before after
 one_more number taken old now next deliveries before between after count took advances hands going =
     let step = one_step number taken old now next deliveries (Ok tt) before between after count took advances hands going in
     let were = handed_on number took.sheets hands.handed taken (Ok tt) before between after took.were hands.were in
     record {
       sheets = took.sheets ++ hands.handed;
-      steps = λ commands job.
-          let so_far = took.steps commands job in (
-            omega (arith, so_far.0, step.within commands job),
+      steps = λ items job.
+          let so_far = took.steps items job in (
+            omega (arith, so_far.0, step.within items job),
             sym (append-nil (took.sheets ++ hands.handed)) ∙ ap (λ l. (took.sheets ++ hands.handed) ++ l) (sym hands.complete)
-                ∙ sym (with_one (place_in_job old) taken commands took.sheets hands.handed hands.others so_far.1 (step.here commands job)),
+                ∙ sym (with_one (place_in_job old) taken items took.sheets hands.handed hands.others so_far.1 (step.here items job)),
           );
       left =
           ap (λ (w : Work). record w { delivered = count }) step.next_is
@@ -161,30 +156,30 @@ one_more number taken old now next deliveries before between after count took ad
 -- ---- a fault
 
 -- a fault at a step after so many: the sheets so far are a front of those of all steps
-fronts : (place taken most : ℕ) (commands : List Token) (sheets others : List Sides) → taken ≤ steps_from place most commands → sheets_from place taken commands ≡ sheets ++ others
-    → (left : List Sides) × (sheets_from place (steps_from place most commands) commands ≡ sheets ++ left)
-fronts place taken most commands sheets others within are =
-    let left = steps_from place most commands - taken in
-    let all : steps_from place most commands ≡ taken + left = omega (arith, within) in (
-      others ++ sheets_from (place + taken) left commands,
-      ap (λ n. sheets_from place n commands) all ∙ sheets_from-more place taken left commands
-          ∙ ap (λ l. l ++ sheets_from (place + taken) left commands) are ∙ append_assoc sheets others (sheets_from (place + taken) left commands),
+fronts : (place taken most : ℕ) (items : List Run) (sheets others : List Sides) → taken ≤ steps_from place most items → sheets_from place taken items ≡ sheets ++ others
+    → (left : List Sides) × (sheets_from place (steps_from place most items) items ≡ sheets ++ left)
+fronts place taken most items sheets others within are =
+    let left = steps_from place most items - taken in
+    let all : steps_from place most items ≡ taken + left = omega (arith, within) in (
+      others ++ sheets_from (place + taken) left items,
+      ap (λ n. sheets_from place n items) all ∙ sheets_from-more place taken left items
+          ∙ ap (λ l. l ++ sheets_from (place + taken) left items) are ∙ append_assoc sheets others (sheets_from (place + taken) left items),
     )
 
 pub stopped_in_step : (number taken most : ℕ) (old now next : Work) (deliveries : List Delivery) (error : TurnError) (before between after : SheetsTold) (count : ℕ)
     → TakesSteps number taken old (Ok taken) now before between → Advances number now next deliveries
     → HandsOver number (sheets_in deliveries) (Err error) between after next.delivered count
-    → ((commands : List Token) → IsJobOf now commands → place_in_job now < length commands) → taken < most
+    → ((items : List Run) → IsJobOf now items → place_in_job now < length items) → taken < most
     → TakesSteps number most old (Err error) (record next { delivered = count }) before after
 stopped_in_step number taken most old now next deliveries error before between after count took advances hands going below =
     let step = one_step number taken old now next deliveries (Err error) before between after count took advances hands going in
     let were = handed_on number took.sheets hands.handed taken (Err error) before between after took.were hands.were in
     record {
       sheets = took.sheets ++ hands.handed;
-      steps = λ commands job.
-          let so_far = took.steps commands job in
-          fronts (place_in_job old) (taken + 1) most commands (took.sheets ++ hands.handed) hands.others (omega (arith, so_far.0, below, step.within commands job))
-          (with_one (place_in_job old) taken commands took.sheets hands.handed hands.others so_far.1 (step.here commands job));
+      steps = λ items job.
+          let so_far = took.steps items job in
+          fronts (place_in_job old) (taken + 1) most items (took.sheets ++ hands.handed) hands.others (omega (arith, so_far.0, below, step.within items job))
+          (with_one (place_in_job old) taken items took.sheets hands.handed hands.others so_far.1 (step.here items job));
       left =
           ap (λ (w : Work). record w { delivered = count; place = None }) step.next_is
           ∙ ap (λ (w : Work). record w { delivered = count; place = None }) took.left
@@ -197,9 +192,9 @@ pub stopped_before_step : (number taken most : ℕ) (old now next : Work) (befor
     → next ≡ without_job now → taken < most → TakesSteps number most old (Err errors.NoMemory) next before after
 stopped_before_step number taken most old now next before after took is below = record {
   sheets = took.sheets;
-  steps = λ commands job.
-      let so_far = took.steps commands job in
-      fronts (place_in_job old) taken most commands took.sheets [] (omega (arith, so_far.0, below)) (sym so_far.1 ∙ sym (append-nil took.sheets));
+  steps = λ items job.
+      let so_far = took.steps items job in
+      fronts (place_in_job old) taken most items took.sheets [] (omega (arith, so_far.0, below)) (sym so_far.1 ∙ sym (append-nil took.sheets));
   left = ap (without_job) (is ∙ ap (without_job) took.left);
   were = record { told = took.were.told; faults = took.were.faults };
 }
@@ -208,15 +203,15 @@ stopped_before_step number taken most old now next before after took is below = 
 
 -- so many steps were asked for, or no step is left
 pub took_all : (number taken most : ℕ) (old now : Work) (before after : SheetsTold) → TakesSteps number taken old (Ok taken) now before after → taken ≤ most
-    → ((commands : List Token) → IsJobOf now commands → (most ≤ taken) ⊎ (place_in_job now ≡ length commands)) → TakesSteps number most old (Ok taken) now before after
+    → ((items : List Run) → IsJobOf now items → (most ≤ taken) ⊎ (place_in_job now ≡ length items)) → TakesSteps number most old (Ok taken) now before after
 took_all number taken most old now before after took below ends = record {
   sheets = took.sheets;
-  steps = λ commands job.
-      let so_far = took.steps commands job in
-      (at_end commands so_far.0 (ends commands (same_job number taken old now before after commands took job)), so_far.1);
+  steps = λ items job.
+      let so_far = took.steps items job in
+      (at_end items so_far.0 (ends items (same_job number taken old now before after items took job)), so_far.1);
   left = took.left;
   were = took.were;
 } where
-  at_end : (commands : List Token) → taken ≡ steps_from (place_in_job old) taken commands → (most ≤ taken) ⊎ (place_in_job now ≡ length commands) → taken ≡ steps_from (place_in_job old) most commands
-  at_end commands within (inl all) = omega (arith, within, below, all)
-  at_end commands within (inr over) = omega (arith, within, below, over, placed_at number taken old now before after took)
+  at_end : (items : List Run) → taken ≡ steps_from (place_in_job old) taken items → (most ≤ taken) ⊎ (place_in_job now ≡ length items) → taken ≡ steps_from (place_in_job old) most items
+  at_end items within (inl all) = omega (arith, within, below, all)
+  at_end items within (inr over) = omega (arith, within, below, over, placed_at number taken old now before after took)

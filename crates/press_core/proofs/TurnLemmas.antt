@@ -8,7 +8,7 @@ use Rattle.std.proofs.lemmas.Bool.{eqb-true}
 use Rattle.std.proofs.lemmas.Cmp.{nat_eq_equiv}
 use Rattle.std.proofs.lemmas.Map.{keys-set_value, lookup-set_value}
 use Rattle.std.proofs.lemmas.Map.Steps.{set_value_same}
-use Rattle.press_cmd.specs.Token.{Token}
+use Rattle.press_engine.specs.Machine.{Run}
 use Rattle.press_queue.specs.declared.entry.Entry.{Entry}
 use Rattle.press_queue.specs.declared.status.End.{End}
 use Rattle.press_queue.specs.declared.status.End.TheVariants.{Completed, Aborted}
@@ -256,21 +256,21 @@ IsSound-ended number end queue works work runs distinct sound = at_entry (entry_
 -- ---- steps
 
 -- what steps leave, where the job goes on, is at its end, or met a fault
-pub leaves_going : (world : World) (number steps : ℕ) (old new : Work) (sheets : List Sides) (commands : List Token) → new ≡ at_place (place_in_job old + steps) (with_delivered sheets old)
-    → nat_eq (place_in_job new) (length commands) ≡ false → with_work number new world ≡ after_steps number old commands (Ok steps) sheets world
-leaves_going world number steps old new sheets commands left going =
-    let e : (place_in_job old + steps == length commands) ≡ false = sym (ap (λ (w : Work). nat_eq (place_in_job w) (length commands)) left) ∙ going in
+pub leaves_going : (world : World) (number steps : ℕ) (old new : Work) (sheets : List Sides) (items : List Run) → new ≡ at_place (place_in_job old + steps) (with_delivered sheets old)
+    → nat_eq (place_in_job new) (length items) ≡ false → with_work number new world ≡ after_steps number old items (Ok steps) sheets world
+leaves_going world number steps old new sheets items left going =
+    let e : (place_in_job old + steps == length items) ≡ false = sym (ap (λ (w : Work). nat_eq (place_in_job w) (length items)) left) ∙ going in
     rw e (ap (λ (w : Work). with_work number w world) left)
 
-pub leaves_over : (world : World) (number steps : ℕ) (old new : Work) (sheets : List Sides) (commands : List Token) → new ≡ at_place (place_in_job old + steps) (with_delivered sheets old)
-    → nat_eq (place_in_job new) (length commands) ≡ true → completed number new world ≡ after_steps number old commands (Ok steps) sheets world
-leaves_over world number steps old new sheets commands left over =
-    let e : (place_in_job old + steps == length commands) ≡ true = sym (ap (λ (w : Work). nat_eq (place_in_job w) (length commands)) left) ∙ over in
+pub leaves_over : (world : World) (number steps : ℕ) (old new : Work) (sheets : List Sides) (items : List Run) → new ≡ at_place (place_in_job old + steps) (with_delivered sheets old)
+    → nat_eq (place_in_job new) (length items) ≡ true → completed number new world ≡ after_steps number old items (Ok steps) sheets world
+leaves_over world number steps old new sheets items left over =
+    let e : (place_in_job old + steps == length items) ≡ true = sym (ap (λ (w : Work). nat_eq (place_in_job w) (length items)) left) ∙ over in
     rw e (ap (λ (w : Work). completed number w world) left)
 
-pub leaves_fault : (world : World) (number : ℕ) (error : TurnError) (old new : Work) (sheets : List Sides) (commands : List Token) → without_job new ≡ without_job (with_delivered sheets old)
-    → aborted number new world ≡ after_steps number old commands (Err error) sheets world
-leaves_fault world number error old new sheets commands left =
+pub leaves_fault : (world : World) (number : ℕ) (error : TurnError) (old new : Work) (sheets : List Sides) (items : List Run) → without_job new ≡ without_job (with_delivered sheets old)
+    → aborted number new world ≡ after_steps number old items (Err error) sheets world
+leaves_fault world number error old new sheets items left =
     ap (λ (w : Work). record world { queue = rows.finish_entry number Aborted world.queue; works = set_value (nat_eq number) world.works w }) left
 
 pub after_ok : (old new : Work) (result : Result ℕ TurnError) (steps : ℕ) (sheets : List Sides) → result ≡ Ok steps → IsAfterSteps old result sheets new
@@ -295,7 +295,7 @@ ended_world world number end old new queue works there ends lands =
 -- the steps of an entry, from those of its work
 pub entry_steps : (world : World) (number most : ℕ) (old new : Work) (result : Result ℕ TurnError) (before after : SheetsTold) (next : World) → work_numbered number world ≡ Some old
     → (took : TakesSteps number most old result new before after)
-    → ((commands : List Token) → IsJobOf old commands → next ≡ after_steps number old commands result took.sheets world)
+    → ((items : List Run) → IsJobOf old items → next ≡ after_steps number old items result took.sheets world)
     → (handed : List Delivery) × EntrySteps world number most result handed next × WereHandedOut handed result before after
 entry_steps world number most old new result before after next is took leaves =
     let some = IsJobOf-some old in (
@@ -303,7 +303,7 @@ entry_steps world number most old new result before after next is took leaves =
       record {
         work = old;
         is_work = is;
-        commands = some.0;
+        items = some.0;
         is_job = some.1;
         sheets = took.sheets;
         steps = took.steps some.0 some.1;
@@ -323,19 +323,19 @@ begun_again : (number : ℕ) (works : List (ℕ × Work)) (work other : Work) �
 begun_again number works work other is =
     ap (λ o. set_value (nat_eq number) (option_map_or (λ w. set_value (nat_eq number) works (begun_work w)) o works) other) is ∙ set_twice number works (begun_work work) other
 
-after_begun : (world : World) (number : ℕ) (work : Work) (commands : List Token) (result : Result ℕ TurnError) (sheets : List Sides) → work_numbered number world ≡ Some work
-    → after_steps number (begun_work work) commands result sheets (with_begun number world) ≡ after_steps number work commands result sheets world
-after_begun world number work commands (Ok steps) sheets is =
-    ifs (place_in_job work + steps == length commands) _ _ _ _
+after_begun : (world : World) (number : ℕ) (work : Work) (items : List Run) (result : Result ℕ TurnError) (sheets : List Sides) → work_numbered number world ≡ Some work
+    → after_steps number (begun_work work) items result sheets (with_begun number world) ≡ after_steps number work items result sheets world
+after_begun world number work items (Ok steps) sheets is =
+    ifs (place_in_job work + steps == length items) _ _ _ _
     (ap (λ works. record world { queue = rows.finish_entry number Completed world.queue; works = works }) (begun_again number world.works work (without_job (with_delivered sheets work)) is))
     (ap (λ works. record world { works = works }) (begun_again number world.works work (at_place (place_in_job work + steps) (with_delivered sheets work)) is))
-after_begun world number work commands (Err error) sheets is =
+after_begun world number work items (Err error) sheets is =
     ap (λ works. record world { queue = rows.finish_entry number Aborted world.queue; works = works }) (begun_again number world.works work (without_job (with_delivered sheets work)) is)
 
-steps_begun : (work : Work) (commands : List Token) (most : ℕ) (result : Result ℕ TurnError) (sheets : List Sides) → StepsTo (begun_work work) commands most result sheets
-    → StepsTo work commands most result sheets
-steps_begun work commands most (Ok steps) sheets took = took
-steps_begun work commands most (Err error) sheets took = took
+steps_begun : (work : Work) (items : List Run) (most : ℕ) (result : Result ℕ TurnError) (sheets : List Sides) → StepsTo (begun_work work) items most result sheets
+    → StepsTo work items most result sheets
+steps_begun work items most (Ok steps) sheets took = took
+steps_begun work items most (Err error) sheets took = took
 
 same_some : (o : Option Work) (one other : Work) → o ≡ Some one → o ≡ Some other → one ≡ other
 same_some o one other p q = cc
@@ -355,14 +355,14 @@ steps_of_begun world next number most result handed steps = at_work (work_number
         record {
           work = work;
           is_work = is;
-          commands = steps.commands;
-          is_job = subst (λ (w : Work). IsJobOf w steps.commands) same steps.is_job;
+          items = steps.items;
+          is_job = subst (λ (w : Work). IsJobOf w steps.items) same steps.is_job;
           sheets = steps.sheets;
-          steps = steps_begun work steps.commands most result steps.sheets (subst (λ (w : Work). StepsTo w steps.commands most result steps.sheets) same steps.steps);
+          steps = steps_begun work steps.items most result steps.sheets (subst (λ (w : Work). StepsTo w steps.items most result steps.sheets) same steps.steps);
           handed_are = steps.handed_are;
           after =
-              steps.after ∙ ap (λ (w : Work). after_steps number w steps.commands result steps.sheets (with_begun number world)) same
-              ∙ after_begun world number work steps.commands result steps.sheets is;
+              steps.after ∙ ap (λ (w : Work). after_steps number w steps.items result steps.sheets (with_begun number world)) same
+              ∙ after_begun world number work steps.items result steps.sheets is;
         }
 
 -- ---- a turn
@@ -382,7 +382,7 @@ turn_stopped world next most error works (number, work, is, there, after) =
       record {
         work = work;
         is_work = there;
-        commands = some.0;
+        items = some.0;
         is_job = some.1;
         sheets = [];
         steps = (sheets_from (place_in_job work) (steps_from (place_in_job work) most some.0) some.0, refl);

@@ -3,7 +3,7 @@ use Rattle.std.specs.Prelude.{◌≡◌, ℕ, List, [], true, Option, Some, None
 use Rattle.std.specs.declared.alloc.AllocError.{AllocError}
 use Rattle.std.specs.Map.{lookup, set_value}
 use Rattle.std.specs.Option.{option_map_or}
-use Rattle.press_cmd.specs.Token.{Token}
+use Rattle.press_engine.specs.Machine.{Run}
 use Rattle.press_queue.specs.declared.entry.Entry.{Entry}
 use Rattle.press_queue.specs.State.{QueueState}
 use Rattle.press_queue.specs.Status.{is_running}
@@ -24,7 +24,7 @@ work_of work = record {
 
 -- it is at its place in the job of the work
 abbrev pub IsJobAt : Work → RunningJob → Type 0
-IsJobAt work running = (commands : List Token) × IsJobOf work commands × IsAt commands running.steps running.job
+IsJobAt work running = (items : List Run) × IsJobOf work items × IsAt items running.steps running.job
 
 -- Its ticket is printed with its images, and its job stands at its place.
 pub record IsSoundWork (work : Inside) : Type 0 where

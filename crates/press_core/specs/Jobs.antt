@@ -1,11 +1,11 @@
--- A job at a place of its commands. No public clause cites this.
+-- A job at a place of its items. No public clause cites this.
 use Rattle.std.specs.Prelude.{◌≡◌, ◌≤◌, ◌+◌, ℕ, List, [], length, drop, true, Some}
 use Rattle.press_units.specs.Limits.{greatest_of_64_bits}
-use Rattle.press_cmd.specs.Token.{Token}
+use Rattle.press_engine.specs.Machine.{Run}
 use Rattle.press_sink.specs.declared.sheet.Delivery.{Delivery}
 use Rattle.press_sink.specs.Sending.{under_tag}
-use Rattle.press_stream.specs.Meaning.{Owes}
-use Rattle.press_stream.specs.State.{JobState, opened, with_piece, input_ended, most_steps}
+use Rattle.press_stream.specs.Left.{LeftOf}
+use Rattle.press_stream.specs.State.{JobState, opened, with_piece, input_ended}
 use Rattle.press_core.specs.declared.work.RunningJob.{RunningJob}
 use Rattle.press_core.specs.Turns.{IsJobOf, machine_at, sheets_from, place_in_job}
 use Rattle.press_core.specs.Work.{Work, at_place}
@@ -14,22 +14,22 @@ use Rattle.press_core.specs.Work.{Work, at_place}
 abbrev pub job_at_start : List ℕ → JobState
 job_at_start bytes = input_ended (with_piece bytes opened)
 
--- the loader has carried out so many of the commands, and owes the others
-pub record IsAt (commands : List Token) (place : ℕ) (job : JobState) : Type 0 where
-  pub within : place ≤ length commands
-  pub machine : job.machine ≡ Some (machine_at place commands)
+-- the job has done so many of the items, and the others are left of it
+pub record IsAt (items : List Run) (place : ℕ) (job : JobState) : Type 0 where
+  pub within : place ≤ length items
+  pub machine : job.machine ≡ Some (machine_at place items)
   pub ended : job.held.ended ≡ true
-  pub owes : Owes job [] (drop place commands)
-  pub fits : place + most_steps job ≤ greatest_of_64_bits
+  pub left : LeftOf job (drop place items)
+  pub fits : length items ≤ greatest_of_64_bits
 
 -- a job took the next step, and these were its sheets
-pub record JobGoesOn (commands : List Token) (number : ℕ) (old new : RunningJob) (sheets : List Delivery) : Type 0 where
-  pub at : IsAt commands new.steps new.job
+pub record JobGoesOn (items : List Run) (number : ℕ) (old new : RunningJob) (sheets : List Delivery) : Type 0 where
+  pub at : IsAt items new.steps new.job
   pub next : new.steps ≡ old.steps + 1
-  pub sheets_are : sheets ≡ under_tag number (sheets_from old.steps 1 commands)
+  pub sheets_are : sheets ≡ under_tag number (sheets_from old.steps 1 items)
 
 -- a work's job took the next step, and these were its sheets
 abbrev pub Advances : (number : ℕ) (old new : Work) → List Delivery → Type 0
 Advances number old new sheets =
-    (commands : List Token) → IsJobOf old commands
-    → (new ≡ at_place (place_in_job old + 1) old) × (sheets ≡ under_tag number (sheets_from (place_in_job old) 1 commands))
+    (items : List Run) → IsJobOf old items
+    → (new ≡ at_place (place_in_job old + 1) old) × (sheets ≡ under_tag number (sheets_from (place_in_job old) 1 items))

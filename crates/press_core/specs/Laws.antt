@@ -1,6 +1,6 @@
 -- The law of jobs of a press, as a statement.
 use Rattle.std.specs.Prelude.{◌≡◌, List, length}
-use Rattle.press_cmd.specs.Token.{Token}
+use Rattle.press_engine.specs.Machine.{Run}
 use Rattle.press_writer.specs.Wanted.{wanted}
 use Rattle.press_core.specs.Turns.{IsJobOf, sheets_from}
 use Rattle.press_core.specs.Work.{Work, IsPrintable}
@@ -8,5 +8,5 @@ use Rattle.press_core.specs.Work.{Work, IsPrintable}
 -- The sheets of all steps of a work's job are those that its ticket wants, where the ticket is printed with its images.
 abbrev pub JobsHandOutTheWantedSheets : Type 0
 JobsHandOutTheWantedSheets =
-    (work : Work) (commands : List Token) → IsPrintable work.ticket work.images → IsJobOf work commands
-    → sheets_from 0 (length commands) commands ≡ wanted work.ticket work.images
+    (work : Work) (items : List Run) → IsPrintable work.ticket work.images → IsJobOf work items
+    → sheets_from 0 (length items) items ≡ wanted work.ticket work.images

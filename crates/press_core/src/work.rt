@@ -2,7 +2,7 @@
 
 ghost use Rattle.std.specs.Prelude.{◌≡◌, ◌≤◌, ◌<◌, ◌+◌, List, length, None, Some, IfOk, OnOk, OnErr, IsSome, nat_eq};
 ghost use Rattle.press_units.specs.Limits.{greatest_of_64_bits};
-ghost use Rattle.press_cmd.specs.Token.{Token};
+ghost use Rattle.press_engine.specs.Machine.{Run};
 ghost use Rattle.press_sink.specs.Kept.{deliveries};
 ghost use Rattle.press_sink.specs.Told.{most_faults};
 ghost use Rattle.press_writer.specs.Job.{job_bytes};
@@ -17,8 +17,10 @@ use crate::no_replies::NoReplies;
 use crate::turn::TurnError;
 use press_bits::Bitmap;
 use press_sink::{ListSink, SheetSink};
+use press_stream::laws::what_is_left;
 use press_stream::{Job, Step};
 use press_ticket::Ticket;
+use press_writer::laws::jobs_print_their_tickets;
 use press_writer::write_job;
 use std::alloc::{AllocError, Global};
 use std::marker::Model;
@@ -79,12 +81,13 @@ fn opened_job(alloc: Global, ticket: &Ticket, images: &[Bitmap]) -> Result<Job, 
 impl RunningJob {
     /// Carries out the next step, and gives its sheets.
     fn step(&mut self, alloc: Global, number: u64) -> Result<ListSink, AllocError>
-        requires at { (commands : List Token)
-            × IsAt commands self.old.steps self.old.job × (self.old.steps < length commands) }
+        requires at { (items : List Run)
+            × IsAt items self.old.steps self.old.job × (self.old.steps < length items) }
         ensures { IfOk result (λ sink.
-            (commands : List Token) → IsAt commands self.old.steps self.old.job
-            → JobGoesOn commands number self.old self.new (deliveries sink)) }
+            (items : List Run) → IsAt items self.old.steps self.old.job
+            → JobGoesOn items number self.old self.new (deliveries sink)) }
     {
+        what_is_left();
         let mut sheets = ListSink::new(alloc);
         match self.job.step(number, &mut sheets, &mut NoReplies) {
             Ok(Step::Ran(_)) => {
@@ -139,6 +142,7 @@ impl Work {
         if self.running.is_some() {
             return Ok(());
         }
+        jobs_print_their_tickets();
         let job = opened_job(alloc, &self.ticket, &self.images)?;
         self.running = Some(RunningJob { job, steps: 0 });
         Ok(())
@@ -146,10 +150,10 @@ impl Work {
 
     /// Whether no step of its job is left.
     pub fn is_over(&self) -> bool
-        ensures over { IsSome self.now.place → (commands : List Token) → IsJobOf self.now commands
-            → result ≡ nat_eq (place_in_job self.now) (length commands) }
-        ensures within { IsSome self.now.place → (commands : List Token) → IsJobOf self.now commands
-            → place_in_job self.now ≤ length commands }
+        ensures over { IsSome self.now.place → (items : List Run) → IsJobOf self.now items
+            → result ≡ nat_eq (place_in_job self.now) (length items) }
+        ensures within { IsSome self.now.place → (items : List Run) → IsJobOf self.now items
+            → place_in_job self.now ≤ length items }
     {
         match &self.running {
             Some(running) => running.job.ended(),
@@ -160,8 +164,8 @@ impl Work {
     /// Carries out the next step of its job, and gives the sheets. Where memory ran out, the job is given up.
     pub fn advance(&mut self, alloc: Global, number: u64) -> Result<ListSink, AllocError>
         requires begun { IsSome self.old.place }
-        requires going { (commands : List Token) → IsJobOf self.old commands
-            → place_in_job self.old < length commands }
+        requires going { (items : List Run) → IsJobOf self.old items
+            → place_in_job self.old < length items }
         ensures ok { IfOk result (λ sink. Advances number self.old self.new (deliveries sink)) }
         ensures err { OnErr result (self.new ≡ without_job self.old) }
     {

@@ -61,6 +61,6 @@ still calls old new tag before after running same quiet =
 pub stepped : CallsGo → (old new : JobState) (tag : ℕ) (result : Result Step JobError) (step : Step) (before after : Told) → IsSome old.machine → result ≡ Ok step → Takes old tag result new before after → (given : List Token) × Goes old [] given tag new before after
 stepped calls old new tag result step before after running answer takes = by step (subst (λ (one : Result Step JobError). Takes old tag one new before after) answer takes) where
   by : (step : Step) → Takes old tag (Ok step) new before after → (given : List Token) × Goes old [] given tag new before after
-  by (steps.Ran kind) ran = (ran.command ∷ [], ran.goes)
+  by (steps.Ran kind) ran = (ran.given, ran.goes)
   by steps.Hungry quiet = still calls old new tag before after running quiet.1 quiet.2
   by steps.Ended quiet = still calls old new tag before after running quiet.1 quiet.2

@@ -17,7 +17,7 @@ use std::alloc::Global;
 pub enum Call<'a> {
     /// This piece is pushed, and nothing is carried out.
     Push(&'a [u8]),
-    /// A step is taken: one command is carried out, if a whole one is there.
+    /// A table step is taken: a command of the innermost body that runs, or else of the stream, if a whole one is there.
     Step,
 }
 

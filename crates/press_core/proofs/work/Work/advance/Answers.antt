@@ -1,5 +1,5 @@
 use Rattle.std.proofs.Common.{◌<◌, ◌∙◌, List, Some, length, subst, sym, refl}
-use Rattle.press_cmd.specs.Token.{Token}
+use Rattle.press_engine.specs.Machine.{Run}
 use Rattle.press_sink.specs.Kept.{deliveries}
 use Rattle.press_core.specs.Inside.{work_of}
 use Rattle.press_core.specs.Jobs.{Advances}
@@ -11,7 +11,7 @@ use Rattle.press_core.proofs.work.Work.advance.Goals as goal
 pub step-requires : goal.step-requires
 step-requires c = record {
   at = may_go_on (work_of c.self.inside) c.self.inside.running c.in-Some.running (sym c.take.ensures.value ∙ c.in-Some.is) refl c.self.invariant.stands
-      (subst (λ (w : Work). (commands : List Token) → IsJobOf w commands → place_in_job w < length commands) (sym c.self.view_is) c.requires.going);
+      (subst (λ (w : Work). (items : List Run) → IsJobOf w items → place_in_job w < length items) (sym c.self.view_is) c.requires.going);
 }
 
 pub returns-in_err-sheets-clause-err : goal.returns-in_err-sheets-clause-err
@@ -20,5 +20,5 @@ returns-in_err-sheets-clause-err c = on_err c.from_residual.result (rw (c.take.e
 pub returns-clause-ok : goal.returns-clause-ok
 returns-clause-ok c =
     subst (λ (w : Work). Advances c.args.number w (at_place c.step.new.self.steps (work_of c.self.inside)) (deliveries c.in_ok-sheets.sheets)) c.self.view_is
-    (λ commands job. advances (work_of c.self.inside) c.self.inside.running c.in-Some.running c.step.new.self c.args.number (deliveries c.in_ok-sheets.sheets)
-    (sym c.take.ensures.value ∙ c.in-Some.is) refl c.self.invariant.stands c.in_ok-sheets.ensures commands job)
+    (λ items job. advances (work_of c.self.inside) c.self.inside.running c.in-Some.running c.step.new.self c.args.number (deliveries c.in_ok-sheets.sheets)
+    (sym c.take.ensures.value ∙ c.in-Some.is) refl c.self.invariant.stands c.in_ok-sheets.ensures items job)
