@@ -9,7 +9,7 @@ if __package__ in (None, ""):
     sys.path[0] = str(Path(__file__).resolve().parent.parent)
 
 from model import (  # noqa: E402
-    asm, commands, job_queue, pages, patterns, pbm, press, rows, runs, ticket, values, writer)
+    asm, commands, debug_lines, job_queue, pages, patterns, pbm, press, rows, runs, ticket, values, writer)
 from model.commands import (  # noqa: E402
     Broken, Control, Param, PjlLine, Text, Uel, closed, same_commands, split)
 from model.press_lines import Lines  # noqa: E402
@@ -360,6 +360,32 @@ def test_steps_of_a_nested_call():
     debugger = runs.Debugger(spelled)
     debugger.breaks[32] = lambda at: at.items[at.place - 1].view["x"] >= 96
     assert debugger.go(1000) == "break 32" and debugger.step() == 20
+
+
+def test_lines_of_the_debugger():
+    script = b"""break par *cP
+go 9
+go 18446744073709551615
+recent
+go 100
+over
+go 100
+step
+clear 0
+clear 5
+break esc
+go 18446744073709551616
+step"""
+    spelled = stream(NESTED)
+    answers = debug_lines.DebugLines(spelled).run(script).split("\n")
+    assert answers[:3] == ["set 0", answers[1], answers[2]]
+    assert answers[1].startswith("limit step 9 depth 0 ") and answers[2].startswith("break 0 step 14 depth 1 ")
+    assert answers[3:17] == [item.kind for item in runs.trace(spelled)[:14]]
+    assert [answer.split(" x ")[0] for answer in answers[17:21]] == [
+        "break 0 step 19 depth 2", "stepped step 20 depth 2", "ended step 23 depth 0", "ended step 23 depth 0"]
+    assert answers[21:25] == ["cleared 0", "fault 502", "what?", "what?"] and answers[26:] == [""]
+    many = debug_lines.DebugLines(b"").run(b"break uel\n" * 33)
+    assert many == "".join(f"set {number}\n" for number in range(32)) + "fault 501\n"
 
 
 def test_deepest_trace():
