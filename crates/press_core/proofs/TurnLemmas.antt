@@ -9,6 +9,7 @@ use Rattle.std.proofs.lemmas.Cmp.{nat_eq_equiv}
 use Rattle.std.proofs.lemmas.Map.{keys-set_value, lookup-set_value}
 use Rattle.std.proofs.lemmas.Map.Steps.{set_value_same}
 use Rattle.press_engine.specs.Machine.{Run}
+use Rattle.press_page.specs.Environment.{changed_by}
 use Rattle.press_queue.specs.declared.entry.Entry.{Entry}
 use Rattle.press_queue.specs.declared.status.End.{End}
 use Rattle.press_queue.specs.declared.status.End.TheVariants.{Completed, Aborted}
@@ -222,7 +223,7 @@ begins_given_up world number new after works error none distinct sound is ends l
     at_work None there = absurd (true≢false (sym (has_work world.queue world.works number begins.entry sound begins.there) ∙ ap is_some there))
     at_work (Some work) there =
         let same = begins_at world new number none is in
-        let works_are = lands ∙ ap (λ o. option_map_or (λ w. set_value (nat_eq number) world.works (without_job w)) o world.works) there in (
+        let works_are = lands ∙ ap (λ o. changed_by o (λ w all. set_value (nat_eq number) all (without_job w)) world.works) there in (
           number,
           work,
           ap (λ r. r.1) same,
@@ -235,7 +236,7 @@ begins_given_up world number new after works error none distinct sound is ends l
 pub without_job_set : (number : ℕ) (works : List (ℕ × Work)) (old work : Work) → lookup (nat_eq number) works ≡ Some old
     → works_without_job number (set_value (nat_eq number) works work) ≡ set_value (nat_eq number) works (without_job work)
 without_job_set number works old work there =
-    ap (λ o. option_map_or (λ w. set_value (nat_eq number) (set_value (nat_eq number) works work) (without_job w)) o (set_value (nat_eq number) works work)) (there_set number works old work there)
+    ap (λ o. changed_by o (λ w all. set_value (nat_eq number) all (without_job w)) (set_value (nat_eq number) works work)) (there_set number works old work there)
     ∙ set_twice number works work (without_job work)
 
 -- ---- the entry that runs ends
@@ -321,7 +322,7 @@ ifs false x y v w p q = q
 begun_again : (number : ℕ) (works : List (ℕ × Work)) (work other : Work) → lookup (nat_eq number) works ≡ Some work
     → set_value (nat_eq number) (begun_works number works) other ≡ set_value (nat_eq number) works other
 begun_again number works work other is =
-    ap (λ o. set_value (nat_eq number) (option_map_or (λ w. set_value (nat_eq number) works (begun_work w)) o works) other) is ∙ set_twice number works (begun_work work) other
+    ap (λ o. set_value (nat_eq number) (changed_by o (λ w all. set_value (nat_eq number) all (begun_work w)) works) other) is ∙ set_twice number works (begun_work work) other
 
 after_begun : (world : World) (number : ℕ) (work : Work) (items : List Run) (result : Result ℕ TurnError) (sheets : List Sides) → work_numbered number world ≡ Some work
     → after_steps number (begun_work work) items result sheets (with_begun number world) ≡ after_steps number work items result sheets world
@@ -346,10 +347,10 @@ steps_of_begun world next number most result handed steps = at_work (work_number
   where
     at_work : (o : Option Work) → work_numbered number world ≡ o → EntrySteps world number most result handed next
     at_work None is =
-        let same = ap (λ o. option_map_or (λ w. set_value (nat_eq number) world.works (begun_work w)) o world.works) is in
+        let same = ap (λ o. changed_by o (λ w all. set_value (nat_eq number) all (begun_work w)) world.works) is in
         absurd (true≢false (sym (sym (ap is_some is) ∙ ap (λ works. is_some (lookup (nat_eq number) works)) (sym same) ∙ ap is_some steps.is_work)))
     at_work (Some work) is =
-        let works_are = ap (λ o. option_map_or (λ w. set_value (nat_eq number) world.works (begun_work w)) o world.works) is in
+        let works_are = ap (λ o. changed_by o (λ w all. set_value (nat_eq number) all (begun_work w)) world.works) is in
         let there = ap (λ works. lookup (nat_eq number) works) works_are ∙ there_set number world.works work (begun_work work) is in
         let same : steps.work ≡ begun_work work = same_some (work_numbered number (with_begun number world)) steps.work (begun_work work) steps.is_work there in
         record {

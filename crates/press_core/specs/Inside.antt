@@ -12,7 +12,7 @@ use Rattle.press_core.specs.declared.work.Work.TheInside.{Inside}
 use Rattle.press_core.specs.Jobs.{IsAt}
 use Rattle.press_core.specs.Turns.{IsJobOf, aborted, place_in_job, at_turn}
 use Rattle.press_core.specs.Work.{Work, IsPrintable, at_place}
-use Rattle.press_core.specs.World.{World, is_listed, with_queue, work_numbered}
+use Rattle.press_core.specs.World.{work_changed, World, is_listed, with_queue, work_numbered}
 
 abbrev pub work_of : Inside → Work
 work_of work = record {
@@ -45,8 +45,7 @@ abbrev pub begun_work : Work → Work
 begun_work work = at_place (place_in_job work) work
 
 abbrev pub begun_works : ℕ → List (ℕ × Work) → List (ℕ × Work)
-begun_works number works =
-    option_map_or (λ work. set_value (nat_eq number) works (begun_work work)) (lookup (nat_eq number) works) works
+begun_works = work_changed begun_work
 
 -- the works of a world after that of an entry began
 abbrev pub with_begun : ℕ → World → World
