@@ -1,9 +1,12 @@
 mod EntryLines
 mod JobLemmas
-pub mod Lines
+mod LineLemmas
+pub mod ListingLemmas
+mod NumberLemmas
 mod NumberingLemmas
 pub mod PrintedLemmas
 mod SessionLemmas
+mod WordLemmas
 mod WordsLemmas
 pub mod WorkedWords
 pub mod ProgramLemmas

@@ -1,8 +1,12 @@
 pub mod Assembly
 pub mod EntryListing
 pub mod EntrySheets
+pub mod EventLines
 pub mod Files
+pub mod Inputs
 pub mod Jobs
+pub mod LineReading
+pub mod Lines
 pub mod Listed
 pub mod Listing
 pub mod Measured

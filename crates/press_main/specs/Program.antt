@@ -1,15 +1,15 @@
 -- What the program does for what its words ask.
 use Rattle.std.specs.Prelude.{◌≡◌, ◌≢◌, ◌⊎◌, ℕ, List, Option, Some, None, map}
-use Rattle.std.specs.Io.KnownBytes.{IsAtEnd}
 use Rattle.clap.specs.Words.{Text}
 use Rattle.press_main.specs.Words.{Source, Standard, FileNamed, Made, Listed, FilesBy, Answered, AsText, StreamTo, JobTo, Asked}
 use Rattle.press_main.specs.Assembly.{AssembledTo, StopsAssembling, DisassembledTo, StopsDisassembling}
 use Rattle.press_main.specs.Files.{PrintsFiles, PrintsNothing}
 use Rattle.press_main.specs.Jobs.{WritesTheTicket, StopsWriting}
 use Rattle.press_main.specs.Listing.{PrintsListing}
-use Rattle.press_main.specs.Sessions.{Plays}
+use Rattle.press_main.specs.Sessions.{Plays, Stops}
 use Rattle.press_main.specs.declared.assembly.TextError.{TextError}
 use Rattle.press_main.specs.declared.jobs.JobFileError.{JobFileError}
+use Rattle.press_main.specs.declared.sessions.SessionError.{SessionError}
 
 -- A text was assembled to a writer, or not; the status is 0 exactly where it was.
 pub record Assembling (status : ℕ) (had left old new : Option (List ℕ)) : Type 0 where
@@ -26,10 +26,10 @@ pub record Writing (status : ℕ) (had left : Option (List ℕ)) (images : List 
   pub done : status ≡ 0 → WritesTheTicket had left images old new
   pub stops : status ≢ 0 → (why : JobFileError) × StopsWriting had left images old new why
 
--- A session was played to its end, where the status is 0.
-pub record Playing (status : ℕ) (left old new : Option (List ℕ)) : Type 0 where
-  pub done : status ≡ 0 → Plays old new
-  pub whole : status ≡ 0 → IsAtEnd left
+-- A session was played to its end, or stopped, with the files of its messages among these inputs.
+pub record Playing (status : ℕ) (inputs : Text → Option (List ℕ)) (had left old new : Option (List ℕ)) : Type 0 where
+  pub done : status ≡ 0 → Plays inputs had left old new
+  pub stops : status ≢ 0 → (why : SessionError) × Stops inputs had left old new why
 
 -- What is asked for was made of what a reader had: its status, and what standard output took. What named files hold is not known;
 -- where one is made, standard output takes nothing; the inputs are what they have by their names.
@@ -37,7 +37,7 @@ abbrev pub Makes : Made → (inputs : Text → Option (List ℕ)) → ℕ → (h
 Makes Listed inputs status had left old new = PrintsListing status had left old new
 Makes (FilesBy template) inputs status had left old new =
     PrintsFiles status had left old new ⊎ PrintsNothing status had left old new
-Makes Answered inputs status had left old new = Playing status left old new
+Makes Answered inputs status had left old new = Playing status inputs had left old new
 Makes AsText inputs status had left old new = Disassembling status had left old new
 Makes (StreamTo name) inputs status had left old new = Assembling status had left None None × (new ≡ old)
 Makes (JobTo name images) inputs status had left old new = Writing status had left (map inputs images) None None × (new ≡ old)

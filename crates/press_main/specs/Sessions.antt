@@ -1,13 +1,25 @@
--- Sessions with a press: what its lines were, and what was written.
-use Rattle.std.specs.Prelude.{◌≡◌, ℕ, List, [], ◌∷◌, ◌++◌, Option, Some, None, Ok, codes}
+-- Sessions with a press: what its lines ask, what comes of them, and what is written.
+use Rattle.std.specs.Prelude.{◌≡◌, ◌⊎◌, ℕ, List, [], ◌∷◌, ◌++◌, map, Option, Some, None, Ok, Err, codes, ⊤}
 use Rattle.std.specs.Fmt.{decimal}
-use Rattle.std.specs.Io.KnownBytes.{Appends}
+use Rattle.std.specs.Io.KnownBytes.{Consumes, IsAtEnd, Appends}
+use Rattle.press_pbm.specs.Spelling.{AppendsFront}
 use Rattle.press_sink.specs.declared.sheet.Delivery.{Delivery}
-use Rattle.press_core.specs.Events.{Happening, EventAnswer, Response, Turned, Nothing, Leads}
+use Rattle.press_asm.specs.Text.{lines_of}
+use Rattle.press_core.specs.Events.{Event, Message, TurnOf, Operator, Happening, Happens, EventAnswer, Response, Turned, Nothing, Leads}
 use Rattle.press_core.specs.World.{World, empty_world}
+use Rattle.press_main.specs.declared.inputs.InputError.{InputError}
+use Rattle.press_main.specs.declared.inputs.InputError.TheVariants as reading
+use Rattle.press_main.specs.declared.jobs.JobFileError.{JobFileError}
+use Rattle.press_main.specs.declared.jobs.JobFileError.TheVariants as fault
 use Rattle.press_main.specs.declared.sessions.Session.{Session}
+use Rattle.press_main.specs.declared.sessions.SessionError.{SessionError}
+use Rattle.press_main.specs.declared.sessions.SessionError.TheVariants.{File, Turn, Output, NoMemory}
+use Rattle.press_main.specs.Assembly.{ReadWhole}
 use Rattle.press_main.specs.EntryListing.{entry_listing}
 use Rattle.press_main.specs.EntrySheets.{kept, entry_deliveries_of}
+use Rattle.press_main.specs.EventLines.{EventLine, MessageLine, TurnLine, OperatorLine, event_of_line}
+use Rattle.press_main.specs.Jobs.{HaveImages, ImagesRefused}
+use Rattle.press_main.specs.Lines.{BeginsWith, HasWhole}
 
 -- the line of a turn: the entry that took steps, and how many
 abbrev pub turn_text : Option ℕ → ℕ → List ℕ
@@ -42,28 +54,156 @@ abbrev pub handed_in : List Happening → List Delivery
 handed_in [] = []
 handed_in (happening ∷ happenings) = happening.handed ++ handed_in happenings
 
--- Lines were carried out, from one world to another: what their events handed out was delivered, and their answers were written.
-pub record PlaysLines (world : World) (had : List Delivery) (old : Option (List ℕ)) (next : World) (has : List Delivery) (new : Option (List ℕ)) : Type 0 where
-  pub lines : List (Option Happening)
-  pub leads : Leads world (happenings_in lines) next
-  pub handed : has ≡ had ++ handed_in (happenings_in lines)
-  pub written : Appends old new (answers_to lines)
+-- What inputs have, by their names, where that is known.
+abbrev pub Inputs : Type 0
+Inputs = List ℕ → Option (List ℕ)
+
+-- an input had this text, to its end
+abbrev pub HasText : (had : Option (List ℕ)) → (text : List ℕ) → Type 0
+HasText had text = (left : Option (List ℕ)) × ReadWhole had left text
+
+-- The event is what a line asks: a message has the text of the input of its file, and the images of the inputs that are named.
+abbrev pub IsAsked : Inputs → EventLine → Event → Type 0
+IsAsked inputs (MessageLine file names) (Message text images) = HasText (inputs file) text × HaveImages (map inputs names) images
+IsAsked inputs (TurnLine most) (TurnOf steps) = steps ≡ most
+IsAsked inputs (OperatorLine asked) (Operator command) = command ≡ asked
+IsAsked inputs asked event = ⊥
+
+-- a line is one of this event, with what came of it; or of none
+abbrev pub IsLineOf : Inputs → (line : List ℕ) → Option Happening → Type 0
+IsLineOf inputs line None = event_of_line line ≡ None
+IsLineOf inputs line (Some happening) = (asked : EventLine) × (event_of_line line ≡ Some asked) × IsAsked inputs asked happening.event
+
+-- each line is so, in order
+abbrev pub AreLinesOf : Inputs → (lines : List (List ℕ)) → List (Option Happening) → Type 0
+AreLinesOf inputs [] [] = ⊤
+AreLinesOf inputs (line ∷ lines) (happening ∷ happenings) = IsLineOf inputs line happening × AreLinesOf inputs lines happenings
+AreLinesOf inputs _ _ = ⊥
+
+-- An event happened: what it handed out was delivered behind what had been, and this is its answer.
+abbrev pub TakesEvent : Event → World → (had : List Delivery) → (next : World) → (has : List Delivery) → (answer : List ℕ) → Type 0
+TakesEvent event world had next has answer =
+    (its : EventAnswer) × (handed : List Delivery) × Happens world event its handed next × (has ≡ had ++ handed) × (answer ≡ answer_text its)
+
+-- So did the event that a line asks.
+abbrev pub TakesAsked : Inputs → EventLine → World → (had : List Delivery) → (next : World) → (has : List Delivery) → (answer : List ℕ) → Type 0
+TakesAsked inputs asked world had next has answer = (event : Event) × IsAsked inputs asked event × TakesEvent event world had next has answer
+
+-- Lines were carried out, one after another, from one world to another: what their events handed out was delivered behind what had
+-- been, and these are their answers.
+pub record TakesLines (inputs : Inputs) (lines : List (List ℕ)) (world : World) (had : List Delivery) (next : World) (has : List Delivery) (answers : List ℕ) : Type 0 where
+  pub happenings : List (Option Happening)
+  pub are : AreLinesOf inputs lines happenings
+  pub leads : Leads world (happenings_in happenings) next
+  pub handed : has ≡ had ++ handed_in (happenings_in happenings)
+  pub answered : answers ≡ answers_to happenings
+
+-- All lines that a reader had, to its end, were carried out; their answers were written, and then the listing of all that was
+-- delivered, and nothing else.
+pub record PlaysToItsEnd (inputs : Inputs) (world : World) (had : List Delivery) (bytes left old new : Option (List ℕ)) : Type 0 where
+  pub text : List ℕ
+  pub next : World
+  pub has : List Delivery
+  pub answers : List ℕ
+  pub read : ReadWhole bytes left text
+  pub takes : TakesLines inputs (lines_of text) world had next has answers
+  pub written : Appends old new (answers ++ entry_listing has)
+
+-- a fault of a file that is opened or read
+abbrev pub IsUnread : JobFileError → Type 0
+IsUnread (fault.Input why) = ⊤
+IsUnread why = ⊥
+
+-- Why what a line asks has no answer: of a message, its file is read first, then the images in their order.
+abbrev pub HasFault : Inputs → EventLine → World → SessionError → Type 0
+HasFault inputs asked world NoMemory = ⊤
+HasFault inputs (MessageLine file names) world (File why) =
+    IsUnread why ⊎ ((text : List ℕ) × HasText (inputs file) text × ImagesRefused (map inputs names) why)
+HasFault inputs (TurnLine most) world (Turn error) =
+    (handed : List Delivery) × (next : World) × Happens world (TurnOf most) (Turned (Err error)) handed next
+HasFault inputs asked world why = ⊥
+
+-- Why a line has no answer: what it asks has none, or memory ran out.
+abbrev pub IsUnanswered : Inputs → (line : List ℕ) → World → SessionError → Type 0
+IsUnanswered inputs line world why =
+    ((asked : EventLine) × (event_of_line line ≡ Some asked) × HasFault inputs asked world why) ⊎ (why ≡ NoMemory)
+
+-- What was written of the answer of a line at which a session stopped: a front of it, where a write failed; else nothing.
+abbrev pub StopsAtLine : Inputs → (line : List ℕ) → World → (had : List Delivery) → (old new : Option (List ℕ)) → SessionError → Type 0
+StopsAtLine inputs line world had old new (Output error) =
+    (next : World) × (has : List Delivery) × (answer : List ℕ) × TakesLines inputs (line ∷ []) world had next has answer × AppendsFront old new answer
+StopsAtLine inputs line world had old new why = IsUnanswered inputs line world why × (new ≡ old)
+
+-- the line stands behind these lines of a text, and the session stopped there
+abbrev pub StopsAtALine : Inputs → (text : List ℕ) → List (List ℕ) → World → (had : List Delivery) → (old new : Option (List ℕ)) → SessionError → Type 0
+StopsAtALine inputs text lines world had old new why =
+    (line : List ℕ) × BeginsWith text (lines ++ line ∷ []) × StopsAtLine inputs line world had old new why
+
+-- It stopped where lines are read: all that were read whole were carried out, where a read failed.
+abbrev pub ReadsNoMore : InputError → (text : List ℕ) → List (List ℕ) → Type 0
+ReadsNoMore reading.ReadFault text lines = HasWhole text lines
+ReadsNoMore reading.NoMemory text lines = BeginsWith text lines
+
+abbrev pub StopsReading : (text : List ℕ) → List (List ℕ) → (old new : Option (List ℕ)) → SessionError → Type 0
+StopsReading text lines old new why =
+    (error : InputError) × (why ≡ File (fault.Input error)) × ReadsNoMore error text lines × (new ≡ old)
+
+-- It stopped at its listing, behind all lines: a front of it was written, where a write failed; else nothing.
+abbrev pub StopsListing : (had : List Delivery) → (old new : Option (List ℕ)) → SessionError → Type 0
+StopsListing had old new (Output error) = AppendsFront old new (entry_listing had)
+StopsListing had old new NoMemory = new ≡ old
+StopsListing had old new why = ⊥
+
+-- What was done behind the lines that end with a line feed: the last line, if there is one, and the listing.
+pub record Ends (inputs : Inputs) (lines : List (List ℕ)) (world : World) (had : List Delivery) (old new : Option (List ℕ)) : Type 0 where
+  pub next : World
+  pub has : List Delivery
+  pub answers : List ℕ
+  pub takes : TakesLines inputs lines world had next has answers
+  pub written : Appends old new (answers ++ entry_listing has)
+
+-- Why it was not done: at the last line, or at the listing behind it.
+pub record StopsAtTheListing (inputs : Inputs) (lines : List (List ℕ)) (world : World) (had : List Delivery) (old new : Option (List ℕ)) (why : SessionError) : Type 0 where
+  pub next : World
+  pub has : List Delivery
+  pub answers : List ℕ
+  pub between : Option (List ℕ)
+  pub takes : TakesLines inputs lines world had next has answers
+  pub written : Appends old between answers
+  pub stops : StopsListing has between new why
+
+abbrev pub StopsEnding : Inputs → (line : List ℕ) → World → (had : List Delivery) → (old new : Option (List ℕ)) → SessionError → Type 0
+StopsEnding inputs line world had old new why =
+    ((lines_of line ≡ line ∷ []) × StopsAtLine inputs line world had old new why) ⊎ StopsAtTheListing inputs (lines_of line) world had old new why
+
+-- how a session stopped behind the lines that it had carried out
+abbrev pub StopsBehind : Inputs → (left : Option (List ℕ)) → (text : List ℕ) → List (List ℕ) → World → List Delivery → (old new : Option (List ℕ)) → SessionError → Type 0
+StopsBehind inputs left text lines world had old new why =
+    StopsAtALine inputs text lines world had old new why ⊎ StopsReading text lines old new why
+    ⊎ (IsAtEnd left × (lines_of text ≡ lines) × StopsListing had old new why)
+
+-- The first lines of what was read were carried out, and their answers written; and why the session stopped behind them, and what was
+-- written then.
+pub record StopsPlaying (inputs : Inputs) (world : World) (had : List Delivery) (bytes left old new : Option (List ℕ)) (why : SessionError) : Type 0 where
+  pub text : List ℕ
+  pub lines : List (List ℕ)
+  pub next : World
+  pub has : List Delivery
+  pub answers : List ℕ
+  pub between : Option (List ℕ)
+  pub read : Consumes bytes left text
+  pub takes : TakesLines inputs lines world had next has answers
+  pub written : Appends old between answers
+  pub stops : StopsBehind inputs left text lines next has between new why
 
 -- what the press of a session delivered
 abbrev pub delivered_by : Session → List Delivery
 delivered_by session = entry_deliveries_of (kept session.sheets)
 
-abbrev pub PlaysOn : Session → Option (List ℕ) → Session → Option (List ℕ) → Type 0
-PlaysOn before old after new = PlaysLines before.press (delivered_by before) old after.press (delivered_by after) new
+-- A session was played, with a press at its beginning.
+abbrev pub Plays : Inputs → (bytes left old new : Option (List ℕ)) → Type 0
+Plays inputs bytes left old new = PlaysToItsEnd inputs empty_world [] bytes left old new
 
--- Lines were carried out to the end: their answers were written, and then the listing of all that was delivered.
-pub record PlaysToItsEnd (world : World) (had : List Delivery) (old new : Option (List ℕ)) : Type 0 where
-  pub lines : List (Option Happening)
-  pub last : World
-  pub leads : Leads world (happenings_in lines) last
-  pub written : Appends old new (answers_to lines ++ entry_listing (had ++ handed_in (happenings_in lines)))
-
--- A session was played: some run of events from a press at its beginning, and between them lines that are none. The answers of
--- the events were written, each in its place, and at the end the listing of all that the events handed out; and nothing else.
-abbrev pub Plays : Option (List ℕ) → Option (List ℕ) → Type 0
-Plays old new = PlaysToItsEnd empty_world [] old new
+-- It stopped early, and this is why.
+abbrev pub Stops : Inputs → (bytes left old new : Option (List ℕ)) → SessionError → Type 0
+Stops inputs bytes left old new why = StopsPlaying inputs empty_world [] bytes left old new why

@@ -1,9 +1,10 @@
 //! Lines of events: what each asks of the press.
-use press_core::OperatorCommand;
-use std::alloc::{AllocError, Global};
+ghost use Rattle.std.specs.Prelude.{◌≡◌, map, option_map};
+ghost use Rattle.std.specs.List.{list_any};
+ghost use Rattle.press_main.specs.EventLines.{is_empty, event_in, kind_named, asked_by, line_seen};
 
-/// What stands between two words of a line.
-const BETWEEN_WORDS: u8 = b' ';
+use crate::lines::number_in;
+use press_core::OperatorCommand;
 
 /// What a line asks of the press.
 #[derive(Clone, Copy)]
@@ -16,40 +17,69 @@ pub enum LineEvent<'a> {
     Operator(OperatorCommand),
 }
 
-/// The words of a line: what stands in front of the first space, between two, and behind the last.
-pub fn words_of<'a>(alloc: Global, line: &'a [u8]) -> Result<Vec<&'a [u8]>, AllocError> {
-    let mut words = Vec::new(alloc);
-    for word in line.split(|byte| *byte == BETWEEN_WORDS) {
-        words.push(word)?;
-    }
-    Ok(words)
+/// The kind of a line of events.
+#[derive(Clone, Copy)]
+pub enum LineKind {
+    Message,
+    Turn,
+    Pause,
+    Continue,
+    Abort,
 }
 
 /// What a line of these words asks, if it is one of an event: `message FILE IMG..`, `turn N`, `pause`, `continue` or `abort`.
 /// No word is empty, since one space stands between two.
-pub fn event_of<'a>(words: &'a [&'a [u8]]) -> Option<LineEvent<'a>> {
-    if words.iter().any(|word| word.is_empty()) {
+pub fn event_of<'a>(words: &'a [&'a [u8]]) -> Option<LineEvent<'a>>
+    ensures { option_map line_seen result ≡ event_in (map (λ word. word.now) words.entry.now) }
+{
+    if has_empty(words) {
         return None;
     }
-    match words {
-        [b"message", file, images @ ..] => Some(LineEvent::Message(file, images)),
-        [b"turn", number] => Some(LineEvent::Turn(number_of(number)?)),
-        [b"pause"] => Some(LineEvent::Operator(OperatorCommand::Pause)),
-        [b"continue"] => Some(LineEvent::Operator(OperatorCommand::Continue)),
-        [b"abort"] => Some(LineEvent::Operator(OperatorCommand::AbortRunning)),
-        _ => None,
+    let (first, others) = words.split_first()?;
+    asked_by(kind_named(first)?, others)
+}
+
+/// Whether a word is empty.
+fn has_empty(words: &[&[u8]]) -> bool
+    ensures { result ≡ list_any is_empty (map (λ word. word.now) words.now) }
+{
+    for word in words {
+        if word.is_empty() {
+            return true;
+        }
+    }
+    false
+}
+
+/// The kind of the lines that begin with this word.
+fn kind_named(word: &[u8]) -> Option<LineKind>
+    ensures { result ≡ kind_named word.now }
+{
+    if word == b"message".as_slice() {
+        Some(LineKind::Message)
+    } else if word == b"turn".as_slice() {
+        Some(LineKind::Turn)
+    } else if word == b"pause".as_slice() {
+        Some(LineKind::Pause)
+    } else if word == b"continue".as_slice() {
+        Some(LineKind::Continue)
+    } else if word == b"abort".as_slice() {
+        Some(LineKind::Abort)
+    } else {
+        None
     }
 }
 
-/// The number that a word is: digits, and at most 18,446,744,073,709,551,615.
-fn number_of(word: &[u8]) -> Option<u64> {
-    let mut number = 0u64;
-    for byte in word {
-        if !byte.is_ascii_digit() {
-            return None;
-        }
-        let digit = u64::from(*byte - b'0');
-        number = number.checked_mul(10)?.checked_add(digit)?;
+/// What a line of this kind asks, by the words behind the first.
+fn asked_by<'a>(kind: LineKind, words: &'a [&'a [u8]]) -> Option<LineEvent<'a>>
+    ensures { option_map line_seen result ≡ asked_by kind (map (λ word. word.now) words.entry.now) }
+{
+    match (kind, words) {
+        (LineKind::Message, [file, images @ ..]) => Some(LineEvent::Message(file, images)),
+        (LineKind::Turn, [number]) => Some(LineEvent::Turn(number_in(number)?)),
+        (LineKind::Pause, []) => Some(LineEvent::Operator(OperatorCommand::Pause)),
+        (LineKind::Continue, []) => Some(LineEvent::Operator(OperatorCommand::Continue)),
+        (LineKind::Abort, []) => Some(LineEvent::Operator(OperatorCommand::AbortRunning)),
+        _ => None,
     }
-    Some(number)
 }

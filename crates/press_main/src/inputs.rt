@@ -1,7 +1,8 @@
 //! Inputs that are read whole.
-ghost use Rattle.std.specs.Prelude.{◌≡◌, ◌≤◌, ◌⊎◌, true, IfOk, IsErrOf};
+ghost use Rattle.std.specs.Prelude.{◌≡◌, ◌<◌, ◌≤◌, ◌⊎◌, true, length, IfOk, OnOk, OnErr};
 ghost use Rattle.press_stream.specs.Pieces.{most_reads};
 ghost use Rattle.press_main.specs.Assembly.{ReadWhole};
+ghost use Rattle.press_main.specs.Inputs.{GivesNext};
 
 use press_stream::{MOST_READS, PIECE, Piece, READ_FAULT, ReadCount, read_piece};
 use press_units::NO_MEMORY;
@@ -30,6 +31,33 @@ impl From<AllocError> for InputError {
     }
 }
 
+/// Reads the next piece of an input, at its end none, and counts the reads; one that was interrupted is made again.
+///
+/// # Errors
+///
+/// `ReadFault` (304) where a read failed, or there were more than 4,294,967,295; nothing was read then.
+pub fn read_next<R: Read>(
+    reader: &mut R,
+    piece: &mut [u8],
+    count: &mut ReadCount,
+) -> Result<usize, InputError>
+    requires room { 0 < length piece.old }
+    ensures piece { GivesNext result (R.remaining reader.old) (R.remaining reader.new) piece.new }
+    ensures room { length piece.new ≡ length piece.old }
+    ensures counted { OnOk result (count.old.reads < count.new.reads) }
+    ensures bound { OnOk result (count.new.reads ≤ most_reads) }
+    ensures fault { OnErr result ((count.new.failed ≡ true) ⊎ (most_reads ≤ count.new.reads)) }
+{
+    while count.reads < MOST_READS {
+        match read_piece(reader, piece, count) {
+            Piece::Bytes(length) => return Ok(length),
+            Piece::Interrupted => {}
+            Piece::Failed => return Err(InputError::ReadFault),
+        }
+    }
+    Err(InputError::ReadFault)
+}
+
 /// All that a reader has.
 ///
 /// # Errors
@@ -40,31 +68,13 @@ pub fn read_all<R: Read>(alloc: Global, reader: &mut R) -> Result<Vec<u8>, Input
         ReadWhole (R.remaining reader.old) (R.remaining reader.new) all.items) }
 {
     let mut count = ReadCount::none();
-    read_counted(alloc, reader, &mut count)
-}
-
-/// The same, with a count of the reads.
-fn read_counted<R: Read>(
-    alloc: Global,
-    reader: &mut R,
-    count: &mut ReadCount,
-) -> Result<Vec<u8>, InputError>
-    requires { count.old.reads ≡ 0 }
-    ensures all { IfOk result (λ all.
-        ReadWhole (R.remaining reader.old) (R.remaining reader.new) all.items) }
-    ensures bound { count.new.reads ≤ most_reads }
-    ensures fault { IsErrOf result InputError.ReadFault
-        → (count.new.failed ≡ true) ⊎ (count.new.reads ≡ most_reads) }
-{
     let mut piece = [0; PIECE];
     let mut all = Vec::new(alloc);
-    while count.reads < MOST_READS {
-        match read_piece(reader, &mut piece, count) {
-            Piece::Bytes(0) => return Ok(all),
-            Piece::Bytes(length) => all.extend_from_slice(&piece[..length])?,
-            Piece::Interrupted => {}
-            Piece::Failed => return Err(InputError::ReadFault),
+    loop {
+        let length = read_next(reader, &mut piece, &mut count)?;
+        if length == 0 {
+            return Ok(all);
         }
+        all.extend_from_slice(&piece[..length])?;
     }
-    Err(InputError::ReadFault)
 }

@@ -8,6 +8,8 @@ mod event_lines;
 mod files;
 mod inputs;
 mod jobs;
+mod line_reader;
+mod lines;
 mod listing;
 mod listing_sink;
 mod made_file;

@@ -1,57 +1,118 @@
 //! Sessions with a press: lines of events, and what each is answered.
-ghost use Rattle.std.specs.Prelude.{◌≡◌, ◌≤◌, ◌++◌, ◌∷◌, [], OnOk};
-ghost use Rattle.std.specs.Io.KnownBytes.{Appends, IsAtEnd};
-ghost use Rattle.press_stream.specs.Pieces.{most_reads};
-ghost use Rattle.press_main.specs.Sessions.{turn_text, PlaysOn, PlaysToItsEnd, Plays, delivered_by};
+ghost use Rattle.std.specs.Prelude.{◌≡◌, ◌≢◌, ◌≤◌, ◌∷◌, ◌++◌, ℕ, List, [], map, IfOk, IfErr, OnOk};
+ghost use Rattle.std.specs.Io.KnownBytes.{Appends};
+ghost use Rattle.std.specs.String.{string_bytes};
+ghost use Rattle.press_asm.specs.Text.{lines_of};
+ghost use Rattle.press_core.specs.Events.{TurnOf, Operator};
+ghost use Rattle.press_main.specs.EntryListing.{entry_listing};
+ghost use Rattle.press_main.specs.EventLines.{MessageLine, TurnLine, line_seen};
+ghost use Rattle.press_main.specs.Lines.{HasNoFeed};
+ghost use Rattle.press_main.specs.Sessions.{
+  turn_text,
+  Inputs,
+  TakesEvent,
+  TakesAsked,
+  TakesLines,
+  HasFault,
+  IsUnanswered,
+  Ends,
+  PlaysToItsEnd,
+  StopsAtLine,
+  StopsEnding,
+  StopsListing,
+  StopsPlaying,
+  Plays,
+  Stops,
+  delivered_by,
+};
+ghost use Rattle.press_main.specs.declared.sessions.SessionError.{SessionError};
+ghost use Rattle.press_main.specs.declared.sessions.SessionError.TheVariants.{NoMemory};
 
 use crate::entry_sheets::EntrySheets;
-use crate::event_lines::{LineEvent, event_of, words_of};
+use crate::event_lines::{LineEvent, event_of};
 use crate::inputs::{InputError, read_all};
 use crate::jobs::{JobFileError, images_named};
+use crate::line_reader::LineReader;
+use crate::lines::words_of;
 use crate::listing::list_delivered;
 use crate::named_inputs::{NamedInputs, open_named};
-use crate::telling::{NO_OUTPUT, told};
+use crate::telling::{NO_OUTPUT, told, write_flushed};
+use press_cmd::LINE_FEED;
 use press_core::{OperatorCommand, Press, Turn, TurnError};
-use press_stream::{MOST_READS, PIECE, Piece, ReadCount, read_piece};
 use press_units::NO_MEMORY;
 use std::alloc::{AllocError, Global};
 use std::io::{self, Read, Write};
 use thiserror::Error;
 
-/// What ends a line.
-const LINE_END: u8 = b'\n';
-
 /// Why a session ended early.
 #[derive(Debug, Drop, Error)]
 pub enum SessionError {
-    /// The file or an image of a message cannot be opened or read, or an image is refused.
+    /// The file or an image of a message cannot be opened or read, or an image is refused; or the lines cannot be read.
     #[error("{0}")]
     File(JobFileError),
     /// A turn had a fault.
     #[error("{0}")]
-    Turn(#[from] TurnError),
+    Turn(TurnError),
     /// An answer or the listing cannot be written.
     #[error("{text}", text = NO_OUTPUT)]
     Output(io::Error),
     #[error("{text}", text = NO_MEMORY)]
-    NoMemory(#[from(alloc)] AllocError),
+    NoMemory,
 }
 
 impl From<InputError> for SessionError {
-    fn from(error: InputError) -> SessionError {
-        SessionError::File(JobFileError::Input(error))
+    ghost use Rattle.std.specs.Prelude.{◌≡◌};
+    ghost use Rattle.press_main.specs.declared.sessions.SessionError.TheVariants.{File};
+    ghost use Rattle.press_main.specs.declared.jobs.JobFileError.TheVariants.{Input};
+
+    ghost from_gives = { λ fault error. error ≡ File (Input fault) };
+
+    fn from(fault: InputError) -> SessionError {
+        SessionError::File(JobFileError::Input(fault))
     }
 }
 
 impl From<JobFileError> for SessionError {
-    fn from(error: JobFileError) -> SessionError {
-        SessionError::File(error)
+    ghost use Rattle.std.specs.Prelude.{◌≡◌};
+    ghost use Rattle.press_main.specs.declared.sessions.SessionError.TheVariants.{File};
+
+    ghost from_gives = { λ fault error. error ≡ File fault };
+
+    fn from(fault: JobFileError) -> SessionError {
+        SessionError::File(fault)
+    }
+}
+
+impl From<TurnError> for SessionError {
+    ghost use Rattle.std.specs.Prelude.{◌≡◌};
+    ghost use Rattle.press_main.specs.declared.sessions.SessionError.TheVariants.{Turn};
+
+    ghost from_gives = { λ fault error. error ≡ Turn fault };
+
+    fn from(fault: TurnError) -> SessionError {
+        SessionError::Turn(fault)
     }
 }
 
 impl From<io::Error> for SessionError {
-    fn from(error: io::Error) -> SessionError {
-        SessionError::Output(error)
+    ghost use Rattle.std.specs.Prelude.{◌≡◌};
+    ghost use Rattle.press_main.specs.declared.sessions.SessionError.TheVariants.{Output};
+
+    ghost from_gives = { λ fault error. error ≡ Output fault };
+
+    fn from(fault: io::Error) -> SessionError {
+        SessionError::Output(fault)
+    }
+}
+
+impl From<AllocError> for SessionError {
+    ghost use Rattle.std.specs.Prelude.{◌≡◌};
+    ghost use Rattle.press_main.specs.declared.sessions.SessionError.TheVariants.{NoMemory};
+
+    ghost from_gives = { λ _ error. error ≡ NoMemory };
+
+    fn from(_error: AllocError) -> SessionError {
+        SessionError::NoMemory
     }
 }
 
@@ -67,8 +128,12 @@ pub fn press_lines<I: NamedInputs, R: Read, W: Write, E: Write>(
     err: &mut E,
 ) -> u8
     ensures status { result ≤ 1 }
-    ensures plays { result ≡ 0 → Plays (W.contents out.old) (W.contents out.new) }
-    ensures whole { result ≡ 0 → IsAtEnd (R.remaining reader.new) }
+    ensures plays { result ≡ 0 → Plays (I.bytes inputs.now)
+        (R.remaining reader.old) (R.remaining reader.new)
+        (W.contents out.old) (W.contents out.new) }
+    ensures stops { result ≢ 0 → (why : SessionError) × Stops (I.bytes inputs.now)
+        (R.remaining reader.old) (R.remaining reader.new)
+        (W.contents out.old) (W.contents out.new) why }
 {
     let mut session = Session::new(alloc);
     match session.run(inputs, reader, out) {
@@ -107,72 +172,33 @@ impl Session {
         reader: &mut R,
         out: &mut W,
     ) -> Result<(), SessionError>
-        ensures plays { OnOk result (PlaysToItsEnd self.old.press (delivered_by self.old)
+        ensures ok { OnOk result (PlaysToItsEnd (I.bytes inputs.now)
+            self.old.press (delivered_by self.old) (R.remaining reader.old) (R.remaining reader.new)
             (W.contents out.old) (W.contents out.new)) }
-        ensures whole { OnOk result (IsAtEnd (R.remaining reader.new)) }
+        ensures err { IfErr result (λ why. StopsPlaying (I.bytes inputs.now)
+            self.old.press (delivered_by self.old) (R.remaining reader.old) (R.remaining reader.new)
+            (W.contents out.old) (W.contents out.new) why) }
     {
-        let mut count = ReadCount::none();
-        self.run_counted(inputs, reader, out, &mut count)
-    }
-
-    /// The same, with a count of the reads.
-    fn run_counted<I: NamedInputs, R: Read, W: Write>(
-        &mut self,
-        inputs: &I,
-        reader: &mut R,
-        out: &mut W,
-        count: &mut ReadCount,
-    ) -> Result<(), SessionError>
-        requires { count.old.reads ≡ 0 }
-        ensures plays { OnOk result (PlaysToItsEnd self.old.press (delivered_by self.old)
-            (W.contents out.old) (W.contents out.new)) }
-        ensures whole { OnOk result (IsAtEnd (R.remaining reader.new)) }
-        ensures bound { count.new.reads ≤ most_reads }
-    {
-        let mut piece = [0; PIECE];
+        let mut lines = LineReader::new(self.alloc);
         let mut line = Vec::new(self.alloc);
-        while count.reads < MOST_READS {
-            match read_piece(reader, &mut piece, count) {
-                Piece::Bytes(0) => return self.end(inputs, &line, out),
-                Piece::Bytes(length) => self.take(inputs, &piece[..length], &mut line, out)?,
-                Piece::Interrupted => {}
-                Piece::Failed => return Err(SessionError::from(InputError::ReadFault)),
-            }
+        while lines.next(reader, &mut line)? {
+            self.carry_out(inputs, &line, out)?;
         }
-        Err(SessionError::from(InputError::ReadFault))
+        self.end(inputs, &line, out)
     }
 
-    /// Carries out the lines that end in a piece, and leaves in `line` what stands behind them.
-    fn take<I: NamedInputs, W: Write>(
-        &mut self,
-        inputs: &I,
-        piece: &[u8],
-        line: &mut Vec<u8>,
-        out: &mut W,
-    ) -> Result<(), SessionError>
-        ensures { OnOk result (PlaysOn self.old (W.contents out.old)
-            self.new (W.contents out.new)) }
-    {
-        for byte in piece {
-            if *byte == LINE_END {
-                self.carry_out(inputs, line, out)?;
-                line.clear();
-            } else {
-                line.push(*byte)?;
-            }
-        }
-        Ok(())
-    }
-
-    /// Carries out the last line, if it has no end of its own, and lists the sheets.
+    /// Carries out the last line, which has no line feed, if there is one, and lists the sheets.
     fn end<I: NamedInputs, W: Write>(
         &mut self,
         inputs: &I,
         line: &[u8],
         out: &mut W,
     ) -> Result<(), SessionError>
-        ensures { OnOk result (PlaysToItsEnd self.old.press (delivered_by self.old)
-            (W.contents out.old) (W.contents out.new)) }
+        requires { HasNoFeed line.now }
+        ensures ok { OnOk result (Ends (I.bytes inputs.now) (lines_of line.now)
+            self.old.press (delivered_by self.old) (W.contents out.old) (W.contents out.new)) }
+        ensures err { IfErr result (StopsEnding (I.bytes inputs.now) line.now
+            self.old.press (delivered_by self.old) (W.contents out.old) (W.contents out.new)) }
     {
         if line.is_empty() {
             return self.list(out);
@@ -181,119 +207,145 @@ impl Session {
         self.list(out)
     }
 
-    /// Lists the sheets.
-    fn list<W: Write>(&self, out: &mut W) -> Result<(), SessionError>
-        ensures { OnOk result (PlaysToItsEnd self.now.press (delivered_by self.now)
-            (W.contents out.old) (W.contents out.new)) }
-    {
-        list_delivered(out, &self.sheets)?;
-        Ok(())
-    }
-
-    /// Carries out a line, and has its answer written.
+    /// Carries out a line, and writes its answer.
     fn carry_out<I: NamedInputs, W: Write>(
         &mut self,
         inputs: &I,
         line: &[u8],
         out: &mut W,
     ) -> Result<(), SessionError>
-        ensures { OnOk result (PlaysOn self.old (W.contents out.old)
-            self.new (W.contents out.new)) }
+        ensures ok { OnOk result ((answer : List ℕ)
+            × TakesLines (I.bytes inputs.now) (line.now ∷ []) self.old.press (delivered_by self.old)
+            self.new.press (delivered_by self.new) answer
+            × Appends (W.contents out.old) (W.contents out.new) answer) }
+        ensures err { IfErr result (λ why.
+            StopsAtLine (I.bytes inputs.now) line.now self.old.press (delivered_by self.old)
+            (W.contents out.old) (W.contents out.new) why) }
     {
-        self.answer(inputs, line, out)?;
-        out.flush()?;
+        let answer = self.answer(inputs, line)?;
+        write_flushed(out, &answer)?;
         Ok(())
     }
 
-    /// Carries out a line, and writes its answer.
-    fn answer<I: NamedInputs, W: Write>(
-        &mut self,
-        inputs: &I,
-        line: &[u8],
-        out: &mut W,
-    ) -> Result<(), SessionError>
-        ensures { OnOk result (PlaysOn self.old (W.contents out.old)
-            self.new (W.contents out.new)) }
+    /// Lists the sheets.
+    fn list<W: Write>(&self, out: &mut W) -> Result<(), SessionError>
+        ensures ok { OnOk result (Appends (W.contents out.old) (W.contents out.new)
+            (entry_listing (delivered_by self.now))) }
+        ensures err { IfErr result
+            (StopsListing (delivered_by self.now) (W.contents out.old) (W.contents out.new)) }
     {
-        let words = words_of(self.alloc, line)?;
-        match event_of(&words) {
-            Some(LineEvent::Message(file, images)) => self.message(inputs, file, images, out),
-            Some(LineEvent::Turn(most)) => self.turn(most, out),
-            Some(LineEvent::Operator(command)) => self.operate(command, out),
-            None => self.ask(out),
+        let listing = self.listing()?;
+        write_flushed(out, &listing)?;
+        Ok(())
+    }
+
+    /// The listing of the sheets.
+    fn listing(&self) -> Result<Vec<u8>, AllocError>
+        ensures { IfOk result (λ listing. listing.items ≡ entry_listing (delivered_by self.now)) }
+    {
+        let mut listing = Vec::new(self.alloc);
+        match list_delivered(&mut listing, &self.sheets) {
+            Ok(()) => Ok(listing),
+            Err(_) => Err(AllocError),
         }
     }
 
-    /// Takes the message of a file, with the images of others, and writes its response.
-    fn message<I: NamedInputs, W: Write>(
+    /// Carries out a line: its answer.
+    fn answer<I: NamedInputs>(&mut self, inputs: &I, line: &[u8]) -> Result<Vec<u8>, SessionError>
+        ensures ok { IfOk result (λ answer.
+            TakesLines (I.bytes inputs.now) (line.now ∷ []) self.old.press (delivered_by self.old)
+            self.new.press (delivered_by self.new) answer.items) }
+        ensures err { IfErr result (IsUnanswered (I.bytes inputs.now) line.now self.old.press) }
+    {
+        let words = words_of(self.alloc, line)?;
+        match event_of(&words) {
+            Some(event) => self.happen(inputs, event),
+            None => Ok(line_of(self.alloc, b"what?")?),
+        }
+    }
+
+    /// Lets the event of a line happen: its answer.
+    fn happen<I: NamedInputs>(
+        &mut self,
+        inputs: &I,
+        event: LineEvent<'_>,
+    ) -> Result<Vec<u8>, SessionError>
+        ensures ok { IfOk result (λ answer. TakesAsked (I.bytes inputs.now) (line_seen event.entry)
+            self.old.press (delivered_by self.old)
+            self.new.press (delivered_by self.new) answer.items) }
+        ensures err { IfErr result
+            (HasFault (I.bytes inputs.now) (line_seen event.entry) self.old.press) }
+    {
+        match event {
+            LineEvent::Message(file, images) => self.message(inputs, file, images),
+            LineEvent::Turn(most) => self.turn(most),
+            LineEvent::Operator(command) => self.operate(command),
+        }
+    }
+
+    /// Takes the message of a file, with the images of others: its response.
+    fn message<I: NamedInputs>(
         &mut self,
         inputs: &I,
         file: &[u8],
         images: &[&[u8]],
-        out: &mut W,
-    ) -> Result<(), SessionError>
-        ensures { OnOk result (PlaysOn self.old (W.contents out.old)
-            self.new (W.contents out.new)) }
+    ) -> Result<Vec<u8>, SessionError>
+        ensures ok { IfOk result (λ answer.
+            TakesAsked (I.bytes inputs.now)
+            (MessageLine file.now (map (λ name. name.now) images.now))
+            self.old.press (delivered_by self.old)
+            self.new.press (delivered_by self.new) answer.items) }
+        ensures err { IfErr result (HasFault (I.bytes inputs.now)
+            (MessageLine file.now (map (λ name. name.now) images.now)) self.old.press) }
     {
         let mut input = open_named(inputs, file)?;
         let text = read_all(self.alloc, &mut input)?;
         let images = images_named(self.alloc, inputs, images)?;
         let response = self.press.message(&text, &images)?;
-        write_line(out, &response)?;
-        Ok(())
+        Ok(line_of(self.alloc, &response)?)
     }
 
-    /// Takes a turn, and writes what it did.
-    fn turn<W: Write>(&mut self, most: u64, out: &mut W) -> Result<(), SessionError>
-        ensures { OnOk result (PlaysOn self.old (W.contents out.old)
-            self.new (W.contents out.new)) }
+    /// Takes a turn: what it did.
+    fn turn(&mut self, most: u64) -> Result<Vec<u8>, SessionError>
+        ensures ok { IfOk result (λ answer. TakesEvent (TurnOf most)
+            self.old.press (delivered_by self.old)
+            self.new.press (delivered_by self.new) answer.items) }
+        ensures err { IfErr result (λ why.
+            (inputs : Inputs) → HasFault inputs (TurnLine most) self.old.press why) }
     {
         let turn = self.press.turn(most, &mut self.sheets)?;
-        write_turn(out, turn)?;
-        Ok(())
+        Ok(turn_line(self.alloc, turn)?.into_bytes())
     }
 
-    /// Carries out a command of the operator, and writes that it was.
-    fn operate<W: Write>(
-        &mut self,
-        command: OperatorCommand,
-        out: &mut W,
-    ) -> Result<(), SessionError>
-        ensures { OnOk result (PlaysOn self.old (W.contents out.old)
-            self.new (W.contents out.new)) }
+    /// Carries out a command of the operator: that it was.
+    fn operate(&mut self, command: OperatorCommand) -> Result<Vec<u8>, SessionError>
+        ensures ok { IfOk result (λ answer. TakesEvent (Operator command)
+            self.old.press (delivered_by self.old)
+            self.new.press (delivered_by self.new) answer.items) }
+        ensures err { IfErr result (λ why. why ≡ NoMemory) }
     {
         self.press.operator(command);
-        write_line(out, b"ok")?;
-        Ok(())
-    }
-
-    /// Asks what a line means that is no event.
-    fn ask<W: Write>(&self, out: &mut W) -> Result<(), SessionError>
-        ensures { OnOk result (PlaysOn self.now (W.contents out.old)
-            self.now (W.contents out.new)) }
-    {
-        write_line(out, b"what?")?;
-        Ok(())
+        Ok(line_of(self.alloc, b"ok")?)
     }
 }
 
-/// Writes a line.
-fn write_line<W: Write>(out: &mut W, text: &[u8]) -> io::Result<()>
-    ensures { OnOk result
-        (Appends (W.contents out.old) (W.contents out.new) (text.now ++ 10 ∷ [])) }
+/// The line of a text: the text, and a line feed.
+fn line_of(alloc: Global, text: &[u8]) -> Result<Vec<u8>, AllocError>
+    ensures { IfOk result (λ line. line.items ≡ text.now ++ 10 ∷ []) }
 {
-    out.write_all(text)?;
-    out.write_all(&[LINE_END])
+    let mut line = Vec::new(alloc);
+    line.extend_from_slice(text)?;
+    line.push(LINE_FEED)?;
+    Ok(line)
 }
 
-/// Writes what a turn did.
-fn write_turn<W: Write>(out: &mut W, turn: Turn) -> io::Result<()>
-    ensures { OnOk result (Appends (W.contents out.old) (W.contents out.new)
-        (turn_text turn.entry turn.steps)) }
+/// The line of what a turn did.
+fn turn_line(alloc: Global, turn: Turn) -> Result<String, AllocError>
+    ensures { IfOk result (λ line. string_bytes line ≡ turn_text turn.entry turn.steps) }
 {
     let steps = turn.steps;
     match turn.entry {
-        Some(number) => writeln!(out, "turn Q{number} {steps}"),
-        None => writeln!(out, "turn - {steps}"),
+        Some(number) => format!(in alloc; "turn Q{number} {steps}\n"),
+        None => format!(in alloc; "turn - {steps}\n"),
     }
 }

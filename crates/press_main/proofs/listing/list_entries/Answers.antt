@@ -1,7 +1,7 @@
 use Rattle.std.proofs.Common.{List, ℕ, ◌<◌, length, sym, subst, arith}
 use Rattle.std.specs.Io.KnownBytes.{Appends}
 use Rattle.std.proofs.KnownBytes.{Appends-trans}
-use Rattle.press_main.proofs.Lines.{at_ok}
+use Rattle.press_main.proofs.ListingLemmas.{at_ok}
 use Rattle.press_main.proofs.EntryLines.{entry_lines-more}
 use Rattle.press_main.proofs.listing.list_entries.Goals as goal
 

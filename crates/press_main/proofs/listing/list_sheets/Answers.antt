@@ -1,7 +1,7 @@
 use Rattle.std.proofs.Common.{List, ℕ, ◌<◌, length, sym, subst, arith}
 use Rattle.std.specs.Io.KnownBytes.{Appends}
 use Rattle.std.proofs.KnownBytes.{Appends-trans}
-use Rattle.press_main.proofs.Lines.{at_ok, lines_from-more}
+use Rattle.press_main.proofs.ListingLemmas.{at_ok, lines_from-more}
 use Rattle.press_main.proofs.listing.list_sheets.Goals as goal
 
 pub loop-index-preserved : goal.loop-index-preserved

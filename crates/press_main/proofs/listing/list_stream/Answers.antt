@@ -1,7 +1,7 @@
 use Rattle.std.proofs.Common.{◌∙◌, sym, ap}
 use Rattle.press_sink.specs.Kept.{replied}
 use Rattle.press_main.specs.Listed.{listed, deliveries_of}
-use Rattle.press_main.proofs.Lines.{lists-stream, at_is_ok}
+use Rattle.press_main.proofs.ListingLemmas.{lists-stream, at_is_ok}
 use Rattle.press_main.proofs.listing.list_stream.Goals as goal
 
 pub returns : goal.returns

@@ -1,5 +1,5 @@
 use Rattle.std.proofs.Common.{◌∙◌, sym}
-use Rattle.press_main.proofs.Lines.{lists-printed, status-written}
+use Rattle.press_main.proofs.ListingLemmas.{lists-printed, status-written}
 use Rattle.press_main.proofs.listing.print_list.Goals as goal
 
 pub returns-then-stream-clause-lists : goal.returns-then-stream-clause-lists

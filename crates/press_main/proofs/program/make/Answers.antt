@@ -8,7 +8,7 @@ pub returns-in-Files : goal.returns-in-Files
 returns-in-Files g c = rw c.in-Files.is c.print_files.ensures.prints
 
 pub returns-in-Session : goal.returns-in-Session
-returns-in-Session g c = rw c.in-Session.is (record { done = c.press_lines-status.ensures.plays; whole = c.press_lines-status.ensures.whole })
+returns-in-Session g c = rw c.in-Session.is (record { done = c.press_lines-status.ensures.plays; stops = c.press_lines-status.ensures.stops })
 
 pub returns-in-Text : goal.returns-in-Text
 returns-in-Text g c = rw c.in-Text.is (record { done = c.disasm_bytes-status.ensures.disassembled; stops = c.disasm_bytes-status.ensures.stopped })

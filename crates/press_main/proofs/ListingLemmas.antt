@@ -3,7 +3,6 @@ use Rattle.std.proofs.Common.{◌≡◌, ◌∙◌, ◌<◌, ℕ, ◌+◌, List,
 use Rattle.std.specs.Io.KnownBytes.{Appends}
 use Rattle.std.proofs.lemmas.List.{append_assoc, append-nil, take_more, length-take}
 use Rattle.std.proofs.lemmas.Option.{same_Some}
-use Rattle.std.proofs.lemmas.Bool.{true≢false}
 use Rattle.press_cmd.specs.Split.{Closed}
 use Rattle.press_sink.specs.Sides.{Sides}
 use Rattle.press_sink.specs.declared.sheet.Delivery.{Delivery}
