@@ -2,13 +2,13 @@
 #![tactic(auto)]
 
 ghost use Rattle.std.specs.Prelude.{◌≡◌, ◌<◌, ◌≤◌, ◌+◌, ◌-◌, ◌*◌, ◌^◌, ◌&&◌, ◌==◌, ℕ, [], nat_lt, nat_le, length, replicate, take, drop, IfOk};
-ghost use Rattle.press_bits.specs.Mark.{row, row_dot, repeated};
+ghost use Rattle.press_bits.specs.Mark.{row, row_dot, byte_dot, repeated};
 ghost use Rattle.press_bits.specs.DotRows.{mixed_dot};
 ghost use Rattle.press_bits.specs.Bands.{band_lines};
 
 use crate::dot_row::DotRow;
 use crate::mode::Mode;
-use crate::painting::{Run, paint_across, paint_wide_down};
+use crate::painting::{Run, paint_across, stamp_down};
 use std::alloc::{AllocError, Global};
 use std::marker::Model;
 
@@ -99,40 +99,26 @@ impl Band {
         paint_across(&mut self.bytes, line, run, source, pattern, mode);
     }
 
-    /// Paints a run of source dots, through a pattern of at least eight dots, down a column of lines of `bytes` bytes, which
-    /// begin so many lines below the pattern's dot 0.
-    pub(crate) fn paint_down(
+    /// Paints eight source dots, through as many pattern dots, down a column of lines of `bytes` bytes, from a line on.
+    #[inline(always)]
+    pub(crate) fn stamp(
         &mut self,
-        above: usize,
         bytes: usize,
         column: usize,
-        run: Run,
-        source: DotRow<'_>,
-        pattern: DotRow<'_>,
+        line: usize,
+        source: u8,
+        tile: u8,
         mode: Mode,
     )
-        requires low { above < 2 ^ 32 }
         requires inside { column < 8 * bytes }
-        requires within { (run.first + run.count) * bytes ≤ length self.old }
+        requires within { (line + 8) * bytes ≤ length self.old }
         requires small { length self.old < 2 ^ 40 }
-        requires enough { run.skip + run.count ≤ source.dots }
-        requires wide { 8 ≤ pattern.dots }
         ensures long { length self.new ≡ length self.old }
         ensures dots { (n c : ℕ) → c < 8 * bytes → row_dot self.new (8 * (n * bytes) + c)
-            ≡ mixed_dot (c == column && nat_le run.first n
-            && nat_lt n (run.first + run.count)) mode
-            (row_dot source.entry.bits.now (run.skip + (n - run.first)))
-            (repeated (row pattern.entry) (above + n)) (row_dot self.old (8 * (n * bytes) + c)) }
+            ≡ mixed_dot (c == column && nat_le line n && nat_lt n (line + 8)) mode
+            (byte_dot source (n - line)) (byte_dot tile (n - line))
+            (row_dot self.old (8 * (n * bytes) + c)) }
     {
-        paint_wide_down(
-            &mut self.bytes,
-            above,
-            bytes,
-            column,
-            run,
-            source,
-            pattern,
-            mode,
-        );
+        stamp_down(&mut self.bytes, bytes, column, line, 8, source, tile, mode);
     }
 }

@@ -11,12 +11,6 @@ use crate::mode::Mode;
 /// The fewest dots that are painted by lanes.
 const SHORTEST_RUN: usize = 256;
 
-/// Where white dots of source and pattern change nothing.
-const TRANSPARENT: Mode = Mode {
-    source_opaque: false,
-    pattern_opaque: false,
-};
-
 /// The dots of a row that lie on a page, along one side of it: `count` of them from dot `skip` of the row on, which lies at
 /// place `first`.
 #[derive(Clone, Copy, Debug)]
@@ -129,7 +123,7 @@ pub(crate) fn further(phase: usize, step: usize, dots: usize) -> usize
 }
 
 /// A narrow pattern eight times, side by side, in whole bytes.
-pub(crate) fn eightfold(pattern: DotRow<'_>) -> [u8; 7]
+fn eightfold(pattern: DotRow<'_>) -> [u8; 7]
     requires some { 1 ≤ pattern.dots }
     requires narrow { pattern.dots < 8 }
     ensures { (p : ℕ) → p < 8 * pattern.entry.dots
@@ -262,7 +256,7 @@ fn stamped(before: u8, mask: u8, black: bool, white: bool) -> u8
 /// Paints at most eight source dots, through as many pattern dots, down a column of lines of `bytes` bytes, from line `first`
 /// on.
 #[inline(always)]
-fn stamp_down(
+pub(crate) fn stamp_down(
     rows: &mut [u8],
     bytes: usize,
     column: usize,
@@ -292,81 +286,5 @@ fn stamp_down(
             is_dot_black(white, i),
         );
         index += bytes;
-    }
-}
-
-/// Paints at most eight source dots, through as many pattern dots, down a column of lines of `bytes` bytes, from line `first`
-/// on.
-fn paint_eight_down(
-    rows: &mut [u8],
-    bytes: usize,
-    column: usize,
-    first: usize,
-    count: usize,
-    source: u8,
-    tile: u8,
-    mode: Mode,
-)
-    requires few { count ≤ 8 }
-    requires inside { column < 8 * bytes }
-    requires within { (first + count) * bytes ≤ length rows.old }
-    requires small { length rows.old < 2 ^ 40 }
-    ensures { (n c : ℕ) → c < 8 * bytes → row_dot rows.new (8 * (n * bytes) + c)
-        ≡ mixed_dot (c == column && nat_le first n && nat_lt n (first + count)) mode
-        (byte_dot source (n - first)) (byte_dot tile (n - first))
-        (row_dot rows.old (8 * (n * bytes) + c)) }
-{
-    if count < 8 {
-        stamp_down(rows, bytes, column, first, count, source, tile, mode);
-    } else if mode.source_opaque || mode.pattern_opaque {
-        stamp_down(rows, bytes, column, first, 8, source, tile, mode);
-    } else {
-        stamp_down(rows, bytes, column, first, 8, source, tile, TRANSPARENT);
-    }
-}
-
-/// Paints a run of source dots, through a pattern of at least eight dots, down a column of lines of `bytes` bytes, which
-/// begin so many lines below the pattern's dot 0.
-pub(crate) fn paint_wide_down(
-    rows: &mut [u8],
-    above: usize,
-    bytes: usize,
-    column: usize,
-    run: Run,
-    source: DotRow<'_>,
-    pattern: DotRow<'_>,
-    mode: Mode,
-)
-    requires low { above < 2 ^ 32 }
-    requires inside { column < 8 * bytes }
-    requires within { (run.first + run.count) * bytes ≤ length rows.old }
-    requires small { length rows.old < 2 ^ 40 }
-    requires enough { run.skip + run.count ≤ source.dots }
-    requires wide { 8 ≤ pattern.dots }
-    ensures { (n c : ℕ) → c < 8 * bytes → row_dot rows.new (8 * (n * bytes) + c)
-        ≡ mixed_dot (c == column && nat_le run.first n
-        && nat_lt n (run.first + run.count)) mode
-        (row_dot source.entry.bits.now (run.skip + (n - run.first)))
-        (repeated (row pattern.entry) (above + n)) (row_dot rows.old (8 * (n * bytes) + c)) }
-{
-    let mut phase = (above + run.first) % pattern.dots;
-    for index in 0..(run.count + 7) / 8 {
-        let done = 8 * index;
-        let dots = eight_dots(source.bits, run.skip + done);
-        if dots != 0 || mode.source_opaque {
-            let count = (run.count - done).min(8);
-            let tile = pattern_byte(pattern, phase);
-            paint_eight_down(
-                rows,
-                bytes,
-                column,
-                run.first + done,
-                count,
-                dots,
-                tile,
-                mode,
-            );
-        }
-        phase = further(phase, 8, pattern.dots);
     }
 }
