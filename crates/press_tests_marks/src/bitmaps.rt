@@ -240,3 +240,19 @@ fn a_column_goes_down(rt: HostRuntime) -> Result<(), Fail> {
     assert_eq!(rt; page.count_black(), 3);
     Ok(())
 }
+
+#[test]
+fn bands_are_ready_where_they_were_made(rt: HostRuntime) -> Result<(), Fail> {
+    let mut page = Bitmap::blank(rt.alloc(), 10, 144)?;
+    page.paint_row(0, 64, DotRow::black(), DotRow::black(), TRANSPARENT)?;
+    let bands = page.bands();
+    assert!(rt; bands.are_ready(64, 64));
+    assert!(rt; !bands.are_ready(63, 2));
+    assert!(rt; !bands.are_ready(127, 2));
+    assert!(rt; bands.are_ready(-5, 5));
+    assert!(rt; bands.are_ready(144, 3));
+    bands.ready(-5, 6)?;
+    assert!(rt; bands.are_ready(-5, 133));
+    assert!(rt; !bands.are_ready(-5, 134));
+    Ok(())
+}

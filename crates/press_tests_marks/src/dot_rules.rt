@@ -60,16 +60,17 @@ struct Case {
     mode: Mode,
 }
 
-/// The mode and the pattern of a case are those of its dots and its shift, in turn.
-fn case_of(dots: u32, shift: u32) -> Case
+/// The case of a mode by its number: over twenty shifts its dots meet the patterns of 1 to 20 dots.
+fn case_of(dots: u32, shift: u32, mode: u32) -> Case
     requires dots { dots ≤ 1000 }
     requires shift { shift ≤ 1000 }
+    requires mode { mode ≤ 3 }
 {
     Case {
         dots,
         shift,
-        tile: 1 + (3 * dots + 7 * shift) % 20,
-        mode: mode_of(dots + shift),
+        tile: 1 + (3 * dots + 7 * shift + 5 * mode) % 20,
+        mode: mode_of(mode),
     }
 }
 
@@ -162,33 +163,39 @@ fn expect_column(rt: &(impl Abort + AllocGlobal), case: Case) -> Result<(), Fail
     Ok(())
 }
 
-/// Each width from 1 to 70 at each shift from 0 to 70, with the four modes and the patterns of 1 to 20 dots in turn.
+/// Each width from 1 to 70 at each shift from 0 to 70 in each mode, with the patterns of 1 to 20 dots in turn.
 #[test]
 fn rows_of_each_width_at_each_shift_follow_the_rule(rt: HostRuntime) -> Result<(), Fail> {
     for dots in 1..71_u32 {
         for shift in 0..71_u32 {
-            expect_row(&rt, 144, case_of(dots, shift))?;
+            for mode in 0..4_u32 {
+                expect_row(&rt, 144, case_of(dots, shift, mode))?;
+            }
         }
     }
     Ok(())
 }
 
-/// Rows that are long enough for lanes: one width from 256 to 326 and then each shift from 0 to 70.
+/// Rows that are long enough for lanes: one width from 256 to 326 and then each shift from 0 to 70, in each mode.
 #[test]
 fn long_rows_follow_the_rule(rt: HostRuntime) -> Result<(), Fail> {
     for shift in 0..71_u32 {
-        expect_row(&rt, 400, case_of(256 + 5 * shift % 71, shift))?;
-        expect_row(&rt, 400, case_of(256 + 7 * shift % 71, shift))?;
+        for mode in 0..4_u32 {
+            expect_row(&rt, 400, case_of(256 + 5 * shift % 71, shift, mode))?;
+            expect_row(&rt, 400, case_of(256 + 7 * shift % 71, shift, mode))?;
+        }
     }
     Ok(())
 }
 
-/// Every third shift of columns of each length, on a page of three bands.
+/// Every third shift of columns of each length in each mode, on a page of three bands.
 #[test]
 fn columns_follow_the_rule_from_band_to_band(rt: HostRuntime) -> Result<(), Fail> {
     for dots in 1..71_u32 {
         for third in 0..24_u32 {
-            expect_column(&rt, case_of(dots, 3 * third))?;
+            for mode in 0..4_u32 {
+                expect_column(&rt, case_of(dots, 3 * third, mode))?;
+            }
         }
     }
     Ok(())

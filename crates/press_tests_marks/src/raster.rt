@@ -184,3 +184,29 @@ fn a_row_without_a_source_width_ends_at_the_edge_of_the_logical_page(
     }
     Ok(())
 }
+
+#[test]
+fn a_row_that_marks_nothing_makes_no_band(rt: HostRuntime) -> Result<(), Fail> {
+    let opaque = Mode {
+        source_opaque: true,
+        ..TRANSPARENT
+    };
+    let settings = settings(&rt, b"300", b"16", b"0");
+    let mut raster = Raster::new(rt.alloc());
+    raster.start(0);
+    let mut page = Bitmap::blank(rt.alloc(), 91, 4)?;
+    for (mode, ready) in [(TRANSPARENT, false), (opaque, true)] {
+        let ink = Ink::black(mode);
+        transfer(
+            &rt,
+            &mut raster,
+            &mut page,
+            &on_line(1),
+            settings,
+            &ink,
+            &[0; 2],
+        )?;
+        assert_eq!(rt; page.bands().are_ready(1, 1), ready);
+    }
+    Ok(())
+}
