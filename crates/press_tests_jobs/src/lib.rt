@@ -12,6 +12,8 @@ mod program_sessions;
 #[cfg(test)]
 mod queue;
 #[cfg(test)]
+mod steps;
+#[cfg(test)]
 mod streams;
 #[cfg(test)]
 mod tickets;
