@@ -93,6 +93,27 @@ wants-outside more machine (Starts commands end state) some = tt
 pub outer-wants : (command : Token) (machine : Machine) → ((begins false LEVELS command machine).item.outputs ≢ []) ⊎ ((begins false LEVELS command machine).started ≢ []) → TakesMemory (effect_on Stream command machine.state)
 outer-wants command machine some = wants-outside 1 (taken command machine) (effect_on Stream command machine.state) some
 
+-- of a command of a body
+wants-in_overlay : (more : ℕ) (machine : Machine) (effect : Effect) → ((begun_in_overlay more machine effect).item.outputs ≢ []) ⊎ ((begun_in_overlay more machine effect).started ≢ []) → TakesMemory effect
+wants-in_overlay more machine (Changes state) (inl some) = absurd (some refl)
+wants-in_overlay more machine (Changes state) (inr some) = absurd (some refl)
+wants-in_overlay more machine (Makes state) some = tt
+wants-in_overlay more machine (GivesReply reply state) some = tt
+wants-in_overlay more machine (Stays closer state) (inl some) = absurd (some refl)
+wants-in_overlay more machine (Stays closer state) (inr some) = absurd (some refl)
+wants-in_overlay more machine (Closes closer state) some = tt
+wants-in_overlay more machine (Starts commands end state) some = tt
+
+begun-wants : (in_overlay : Bool) (more : ℕ) (machine : Machine) (effect : Effect) → ((stack.begun in_overlay more machine effect).item.outputs ≢ []) ⊎ ((stack.begun in_overlay more machine effect).started ≢ []) → TakesMemory effect
+begun-wants true zero machine effect (inl some) = absurd (some refl)
+begun-wants true zero machine effect (inr some) = absurd (some refl)
+begun-wants true (suc more) machine effect some = wants-in_overlay more machine effect some
+begun-wants false zero machine effect some = wants-finished machine effect some
+begun-wants false (suc more) machine effect some = wants-outside more machine effect some
+
+pub inner-wants : (in_overlay : Bool) (more : ℕ) (command : Token) (machine : Machine) → ((begins in_overlay more command machine).item.outputs ≢ []) ⊎ ((begins in_overlay more command machine).started ≢ []) → TakesMemory (effect_on (source_in in_overlay more) command machine.state)
+inner-wants in_overlay more command machine some = begun-wants in_overlay more (taken command machine) (effect_on (source_in in_overlay more) command machine.state) some
+
 pub started-none : (frames still : List Frame) (item : Run) → still ≡ (pops frames item).frames → still ≢ [] → frames ≢ []
 started-none [] still item is some = absurd (some is)
 started-none (frame ∷ frames) still item is some = λ (none : frame ∷ frames ≡ []). cc

@@ -1,5 +1,5 @@
 -- What a step says of the bodies that run, of the command that it took, and of memory.
-use Rattle.std.proofs.Common.{◌≡◌, ◌≢◌, ◌⊎◌, ◌∙◌, ◌≤◌, arith, ℕ, zero, suc, List, [], ◌∷◌, ◌++◌, Option, Some, None, IsSome, Bool, true, false, option_to_list, if◌then◌else◌, Result, Ok, Err, inl, inr, refl, sym, ap, subst}
+use Rattle.std.proofs.Common.{◌≡◌, ◌≢◌, ◌⊎◌, ◌∙◌, ◌≤◌, arith, ℕ, zero, suc, List, [], ◌∷◌, ◌++◌, Option, Some, None, IsSome, Bool, true, false, option_to_list, if◌then◌else◌, Result, Ok, Err, IsErr, inl, inr, refl, sym, ap, subst}
 use Rattle.std.specs.Result.{is_err}
 use Rattle.std.proofs.lemmas.List.{append-nil}
 use Rattle.press_cmd.specs.Token.{Token}
@@ -21,11 +21,11 @@ use Rattle.press_engine.specs.Engine.{Sends, IsOfKind, TakesItem, TakesMemory}
 use Rattle.press_engine.specs.Machine.{Run, then_run, with_state, taken, last_of, levels as LEVELS}
 use Rattle.press_engine.specs.Outcome.{Effect, Changes, Makes, GivesReply, Stays, Closes, Starts}
 use Rattle.press_engine.specs.Stack as stack
-use Rattle.press_engine.specs.Stack.{source_in, end_by, end_of, begun_in_overlay, begun_outside, begun_finished, begun_close_with, begins, ended_by, pops, Stepped, step_outer, step_inner, owed, Gives, IsNested, IsSound}
-use Rattle.press_engine.specs.Stepping.{GivesItem}
+use Rattle.press_engine.specs.Stack.{source_in, end_by, end_of, begun_in_overlay, begun_outside, begun_finished, begun_close_with, begins, ended_by, pops, Stepped, step_outer, step_inner, owed, Gives, IsNested, IsSound, IsOverlayEnd, EndsOverlay}
+use Rattle.press_engine.specs.Stepping.{GivesItem, used_up}
 use Rattle.press_engine.specs.Table.{effect_on, is_recorded}
 use Rattle.press_engine.proofs.ItemsLemmas.{ready-of, step-ready}
-use Rattle.press_engine.proofs.StackLemmas.{pops-nested, begins-nested, outer-wants}
+use Rattle.press_engine.proofs.StackLemmas.{pops-nested, begins-nested, outer-wants, inner-wants}
 
 -- What a step took is not changed by what it begins, nor by ends.
 close_with-last : (body : Option (List Token)) (closer : Closer) (machine : Machine) → (begun_close_with body closer machine).item.machine.last ≡ machine.last
@@ -168,21 +168,48 @@ item-taken owing tag (Err error) machine still true before after is gives = reco
 }
 item-taken owing tag (Err error) machine still false before after is gives = absurd cc
 
--- there is a frame
-pub some-frames : (frames rest : List Frame) (frame : Frame) → frames ≡ frame ∷ rest → frames ≢ []
-some-frames frames rest frame is =
-    let P : List Frame → Type 0 = λ these. these ≢ [] in
-    subst P (sym is) (λ (none : frame ∷ rest ≡ []). cc)
+-- an answer tells one error
+pub same_error : {X : Type 0} (result : Result X EngineError) (one other : EngineError) → result ≡ Err one → result ≡ Err other → one ≡ other
+same_error result one other p q = cc
 
-pub some-started : (started : Option Frame) (frames : List Frame) → IsSome started → option_to_list started ++ frames ≢ []
-some-started None frames some = absurd cc
-some-started (Some frame) frames some = λ (none : frame ∷ frames ≡ []). cc
+-- an answer that was an error
+pub is_err-of : {X E : Type 0} (result : Result X E) (error : E) → result ≡ Err error → IsErr result
+is_err-of (Ok value) error is = absurd cc
+is_err-of (Err other) error is = refl
+
+-- the innermost body ends, and an overlay with it or behind it
+used-none : (body : List Token) → used_up body ≡ true → body ≡ []
+used-none [] is = refl
+used-none (command ∷ rest) is = absurd cc
+
+pub ends-overlay : (frames rest : List Frame) (frame : Frame) → frames ≡ frame ∷ rest → used_up frame.body ≡ true → IsOverlayEnd frame.end ⊎ EndsOverlay rest → EndsOverlay frames
+ends-overlay frames rest frame is used ends = subst EndsOverlay (sym is) (used-none frame.body used, ends)
+
+-- a body was started
+pub some-started : (started : Option Frame) → IsSome started → option_to_list started ≢ []
+some-started None some = absurd cc
+some-started (Some frame) some = λ (none : frame ∷ [] ≡ []). cc
+
+pub started-or-overlay : (started : Option Frame) (frames all : List Frame) → all ≡ option_to_list started ++ frames → EndsOverlay all → (option_to_list started ≢ []) ⊎ EndsOverlay frames
+started-or-overlay None frames all is ends = inr (subst EndsOverlay is ends)
+started-or-overlay (Some frame) frames all is ends = inl (some-started (Some frame) refl)
 
 -- where the rest of a step of the stream may take memory, so may the command
-pub outer-memory : (command : Token) (machine : Machine) (one : stack.Begun) (frames : List Frame) → one ≡ begins false LEVELS command machine → frames ≡ [] → (one.item.outputs ≢ []) ⊎ (one.started ++ frames ≢ []) → TakesMemory (effect_on Stream command machine.state)
+pub outer-memory : (command : Token) (machine : Machine) (one : stack.Begun) (frames : List Frame) → one ≡ begins false LEVELS command machine → frames ≡ [] → (one.item.outputs ≢ []) ⊎ (one.started ≢ []) ⊎ EndsOverlay frames → TakesMemory (effect_on Stream command machine.state)
 outer-memory command machine one frames is none (inl some) =
     let P : stack.Begun → Type 0 = λ this. this.item.outputs ≢ [] in
     outer-wants command machine (inl (subst P is some))
-outer-memory command machine one frames is none (inr some) =
-    let begin = begins false LEVELS command machine in
-    outer-wants command machine (inr (λ nothing. some ((λ i. (is i).started ++ none i) ∙ append-nil begin.started ∙ nothing)))
+outer-memory command machine one frames is none (inr (inl some)) =
+    let P : stack.Begun → Type 0 = λ this. this.started ≢ [] in
+    outer-wants command machine (inr (subst P is some))
+outer-memory command machine one frames is none (inr (inr ends)) = absurd (subst EndsOverlay none ends)
+
+-- the same inside a body
+pub inner-memory : (frame : Frame) (command : Token) (rest : List Token) (outer frames : List Frame) (machine : Machine) (one : stack.Begun) → one ≡ begins frame.in_overlay frame.levels command machine → frames ≡ record frame { body = rest } ∷ outer → (one.item.outputs ≢ []) ⊎ (one.started ≢ []) ⊎ EndsOverlay frames → TakesMemory (effect_on (source_in frame.in_overlay frame.levels) command machine.state) ⊎ EndsOverlay (record frame { body = rest } ∷ outer)
+inner-memory frame command rest outer frames machine one is all (inl some) =
+    let P : stack.Begun → Type 0 = λ this. this.item.outputs ≢ [] in
+    inl (inner-wants frame.in_overlay frame.levels command machine (inl (subst P is some)))
+inner-memory frame command rest outer frames machine one is all (inr (inl some)) =
+    let P : stack.Begun → Type 0 = λ this. this.started ≢ [] in
+    inl (inner-wants frame.in_overlay frame.levels command machine (inr (subst P is some)))
+inner-memory frame command rest outer frames machine one is all (inr (inr ends)) = inr (subst EndsOverlay all ends)

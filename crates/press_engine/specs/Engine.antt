@@ -21,7 +21,7 @@ use Rattle.press_engine.specs.Outcome.{Outcome, Effect, Changes, Makes, GivesRep
 use Rattle.press_engine.specs.Closing.{after_close}
 use Rattle.press_engine.specs.Table.{effect_on}
 use Rattle.press_engine.specs.Machine.{Run, run}
-use Rattle.press_engine.specs.Stack.{owed}
+use Rattle.press_engine.specs.Stack.{owed, source_in, EndsOverlay}
 use Rattle.press_engine.specs.declared.effect.Source.TheVariants.{Stream}
 
 -- the engine's machine, and none where an earlier command had a fault
@@ -104,6 +104,17 @@ TakesMemory (Starts commands end state) = Unit {0}
 abbrev pub NeedsMemory : Option Machine → Token → Type 0
 NeedsMemory None command = ⊥
 NeedsMemory (Some machine) command = TakesMemory (effect_on Stream command machine.state)
+
+-- The next command of the innermost body that runs may take memory: it takes some itself, or an overlay ends with it, after
+-- which its page closes.
+abbrev pub InnerTakesMemory : List Frame → Machine → Type 0
+InnerTakesMemory bodies machine =
+    (frame : Frame) × (command : Token) × (rest : List Token) × (outer : List Frame) × (bodies ≡ record frame { body = command ∷ rest } ∷ outer)
+    × (TakesMemory (effect_on (source_in frame.in_overlay frame.levels) command machine.state) ⊎ EndsOverlay (record frame { body = rest } ∷ outer))
+
+abbrev pub InnerNeedsMemory : Option Machine → List Frame → Type 0
+InnerNeedsMemory None bodies = ⊥
+InnerNeedsMemory (Some machine) bodies = InnerTakesMemory bodies machine
 
 -- What can be seen of a machine, with its cursor's stack lent.
 abbrev pub view_of : Bor (List CursorPosition) → Machine → View

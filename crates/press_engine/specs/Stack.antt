@@ -180,6 +180,15 @@ HasNext frames =
 abbrev pub IsReady : List Frame → Type 0
 IsReady frames = (frames ≡ []) ⊎ HasNext frames
 
+-- An overlay is among the bodies that are used up, the innermost first.
+abbrev pub IsOverlayEnd : FrameEnd → Type 0
+IsOverlayEnd (ends_by.Macro end) = ⊥
+IsOverlayEnd (ends_by.Close closer kept place) = ⊤
+
+abbrev pub EndsOverlay : List Frame → Type 0
+EndsOverlay [] = ⊥
+EndsOverlay (frame ∷ frames) = (frame.body ≡ []) × (IsOverlayEnd frame.end ⊎ EndsOverlay frames)
+
 -- bodies between two steps
 pub record IsSound (frames : List Frame) : Type 0 where
   pub ready : IsReady frames

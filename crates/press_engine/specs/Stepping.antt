@@ -13,6 +13,8 @@ use Rattle.press_engine.specs.Effects.{effect_of}
 use Rattle.press_engine.specs.Machine.{Run, quiet, with_state, taken}
 use Rattle.press_engine.specs.Table.{effect_on}
 use Rattle.press_engine.specs.Outputs.{outputs_of}
+use Rattle.press_engine.specs.Outcome as outcome
+use Rattle.press_engine.specs.declared.state.State.{State}
 use Rattle.press_engine.specs.Stack as stack
 use Rattle.press_engine.specs.Stack.{Stepped, pops, owed, source_in}
 
@@ -31,10 +33,14 @@ abbrev pub is_top_used_up : List Frame → Bool
 is_top_used_up [] = false
 is_top_used_up (frame ∷ frames) = used_up frame.body
 
+-- the effect of the first command of a body
+abbrev pub first_effect : Frame → Token → State → outcome.Effect
+first_effect frame command state = effect_on (source_in frame.in_overlay frame.levels) command state
+
 -- The first command of a body is taken: the effect of its row, and one more step.
 abbrev pub TakesFirst : Frame → Token → (old : Machine) → Effect → (new : Machine) → Type 0
 TakesFirst frame command old effect new =
-    (effect_of new.state effect ≡ effect_on (source_in frame.in_overlay frame.levels) command old.state)
+    (effect_of new.state effect ≡ first_effect frame command old.state)
     × (new ≡ with_state new.state (taken command old))
 
 -- A step was taken: where all went well, the machine and the bodies that still run are the step's; and its outputs went out as

@@ -52,7 +52,7 @@ impl Bodies {
     ghost use Rattle.press_cmd.specs.Kinds.{kind_of};
     ghost use Rattle.press_sink.specs.Told.{both, CanCount};
     ghost use Rattle.press_engine.specs.declared.effect.Source.TheVariants.{Stream};
-    ghost use Rattle.press_engine.specs.Engine.{Performs, TakesMemory};
+    ghost use Rattle.press_engine.specs.Engine.{Performs, TakesMemory, InnerTakesMemory};
     ghost use Rattle.press_engine.specs.Laws.{most_bodies};
     ghost use Rattle.press_engine.specs.Machine.{run, levels};
     ghost use Rattle.press_engine.specs.Stack.{IsReady, owed};
@@ -128,7 +128,9 @@ impl Bodies {
     ) -> Result<Kind, EngineError>
         requires running { self.old ≢ [] }
         requires can_count { CanCount (both (S.told sheets.old) (R.told replies.old)) }
-        ensures { GivesItem (owed self.old machine.old) tag result machine.new self.new
+        ensures memory { IsErrOf result EngineError.NoMemory
+            → InnerTakesMemory self.old machine.old }
+        ensures gives { GivesItem (owed self.old machine.old) tag result machine.new self.new
             (both (S.told sheets.old) (R.told replies.old))
             (both (S.told sheets.new) (R.told replies.new)) }
     {

@@ -33,7 +33,7 @@ impl Engine {
     ghost use Rattle.press_engine.specs.Laws.{most_bodies};
     ghost use Rattle.press_engine.specs.Stack.{IsReady, owed};
     ghost use Rattle.press_engine.specs.Trace.{trace_at};
-    ghost use Rattle.press_engine.specs.Engine.{live, bodies, Runs, TakesNext, NeedsMemory, view_of};
+    ghost use Rattle.press_engine.specs.Engine.{live, bodies, Runs, TakesNext, NeedsMemory, InnerNeedsMemory, view_of};
 
     /// An engine after power on.
     ///
@@ -119,6 +119,8 @@ impl Engine {
             (both (S.told sheets.old) (R.told replies.old))
             (both (S.told sheets.new) (R.told replies.new)) }
         ensures failed { IsErrOf result EngineError.Failed ↔ (live self.old ≡ None) }
+        ensures memory { IsErrOf result EngineError.NoMemory →
+            InnerNeedsMemory (live self.old) (bodies self.old) }
     {
         if self.failed {
             return Err(EngineError::Failed);

@@ -83,24 +83,27 @@ impl Machine {
     ghost use Rattle.press_cmd.specs.Token.{Token};
     ghost use Rattle.press_engine.specs.Calls.{overlay_body};
     ghost use Rattle.press_engine.specs.Effects.{effect_of};
-    ghost use Rattle.press_engine.specs.Engine.{Performs, TakesMemory};
+    ghost use Rattle.press_engine.specs.Engine.{Performs, TakesMemory, InnerTakesMemory};
     ghost use Rattle.press_engine.specs.Machine.{run, quiet, with_state, taken};
     ghost use Rattle.press_engine.specs.declared.frame.Frame.{Frame};
     ghost use Rattle.press_cmd.specs.View.{token};
-    ghost use Rattle.press_engine.specs.Stack.{HasNext, step_outer, step_inner, source_in, begun, begun_body, begun_close_with};
-    ghost use Rattle.press_engine.specs.Stack.{end_by, leave_overlay_with, finish_close};
+    ghost use Rattle.press_engine.specs.Stack.{HasNext, IsOverlayEnd, EndsOverlay, step_outer, step_inner, source_in};
+    ghost use Rattle.press_engine.specs.Stack.{begun, begun_body, begun_close_with, end_by, leave_overlay_with, finish_close};
     ghost use Rattle.press_engine.specs.Outputs.{outputs_of};
     ghost use Rattle.press_engine.specs.declared.effect.Source.TheVariants.{Stream};
-    ghost use Rattle.press_engine.specs.Stepping.{begun_of, TakesFirst, Ends, TakesStep, finished};
+    ghost use Rattle.press_engine.specs.Stepping.{begun_of, first_effect, TakesFirst, Ends, TakesStep, finished};
     ghost use Rattle.press_engine.specs.Table.{effect_on};
 
     /// Takes the first command that is left of a body.
     fn take_first(&mut self, alloc: Global, frame: &mut Frame) -> Result<Effect, AllocError>
         requires { frame.old.body ≢ [] }
-        ensures { IfOk result (λ effect. (command : Token) (rest : List Token)
+        ensures takes { IfOk result (λ effect. (command : Token) (rest : List Token)
             → frame.old.body ≡ command ∷ rest
             → TakesFirst frame.old command self.old effect self.new
             × (frame.new ≡ record frame.old { body = rest })) }
+        ensures memory { IsErr result → (command : Token) (rest : List Token)
+            → frame.old.body ≡ command ∷ rest
+            → TakesMemory (first_effect frame.old command self.old.state) }
     {
         let source = Source::within(frame.in_overlay, frame.levels);
         match frame.body.next() {
@@ -231,9 +234,10 @@ impl Machine {
         replies: &mut R,
     ) -> Result<(), EngineError>
         requires { CanCount (both (S.told sheets.old) (R.told replies.old)) }
-        ensures { Performs (end_by end depth self.old) tag result self.new
+        ensures performs { Performs (end_by end depth self.old) tag result self.new
             (both (S.told sheets.old) (R.told replies.old))
             (both (S.told sheets.new) (R.told replies.new)) }
+        ensures overlay { IsErr result → IsOverlayEnd end }
     {
         match end {
             FrameEnd::Macro(end) => {
@@ -264,7 +268,7 @@ impl Machine {
         ensures ends { Ends frames.old.items self.old tag result self.new frames.new.items
             (both (S.told sheets.old) (R.told replies.old))
             (both (S.told sheets.new) (R.told replies.new)) }
-        ensures some { IsErr result → frames.old.items ≢ [] }
+        ensures overlay { IsErr result → EndsOverlay frames.old.items }
     {
         while is_top_used_up(frames) {
             let frame = frames.remove(0);
@@ -289,7 +293,7 @@ impl Machine {
             (both (S.told sheets.old) (R.told replies.old))
             (both (S.told sheets.new) (R.told replies.new)) }
         ensures memory { IsErrOf result EngineError.NoMemory → (outputs_of it.sent ≢ [])
-            ⊎ (option_to_list it.started ++ frames.old.items ≢ []) }
+            ⊎ (option_to_list it.started ≢ []) ⊎ EndsOverlay frames.old.items }
     {
         send(&it.sent, alloc, tag, sheets, replies)?;
         push_started(frames, it.started)?;
@@ -335,7 +339,9 @@ impl Machine {
     ) -> Result<(), EngineError>
         requires running { HasNext frames.old.items }
         requires can_count { CanCount (both (S.told sheets.old) (R.told replies.old)) }
-        ensures { (frame : Frame) (command : Token) (rest : List Token) (outer : List Frame)
+        ensures memory { IsErrOf result EngineError.NoMemory
+            → InnerTakesMemory frames.old.items self.old }
+        ensures takes { (frame : Frame) (command : Token) (rest : List Token) (outer : List Frame)
             → frames.old.items ≡ record frame { body = command ∷ rest } ∷ outer
             → TakesStep
             (step_inner frame command rest outer self.old) tag result self.new frames.new.items

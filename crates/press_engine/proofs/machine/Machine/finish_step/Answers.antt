@@ -1,9 +1,8 @@
-use Rattle.std.proofs.Common.{◌≢◌, ◌∙◌, List, [], Err, IsErr, inl, inr, refl, sym, ap, subst}
+use Rattle.std.proofs.Common.{◌∙◌, Err, IsErr, inl, inr, refl, sym, ap, subst}
 use Rattle.std.proofs.lemmas.Result.{err_from_is_err_and}
-use Rattle.press_engine.specs.declared.frame.Frame.{Frame}
 use Rattle.press_engine.specs.Stepping.{begun_of}
 use Rattle.press_engine.proofs.EndsLemmas.{finished-then, finished-stopped, stopped-for_memory, Ends-of}
-use Rattle.press_engine.proofs.StepLemmas.{some-started}
+use Rattle.press_engine.proofs.StepLemmas.{some-started, started-or-overlay}
 use Rattle.press_engine.proofs.machine.Machine.finish_step.Goals as goal
 
 pub returns-in_err-send-clause-takes : goal.returns-in_err-send-clause-takes
@@ -30,9 +29,8 @@ returns-in_err-send-clause-memory g c stops =
 
 pub returns-in_err-push_started-clause-memory : goal.returns-in_err-push_started-clause-memory
 returns-in_err-push_started-clause-memory g c stops =
-    inr (some-started c.args.it.started c.args.frames.now.items (c.in_err-push_started.ensures.some refl))
+    inr (inl (some-started c.args.it.started (c.in_err-push_started.ensures.some refl)))
 
 pub returns-clause-memory : goal.returns-clause-memory
 returns-clause-memory g c stops =
-    let P : List Frame → Type 0 = λ frames. frames ≢ [] in
-    inr (subst P c.in_ok-push_started.ensures.ok (c.end_bodies.ensures.some (subst IsErr (sym stops) refl)))
+    inr (started-or-overlay c.args.it.started c.args.frames.now.items c.push_started.new.frames.items c.in_ok-push_started.ensures.ok (c.end_bodies.ensures.overlay (subst IsErr (sym stops) refl)))

@@ -38,14 +38,14 @@ pub loop-alloc-smaller : goal.loop-alloc-smaller
 loop-alloc-smaller g c =
     let some : c.loop-alloc.frames.items ≢ [] = search rules in
     let (frame, command, rest, outer, is) = ready-some c.loop-alloc.frames.items c.loop-alloc.invariant.ready some in
-    let step = c.in_ok-step_inner.ensures frame command rest outer is in
+    let step = c.in_ok-step_inner.ensures.takes frame command rest outer is in
     fewer-items (owed c.loop-alloc.frames.items c.loop-alloc.self) (step_inner frame command rest outer c.loop-alloc.self) c.loop-alloc.self (inner-gives frame command rest outer c.loop-alloc.frames.items c.loop-alloc.self is) c.args.tag c.step_inner.new.frames.items c.step_inner.new.self step.running step.performs.left
 
 pub loop-alloc-preserved : goal.loop-alloc-preserved
 loop-alloc-preserved g c =
     let some : c.loop-alloc.frames.items ≢ [] = search rules in
     let (frame, command, rest, outer, is) = ready-some c.loop-alloc.frames.items c.loop-alloc.invariant.ready some in
-    let step = c.in_ok-step_inner.ensures frame command rest outer is in
+    let step = c.in_ok-step_inner.ensures.takes frame command rest outer is in
     let stepped = step_inner frame command rest outer c.loop-alloc.self in
     record {
       can_count = can_count-then c.args.tag stepped.item.outputs _ _ step.performs.sends c.loop-alloc.invariant.can_count;
@@ -61,7 +61,7 @@ returns-in_err-step_inner-clause-performs g c =
     let p = err_from_is_err_and c.from_residual-in_err-step_inner.result c.from_residual-in_err-step_inner.ensures.1 in
     let some : c.loop-alloc.frames.items ≢ [] = search rules in
     let (frame, command, rest, outer, is) = ready-some c.loop-alloc.frames.items c.loop-alloc.invariant.ready some in
-    let step = c.step_inner.ensures frame command rest outer is in
+    let step = c.step_inner.ensures.takes frame command rest outer is in
     c.loop-alloc.invariant.rest c.from_residual-in_err-step_inner.result c.step_inner.new.self _
     (items-stopped (owed c.loop-alloc.frames.items c.loop-alloc.self) (step_inner frame command rest outer c.loop-alloc.self) c.loop-alloc.self (inner-gives frame command rest outer c.loop-alloc.frames.items c.loop-alloc.self is) c.args.tag c.step_inner.new.self c.step_inner.result c.from_residual-in_err-step_inner.result p.0 _ _ step.performs.sends (c.in_err-step_inner.was ∙ ap Err (sym p.2)) p.1)
 
