@@ -63,7 +63,7 @@ Carries-err owing (Some machine) tag result error new still before after is take
 pub same_fault : {X : Type 0} (result : Result X JobError) (one other : JobError) → result ≡ Err one → result ≡ Err other → one ≡ other
 same_fault result one other p q = cc
 
-engine_wants : (error : EngineError) → job_error error ≡ errors.NoMemory → error ≡ engine_errors.NoMemory
+pub engine_wants : (error : EngineError) → job_error error ≡ errors.NoMemory → error ≡ engine_errors.NoMemory
 engine_wants engine_errors.NoMemory e = refl
 engine_wants engine_errors.SinkFault e = absurd cc
 engine_wants engine_errors.ReplyFault e = absurd cc

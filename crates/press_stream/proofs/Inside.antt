@@ -1,17 +1,17 @@
 -- Steps in a body that runs.
-use Rattle.std.proofs.Common.{◌≡◌, ◌≢◌, ◌∙◌, ◌↔◌, ℕ, List, [], Bool, false, Ok, Err, IsTrue, refl, sym, subst}
+use Rattle.std.proofs.Common.{◌≡◌, ◌≢◌, ◌∙◌, ◌↔◌, ℕ, List, [], Bool, false, Ok, Err, IsTrue, inl, refl, sym, subst}
 use Rattle.std.proofs.lemmas.Bool.{false≢true}
 use Rattle.press_cmd.specs.declared.variant.Kind.{Kind}
 use Rattle.press_scan.specs.ScannerState.{ScannerState}
 use Rattle.press_sink.specs.Told.{Told}
 use Rattle.press_engine.specs.declared.engine.Engine.{Engine}
 use Rattle.press_engine.specs.declared.frame.Frame.{Frame}
-use Rattle.press_engine.specs.Engine.{live, bodies}
+use Rattle.press_engine.specs.Engine.{live, bodies, InnerNeedsMemory}
 use Rattle.press_engine.specs.Stack.{owed}
 use Rattle.press_stream.specs.declared.fault.JobError.{JobError}
 use Rattle.press_stream.specs.declared.phase.Phase.{Phase}
 use Rattle.press_stream.specs.declared.phase.Phase.TheVariants as phases
-use Rattle.press_stream.specs.Answers.{Carries, RanOne, StepFaults}
+use Rattle.press_stream.specs.Answers.{Carries, RanOne, StepFaults, WantsMemory}
 use Rattle.press_stream.specs.State.{JobState, job_state, Fits}
 use Rattle.press_stream.proofs.Carries.{RanOne-inside, Faults-inside}
 
@@ -47,3 +47,14 @@ pub job_stopped : (held : ScannerState) (engine new : Engine) (phase : Phase) (j
 job_stopped held engine new phase job tag error before after is fits =
     let P : JobState → Type 0 = λ one. one.bodies ≢ [] → Carries (owed (bodies engine)) (live engine) tag (Err error) (live new) (bodies new) before after → StepFaults one tag error (job_state held new phases.Failed) before after in
     subst P is (stopped held engine new phase tag error before after fits)
+
+-- the job wants memory where its engine does
+wants : (held : ScannerState) (engine : Engine) (phase : Phase) → (job_state held engine phase).bodies ≢ [] → InnerNeedsMemory (live engine) (bodies engine) → WantsMemory (job_state held engine phase)
+wants held engine phases.Running inside needs = inl needs
+wants held engine phases.Exited inside needs = inl needs
+wants held engine phases.Failed inside needs = absurd (inside refl)
+
+pub job_wants : (held : ScannerState) (engine : Engine) (phase : Phase) (job : JobState) → job_state held engine phase ≡ job → job.bodies ≢ [] → InnerNeedsMemory (live engine) (bodies engine) → WantsMemory job
+job_wants held engine phase job is =
+    let P : JobState → Type 0 = λ one. one.bodies ≢ [] → InnerNeedsMemory (live engine) (bodies engine) → WantsMemory one in
+    subst P is (wants held engine phase)

@@ -7,7 +7,7 @@ use Rattle.press_scan.specs.ScannerState.{ScannerState}
 use Rattle.press_scan.specs.Gives.{Passes, IsDone, IsNext}
 use Rattle.press_sink.specs.Told.{Told}
 use Rattle.press_sink.specs.Sending.{Ending, Complete, AtSheet, AtReply, ForMemory, WentOut}
-use Rattle.press_engine.specs.Engine.{IsOfKind, NeedsMemory}
+use Rattle.press_engine.specs.Engine.{IsOfKind, NeedsMemory, InnerNeedsMemory}
 use Rattle.press_engine.specs.Machine.{Run, levels}
 use Rattle.press_engine.specs.Stack.{owed}
 use Rattle.press_engine.specs.Trace.{trace_at}
@@ -160,9 +160,10 @@ Takes old tag (Err error) new before after = StepFaults old tag error new before
 abbrev pub IsIdle : JobState → Type 0
 IsIdle job = IsHungry job ⊎ IsOver job
 
--- what comes next may take memory: a body runs, or the command of the stream may
+-- what comes next may take memory: the next command of the innermost body that runs, or that of the stream
 abbrev pub WantsMemory : JobState → Type 0
-WantsMemory job = (job.bodies ≢ []) ⊎ ((command : Token) × IsDue job command × NeedsMemory job.machine command)
+WantsMemory job =
+    InnerNeedsMemory job.machine job.bodies ⊎ ((command : Token) × IsDue job command × NeedsMemory job.machine command)
 
 -- The job goes on, by commands that it takes, to where what comes next may take memory.
 abbrev pub ComesToWant : JobState → ℕ → Told → Type 0

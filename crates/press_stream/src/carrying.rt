@@ -4,7 +4,7 @@ ghost use Rattle.std.specs.Prelude.{◌≡◌, ◌≢◌, [], IsSome, IsOk, IsEr
 ghost use Rattle.press_cmd.specs.View.{token};
 ghost use Rattle.press_scan.specs.ScannerState.{buffer_size};
 ghost use Rattle.press_sink.specs.Told.{both, CanCount};
-ghost use Rattle.press_engine.specs.Engine.{live, bodies};
+ghost use Rattle.press_engine.specs.Engine.{live, bodies, InnerNeedsMemory};
 ghost use Rattle.press_engine.specs.Stack.{owed};
 ghost use Rattle.press_stream.specs.Answers.{Carries, CarriesOne, CarriesNext, Takes, WantsMemory};
 ghost use Rattle.press_stream.specs.State.{job_state, Fits};
@@ -49,6 +49,8 @@ pub fn carry_inner<S: SheetSink, P: ReplySink>(
         (owed (bodies engine.old)) (live engine.old) tag result (live engine.new) (bodies engine.new)
         (both (S.told sheets.old) (P.told replies.old))
         (both (S.told sheets.new) (P.told replies.new)) }
+    ensures memory { IsErrOf result JobError.NoMemory
+        → InnerNeedsMemory (live engine.old) (bodies engine.old) }
 {
     Ok(engine.step_inner(tag, sheets, replies)?)
 }

@@ -147,9 +147,10 @@ impl Job {
     ) -> Result<Step, JobError>
         requires inside { self.old.bodies ≢ [] }
         requires can_count { CanCount (both (S.told sheets.old) (P.told replies.old)) }
-        ensures { Takes self.old tag result self.new
+        ensures takes { Takes self.old tag result self.new
             (both (S.told sheets.old) (P.told replies.old))
             (both (S.told sheets.new) (P.told replies.new)) }
+        ensures memory { IsErrOf result JobError.NoMemory → WantsMemory self.old }
     {
         match carry_inner(&mut self.engine, tag, sheets, replies) {
             Ok(kind) => Ok(Step::Ran(kind)),
