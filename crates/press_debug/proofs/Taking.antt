@@ -1,0 +1,264 @@
+-- Steps of a job, one after another.
+use Rattle.std.proofs.Common.{◌≡◌, ◌∙◌, ◌+◌, ◌≤◌, ◌↔◌, ℕ, List, [], ◌∷◌, ◌++◌, length, Bool, true, false, Option, Some, None, IfSome, IsSome, IsTrue, IsFalse, Ok, MatchBool, refl, sym, ap, subst, arith}
+use Rattle.std.proofs.lemmas.Bool.{false≢true, true≢false}
+use Rattle.std.proofs.lemmas.List.{append_assoc}
+use Rattle.press_cmd.specs.Token.{Token}
+use Rattle.press_cmd.specs.Split.{ClosedFrom}
+use Rattle.press_cmd.specs.declared.variant.Kind.{Kind}
+use Rattle.press_cmd.proofs.Splits.{closed_once}
+use Rattle.press_sink.specs.Told.{Told}
+use Rattle.press_engine.specs.declared.machine.Last.{Last}
+use Rattle.press_engine.specs.declared.machine.Last.TheVariants as lasts
+use Rattle.press_engine.specs.declared.machine.Machine.{Machine}
+use Rattle.press_engine.specs.Engine.{IsOfKind}
+use Rattle.press_engine.specs.Machine.{Run}
+use Rattle.press_engine.specs.Trace.{last_machine}
+use Rattle.press_stream.specs.declared.step.Step.{Step}
+use Rattle.press_stream.specs.declared.step.Step.TheVariants as steps
+use Rattle.press_stream.specs.Answers.{RanOne, Takes}
+use Rattle.press_stream.specs.Left.{LeftOf, LeftGoesOn}
+use Rattle.press_stream.specs.Meaning.{with_exit, left, Owes}
+use Rattle.press_stream.specs.State.{JobState, IsOver}
+use Rattle.press_stream.proofs.Going.{Owes-some, same_some, some_of}
+use Rattle.press_stream.proofs.Items.{left-then, last-append}
+use Rattle.circular_buffer.specs.Buffer.{Buffer, buffer, keep_last}
+use Rattle.press_debug.specs.Steps.{Standing, Advances, EndsOutside, IsOutside, IsSound, Remains, kind_taken, kinds_of, with_kinds}
+use Rattle.press_debug.proofs.Tables.{keep_last-twice, keep_last-all, keep_last-few}
+
+-- ---- what is left before a step, and that it is one list
+
+pub left_before : (old new : JobState) (tag : ℕ) (kind : Kind) (before after : Told) (others : List Run) → LeftOf new others → (ran : RanOne old tag kind new before after) → LeftOf old (ran.item ∷ others)
+left_before old new tag kind before after others is ran =
+    let goes = ran.goes in
+    let from = goes.carried.from in
+    let at = last_machine from goes.items in
+    let same : is.from ≡ at = same_some new.machine is.from at is.starts goes.carried.ends in
+    record {
+      from = from;
+      starts = goes.carried.starts;
+      commands = ran.given ++ is.commands;
+      owes = goes.to_end [] is.commands is.owes;
+      are =
+          ap (λ (done : List Run). done ++ others) (sym ran.one)
+          ∙ ap (λ (more : List Run). goes.items ++ more) (is.are ∙ ap (left is.commands new.bodies) same)
+          ∙ sym (left-then ran.given is.commands old.bodies new.bodies from goes.items goes.carried.are);
+    }
+
+Owes-one : (job : JobState) (bytes : List ℕ) (commands others : List Token) → Owes job bytes commands → Owes job bytes others → commands ≡ others
+Owes-one job bytes commands others owes other = at_exit job.exited owes.1 other.1
+  where
+    at_exit : (exited : Bool)
+        → MatchBool exited (commands ≡ []) ((closed : List Token) × ClosedFrom job.held.mode (job.held.bytes ++ bytes) closed × (commands ≡ with_exit closed))
+        → MatchBool exited (others ≡ []) ((closed : List Token) × ClosedFrom job.held.mode (job.held.bytes ++ bytes) closed × (others ≡ with_exit closed))
+        → commands ≡ others
+    at_exit true is are = is ∙ sym are
+    at_exit false (c, closed, is) (d, other, are) = is ∙ ap with_exit (closed_once job.held.mode (job.held.bytes ++ bytes) c d closed other) ∙ sym are
+
+LeftOf-one : (job : JobState) (items others : List Run) → LeftOf job items → LeftOf job others → items ≡ others
+LeftOf-one job items others is other =
+    let from = same_some job.machine is.from other.from is.starts other.starts in
+    let commands = Owes-one job [] is.commands other.commands is.owes other.owes in
+    is.are ∙ (λ j. left (commands j) job.bodies (from j)) ∙ sym other.are
+
+-- the commands that are left of a job, and their items
+commands_left : (job : JobState) → (commands : List Token) × Owes job [] commands
+commands_left job = Owes-some job [] (λ _. refl)
+
+items_in : JobState → Option Machine → List Run
+items_in job None = []
+items_in job (Some machine) = left (commands_left job).0 job.bodies machine
+
+pub items_left : JobState → List Run
+items_left job = items_in job job.machine
+
+pub items_left-none : (job : JobState) → job.machine ≡ None → items_left job ≡ []
+unfolding items_left items_in
+items_left-none job is = ap (items_in job) is
+
+pub LeftOf-some : (job : JobState) (machine : Machine) → job.machine ≡ Some machine → LeftOf job (items_left job)
+unfolding items_left items_in
+LeftOf-some job machine is = record {
+  from = machine;
+  starts = is;
+  commands = (commands_left job).0;
+  owes = (commands_left job).1;
+  are = ap (items_in job) is;
+}
+
+-- ---- one step
+
+kind_once : (last : Last) (kind : Kind) → IsOfKind last kind → kind ∷ [] ≡ kind_taken last ++ []
+kind_once lasts.Nothing kind is = absurd is
+kind_once (lasts.Ran one) kind is = ap (λ (k : Kind). k ∷ []) is
+kind_once (lasts.Recorded one) kind is = ap (λ (k : Kind). k ∷ []) is
+
+pub Advances-one : LeftGoesOn → (old new : JobState) (tag : ℕ) (kind : Kind) (before after : Told) (recent last : List Kind) → (ran : RanOne old tag kind new before after) → last ≡ keep_last 64 (recent ++ kind ∷ []) → Advances (record { job = old; recent = recent }) (ran.item ∷ []) (record { job = new; recent = last })
+Advances-one law old new tag kind before after recent last ran kept = record {
+  from = ran.goes.carried.from;
+  starts = ran.goes.carried.starts;
+  ends = ran.goes.carried.ends ∙ ap (λ (done : List Run). Some (last_machine ran.goes.carried.from done)) ran.one;
+  left = λ all is. let on = law.steps old new tag kind before after all is ran in (on.others, on.are, on.still);
+  recent = kept ∙ ap (λ (kinds : List Kind). keep_last 64 (recent ++ kinds)) (kind_once ran.item.machine.last kind ran.is_kind);
+}
+
+pub Advances-none : (now : Standing) (from : Machine) → now.job.machine ≡ Some from → length now.recent ≤ 64 → Advances now [] now
+Advances-none now from starts few = record {
+  from = from;
+  starts = starts;
+  ends = starts;
+  left = λ all is. (all, refl, is);
+  recent = keep_last-all 64 now.recent few;
+}
+
+-- ---- and then others
+
+kinds_of-append : (items others : List Run) → kinds_of (items ++ others) ≡ kinds_of items ++ kinds_of others
+kinds_of-append [] others = refl
+kinds_of-append (item ∷ items) others =
+    ap (λ (kinds : List Kind). kind_taken item.machine.last ++ kinds) (kinds_of-append items others)
+    ∙ sym (append_assoc (kind_taken item.machine.last) (kinds_of items) (kinds_of others))
+
+pub with_kinds-append : (recent : List Kind) (items others : List Run) → with_kinds (with_kinds recent items) others ≡ with_kinds recent (items ++ others)
+with_kinds-append recent items others =
+    keep_last-twice 64 (recent ++ kinds_of items) (kinds_of others)
+    ∙ ap (keep_last 64) (append_assoc recent (kinds_of items) (kinds_of others) ∙ ap (λ (kinds : List Kind). recent ++ kinds) (sym (kinds_of-append items others)))
+
+pub Advances-then : (old between new : Standing) (items others : List Run) → (first : Advances old items between) → Advances between others new → Advances old (items ++ others) new
+Advances-then old between new items others first second =
+    let at = last_machine first.from items in
+    let same : second.from ≡ at = same_some between.job.machine second.from at second.starts first.ends in
+    record {
+      from = first.from;
+      starts = first.starts;
+      ends = second.ends ∙ ap (λ (machine : Machine). Some (last_machine machine others)) same ∙ ap (λ (machine : Machine). Some machine) (sym (last-append items others first.from));
+      left = λ all is.
+          let mid = first.left all is in
+          let end = second.left mid.0 mid.2 in
+          (end.0, mid.1 ∙ ap (λ (more : List Run). items ++ more) end.1 ∙ sym (append_assoc items others end.0), end.2);
+      recent = second.recent ∙ ap (λ (kinds : List Kind). with_kinds kinds others) first.recent ∙ with_kinds-append old.recent items others;
+    }
+
+-- ---- the last of what is left has no running body
+
+pub EndsOutside-after : (old new : JobState) (tag : ℕ) (kind : Kind) (before after : Told) → RanOne old tag kind new before after → EndsOutside old → EndsOutside new
+EndsOutside-after old new tag kind before after ran outside = λ items is.
+    let at = last_machine ran.goes.carried.from ran.goes.items in
+    let same : is.from ≡ at = same_some new.machine is.from at is.starts ran.goes.carried.ends in
+    let one : at ≡ ran.item.machine = ap (last_machine ran.goes.carried.from) ran.one in
+    ap (λ (machine : Machine). (last_machine machine items).depth) (same ∙ one)
+    ∙ outside (ran.item ∷ items) (left_before old new tag kind before after items is ran)
+
+pub EndsOutside-none : (job : JobState) → job.machine ≡ None → EndsOutside job
+EndsOutside-none job none = λ items is. absurd (some_not (sym none ∙ is.starts)) where
+  some_not : {X : Type 0} {x : X} → None ≡ Some x → ⊥
+  some_not e = cc
+
+pub outside_over : LeftGoesOn → (job : JobState) (machine : Machine) → EndsOutside job → IsOver job → job.machine ≡ Some machine → machine.depth ≡ 0
+outside_over law job machine outside over is =
+    let some = LeftOf-some job machine is in
+    let none = law.over job (items_left job) over some in
+    let same : machine ≡ some.from = same_some job.machine machine some.from is some.starts in
+    ap (λ (at : Machine). at.depth) same
+    ∙ ap (λ (items : List Run). (last_machine some.from items).depth) (sym none) ∙ outside (items_left job) some
+
+-- ---- a step leaves one item fewer
+
+pub fewer_left : (old new : Standing) (item : Run) → Advances old (item ∷ []) new → length (items_left new.job) + 1 ≤ length (items_left old.job)
+fewer_left old new item advances =
+    let before = LeftOf-some old.job advances.from advances.starts in
+    let after = LeftOf-some new.job item.machine advances.ends in
+    let rest = advances.left (items_left old.job) before in
+    let same = LeftOf-one new.job rest.0 (items_left new.job) rest.2 after in
+    omega (arith, ap length rest.1, ap length same)
+
+-- ---- where no step is left
+
+pub Advances-if : (now : Standing) → length now.recent ≤ 64 → IfSome now.job.machine (λ _. Advances now [] now)
+Advances-if now few = by now.job.machine refl where
+  by : (o : Option Machine) → now.job.machine ≡ o → IfSome o (λ _. Advances now [] now)
+  by None is = tt
+  by (Some machine) is = Advances-none now machine is few
+
+pub Advances-nothing : (now : Standing) → length now.recent ≤ 64 → IsOver now.job → Advances now [] now
+Advances-nothing now few over =
+    let some = some_of now.job.machine over.running in
+    Advances-none now some.0 some.1 few
+
+pub IsOutside-over : LeftGoesOn → (job : JobState) → EndsOutside job → IsOver job → IsOutside job
+IsOutside-over law job outside over = λ machine is. outside_over law job machine outside over is
+
+pub remains : (over : Bool) (job : JobState) → ((items : List Run) → LeftOf job items → IsTrue over ↔ (items ≡ [])) → IsFalse over → Remains job
+remains true job tells is_not = absurd (true≢false is_not)
+remains false job tells is_not = λ items is none. absurd (false≢true ((tells items is).1 none))
+
+-- ---- what is true of a job stays true
+
+ran_of : (old new : JobState) (tag : ℕ) (step : Step) (kind : Kind) (before after : Told) → step ≡ steps.Ran kind → Takes old tag (Ok step) new before after → RanOne old tag kind new before after
+ran_of old new tag step kind before after is takes = subst (λ (one : Step). Takes old tag (Ok one) new before after) is takes
+
+pub IsSound-ran : (old new : JobState) (tag : ℕ) (step : Step) (kind : Kind) (before after : Told) (recent last : Buffer Kind) (failed : Bool) → IsSound old recent failed
+    → step ≡ steps.Ran kind → Takes old tag (Ok step) new before after → last ≡ buffer (keep_last recent.capacity (recent.items ++ kind ∷ [])) recent.capacity → IsSound new last failed
+IsSound-ran old new tag step kind before after recent last failed sound is takes kept =
+    let ran = ran_of old new tag step kind before after is takes in
+    let started = ran.goes.carried.starts in
+    record {
+      running = λ _. subst IsSome (sym ran.goes.carried.ends) refl;
+      lost = λ was. absurd (none_some (sym (sound.lost was) ∙ started));
+      ended = λ was_not. ran.still ∙ sound.ended was_not;
+      outside = EndsOutside-after old new tag kind before after ran sound.outside;
+      capacity = ap (λ (ring : Buffer Kind). ring.capacity) kept ∙ sound.capacity;
+      few =
+          subst (λ (ring : Buffer Kind). length ring.items ≤ 64) (sym kept)
+          (subst (λ (n : ℕ). length (keep_last n (recent.items ++ kind ∷ [])) ≤ 64) (sym sound.capacity) (keep_last-few 64 (recent.items ++ kind ∷ [])));
+    }
+  where
+    none_some : {X : Type 0} {x : X} → None ≡ Some x → ⊥
+    none_some e = cc
+
+pub IsSound-fault : (old new : JobState) (recent : Buffer Kind) (failed : Bool) → IsSound old recent failed → new.machine ≡ None → IsSound new recent true
+IsSound-fault old new recent failed sound none = record {
+  running = λ was_not. absurd (true≢false was_not);
+  lost = λ _. none;
+  ended = λ was_not. absurd (true≢false was_not);
+  outside = EndsOutside-none new none;
+  capacity = sound.capacity;
+  few = sound.few;
+}
+
+pub takes_one : LeftGoesOn → (old new : JobState) (tag : ℕ) (step : Step) (kind : Kind) (before after : Told) (recent last : Buffer Kind) (now : Standing) → record { job = old; recent = recent.items } ≡ now → recent.capacity ≡ 64
+    → step ≡ steps.Ran kind → Takes old tag (Ok step) new before after → last ≡ buffer (keep_last recent.capacity (recent.items ++ kind ∷ [])) recent.capacity
+    → (item : Run) × Advances now (item ∷ []) (record { job = new; recent = last.items })
+takes_one law old new tag step kind before after recent last now same capacity is takes kept =
+    let ran = ran_of old new tag step kind before after is takes in
+    let kinds : last.items ≡ keep_last 64 (recent.items ++ kind ∷ []) = ap (λ (ring : Buffer Kind). ring.items) kept ∙ ap (λ (n : ℕ). keep_last n (recent.items ++ kind ∷ [])) capacity in
+    (ran.item, subst (λ (from : Standing). Advances from (ran.item ∷ []) (record { job = new; recent = last.items })) same (Advances-one law old new tag kind before after recent.items last.items ran kinds))
+
+-- ---- where a step found nothing
+
+ended_of : (old new : JobState) (tag : ℕ) (step : Step) (before after : Told) → step ≡ steps.Ended → Takes old tag (Ok step) new before after → IsOver old × (new ≡ old)
+ended_of old new tag step before after is takes =
+    let ended = subst (λ (one : Step). Takes old tag (Ok one) new before after) is takes in
+    (ended.0, ended.1)
+
+pub takes_none : (old new : JobState) (tag : ℕ) (step : Step) (before after : Told) (recent : Buffer Kind) (now : Standing) → record { job = old; recent = recent.items } ≡ now → length recent.items ≤ 64
+    → step ≡ steps.Ended → Takes old tag (Ok step) new before after → Advances now [] (record { job = new; recent = recent.items })
+takes_none old new tag step before after recent now same few is takes =
+    let (over, kept) = ended_of old new tag step before after is takes in
+    let standing : Standing = record { job = old; recent = recent.items } in
+    let none : Advances standing [] standing = Advances-nothing standing few over in
+    let stays : Advances standing [] (record { job = new; recent = recent.items }) = subst (λ (job : JobState). Advances standing [] (record { job = job; recent = recent.items })) (sym kept) none in
+    subst (λ (from : Standing). Advances from [] (record { job = new; recent = recent.items })) same stays
+
+pub outside_none : LeftGoesOn → (old new : JobState) (tag : ℕ) (step : Step) (before after : Told) → EndsOutside old → step ≡ steps.Ended → Takes old tag (Ok step) new before after → IsOutside new
+outside_none law old new tag step before after outside is takes =
+    let (over, kept) = ended_of old new tag step before after is takes in
+    subst IsOutside (sym kept) (IsOutside-over law old outside over)
+
+-- ---- facts of a machine that is there
+
+pub at_machine : (o : Option Machine) (P : Machine → Type 0) (machine : Machine) → o ≡ Some machine → IfSome o P → P machine
+at_machine o P machine is holds = subst (λ (one : Option Machine). IfSome one P) is holds
+
+pub where_running : (o : Option Machine) (P : Type 0) → IsSome o → IfSome o (λ _. P) → P
+where_running (Some machine) P running holds = holds
+where_running None P running holds = absurd (false≢true running)

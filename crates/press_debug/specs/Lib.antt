@@ -1,0 +1,4 @@
+pub mod Breaks
+pub mod Steps
+pub mod Stops
+pub mod Places

@@ -1,0 +1,176 @@
+//! A debugger of streams: steps, breakpoints and a watch.
+
+ghost use Rattle.std.specs.Prelude.{◌≡◌, IfOk, IfSome};
+ghost use Rattle.press_engine.specs.Engine.{view_of};
+
+use crate::breakpoints::{Break, Breakpoints};
+use crate::fault::BreakError;
+use crate::stepper::{Stepper, Taken};
+use crate::watch::Watch;
+use press_cmd::Kind;
+use press_engine::View;
+use std::alloc::{AllocError, Global};
+
+/// Why a debugger stands where it does.
+#[derive(Clone, Copy, Debug, PartialEq, Eq)]
+pub enum Stop {
+    /// The state meets the breakpoint of this number, and none of a smaller one; `WATCH` is the watch.
+    AtBreak(u8),
+    /// The step that was asked for was taken.
+    Stepped,
+    /// No step is left.
+    Ended,
+    /// As many steps were taken as were asked for, and none of their states met a breakpoint.
+    LimitReached,
+    /// Memory ran out in a step, or did so before.
+    Failed,
+}
+
+/// The number of the watch among the breakpoints.
+pub const WATCH: u8 = 32;
+
+/// A debugger of a stream. Contracts see what of the stream was taken, the table of breakpoints, and the watch.
+///
+/// After `Failed` it answers `Failed` from then on.
+#[derive(Drop)]
+pub struct Debugger<F> {
+    stepper: Stepper,
+    breaks: Breakpoints,
+    watch: Watch<F>,
+}
+
+impl<F: Fn(&View<'_>) -> bool + Drop> Debugger<F> {
+    ghost use Rattle.std.specs.Prelude.{slice_get};
+    ghost use Rattle.std.specs.Fn.{FnReturnsAt};
+    ghost use Rattle.press_debug.specs.Breaks.{no_breaks, Sets, Clears};
+    ghost use Rattle.press_debug.specs.Steps.{at_start};
+    ghost use Rattle.press_debug.specs.Stops.{Goes, StopsInto, StopsOver, StateMeets};
+
+    /// A debugger of the stream of these bytes, before its first step.
+    ///
+    /// # Errors
+    ///
+    /// Where memory ran out.
+    pub fn open(alloc: Global, bytes: &[u8], watch: Watch<F>) -> Result<Self, AllocError>
+        ensures stepper { IfOk result (λ debugger. debugger.stepper ≡ at_start bytes.now) }
+        ensures breaks { IfOk result (λ debugger. debugger.breaks ≡ no_breaks) }
+        ensures watch { IfOk result (λ debugger. debugger.watch ≡ watch) }
+    {
+        Ok(Debugger {
+            stepper: Stepper::open(alloc, bytes)?,
+            breaks: Breakpoints::new(),
+            watch,
+        })
+    }
+
+    /// Takes one step, into a body that it starts.
+    pub fn step_into(&mut self) -> Stop
+        ensures steps { StopsInto self.old.stepper result self.new.stepper }
+        ensures breaks { self.new.breaks ≡ self.old.breaks }
+        ensures watch { self.new.watch ≡ self.old.watch }
+    {
+        match self.stepper.take() {
+            Taken::Steps => Stop::Stepped,
+            Taken::Nothing => Stop::Ended,
+            Taken::Fault => Stop::Failed,
+        }
+    }
+
+    /// Takes steps to the first state in which no more bodies run than now, whatever breakpoints the states before it meet.
+    pub fn step_over(&mut self) -> Stop
+        ensures steps { StopsOver self.old.stepper result self.new.stepper }
+        ensures breaks { self.new.breaks ≡ self.old.breaks }
+        ensures watch { self.new.watch ≡ self.old.watch }
+    {
+        match self.stepper.over() {
+            Taken::Steps => Stop::Stepped,
+            Taken::Nothing => Stop::Ended,
+            Taken::Fault => Stop::Failed,
+        }
+    }
+
+    /// Takes at most so many steps, to the first state that one of them gives and that meets a breakpoint or the watch.
+    pub fn go(&mut self, max: u64) -> Stop
+        requires { F.IsAlwaysCallable self.old.watch.test }
+        ensures goes { Goes (FnReturnsAt F.Fn self.old.watch.test) self.old.breaks
+            self.old.stepper max result self.new.stepper }
+        ensures breaks { self.new.breaks ≡ self.old.breaks }
+        ensures watch { self.new.watch ≡ self.old.watch }
+    {
+        if self.stepper.has_failed() {
+            return Stop::Failed;
+        }
+        for _step in 0..max {
+            match self.stepper.take() {
+                Taken::Steps => {}
+                Taken::Nothing => return Stop::Ended,
+                Taken::Fault => return Stop::Failed,
+            }
+            if let Some(number) = self.met() {
+                return Stop::AtBreak(number);
+            }
+        }
+        if self.stepper.ended() {
+            Stop::Ended
+        } else {
+            Stop::LimitReached
+        }
+    }
+
+    /// The least number of what the state of now meets, the watch among them.
+    fn met(&self) -> Option<u8>
+        requires { F.IsAlwaysCallable self.now.watch.test }
+        ensures { IfSome self.now.stepper.job.machine (λ machine.
+            StateMeets (FnReturnsAt F.Fn self.now.watch.test) self.now.breaks result machine) }
+    {
+        let view = self.stepper.view();
+        match self.breaks.met(&view) {
+            Some(number) => Some(number),
+            None if self.watch.meets(&view) => Some(WATCH),
+            None => None,
+        }
+    }
+
+    /// Sets a breakpoint at the lowest free number.
+    ///
+    /// # Errors
+    ///
+    /// `TooMany` (501): no number is free, and nothing changes.
+    pub fn break_on(&mut self, one: Break) -> Result<u8, BreakError>
+        ensures sets { Sets self.old.breaks one result self.new.breaks }
+        ensures stepper { self.new.stepper ≡ self.old.stepper }
+        ensures watch { self.new.watch ≡ self.old.watch }
+    {
+        self.breaks.set(one)
+    }
+
+    /// Frees the number of a breakpoint.
+    ///
+    /// # Errors
+    ///
+    /// `NoSuch` (502): no breakpoint stands there, and nothing changes.
+    pub fn clear(&mut self, number: u8) -> Result<(), BreakError>
+        ensures clears { Clears self.old.breaks number result self.new.breaks }
+        ensures stepper { self.new.stepper ≡ self.old.stepper }
+        ensures watch { self.new.watch ≡ self.old.watch }
+    {
+        self.breaks.clear(number)
+    }
+
+    /// What can be seen of the state of now. After `Failed` nothing is said.
+    pub fn state(&self) -> View<'_>
+        ensures view { IfSome self.now.stepper.job.machine (λ machine.
+            result ≡ view_of result.stack machine) }
+        ensures stack { IfSome self.now.stepper.job.machine
+            (λ machine. result.stack.now ≡ machine.state.cursor.stack) }
+    {
+        self.stepper.view()
+    }
+
+    /// The kind of one of the last 64 commands that were taken, the oldest at 0. A recorded command has its own kind.
+    pub fn recent(&self, index: usize) -> Option<Kind>
+        ensures { result ≡ slice_get self.now.stepper.recent index }
+    {
+        self.stepper.recent(index)
+    }
+}

@@ -1,0 +1,16 @@
+//! The debugger: a stream that is carried out table step by table step, and stops where it is asked to.
+#![tactic(auto)]
+
+mod breakpoints;
+mod debugger;
+mod fault;
+pub mod laws;
+mod sinks;
+mod stepper;
+mod watch;
+
+pub use breakpoints::{Break, MOST_BREAKS};
+pub use debugger::{Debugger, Stop, WATCH};
+pub use fault::BreakError;
+pub use stepper::RECENT;
+pub use watch::Watch;

@@ -1,0 +1,162 @@
+//! A stream whose end was given, carried out step by step (PCL 5 Printer Language Technical Reference Manual, Macros).
+
+ghost use Rattle.std.specs.Prelude.{◌≡◌, IfOk, IfSome};
+ghost use Rattle.press_engine.specs.Engine.{view_of};
+ghost use Rattle.press_stream.specs.State.{IsOver};
+
+use crate::sinks::{NoReplies, NoSheets};
+use circular_buffer::HeapCircularBuffer;
+use press_cmd::Kind;
+use press_engine::View;
+use press_engine::laws::{at_most_four_bodies, trace_tells_the_run};
+use press_stream::laws::what_is_left;
+use press_stream::{Job, Step};
+use std::alloc::{AllocError, Global};
+use std::marker::Model;
+
+/// How many kinds of commands are kept.
+pub const RECENT: usize = 64;
+
+/// What a call of a stepper did.
+#[derive(Clone, Copy, Debug, PartialEq, Eq)]
+pub enum Taken {
+    /// It took steps.
+    Steps,
+    /// No step was left.
+    Nothing,
+    /// Memory ran out in a step, or did so before.
+    Fault,
+}
+
+/// A stream whose end was given, carried out step by step. Contracts see its job, and the kinds of the last commands that it
+/// took, oldest first.
+#[derive(Drop)]
+pub struct Stepper {
+    job: Job,
+    recent: HeapCircularBuffer<Kind>,
+    failed: bool,
+}
+
+impl Model for Stepper {
+    ghost use Rattle.std.specs.Coded.{codes};
+    ghost use Rattle.press_cmd.specs.contracts.variant.Kind as kinds;
+    ghost use Rattle.press_stream.specs.contracts.job.Job as jobs;
+    ghost use Rattle.press_debug.specs.Steps.{Standing, IsSound};
+
+    ghost Value = { Standing };
+
+    ghost coded = { Prim.hlevel (codes, jobs.the_row.coded, kinds.the_row.coded) };
+
+    ghost view = { λ stepper. record { job = stepper.job; recent = stepper.recent.items } };
+
+    ghost invariant = { λ stepper. IsSound stepper.job stepper.recent stepper.failed };
+}
+
+impl Stepper {
+    ghost use Rattle.std.specs.Prelude.{slice_get, IsTrue, IsFalse, IsSome, None, ◌↔◌, []};
+    ghost use Rattle.press_debug.specs.declared.stepper.Taken.TheVariants.{Steps, Nothing};
+    ghost use Rattle.press_debug.specs.Steps.{at_start, Advances, TakesOne, TakesOver, IsOutside, IsDeeper, IsBack, Remains};
+
+    /// A stream of these bytes, of which no step was taken.
+    pub fn open(alloc: Global, bytes: &[u8]) -> Result<Self, AllocError>
+        ensures { IfOk result (λ stepper. stepper ≡ at_start bytes.now) }
+    {
+        at_most_four_bodies();
+        trace_tells_the_run();
+        let mut job = Job::open(alloc)?;
+        if job.push(bytes).is_err() {
+            return Err(AllocError);
+        }
+        job.end_input();
+        Ok(Stepper {
+            job,
+            recent: HeapCircularBuffer::with_capacity(alloc, RECENT)?,
+            failed: false,
+        })
+    }
+
+    /// Takes a step, if one is left.
+    pub fn take(&mut self) -> Taken
+        ensures takes { TakesOne self.old result self.new }
+        ensures none { result ≡ Nothing → Advances self.old [] self.new }
+        ensures outside { result ≡ Nothing → IsOutside self.new.job }
+    {
+        what_is_left();
+        match self.job.step(0, &mut NoSheets, &mut NoReplies) {
+            Ok(Step::Ran(kind)) => {
+                self.recent.push_back(kind);
+                Taken::Steps
+            }
+            Ok(Step::Hungry) => unreachable!(),
+            Ok(Step::Ended) => Taken::Nothing,
+            Err(_) => {
+                self.failed = true;
+                Taken::Fault
+            }
+        }
+    }
+
+    /// Takes steps to the first state of no greater depth.
+    pub fn over(&mut self) -> Taken
+        ensures { TakesOver self.old result self.new }
+    {
+        let depth = self.depth();
+        let mut taken = self.take();
+        while self.is_deeper(taken, depth) {
+            taken = self.take();
+        }
+        taken
+    }
+
+    /// Whether a step was taken, and to a state of a greater depth than this.
+    fn is_deeper(&self, taken: Taken, depth: u8) -> bool
+        ensures deeper { IsTrue result → (taken ≡ Steps) × IsDeeper self.now.job depth }
+        ensures back { IsFalse result → taken ≡ Steps → IsBack self.now.job depth }
+    {
+        match taken {
+            Taken::Steps => self.depth() > depth,
+            _ => false,
+        }
+    }
+
+    /// Whether no step is left.
+    pub fn ended(&self) -> bool
+        ensures over { IsTrue result ↔ IsOver self.now.job }
+        ensures left { IsFalse result → Remains self.now.job }
+        ensures none { IfSome self.now.job.machine (λ _. Advances self.now [] self.now) }
+    {
+        self.job.ended()
+    }
+
+    /// Whether memory ran out in a step.
+    pub fn has_failed(&self) -> bool
+        ensures failed { IsTrue result → self.now.job.machine ≡ None }
+        ensures running { IsFalse result → IsSome self.now.job.machine }
+    {
+        self.failed
+    }
+
+    /// How many bodies run.
+    fn depth(&self) -> u8
+        ensures { IfSome self.now.job.machine (λ machine. result ≡ machine.depth) }
+    {
+        self.job.view().depth
+    }
+
+    /// What can be seen of the engine. Where memory ran out nothing is said.
+    pub fn view(&self) -> View<'_>
+        ensures view { IfSome self.now.job.machine (λ machine.
+            result ≡ view_of result.stack machine) }
+        ensures stack { IfSome self.now.job.machine
+            (λ machine. result.stack.now ≡ machine.state.cursor.stack) }
+    {
+        self.job.view()
+    }
+
+    /// The kind of one of the last commands that were taken, the oldest at 0.
+    pub fn recent(&self, index: usize) -> Option<Kind>
+        ensures { result ≡ slice_get self.now.recent index }
+    {
+        self.recent.get(index).copied()
+    }
+}
