@@ -1,6 +1,8 @@
-//! The tests of what takes jobs: streams, tickets and their jobs, the queue, turns, and the program's files and sessions.
+//! The tests of what takes jobs: streams, the debugger, tickets and their jobs, the queue, turns, and the program's files and sessions.
 #![tactic(auto)]
 
+#[cfg(test)]
+mod debugger;
 #[cfg(test)]
 mod jobs_of_tickets;
 #[cfg(test)]
