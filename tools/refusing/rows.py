@@ -1,0 +1,57 @@
+"""What the program is asked while its allocations are refused: words, and what stands on standard input."""
+
+from typing import NamedTuple
+
+ESC, FORM_FEED = b"\x1b", b"\x0c"
+EXIT = b"\x1b%-12345X"
+
+
+class Row(NamedTuple):
+    name: str
+    words: list
+    given: bytes = b""
+
+
+def spelled(text):
+    """A stream by its words: ESC and FF are bytes, a word in brackets is hexadecimal, spaces separate."""
+    stream = b""
+    for word in text.split():
+        if word.startswith("["):
+            stream += bytes.fromhex(word[1:-1])
+        else:
+            stream += word.replace("ESC", "\x1b").replace("FF", "\x0c").encode()
+    return stream
+
+
+LIST = ["print", "--list", "-"]
+STREAMS = [
+    ("a blank sheet between resets", "ESC E FF ESC E"),
+    ("rows of raster by three methods",
+     "ESC*t300R ESC*r0A ESC*b3m2W [00FF] ESC*b0W ESC*b0m0W ESC*b3m0W ESC*rC FF"),
+    ("patterns, of which one is cut",
+     "ESC*c5G ESC*c16W [0000010000080008FFFFFFFFFFFFFFFF] ESC*c15W [000001000008000800000000000000] ESC*p0x0Y ESC*c2a1b4P FF"),
+    ("a macro in a macro", "ESC*p0x0Y ESC&f1y0X ESC*c1a1b0P ESC*p+2X ESC&f3X ESC&f1X ESC&f3X FF"),
+    ("an overlay on two pages", "ESC&f2y0X ESC*c4a1b0P FF ESC&f1X ESC&f4X FF FF"),
+    ("rows on a turned page", "ESC&l1O ESC*t75R ESC*r1A ESC*b3W [FF00FF] ESC*b3W [0F0F0F] ESC*rC FF"),
+    ("sides of two sheets, three copies each", "ESC&l1S ESC&l3X ESC*c9a9b0P FF FF FF"),
+]
+LINES = [
+    ("values that are asked for", EXIT + b"@PJL SET COPIES=3\r\n@PJL INQUIRE COPIES\r\n@PJL DINQUIRE COPIES\r\n"),
+    ("a reply behind each copy", EXIT + b"@PJL USTATUS PAGE=ON\n@PJL SET COPIES=2\n@PJL ENTER LANGUAGE=PCL\n\x0c"),
+    ("a line that is echoed", EXIT + b"@PJL ECHO one two three\r\n"),
+]
+TICKET = ["examples/tickets/flyer.json"]
+IMAGES = ["examples/images/front.pbm", "examples/images/back.pbm"]
+SUBMISSION = b"message examples/messages/submit-flyer.json examples/images/front.pbm examples/images/back.pbm\n"
+
+ROWS = [
+    *(Row(name, LIST, spelled(text)) for name, text in STREAMS),
+    *(Row(name, LIST, stream) for name, stream in LINES),
+    Row("files of two sides", ["print", "-", "page-%d.pbm"], spelled("ESC&l1S ESC*p9x9Y ESC*c9a9b0P FF ESC*c9a9b0P FF")),
+    Row("the job of a ticket", ["write", *TICKET, "job", *IMAGES]),
+    Row("a text that is assembled", ["asm", "-", "stream"], b"par *p10X\npar *b2W 02F0\nesc E\n; a remark\ntxt 41\n"),
+    Row("commands that are told", ["disasm", "-"], b"\x1b*p10x20Y\x1bE\x1b*b2W\x02\xf0text\x0c"),
+    Row("a job that is printed by turns", ["press"], SUBMISSION + b"turn 3\npause\nturn 9\ncontinue\nturn 100000\n"),
+    Row("messages that are refused", ["press"], b"message examples/messages/hold-1.json\nturn 1\nwhat\nturn\n"),
+    Row("a queue that is told", ["press"], SUBMISSION + b"message examples/messages/queue-status.json\nabort\n"),
+]
