@@ -1,4 +1,5 @@
 -- What the effects of the code stand for, beside the state.
+use Rattle.std.specs.Prelude.{Bool, true, false}
 use Rattle.press_engine.specs.declared.effect.Effect.{Effect}
 use Rattle.press_engine.specs.declared.effect.Effect.TheVariants as effects
 use Rattle.press_engine.specs.declared.state.State.{State}
@@ -11,3 +12,12 @@ effect_of state (effects.GivesReply reply) = rows.GivesReply reply state
 effect_of state (effects.Stays closer) = rows.Stays closer state
 effect_of state (effects.Closes closer) = rows.Closes closer state
 effect_of state (effects.Starts body end) = rows.Starts body end state
+
+-- whether all is done: nothing goes out, no page closes, and no body starts
+abbrev pub is_done : Effect → Bool
+is_done effects.Changes = true
+is_done effects.Makes = true
+is_done (effects.GivesReply reply) = false
+is_done (effects.Stays closer) = false
+is_done (effects.Closes closer) = false
+is_done (effects.Starts body end) = false

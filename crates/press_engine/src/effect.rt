@@ -96,6 +96,17 @@ pub enum Effect {
     Starts(Body, BodyEnd),
 }
 
+impl Effect {
+    ghost use Rattle.press_engine.specs.Effects.{is_done};
+
+    /// Whether all is done: nothing goes out, no page closes, and no body starts.
+    pub fn is_done(&self) -> bool
+        ensures { result ≡ is_done self.now }
+    {
+        matches!(self, Effect::Changes | Effect::Makes)
+    }
+}
+
 impl Selection {
     /// The side that `ESC & a # G` selects by a number.
     pub fn of_number(number: i64) -> Option<Self>

@@ -322,6 +322,9 @@ impl Machine {
         let Ok(effect) = self.take(alloc, Source::within(false, LEVELS), &command) else {
             return Err(EngineError::NoMemory);
         };
+        if effect.is_done() {
+            return Ok(());
+        }
         let Ok(it) = self.begin(alloc, false, LEVELS, effect) else {
             return Err(EngineError::NoMemory);
         };
