@@ -1,4 +1,4 @@
-"""What the program is asked while its allocations are refused: words, and what stands on standard input."""
+"""What the program is asked while its allocations, reads and writes are refused: words, and what stands on standard input."""
 
 from typing import NamedTuple
 
@@ -55,3 +55,15 @@ ROWS = [
     Row("messages that are refused", ["press"], b"message examples/messages/hold-1.json\nturn 1\nwhat\nturn\n"),
     Row("a queue that is told", ["press"], SUBMISSION + b"message examples/messages/queue-status.json\nabort\n"),
 ]
+
+
+def read_faults(row):
+    """What is told where a read fails: that of an image, or of any other input."""
+    return {"304", "114"} if row.words[0] in ("write", "press") else {"304"}
+
+
+def write_faults(row):
+    """What is told where a write fails: standard output, or the file that the words make."""
+    if row.words[0] == "print" and "--list" not in row.words:
+        return {"301", "302"}
+    return {"asm": {"115"}, "write": {"614"}}.get(row.words[0], {"output"})
