@@ -1,12 +1,13 @@
 //! A reader that fails at one call, for tests.
-ghost use Rattle.std.specs.Prelude.{◌≡◌, Some, IsErr};
+ghost use Rattle.std.specs.Prelude.{◌≡◌, ◌≢◌, Some, IsErr, IfErr};
 ghost use Rattle.std.specs.Io.{ReadsAtMost};
 ghost use Rattle.std.specs.Io.KnownBytes.{ReadConsumes};
+ghost use Rattle.std.specs.IoError.{error_kind};
 ghost use Rattle.press_pbm.specs.Fuse.{reads_left, reader_of, burned};
 
 use std::io::{self, ErrorKind, Read};
 
-/// A reader over another, of which one call fails, and no other.
+/// A reader over another, of which one call fails, and no other. The error is no interruption, after which a caller reads again.
 #[derive(Drop)]
 pub struct FuseRead<R: Read + Drop> {
     reader: R,
@@ -34,6 +35,8 @@ impl<R: Read + Drop> Read for FuseRead<R> {
         ensures bytes { ReadConsumes (R.remaining (reader_of self.old))
             (R.remaining (reader_of self.new)) result buf.new }
         ensures fails { reads_left self.old ≡ Some 0 → IsErr result }
+        ensures for_good { reads_left self.old ≡ Some 0 →
+            IfErr result (λ error. error_kind error ≢ ErrorKind.Interrupted) }
         ensures calls { reads_left self.new ≡ burned (reads_left self.old) }
     {
         if self.calls_left == Some(0) {

@@ -1,12 +1,13 @@
 //! A writer that fails at one call, for tests.
-ghost use Rattle.std.specs.Prelude.{◌≡◌, Some, IsErr};
+ghost use Rattle.std.specs.Prelude.{◌≡◌, ◌≢◌, Some, IsErr, IfErr};
 ghost use Rattle.std.specs.Io.{WritesAtMost};
 ghost use Rattle.std.specs.Io.KnownBytes.{WriteAppends};
+ghost use Rattle.std.specs.IoError.{error_kind};
 ghost use Rattle.press_pbm.specs.Fuse.{writes_left, writer_of, burned};
 
 use std::io::{self, ErrorKind, Write};
 
-/// A writer over another, of which one write fails, and no other.
+/// A writer over another, of which one write fails, and no other. The error is no interruption, after which a caller writes again.
 #[derive(Drop)]
 pub struct FuseWrite<W: Write + Drop> {
     writer: W,
@@ -45,6 +46,8 @@ impl<W: Write + Drop> Write for FuseWrite<W> {
         ensures bytes { WriteAppends (W.contents (writer_of self.old))
             (W.contents (writer_of self.new)) result buf.now }
         ensures fails { writes_left self.old ≡ Some 0 → IsErr result }
+        ensures for_good { writes_left self.old ≡ Some 0 →
+            IfErr result (λ error. error_kind error ≢ ErrorKind.Interrupted) }
         ensures calls { writes_left self.new ≡ burned (writes_left self.old) }
     {
         if self.calls_left == Some(0) {
