@@ -1,3 +1,4 @@
 pub mod FuseLemmas
+pub mod OutputsLemmas
 pub mod SendingLemmas
 pub mod TemplateLemmas

@@ -1,5 +1,5 @@
 -- What sinks keep.
-use Rattle.std.specs.Prelude.{ℕ, zero, suc, List, Option, Some, None}
+use Rattle.std.specs.Prelude.{ℕ, zero, suc, List, map, Option, Some, None, option_map}
 use Rattle.std.specs.String.{string_bytes}
 use Rattle.press_sink.specs.declared.sheet.Delivery.{Delivery}
 use Rattle.press_sink.specs.declared.list_sink.ListSink.{ListSink}
@@ -9,6 +9,11 @@ use Rattle.press_sink.specs.declared.fuse_sink.FuseSink.{FuseSink}
 use Rattle.press_sink.specs.declared.write_replies.WriteReplies.{WriteReplies}
 use Rattle.press_sink.specs.declared.template.Template.{Template}
 use Rattle.press_sink.specs.declared.folder_sink.FolderSink.{FolderSink}
+use Rattle.press_sink.specs.declared.folder_sink.Side.{Side}
+use Rattle.press_sink.specs.declared.list_outputs.ListedOutput.{ListedOutput}
+use Rattle.press_sink.specs.declared.list_outputs.ListOutputs.{ListOutputs}
+use Rattle.press_pbm.specs.Spelling.{file_of}
+use Rattle.press_sink.specs.Outputs.{MadeOutput, holding}
 use Rattle.press_sink.specs.Template.{NameParts}
 
 -- the sheets that a list sink took
@@ -76,3 +81,23 @@ next_number sink = sink.number
 -- how many faults a folder sink had
 abbrev pub file_faults : {F : Type 0} → FolderSink F → ℕ
 file_faults sink = sink.faults
+
+-- where a folder sink makes its outputs
+abbrev pub outputs_of : {O : Type 0} → FolderSink O → O
+outputs_of sink = sink.outputs
+
+-- what is made of a side
+abbrev pub output_of_side : Side → MadeOutput
+output_of_side side = holding (string_bytes side.name) (file_of side.page.now)
+
+-- a listed output as contracts see it
+abbrev pub output_of : ListedOutput → MadeOutput
+output_of one = record { name = string_bytes one.name; holds = option_map (λ bytes. bytes.items) one.holds }
+
+-- listed outputs, in order
+abbrev pub outputs_in : List ListedOutput → List MadeOutput
+outputs_in listed = map output_of listed
+
+-- the outputs that a list of them keeps
+abbrev pub kept_outputs : ListOutputs → List MadeOutput
+kept_outputs list = outputs_in list.outputs.items

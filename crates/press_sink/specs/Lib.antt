@@ -1,4 +1,5 @@
 pub mod Kept
+pub mod Outputs
 pub mod Sending
 pub mod Sides
 pub mod Template

@@ -1,28 +1,26 @@
-//! The sink that writes a file for each side of a sheet (Netpbm, the raw form of the PBM format).
-ghost use Rattle.std.specs.Prelude.{◌≡◌, IfOk, IfErr, IsErrOf, OnOk, OnErr, ◌<◌, None, option_map};
-ghost use Rattle.std.specs.String.{string_bytes};
-ghost use Rattle.press_sink.specs.Kept.{name_parts, next_number, file_faults};
-ghost use Rattle.press_sink.specs.Template.{IsTemplate, IsNoTemplate, side_name, number_after, side_count};
+//! The sink that makes an output for each side of a sheet (Netpbm, the raw form of the PBM format).
+ghost use Rattle.std.specs.Prelude.{◌≡◌, ◌∷◌, [], IfOk, IfErr, IsErrOf, OnOk, OnErr, ◌<◌};
+ghost use Rattle.press_sink.specs.Kept.{name_parts, next_number, file_faults, outputs_of, output_of_side};
+ghost use Rattle.press_sink.specs.Outputs.{side_output, sheet_outputs, MakesOutputs};
+ghost use Rattle.press_sink.specs.Template.{IsTemplate, IsNoTemplate, number_after, side_count};
 ghost use Rattle.press_sink.specs.Told.{Delivers, most_faults, nothing_told};
 
 use crate::fault::{SinkError, TemplateError};
+use crate::named_outputs::NamedOutputs;
 use crate::sheet::Sheet;
 use crate::sink::SheetSink;
 use crate::template::Template;
 use press_bits::Bitmap;
 use press_pbm::write_pbm;
-use std::alloc::{AllocError, Global};
-use std::fs;
-use std::fs::Files;
-use std::io::Write;
+use std::alloc::Global;
 
-/// A sheet sink that writes each side to a P4 file of its own, whose name is a template with the number of the side, from 1
-/// on, fronts before backs. It tells no list of sheets.
+/// A sheet sink that makes an output of its own for each side, a P4 file, whose name is a template with the number of the side,
+/// from 1 on, fronts before backs. It tells no list of sheets.
 ///
 /// Source: Netpbm, the raw form of the PBM format; the names are this profile's.
 #[derive(Drop)]
-pub struct FolderSink<F> {
-    files: F,
+pub struct FolderSink<O> {
+    outputs: O,
     alloc: Global,
     template: Template,
     /// The number of the next side.
@@ -30,21 +28,22 @@ pub struct FolderSink<F> {
     faults: u64,
 }
 
-/// A side of a sheet, and the name of its file.
+/// A side of a sheet, and the name of its output.
 #[derive(Drop)]
 struct Side<'a> {
     page: &'a Bitmap,
     name: String,
 }
 
-impl<F: Files + Drop> FolderSink<F> {
-    /// A sink that writes files by this template.
+impl<O: NamedOutputs + Drop> FolderSink<O> {
+    /// A sink that makes its outputs by this template.
     ///
     /// # Errors
     ///
     /// `BadTemplate` (121) exactly where `%d` does not stand in the template once, and else `NoMemory` where memory ran out.
-    pub fn open(alloc: Global, files: F, template: &str) -> Result<Self, TemplateError>
+    pub fn open(alloc: Global, outputs: O, template: &str) -> Result<Self, TemplateError>
         ensures template { IfOk result (λ sink. IsTemplate template.now (name_parts sink)) }
+        ensures outputs { IfOk result (λ sink. outputs_of sink ≡ outputs) }
         ensures first { IfOk result (λ sink. next_number sink ≡ 1) }
         ensures faults { IfOk result (λ sink. file_faults sink ≡ 0) }
         ensures bad { IfErr result (λ error.
@@ -52,7 +51,7 @@ impl<F: Files + Drop> FolderSink<F> {
         ensures exact { IsNoTemplate template.now → IsErrOf result TemplateError.BadTemplate }
     {
         Ok(FolderSink {
-            files,
+            outputs,
             alloc,
             template: Template::of(alloc, template)?,
             number: 1,
@@ -60,37 +59,60 @@ impl<F: Files + Drop> FolderSink<F> {
         })
     }
 
-    /// A page as the side with this number.
-    fn side<'a>(&self, number: u64, page: &'a Bitmap) -> Result<Side<'a>, AllocError>
-        ensures page { IfOk result (λ side. side.page.now ≡ page.entry.now) }
-        ensures name { IfOk result (λ side.
-            string_bytes side.name ≡ side_name (name_parts self.now) number) }
+    /// Where its outputs were made.
+    pub fn into_outputs(self) -> O
+        ensures { result ≡ outputs_of self }
     {
-        let name = self.template.name(self.alloc, number)?;
-        Ok(Side { page, name })
+        let FolderSink { outputs, .. } = self;
+        outputs
     }
 
-    /// Writes the sides of a sheet, the front before the back. Room for their names is made before the first is written.
-    fn write_sheet(&self, sheet: &Sheet) -> Result<(), SinkError> {
-        let front = self
-            .side(self.number, &sheet.front)
-            .map_err(|_| SinkError::NoMemory)?;
+    /// A page as the side with this number.
+    fn side<'a>(&self, number: u64, page: &'a Bitmap) -> Result<Side<'a>, SinkError>
+        ensures output { IfOk result (λ side.
+            output_of_side side ≡ side_output (name_parts self.now) number page.entry.now) }
+        ensures memory { IfErr result (λ error. error ≡ SinkError.NoMemory) }
+    {
+        match self.template.name(self.alloc, number) {
+            Ok(name) => Ok(Side { page, name }),
+            Err(_) => Err(SinkError::NoMemory),
+        }
+    }
+
+    /// Makes the outputs of a sheet, the front's before the back's. Room for their names is made before the first is.
+    fn make_sheet(&mut self, sheet: &Sheet) -> Result<(), SinkError>
+        ensures made { MakesOutputs result
+            (sheet_outputs (name_parts self.old) (next_number self.old) sheet.now)
+            (O.made (outputs_of self.old)) (O.made (outputs_of self.new)) }
+        ensures template { name_parts self.new ≡ name_parts self.old }
+        ensures number { next_number self.new ≡ next_number self.old }
+        ensures faults { file_faults self.new ≡ file_faults self.old }
+    {
+        let front = self.side(self.number, &sheet.front)?;
         let Some(page) = &sheet.back else {
-            return write_side(&self.files, &front);
+            return make_side(&mut self.outputs, &front);
         };
-        let back = self
-            .side(self.number.saturating_add(1), page)
-            .map_err(|_| SinkError::NoMemory)?;
-        write_side(&self.files, &front)?;
-        write_side(&self.files, &back)
+        let back = self.side(self.number.saturating_add(1), page)?;
+        make_side(&mut self.outputs, &front)?;
+        make_side(&mut self.outputs, &back)
     }
 }
 
-/// Writes a side to its file.
-fn write_side<F: Files>(files: &F, side: &Side<'_>) -> Result<(), SinkError> {
-    let mut file = fs::create(files, side.name.as_str()).map_err(|_| SinkError::SinkFault)?;
-    write_pbm(side.page, &mut file).map_err(|_| SinkError::SinkFault)?;
-    file.flush().map_err(|_| SinkError::SinkFault)
+/// Makes the output of a side.
+fn make_side<O: NamedOutputs>(outputs: &mut O, side: &Side<'_>) -> Result<(), SinkError>
+    ensures made { MakesOutputs result (output_of_side side.now ∷ [])
+        (O.made outputs.old) (O.made outputs.new) }
+    ensures fault { IfErr result (λ error. error ≡ SinkError.SinkFault) }
+{
+    let Ok(mut output) = outputs.make(side.name.as_str()) else {
+        return Err(SinkError::SinkFault);
+    };
+    let written = write_pbm(side.page, &mut output);
+    let closed = outputs.close(output);
+    if written.is_err() || closed.is_err() {
+        return Err(SinkError::SinkFault);
+    }
+    Ok(())
 }
 
 /// How many sides of a sheet are printed.
@@ -100,26 +122,29 @@ fn count_sides(sheet: &Sheet) -> u64
     if sheet.back.is_some() { 2 } else { 1 }
 }
 
-impl<F: Files + Drop> SheetSink for FolderSink<F> {
+impl<O: NamedOutputs + Drop> SheetSink for FolderSink<O> {
     ghost told = { λ sink. nothing_told sink.faults };
 
     fn faults(&self) -> u64 {
         self.faults
     }
 
-    /// Writes the sides of the sheet. `SinkFault` (301): a file could not be made or written. Where the sheet is not
-    /// delivered, the number of the next side stays.
+    /// Makes the outputs of the sides of the sheet. `SinkFault` (301): one could not be made or written; a front of them was
+    /// made. Where the sheet is not delivered, the number of the next side stays.
     fn deliver(&mut self, _tag: u64, sheet: &Sheet) -> Result<(), SinkError>
         requires { file_faults self.old < most_faults }
         ensures delivers { Delivers (nothing_told (file_faults self.old))
             (record { tag = _tag; sheet = sheet.now }) result
             (nothing_told (file_faults self.new)) }
+        ensures made { MakesOutputs result
+            (sheet_outputs (name_parts self.old) (next_number self.old) sheet.now)
+            (O.made (outputs_of self.old)) (O.made (outputs_of self.new)) }
         ensures template { name_parts self.new ≡ name_parts self.old }
         ensures numbers { OnOk result
             (next_number self.new ≡ number_after (side_count sheet.now) (next_number self.old)) }
         ensures stays { OnErr result (next_number self.new ≡ next_number self.old) }
     {
-        match self.write_sheet(sheet) {
+        match self.make_sheet(sheet) {
             Ok(()) => self.number = self.number.saturating_add(count_sides(sheet)),
             Err(error) => {
                 if matches!(error, SinkError::SinkFault) {

@@ -1,23 +1,29 @@
-//! Printed sheets, and where sheets and replies go.
+//! Printed sheets, where sheets and replies go, and outputs that are made by their names.
 #![tactic(auto)]
 
 mod fault;
+mod file_outputs;
 mod folder_sink;
 mod fuse_replies;
 mod fuse_sink;
+mod list_outputs;
 mod list_replies;
 mod list_sink;
+mod named_outputs;
 mod sheet;
 mod sink;
 mod template;
 mod write_replies;
 
 pub use fault::{REPLY_FAULT, ReplyError, SINK_FAULT, SinkError, TemplateError};
+pub use file_outputs::{FileOutputs, OutputFile};
 pub use folder_sink::FolderSink;
 pub use fuse_replies::FuseReplies;
 pub use fuse_sink::FuseSink;
+pub use list_outputs::{ListOutputs, ListedOutput};
 pub use list_replies::ListReplies;
 pub use list_sink::ListSink;
+pub use named_outputs::NamedOutputs;
 pub use sheet::{Delivery, Sheet};
 pub use sink::{ReplySink, SheetSink};
 pub use write_replies::WriteReplies;
