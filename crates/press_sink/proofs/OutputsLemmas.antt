@@ -9,7 +9,7 @@ use Rattle.press_sink.specs.declared.fault.SinkError.{SinkError}
 use Rattle.press_sink.specs.declared.fault.SinkError.TheVariants.{SinkFault, NoMemory}
 use Rattle.press_sink.specs.declared.list_outputs.ListedOutput.{ListedOutput}
 use Rattle.press_sink.specs.Kept.{output_of, outputs_in}
-use Rattle.press_sink.specs.Outputs.{MadeOutput, opened, holding, with_outputs, last_holds, IsCut, IsFront, MakesFront, MakesOutputs, side_output, back_output, sheet_outputs}
+use Rattle.press_sink.specs.Outputs.{MadeOutput, opened, holding, with_outputs, last_holds, HoldsFront, Closes, IsCut, IsFront, MakesFront, MakesOutputs, side_output, back_output, sheet_outputs}
 use Rattle.press_sink.specs.Sides.{Sides}
 use Rattle.press_sink.specs.Template.{NameParts, number_after}
 
@@ -43,33 +43,42 @@ IsFront-none outputs = record { whole = []; cut = []; others = outputs; in_order
 pub MakesFront-none : (outputs : List MadeOutput) (old new : Option (List MadeOutput)) → new ≡ old → MakesFront outputs old new
 MakesFront-none outputs old new same = ([], IsFront-none outputs, same ∙ told-nothing old)
 
--- a front of the bytes was written to an output that was empty
-holds_front : (name file : List ℕ) (first last : Option (List ℕ)) (old new : Option (List MadeOutput)) → first ≡ option_map (λ _. []) old → AppendsFront first last file → new ≡ with_outputs (record { name = name; holds = last } ∷ []) old → MakesFront (holding name file ∷ []) old new
-holds_front name file first last None new empty appends made = MakesFront-none _ None new made
-holds_front name file None last (Some all) new empty appends made = cc
-holds_front name file (Some bytes) None (Some all) new empty (front, back, split, appends) made = absurd appends
-holds_front name file (Some bytes) (Some held) (Some all) new empty (front, back, split, appends) made =
+-- all that was written is a front of it
+HoldsFront-all : (written : Option (List ℕ)) → HoldsFront written written
+HoldsFront-all None = tt
+HoldsFront-all (Some bytes) = ([], sym (append-nil bytes))
+
+-- a front of the bytes was written to an output that was empty, and it holds a front of that
+holds_front : (name file : List ℕ) (first last holds : Option (List ℕ)) (old new : Option (List MadeOutput)) → first ≡ option_map (λ _. []) old → AppendsFront first last file → HoldsFront holds last → new ≡ with_outputs (record { name = name; holds = holds } ∷ []) old → MakesFront (holding name file ∷ []) old new
+holds_front name file first last holds None new empty appends held made = MakesFront-none _ None new made
+holds_front name file None last holds (Some all) new empty appends held made = cc
+holds_front name file (Some bytes) None holds (Some all) new empty (front, back, split, appends) held made = absurd appends
+holds_front name file (Some bytes) (Some written) None (Some all) new empty appends held made = absurd held
+holds_front name file (Some bytes) (Some written) (Some kept) (Some all) new empty (front, back, split, appends) (more, held) made =
     let none : bytes ≡ [] = cc in
-    let holds : held ≡ front = appends ∙ ap (λ more. more ++ front) none in
-    let is_front : IsFront (holding name held ∷ []) (holding name file ∷ []) = record {
+    let wrote : front ≡ written = ap (λ first. first ++ front) (sym none) ∙ sym appends in
+    let is_front : IsFront (holding name kept ∷ []) (holding name file ∷ []) = record {
       whole = [];
-      cut = holding name held ∷ [];
+      cut = holding name kept ∷ [];
       others = holding name file ∷ [];
       in_order = refl;
       is_made = refl;
-      is_cut = (refl, (back, split ∙ ap (λ more. more ++ back) (sym holds)));
+      is_cut = (refl, (more ++ back, split ∙ ap (λ first. first ++ back) (wrote ∙ held) ∙ append_assoc kept more back));
     } in
-    (holding name held ∷ [], is_front, made)
+    (holding name kept ∷ [], is_front, made)
 
 -- an output was made, written to, and closed
-pub made_whole : (text name file : List ℕ) (first last : Option (List ℕ)) (old between new : Option (List MadeOutput)) → text ≡ name → between ≡ with_outputs (opened text ∷ []) old → first ≡ option_map (λ _. []) old → Appends first last file → new ≡ option_map (last_holds last) between → new ≡ with_outputs (holding name file ∷ []) old
-made_whole text name file first last old between new is opens empty appends closes =
+pub made_whole : {X E : Type 0} → (result : Result X E) (text name file : List ℕ) (first last : Option (List ℕ)) (old between new : Option (List MadeOutput)) → is_err result ≡ false → text ≡ name → between ≡ with_outputs (opened text ∷ []) old → first ≡ option_map (λ _. []) old → Appends first last file → Closes result last between new → new ≡ with_outputs (holding name file ∷ []) old
+made_whole (Ok done) text name file first last old between new good is opens empty appends closes =
     holds_all name file first last old new empty appends (closed text name last old between new is opens closes)
+made_whole (Err error) text name file first last old between new good is opens empty appends closes = cc
 
--- the same where a front was written
-pub made_front : (text name file : List ℕ) (first last : Option (List ℕ)) (old between new : Option (List MadeOutput)) → text ≡ name → between ≡ with_outputs (opened text ∷ []) old → first ≡ option_map (λ _. []) old → AppendsFront first last file → new ≡ option_map (last_holds last) between → MakesFront (holding name file ∷ []) old new
-made_front text name file first last old between new is opens empty appends closes =
-    holds_front name file first last old new empty appends (closed text name last old between new is opens closes)
+-- the same where a front was written, or did not come through
+pub made_front : {X E : Type 0} → (result : Result X E) (text name file : List ℕ) (first last : Option (List ℕ)) (old between new : Option (List MadeOutput)) → text ≡ name → between ≡ with_outputs (opened text ∷ []) old → first ≡ option_map (λ _. []) old → AppendsFront first last file → Closes result last between new → MakesFront (holding name file ∷ []) old new
+made_front (Ok done) text name file first last old between new is opens empty appends closes =
+    holds_front name file first last last old new empty appends (HoldsFront-all last) (closed text name last old between new is opens closes)
+made_front (Err error) text name file first last old between new is opens empty appends (holds, front, closes) =
+    holds_front name file first last holds old new empty appends front (closed text name holds old between new is opens closes)
 
 IsCut-append : (cut outputs others : List MadeOutput) → IsCut cut outputs → IsCut cut (outputs ++ others)
 IsCut-append [] outputs others is = tt
@@ -145,3 +154,17 @@ front_written (Err error) first last file all front = front
 pub all_written : {E : Type 0} → (result : Result (Unit {0}) E) (first last : Option (List ℕ)) (file : List ℕ) → is_err result ≡ false → OnOk result (Appends first last file) → Appends first last file
 all_written (Ok done) first last file good all = all
 all_written (Err error) first last file good all = cc
+
+-- what holds whatever the answer
+pub at_ok : {X E : Type 0} {P : Type 0} → (result : Result X E) → P → OnOk result P
+at_ok (Ok value) holds = holds
+at_ok (Err error) holds = tt
+
+pub at_err : {X E : Type 0} {P : Type 0} → (result : Result X E) → P → OnErr result P
+at_err (Ok value) holds = tt
+at_err (Err error) holds = holds
+
+-- an output is whole where the answer of its close is no fault
+pub ok_whole : {X E : Type 0} → (result : Result X E) (name file : List ℕ) (first last : Option (List ℕ)) (old between new : Option (List MadeOutput)) → between ≡ with_outputs (opened name ∷ []) old → first ≡ option_map (λ _. []) old → Appends first last file → Closes result last between new → OnOk result (new ≡ with_outputs (holding name file ∷ []) old)
+ok_whole {X} {E} (Ok done) name file first last old between new opens empty appends closes = made_whole {X = X} {E = E} (Ok done) name name file first last old between new refl refl opens empty appends closes
+ok_whole (Err error) name file first last old between new opens empty appends closes = tt

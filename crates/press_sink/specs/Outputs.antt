@@ -30,10 +30,16 @@ last_holds bytes [] = []
 last_holds bytes (last ∷ []) = record last { holds = bytes } ∷ []
 last_holds bytes (first ∷ next ∷ others) = first ∷ last_holds bytes (next ∷ others)
 
--- The bytes are a front of those that are to be held.
+-- The bytes are a front of those that are to be held, where those are known.
 abbrev pub HoldsFront : (holds all : Option (List ℕ)) → Type 0
 HoldsFront (Some front) (Some bytes) = (back : List ℕ) × (bytes ≡ front ++ back)
+HoldsFront None None = ⊤
 HoldsFront holds all = ⊥
+
+-- The output that was made last is closed: it holds what was written, all of it, or a front of it after a fault.
+abbrev pub Closes : {X E : Type 0} → Result X E → (written : Option (List ℕ)) → (old new : Option (List MadeOutput)) → Type 0
+Closes (Ok _) written old new = new ≡ option_map (last_holds written) old
+Closes (Err _) written old new = (holds : Option (List ℕ)) × HoldsFront holds written × (new ≡ option_map (last_holds holds) old)
 
 -- Nothing stands there; or one output, which has the name of the first of these, and holds a front of what that is to hold.
 abbrev pub IsCut : (cut outputs : List MadeOutput) → Type 0

@@ -1,5 +1,5 @@
 //! The sink that makes an output for each side of a sheet (Netpbm, the raw form of the PBM format).
-ghost use Rattle.std.specs.Prelude.{◌≡◌, ◌∷◌, [], IfOk, IfErr, IsErrOf, OnOk, OnErr, ◌<◌};
+ghost use Rattle.std.specs.Prelude.{◌≡◌, ◌∷◌, [], IfOk, IfErr, IsErrAnd, OnOk, OnErr, ◌<◌};
 ghost use Rattle.press_sink.specs.Kept.{name_parts, next_number, file_faults, outputs_of, output_of_side};
 ghost use Rattle.press_sink.specs.Outputs.{side_output, sheet_outputs, MakesOutputs};
 ghost use Rattle.press_sink.specs.Template.{IsTemplate, IsNoTemplate, number_after, side_count};
@@ -28,6 +28,13 @@ pub struct FolderSink<O> {
     faults: u64,
 }
 
+/// Why no folder sink was opened, and where it would have made its outputs.
+#[derive(Debug, Drop)]
+pub struct Unopened<O> {
+    pub error: TemplateError,
+    pub outputs: O,
+}
+
 /// A side of a sheet, and the name of its output.
 #[derive(Drop)]
 struct Side<'a> {
@@ -40,23 +47,29 @@ impl<O: NamedOutputs + Drop> FolderSink<O> {
     ///
     /// # Errors
     ///
-    /// `BadTemplate` (121) exactly where `%d` does not stand in the template once, and else `NoMemory` where memory ran out.
-    pub fn open(alloc: Global, outputs: O, template: &str) -> Result<Self, TemplateError>
+    /// `BadTemplate` (121) exactly where `%d` does not stand in the template once, and else `NoMemory` where memory ran out. The
+    /// outputs are handed back.
+    pub fn open(alloc: Global, outputs: O, template: &str) -> Result<Self, Unopened<O>>
         ensures template { IfOk result (λ sink. IsTemplate template.now (name_parts sink)) }
         ensures outputs { IfOk result (λ sink. outputs_of sink ≡ outputs) }
         ensures first { IfOk result (λ sink. next_number sink ≡ 1) }
         ensures faults { IfOk result (λ sink. file_faults sink ≡ 0) }
-        ensures bad { IfErr result (λ error.
-            error ≡ TemplateError.BadTemplate → IsNoTemplate template.now) }
-        ensures exact { IsNoTemplate template.now → IsErrOf result TemplateError.BadTemplate }
+        ensures bad { IfErr result (λ unopened.
+            unopened.error ≡ TemplateError.BadTemplate → IsNoTemplate template.now) }
+        ensures exact { IsNoTemplate template.now →
+            IsErrAnd result (λ unopened. unopened.error ≡ TemplateError.BadTemplate) }
+        ensures back { IfErr result (λ unopened. unopened.outputs ≡ outputs) }
     {
-        Ok(FolderSink {
-            outputs,
-            alloc,
-            template: Template::of(alloc, template)?,
-            number: 1,
-            faults: 0,
-        })
+        match Template::of(alloc, template) {
+            Ok(template) => Ok(FolderSink {
+                outputs,
+                alloc,
+                template,
+                number: 1,
+                faults: 0,
+            }),
+            Err(error) => Err(Unopened { error, outputs }),
+        }
     }
 
     /// Where its outputs were made.

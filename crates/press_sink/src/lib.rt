@@ -17,13 +17,13 @@ mod write_replies;
 
 pub use fault::{REPLY_FAULT, ReplyError, SINK_FAULT, SinkError, TemplateError};
 pub use file_outputs::{FileOutputs, OutputFile};
-pub use folder_sink::FolderSink;
+pub use folder_sink::{FolderSink, Unopened};
 pub use fuse_replies::FuseReplies;
 pub use fuse_sink::FuseSink;
 pub use list_outputs::{ListOutputs, ListedOutput};
 pub use list_replies::ListReplies;
 pub use list_sink::ListSink;
-pub use named_outputs::NamedOutputs;
+pub use named_outputs::{NamedOutputs, write_output};
 pub use sheet::{Delivery, Sheet};
 pub use sink::{ReplySink, SheetSink};
 pub use write_replies::WriteReplies;
