@@ -5,3 +5,4 @@ pub mod Reading
 pub mod View
 pub mod Laws
 pub mod Judged
+pub mod Kinds

@@ -1,5 +1,5 @@
 -- The lines that a disassembler writes.
-use Rattle.std.specs.Prelude.{ℕ, List, [], ◌∷◌, ◌++◌, codes, Option, Some, None, option_to_list, IsTrue}
+use Rattle.std.specs.Prelude.{ℕ, List, [], ◌∷◌, ◌++◌, Option, Some, None, option_to_list, IsTrue}
 use Rattle.std.specs.List.{list_all}
 use Rattle.hex.specs.Hex.{encode_upper}
 use Rattle.press_units.specs.Ascii.{is_printable}

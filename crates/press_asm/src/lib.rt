@@ -5,6 +5,7 @@ mod assembler;
 mod fault;
 mod form;
 mod judge;
+mod kinds;
 pub mod laws;
 mod names;
 mod word;
@@ -13,4 +14,5 @@ mod written;
 
 pub use assembler::assemble;
 pub use fault::AssembleError;
+pub use kinds::{kind_named, write_kind};
 pub use write::write_line;
