@@ -64,7 +64,8 @@ impl Model for Breakpoints {
 }
 
 impl Breakpoints {
-    ghost use Rattle.press_debug.specs.Breaks.{no_breaks, Sets, Clears, met};
+    ghost use Rattle.std.specs.Prelude.{length};
+    ghost use Rattle.press_debug.specs.Breaks.{most_breaks, no_breaks, Sets, Clears, met};
 
     /// A table with no breakpoint.
     pub fn new() -> Self
@@ -98,7 +99,8 @@ impl Breakpoints {
     ///
     /// `NoSuch` (502): no breakpoint stands there, and nothing changes.
     pub fn clear(&mut self, number: u8) -> Result<(), BreakError>
-        ensures { Clears self.old number result self.new }
+        ensures clears { Clears self.old number result self.new }
+        ensures numbers { length self.old ≡ most_breaks }
     {
         let number = usize::from(number);
         match self.table.get(number) {

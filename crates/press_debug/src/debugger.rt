@@ -40,10 +40,10 @@ pub struct Debugger<F> {
 }
 
 impl<F: Fn(&View<'_>) -> bool + Drop> Debugger<F> {
-    ghost use Rattle.std.specs.Prelude.{slice_get};
+    ghost use Rattle.std.specs.Prelude.{◌≤◌, length, slice_get};
     ghost use Rattle.std.specs.Fn.{FnReturnsAt};
-    ghost use Rattle.press_debug.specs.Breaks.{no_breaks, Sets, Clears};
-    ghost use Rattle.press_debug.specs.Steps.{at_start};
+    ghost use Rattle.press_debug.specs.Breaks.{most_breaks, no_breaks, Sets, Clears};
+    ghost use Rattle.press_debug.specs.Steps.{at_start, most_recent};
     ghost use Rattle.press_debug.specs.Stops.{Goes, StopsInto, StopsOver, StateMeets};
 
     /// A debugger of the stream of these bytes, before its first step.
@@ -151,6 +151,7 @@ impl<F: Fn(&View<'_>) -> bool + Drop> Debugger<F> {
     /// `NoSuch` (502): no breakpoint stands there, and nothing changes.
     pub fn clear(&mut self, number: u8) -> Result<(), BreakError>
         ensures clears { Clears self.old.breaks number result self.new.breaks }
+        ensures numbers { length self.old.breaks ≡ most_breaks }
         ensures stepper { self.new.stepper ≡ self.old.stepper }
         ensures watch { self.new.watch ≡ self.old.watch }
     {
@@ -169,7 +170,8 @@ impl<F: Fn(&View<'_>) -> bool + Drop> Debugger<F> {
 
     /// The kind of one of the last 64 commands that were taken, the oldest at 0. A recorded command has its own kind.
     pub fn recent(&self, index: usize) -> Option<Kind>
-        ensures { result ≡ slice_get self.now.stepper.recent index }
+        ensures kind { result ≡ slice_get self.now.stepper.recent index }
+        ensures few { length self.now.stepper.recent ≤ most_recent }
     {
         self.stepper.recent(index)
     }

@@ -53,9 +53,9 @@ impl Model for Stepper {
 }
 
 impl Stepper {
-    ghost use Rattle.std.specs.Prelude.{slice_get, IsTrue, IsFalse, IsSome, None, ◌↔◌, []};
+    ghost use Rattle.std.specs.Prelude.{◌≤◌, length, slice_get, IsTrue, IsFalse, IsSome, None, ◌↔◌, []};
     ghost use Rattle.press_debug.specs.declared.stepper.Taken.TheVariants.{Steps, Nothing};
-    ghost use Rattle.press_debug.specs.Steps.{at_start, Advances, TakesOne, TakesOver, IsOutside, IsDeeper, IsBack, Remains};
+    ghost use Rattle.press_debug.specs.Steps.{at_start, Advances, TakesOne, TakesOver, IsOutside, IsDeeper, IsBack, Remains, most_recent};
 
     /// A stream of these bytes, of which no step was taken.
     pub fn open(alloc: Global, bytes: &[u8]) -> Result<Self, AllocError>
@@ -155,7 +155,8 @@ impl Stepper {
 
     /// The kind of one of the last commands that were taken, the oldest at 0.
     pub fn recent(&self, index: usize) -> Option<Kind>
-        ensures { result ≡ slice_get self.now.recent index }
+        ensures kind { result ≡ slice_get self.now.recent index }
+        ensures few { length self.now.recent ≤ most_recent }
     {
         self.recent.get(index).copied()
     }
