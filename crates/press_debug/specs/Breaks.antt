@@ -84,3 +84,8 @@ abbrev pub Clears : List (Option Break) → ℕ → Result (Unit {0}) BreakError
 Clears old number (Ok _) new = (stands old number ≡ true) × (new ≡ slice_set old number None)
 Clears old number (Err errors.NoSuch) new = (stands old number ≡ false) × (new ≡ old)
 Clears old number (Err errors.TooMany) new = ⊥
+
+-- the number of a refusal
+abbrev pub refusal_number : BreakError → ℕ
+refusal_number errors.TooMany = 501
+refusal_number errors.NoSuch = 502
