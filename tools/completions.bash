@@ -6,7 +6,7 @@ _press() {
     place=$((place - 1))
   fi
   if [ "$place" -eq 1 ]; then
-    mapfile -t COMPREPLY < <(compgen -W "--try print asm disasm write press help --help" -- "$word")
+    mapfile -t COMPREPLY < <(compgen -W "--try print asm disasm debug write press help --help" -- "$word")
   elif [ "$first" = print ] && [[ "$word" == -* ]]; then
     mapfile -t COMPREPLY < <(compgen -W "--list" -- "$word")
   elif [ "$first" != press ]; then

@@ -49,5 +49,9 @@ ROWS = [
     ("write", 2, None, FEED),
     ("write a", 2, None, FEED),
     ("press -", 2, None, FEED),
-    ("debug a", 2, None, FEED),
+    ("debug -", 2, "usage: press print IN OUT, press print --list IN, or press debug FILE\n", FEED),
+    ("debug", 2, None, FEED),
+    ("debug a b", 2, None, FEED),
+    ("debug --list a", 2, None, FEED),
+    ("step a", 2, None, FEED),
 ]

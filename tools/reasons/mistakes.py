@@ -48,6 +48,10 @@ def played(line, *said, number=0, files=None):
     return Mistake("press", number, said, files or {}, line)
 
 
+def debugged(lines, *said):
+    return Mistake("debug in.pcl", 0, said, {"in.pcl": b"\x0c"}, lines)
+
+
 WORDS = [
     Mistake("prnt in.pcl", 2, ("prnt", "Did you mean print?")),
     Mistake("print", 2, ("IN is missing", "press print [--list] IN [OUT]")),
@@ -56,6 +60,8 @@ WORDS = [
     Mistake("print --all in.pcl", 2, ("--all is no option of print",)),
     Mistake("asm page.asm", 2, ("OUT is missing", "press asm IN OUT")),
     Mistake("disasm", 2, ("IN is missing",)),
+    Mistake("debug", 2, ("IN is missing",)),
+    Mistake("debug -", 2, ("IN is standard input", "press debug page.pcl < lines.txt")),
     Mistake("write t.json", 2, ("OUT is missing",)),
     Mistake("press session.txt", 2, ("session.txt is one too many",)),
 ]
@@ -73,6 +79,7 @@ FILES = [
     Mistake("write t.json no/job.prn a.pbm", 614, ("OUT no/job.prn",), {"t.json": TICKET, "a.pbm": DOT}),
     Mistake("asm page.asm " + "x" * 256, 115, ("more than 255 bytes", "shorter"), {"page.asm": b"uel\n"}),
     Mistake("disasm none.pcl", 304, ("none.pcl is not there",)),
+    Mistake("debug none.pcl", 304, ("none.pcl is not there",)),
     Mistake("write - job.prn", 304, ("the ticket - is not there",), given=TICKET),
 ]
 TEXTS = [
@@ -136,4 +143,12 @@ SESSIONS = [
     played(b"message m.json a.pbm\n", "first image a.pbm ends", number=113,
            files={"m.json": b'{"ID":"a","Type":"Status"}', "a.pbm": b"P4 9 1\n\x80"}),
 ]
-MISTAKES = [*WORDS, *FILES, *TEXTS, *TICKETS, *IMAGES, *STREAMS, *SESSIONS]
+DEBUGGERS = [
+    debugged(b"stp\n", "line 1 asks nothing", "A line is step"),
+    debugged(b"step\nstep \n", "line 2 asks nothing", "A space is too many"),
+    debugged(b"recent\r\n", "line 1 asks nothing", "A carriage return stands at its end"),
+    debugged(b"break *cP\n", "line 1 asks nothing", "KIND is esc E, par *cP"),
+    debugged(b"go 1\nclear 3\n", "line 2 is answered fault 502", "no breakpoint stands"),
+    debugged(b"break uel\n" * 33, "line 33 is answered fault 501", "clear 0"),
+]
+MISTAKES = [*WORDS, *FILES, *TEXTS, *TICKETS, *IMAGES, *STREAMS, *SESSIONS, *DEBUGGERS]

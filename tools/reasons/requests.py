@@ -4,7 +4,7 @@ import os
 
 from seen import program
 
-from . import files, images, sessions, streams, texts, tickets, words
+from . import debugging, files, images, sessions, streams, texts, tickets, words
 from .finding import Finding, Found
 
 NOT_MADE, NOT_ASSEMBLED, NOT_WRITTEN = 301, 115, 614
@@ -73,8 +73,15 @@ def replaced(name):
         yield Finding(None, f"OUT {name} is there, with {os.path.getsize(name):,} bytes, and is replaced", "Give another name to keep it")
 
 
+def judge_debug(request, chosen):
+    name = request.names[0]
+    stream = files.read_input(name, "IN")
+    yield from debugging.findings(files.read_input("-", "IN"), name, stream, chosen)
+
+
 def judge_press(_request, chosen):
     yield from sessions.findings(files.read_input("-", "IN"), chosen)
 
 
-JUDGES = {"print": judge_print, "asm": judge_asm, "disasm": judge_disasm, "write": judge_write, "press": judge_press}
+JUDGES = {"print": judge_print, "asm": judge_asm, "disasm": judge_disasm, "debug": judge_debug,
+          "write": judge_write, "press": judge_press}

@@ -10,6 +10,7 @@ USAGES = {
     "print": ["IN", "[OUT]"],
     "asm": ["IN", "OUT"],
     "disasm": ["IN"],
+    "debug": ["IN"],
     "write": ["TICKET", "OUT", "[IMG..]"],
     "press": [],
 }
@@ -75,5 +76,7 @@ def check_count(what, names, listed):
         refuse(f"{needed[len(names)]} is missing", usage(what))
     if len(names) > len(wanted) and not any(".." in word for word in wanted):
         refuse(f"The word {names[len(wanted)]} is one too many", usage(what))
+    if what == "debug" and names == ["-"]:
+        refuse("IN is standard input, on which the lines stand", "Give the name of a file: press debug page.pcl < lines.txt")
     if what == "print" and not listed and len(names) == 1:
         refuse("OUT is missing", "Give a template as page-%d.pbm, or list the sheets: press print --list IN")

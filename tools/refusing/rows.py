@@ -53,6 +53,8 @@ ROWS = [
     Row("commands that are told", ["disasm", "-"], b"\x1b*p10x20Y\x1bE\x1b*b2W\x02\xf0text\x0c"),
     Row("a job that is printed by turns", ["press"], SUBMISSION + b"turn 3\npause\nturn 9\ncontinue\nturn 100000\n"),
     Row("messages that are refused", ["press"], b"message examples/messages/hold-1.json\nturn 1\nwhat\nturn\n"),
+    Row("a debugger", ["debug", "examples/streams/letterhead-and-stamps.pcl"], b"go 20\nstep\nover\nover\ngo 100\nstep\ngo 1000\n"),
+    Row("lines of a debugger", ["debug", "examples/streams/small-box.pcl"], b"break par *cP\nclear 0\nclear 0\nrecent\nfoo\n"),
     Row("a queue that is told", ["press"], SUBMISSION + b"message examples/messages/queue-status.json\nabort\n"),
 ]
 

@@ -1,3 +1,5 @@
+mod DebuggerSteps
+mod DebuggerLemmas
 mod EntryLines
 mod JobLemmas
 mod LineLemmas

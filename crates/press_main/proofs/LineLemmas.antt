@@ -1,5 +1,6 @@
 -- Lines of a text, one piece of it after another.
 use Rattle.std.proofs.Common.{◌≡◌, ◌∙◌, ◌<◌, ◌≤◌, ◌+◌, ℕ, zero, suc, List, [], ◌∷◌, ◌++◌, Bool, true, false, cond, length, take, drop, get_or, Option, Some, None, Ok, Err, refl, sym, ap, subst, arith}
+use Rattle.std.specs.Prelude.{◌==◌}
 use Rattle.std.specs.Io.KnownBytes.{Consumes}
 use Rattle.std.specs.List.{position, position_or_len}
 use Rattle.std.proofs.KnownBytes.{Consumes-nil, Consumes-trans}
@@ -11,7 +12,7 @@ use Rattle.std.proofs.lemmas.List.Sums.{fails_before_first}
 use Rattle.press_asm.specs.Text.{is_feed, in_front, lines_of}
 use Rattle.press_main.specs.declared.inputs.InputError.{InputError}
 use Rattle.press_main.specs.declared.inputs.InputError.TheVariants.{ReadFault, NoMemory}
-use Rattle.press_main.specs.LineReading.{TakesLine, Refills, GivesLine}
+use Rattle.press_main.specs.LineReading.{TakesLine, Refills, GivesLine, ReadsNoMore}
 use Rattle.press_main.specs.Lines.{HasNoFeed}
 
 -- a line with its line feed, and what stands behind it
@@ -135,3 +136,23 @@ no-longer none items piece n most is are size =
 pub leaves-none : (held left old new : List ℕ) (ended : Bool) → ended ≡ false → TakesLine ended held left old new → length left ≡ 0
 leaves-none held left old new false lacks taken = ap length taken.1
 leaves-none held left old new true lacks taken = absurd cc
+
+-- the next line, of what was held and read
+pub next-line : (line rest : List ℕ) (lines : List (List ℕ)) (all : List ℕ) → HasNoFeed line → all ≡ line ++ 10 ∷ rest → lines ++ lines_of all ≡ (lines ++ line ∷ []) ++ lines_of rest
+next-line line rest lines all none is =
+    ap (λ (bytes : List ℕ). lines ++ lines_of bytes) is ∙ ap (λ (others : List (List ℕ)). lines ++ others) (lines_of-feed line rest none) ∙ sym (append_assoc lines (line ∷ []) (lines_of rest))
+
+-- no line was read
+pub reads-no-more : (error : InputError) (held holds : List ℕ) (left rest : Option (List ℕ)) (line : List ℕ) (text : List ℕ) (lines : List (List ℕ)) → ((more : List ℕ) → lines_of (text ++ more) ≡ lines ++ lines_of (held ++ more)) → GivesLine (Err error) held holds left rest line → (read : List ℕ) × Consumes left rest read × ReadsNoMore error (text ++ read) lines
+reads-no-more ReadFault held holds left rest line text lines cut given =
+    (given.0, given.1, (line, cut given.0 ∙ ap (λ (bytes : List ℕ). lines ++ lines_of bytes) given.3, given.2))
+reads-no-more NoMemory held holds left rest line text lines cut given = (given.0, given.1, (lines_of (held ++ given.0), cut given.0))
+
+-- the lines of a text without a line feed
+pub no-lines : (line : List ℕ) → (length line == 0) ≡ true → lines_of line ≡ []
+no-lines [] none = refl
+no-lines (byte ∷ line) none = let zero = eqb-true (length (byte ∷ line)) 0 none in absurd (omega (arith, zero))
+
+pub one-line : (line : List ℕ) → HasNoFeed line → (length line == 0) ≡ false → lines_of line ≡ line ∷ []
+one-line [] plain some_ = absurd cc
+one-line (byte ∷ line) plain some_ = lines_of-last byte line plain

@@ -19,8 +19,8 @@ use Rattle.press_main.specs.EntryListing.{entry_listing}
 use Rattle.press_main.specs.EventLines.{EventLine, event_of_line}
 use Rattle.press_main.specs.LineReading.{GivesLine}
 use Rattle.press_main.specs.Lines.{HasNoFeed}
-use Rattle.press_main.specs.Sessions.{Inputs, answer_text, answer_to, answers_to, happenings_in, handed_in, turn_text, AreLinesOf, TakesEvent, TakesAsked, TakesLines, PlaysToItsEnd, StopsAtLine, Ends, StopsEnding, StopsListing, ReadsNoMore, StopsPlaying}
-use Rattle.press_main.proofs.LineLemmas.{lines_of-feed, lines_of-last}
+use Rattle.press_main.specs.Sessions.{Inputs, answer_text, answer_to, answers_to, happenings_in, handed_in, turn_text, AreLinesOf, TakesEvent, TakesAsked, TakesLines, PlaysToItsEnd, StopsAtLine, Ends, StopsEnding, StopsListing, StopsPlaying}
+use Rattle.press_main.proofs.LineLemmas.{next-line, reads-no-more}
 
 Leads-join : (world middle last : World) (happenings others : List Happening) → Leads world happenings middle → Leads middle others last → Leads world (happenings ++ others) last
 Leads-join world middle last [] others first second = subst (λ (w : World). Leads w others last) first second
@@ -118,11 +118,6 @@ IsPlayed-begun inputs world had bytes old held none = record {
   written = Appends-nil old;
 }
 
--- the next line, of what was held and read
-next-line : (line rest : List ℕ) (lines : List (List ℕ)) (all : List ℕ) → HasNoFeed line → all ≡ line ++ 10 ∷ rest → lines ++ lines_of all ≡ (lines ++ line ∷ []) ++ lines_of rest
-next-line line rest lines all none is =
-    ap (λ (bytes : List ℕ). lines ++ lines_of bytes) is ∙ ap (λ (others : List (List ℕ)). lines ++ others) (lines_of-feed line rest none) ∙ sym (append_assoc lines (line ∷ []) (lines_of rest))
-
 pub IsPlayed-more : (inputs : Inputs) (world : World) (had : List Delivery) (bytes left old : Option (List ℕ)) (held : List ℕ) (middle : World) (between : List Delivery) (written : Option (List ℕ)) (rest : Option (List ℕ)) (holds line : List ℕ) (next : World) (has : List Delivery) (new : Option (List ℕ))
     → IsPlayed inputs world had bytes left old held middle between written → GivesLine (Ok true) held holds left rest line
     → ((answer : List ℕ) × TakesLines inputs (line ∷ []) middle between next has answer × Appends written new answer)
@@ -159,12 +154,6 @@ IsPlayed-ends inputs world had bytes left old held middle between written rest h
       takes = subst (λ (lines : List (List ℕ)). TakesLines inputs lines world had ends.next ends.has (so_far.answers ++ ends.answers)) (sym all) takes;
       written = subst (λ (some : List ℕ). Appends old new some) (sym (append_assoc so_far.answers ends.answers (entry_listing ends.has))) (Appends-trans old written new so_far.answers (ends.answers ++ entry_listing ends.has) so_far.written ends.written);
     }
-
--- no line was read
-reads-no-more : (error : InputError) (held holds : List ℕ) (left rest : Option (List ℕ)) (line : List ℕ) (text : List ℕ) (lines : List (List ℕ)) → ((more : List ℕ) → lines_of (text ++ more) ≡ lines ++ lines_of (held ++ more)) → GivesLine (Err error) held holds left rest line → (read : List ℕ) × Consumes left rest read × ReadsNoMore error (text ++ read) lines
-reads-no-more reading.ReadFault held holds left rest line text lines cut given =
-    (given.0, given.1, (line, cut given.0 ∙ ap (λ (bytes : List ℕ). lines ++ lines_of bytes) given.3, given.2))
-reads-no-more reading.NoMemory held holds left rest line text lines cut given = (given.0, given.1, (lines_of (held ++ given.0), cut given.0))
 
 pub IsPlayed-unread : (inputs : Inputs) (world : World) (had : List Delivery) (bytes left old : Option (List ℕ)) (held : List ℕ) (middle : World) (between : List Delivery) (written : Option (List ℕ)) (rest : Option (List ℕ)) (holds line : List ℕ) (error : InputError) (why : SessionError)
     → why ≡ File (fault.Input error) → IsPlayed inputs world had bytes left old held middle between written → GivesLine (Err error) held holds left rest line
@@ -253,15 +242,6 @@ turn-taken world next most turn had has handed line answer happens all is same =
 pub OnOk-lift : {X E : Type 0} (result : Result X E) (P Q : Type 0) → (P → Q) → OnOk result P → OnOk result Q
 OnOk-lift (Ok value) P Q f h = f h
 OnOk-lift (Err error) P Q f h = tt
-
--- the lines of a text without a line feed
-pub no-lines : (line : List ℕ) → (length line == 0) ≡ true → lines_of line ≡ []
-no-lines [] none = refl
-no-lines (byte ∷ line) none = let zero = eqb-true (length (byte ∷ line)) 0 none in absurd (omega (arith, zero))
-
-pub one-line : (line : List ℕ) → HasNoFeed line → (length line == 0) ≡ false → lines_of line ≡ line ∷ []
-one-line [] plain some_ = absurd cc
-one-line (byte ∷ line) plain some_ = lines_of-last byte line plain
 
 -- the listing behind the last line
 pub Ends-listed : {X E : Type 0} (result : Result X E) (inputs : Inputs) (lines others : List (List ℕ)) (world next : World) (had has : List Delivery) (answers : List ℕ) (old between new : Option (List ℕ))

@@ -1,7 +1,7 @@
 -- What some words ask for.
 use Rattle.std.specs.Prelude.{◌≡◌, [], ◌∷◌, Some, None, codes, refl}
 use Rattle.clap.proofs.OnLiterals.{clap_on_literals}
-use Rattle.press_main.specs.Words.{Standard, FileNamed, Listed, FilesBy, Answered, AsText, StreamTo, JobTo, asked}
+use Rattle.press_main.specs.Words.{Standard, FileNamed, Listed, FilesBy, Answered, AsText, DebuggedOf, StreamTo, JobTo, asked}
 
 nothing : asked (codes "press" ∷ []) ≡ Some (record { source = Standard; made = Listed })
 nothing = refl
@@ -58,7 +58,15 @@ session_of_a_file : asked (codes "press" ∷ codes "press" ∷ codes "a" ∷ [])
 unfolding clap_on_literals
 session_of_a_file = refl
 
-other_subcommand : asked (codes "press" ∷ codes "debug" ∷ codes "a" ∷ []) ≡ None
+debugging : asked (codes "press" ∷ codes "debug" ∷ codes "a" ∷ []) ≡ Some (record { source = Standard; made = DebuggedOf (codes "a") })
+unfolding clap_on_literals
+debugging = refl
+
+debugging_standard_input : asked (codes "press" ∷ codes "debug" ∷ codes "-" ∷ []) ≡ None
+unfolding clap_on_literals
+debugging_standard_input = refl
+
+other_subcommand : asked (codes "press" ∷ codes "step" ∷ codes "a" ∷ []) ≡ None
 unfolding clap_on_literals
 other_subcommand = refl
 

@@ -1,4 +1,6 @@
 pub mod Assembly
+pub mod DebuggerLines
+pub mod Debugging
 pub mod EntryListing
 pub mod EntrySheets
 pub mod EventLines

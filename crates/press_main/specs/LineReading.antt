@@ -5,7 +5,7 @@ use Rattle.press_stream.specs.Pieces.{most_reads}
 use Rattle.press_main.specs.declared.inputs.InputError.{InputError}
 use Rattle.press_main.specs.declared.inputs.InputError.TheVariants.{ReadFault, NoMemory}
 use Rattle.press_main.specs.declared.line_reader.LineReader.{LineReader}
-use Rattle.press_main.specs.Lines.{HasNoFeed}
+use Rattle.press_main.specs.Lines.{BeginsWith, HasNoFeed, HasWhole}
 
 -- what a reader of lines holds: bytes that were read, and not given yet
 abbrev pub held : LineReader → List ℕ
@@ -45,3 +45,8 @@ GivesLine (Ok false) held left had has line =
 GivesLine (Err ReadFault) held left had has line =
     (read : List ℕ) × Consumes had has read × HasNoFeed line × (held ++ read ≡ line)
 GivesLine (Err NoMemory) held left had has line = (read : List ℕ) × Consumes had has read
+
+-- No line was read behind these lines of a text: they are all that were read whole, where a read failed.
+abbrev pub ReadsNoMore : InputError → (text : List ℕ) → List (List ℕ) → Type 0
+ReadsNoMore ReadFault text lines = HasWhole text lines
+ReadsNoMore NoMemory text lines = BeginsWith text lines

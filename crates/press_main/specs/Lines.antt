@@ -19,6 +19,11 @@ abbrev pub number_in : List ℕ → Option ℕ
 number_in word =
     if list_all is_ascii_digit word && nat_le (number_of word) greatest_of_64_bits then Some (number_of word) else None
 
+-- the same of a word that is not empty
+abbrev pub number_word : List ℕ → Option ℕ
+number_word [] = None
+number_word (digit ∷ digits) = number_in (digit ∷ digits)
+
 -- no line feed stands among the bytes
 abbrev pub HasNoFeed : List ℕ → Type 0
 HasNoFeed [] = ⊤

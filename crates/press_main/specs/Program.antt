@@ -1,13 +1,15 @@
 -- What the program does for what its words ask.
 use Rattle.std.specs.Prelude.{◌≡◌, ◌≢◌, ◌⊎◌, ℕ, List, Option, Some, None, map}
 use Rattle.clap.specs.Words.{Text}
-use Rattle.press_main.specs.Words.{Source, Standard, FileNamed, Made, Listed, FilesBy, Answered, AsText, StreamTo, JobTo, Asked}
+use Rattle.press_main.specs.Words.{Source, Standard, FileNamed, Made, Listed, FilesBy, Answered, AsText, DebuggedOf, StreamTo, JobTo, Asked}
 use Rattle.press_main.specs.Assembly.{AssembledTo, StopsAssembling, DisassembledTo, StopsDisassembling}
+use Rattle.press_main.specs.Debugging.{Debugs, StopsDebugging}
 use Rattle.press_main.specs.Files.{PrintsFiles, PrintsNothing}
 use Rattle.press_main.specs.Jobs.{WritesTheTicket, StopsWriting}
 use Rattle.press_main.specs.Listing.{PrintsListing}
 use Rattle.press_main.specs.Sessions.{Plays, Stops}
 use Rattle.press_main.specs.declared.assembly.TextError.{TextError}
+use Rattle.press_main.specs.declared.debugging.DebugError.{DebugError}
 use Rattle.press_main.specs.declared.jobs.JobFileError.{JobFileError}
 use Rattle.press_main.specs.declared.sessions.SessionError.{SessionError}
 
@@ -31,6 +33,11 @@ pub record Playing (status : ℕ) (inputs : Text → Option (List ℕ)) (had lef
   pub done : status ≡ 0 → Plays inputs had left old new
   pub stops : status ≢ 0 → (why : SessionError) × Stops inputs had left old new why
 
+-- A session with a debugger of the stream of an input came to the end of its lines, or stopped.
+pub record Debugging (status : ℕ) (stream had left old new : Option (List ℕ)) : Type 0 where
+  pub done : status ≡ 0 → (rest : Option (List ℕ)) × Debugs stream rest had left old new
+  pub stops : status ≢ 0 → (rest : Option (List ℕ)) × (why : DebugError) × StopsDebugging stream rest had left old new why
+
 -- What is asked for was made of what a reader had: its status, and what standard output took. What named files hold is not known;
 -- where one is made, standard output takes nothing; the inputs are what they have by their names.
 abbrev pub Makes : Made → (inputs : Text → Option (List ℕ)) → ℕ → (had left old new : Option (List ℕ)) → Type 0
@@ -39,6 +46,7 @@ Makes (FilesBy template) inputs status had left old new =
     PrintsFiles status had left old new ⊎ PrintsNothing status had left old new
 Makes Answered inputs status had left old new = Playing status inputs had left old new
 Makes AsText inputs status had left old new = Disassembling status had left old new
+Makes (DebuggedOf name) inputs status had left old new = Debugging status (inputs name) had left old new
 Makes (StreamTo name) inputs status had left old new = Assembling status had left None None × (new ≡ old)
 Makes (JobTo name images) inputs status had left old new = Writing status had left (map inputs images) None None × (new ≡ old)
 

@@ -8,7 +8,6 @@ use Rattle.press_asm.specs.Text.{lines_of}
 use Rattle.press_core.specs.Events.{Event, Message, TurnOf, Operator, Happening, Happens, EventAnswer, Response, Turned, Nothing, Leads}
 use Rattle.press_core.specs.World.{World, empty_world}
 use Rattle.press_main.specs.declared.inputs.InputError.{InputError}
-use Rattle.press_main.specs.declared.inputs.InputError.TheVariants as reading
 use Rattle.press_main.specs.declared.jobs.JobFileError.{JobFileError}
 use Rattle.press_main.specs.declared.jobs.JobFileError.TheVariants as fault
 use Rattle.press_main.specs.declared.sessions.Session.{Session}
@@ -19,7 +18,8 @@ use Rattle.press_main.specs.EntryListing.{entry_listing}
 use Rattle.press_main.specs.EntrySheets.{kept, entry_deliveries_of}
 use Rattle.press_main.specs.EventLines.{EventLine, MessageLine, TurnLine, OperatorLine, event_of_line}
 use Rattle.press_main.specs.Jobs.{HaveImages, ImagesRefused}
-use Rattle.press_main.specs.Lines.{BeginsWith, HasWhole}
+use Rattle.press_main.specs.LineReading.{ReadsNoMore}
+use Rattle.press_main.specs.Lines.{BeginsWith}
 
 -- the line of a turn: the entry that took steps, and how many
 abbrev pub turn_text : Option ℕ → ℕ → List ℕ
@@ -138,11 +138,6 @@ StopsAtLine inputs line world had old new why = IsUnanswered inputs line world w
 abbrev pub StopsAtALine : Inputs → (text : List ℕ) → List (List ℕ) → World → (had : List Delivery) → (old new : Option (List ℕ)) → SessionError → Type 0
 StopsAtALine inputs text lines world had old new why =
     (line : List ℕ) × BeginsWith text (lines ++ line ∷ []) × StopsAtLine inputs line world had old new why
-
--- It stopped where lines are read: all that were read whole were carried out, where a read failed.
-abbrev pub ReadsNoMore : InputError → (text : List ℕ) → List (List ℕ) → Type 0
-ReadsNoMore reading.ReadFault text lines = HasWhole text lines
-ReadsNoMore reading.NoMemory text lines = BeginsWith text lines
 
 abbrev pub StopsReading : (text : List ℕ) → List (List ℕ) → (old new : Option (List ℕ)) → SessionError → Type 0
 StopsReading text lines old new why =

@@ -9,8 +9,8 @@ use Rattle.press_main.specs.declared.words.Output.{Output}
 use Rattle.press_main.specs.declared.words.Output.TheVariants as outputs
 use Rattle.press_main.specs.declared.words.Request.{Request}
 use Rattle.press_main.specs.declared.words.Refusal.{Refusal}
-use Rattle.press_main.specs.declared.words.Refusal.TheVariants.{Words, NoTemplate}
-use Rattle.press_main.specs.Words.{Source, Standard, FileNamed, Made, Listed, FilesBy, Answered, AsText, StreamTo, JobTo, Asked}
+use Rattle.press_main.specs.declared.words.Refusal.TheVariants.{Words, NoName}
+use Rattle.press_main.specs.Words.{Source, Standard, FileNamed, Made, Listed, FilesBy, Answered, AsText, DebuggedOf, StreamTo, JobTo, Asked}
 
 -- an input by the text of its name
 abbrev pub source_seen : Input → Source
@@ -23,6 +23,7 @@ made_seen outputs.Listing = Listed
 made_seen (outputs.Files template) = FilesBy template.now
 made_seen outputs.Session = Answered
 made_seen outputs.Text = AsText
+made_seen (outputs.Debugged name) = DebuggedOf name.now
 made_seen (outputs.Assembled name) = StreamTo name.now
 made_seen (outputs.Job name images) = JobTo name.now (map (λ image. image.now) images.items)
 
@@ -33,7 +34,7 @@ request_seen request = record { source = source_seen request.input; made = made_
 -- memory ran out
 abbrev pub IsForMemory : Refusal → Type 0
 IsForMemory (Words error) = kind_of error ≡ OutOfMemory
-IsForMemory NoTemplate = ⊥
+IsForMemory NoName = ⊥
 
 -- the status after an error of the command line, by its kind
 abbrev pub status_of_kind : ErrorKind → ℕ
@@ -45,4 +46,4 @@ status_of_kind _ = 2
 -- The status after a refusal: 0 after help, 1 where memory ran out, else 2.
 abbrev pub status_of : Refusal → ℕ
 status_of (Words error) = status_of_kind (kind_of error)
-status_of NoTemplate = 2
+status_of NoName = 2

@@ -4,7 +4,7 @@ use Rattle.std.specs.Option.{option_map_or}
 use Rattle.std.specs.Str.{bytes_eq}
 use Rattle.clap.specs.Words.{App, Row, Rule, Text, new_app, new_rule, with_rule, with_subcommand, subcommand_of, first_of, all_of, fault_of}
 use Rattle.press_main.specs.declared.words.Subcommand.{Subcommand}
-use Rattle.press_main.specs.declared.words.Subcommand.TheVariants.{Print, Asm, Disasm, Write, Press}
+use Rattle.press_main.specs.declared.words.Subcommand.TheVariants.{Print, Asm, Disasm, Debug, Write, Press}
 use Rattle.clap.specs.declared.builder.action.ArgAction.TheVariants.{Append, SetTrue}
 
 -- Where an input is read: from standard input, or from the file of this name.
@@ -14,12 +14,13 @@ pub data Source : Type 0 where
 
 -- What is made of an input: of a stream a listing, files by this template, or its assembly text; of assembly text the file
 -- of this name; of a ticket the file of this name, its job with the images of these files; of lines of events the answers of
--- a press, and the listing of what it delivered.
+-- a press, and the listing of what it delivered; of lines of a debugger its answers, over the stream of this file.
 pub data Made : Type 0 where
   Listed : Made
   FilesBy : Text → Made
   Answered : Made
   AsText : Made
+  DebuggedOf : Text → Made
   StreamTo : Text → Made
   JobTo : (name : Text) (images : List Text) → Made
 
@@ -46,6 +47,10 @@ asm_app = with_rule (with_rule (new_app (codes "asm")) (needed_rule (codes "in")
 abbrev pub disasm_app : App
 disasm_app = with_rule (new_app (codes "disasm")) (needed_rule (codes "in"))
 
+-- The word of `debug`: the input.
+abbrev pub debug_app : App
+debug_app = with_rule (new_app (codes "debug")) (needed_rule (codes "in"))
+
 -- The words of `write`: the ticket, the output, and any number of images.
 abbrev pub images_rule : Rule
 images_rule = record (new_rule (codes "images")) { action = Some Append }
@@ -60,8 +65,8 @@ session_app = new_app (codes "press")
 -- The command line: the subcommands of the program.
 abbrev pub press_app : App
 press_app =
-    with_subcommand (with_subcommand (with_subcommand (with_subcommand (with_subcommand (new_app (codes "press"))
-    print_app.top) asm_app.top) disasm_app.top) write_app.top) session_app.top
+    with_subcommand (with_subcommand (with_subcommand (with_subcommand (with_subcommand (with_subcommand (new_app (codes "press"))
+    print_app.top) asm_app.top) disasm_app.top) debug_app.top) write_app.top) session_app.top
 
 -- a flag is set where its value is `true`
 abbrev pub is_set : Text → List Row → Bool
@@ -96,6 +101,13 @@ asm_asked rows =
 abbrev pub disasm_asked : List Row → Option Asked
 disasm_asked rows = option_map (λ name. record { source = source_of name; made = AsText }) (first_of (codes "in") rows)
 
+-- what `debug` asks for: the lines stand on standard input, so the stream stands in a file
+abbrev pub debug_of : Text → Option Asked
+debug_of name = if bytes_eq name (codes "-") then None else Some (record { source = Standard; made = DebuggedOf name })
+
+abbrev pub debug_asked : List Row → Option Asked
+debug_asked rows = option_and_then debug_of (first_of (codes "in") rows)
+
 -- what `press` asks for: the events stand on standard input
 abbrev pub session_asked : Asked
 session_asked = record { source = Standard; made = Answered }
@@ -106,6 +118,7 @@ subcommand_named name =
     if bytes_eq name (codes "print") then Some Print
     else if bytes_eq name (codes "asm") then Some Asm
     else if bytes_eq name (codes "disasm") then Some Disasm
+    else if bytes_eq name (codes "debug") then Some Debug
     else if bytes_eq name (codes "write") then Some Write
     else if bytes_eq name (codes "press") then Some Press
     else None
@@ -115,6 +128,7 @@ abbrev pub asked_of : Subcommand → List Row → Option Asked
 asked_of Print rows = print_asked rows
 asked_of Asm rows = asm_asked rows
 asked_of Disasm rows = disasm_asked rows
+asked_of Debug rows = debug_asked rows
 asked_of Write rows = job_asked rows
 asked_of Press rows = Some session_asked
 

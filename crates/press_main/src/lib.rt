@@ -1,8 +1,10 @@
 //! What the program does: it reads a print stream, and lists its sheets, writes them to files, or writes the stream as assembly
-//! text; it makes a stream of assembly text; it writes the job of a ticket; and it has a session with a press.
+//! text; it makes a stream of assembly text; it steps through a stream; it writes the job of a ticket; and it has a session with a press.
 #![tactic(auto)]
 
 mod assembly;
+mod debugger_lines;
+mod debugging;
 mod entry_sheets;
 mod event_lines;
 mod files;
@@ -22,6 +24,7 @@ mod telling;
 mod words;
 
 pub use assembly::{asm_text, disasm_bytes};
+pub use debugging::debug_lines;
 pub use files::{Finished, print_files};
 pub use inputs::InputError;
 pub use jobs::write_files;

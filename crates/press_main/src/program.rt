@@ -1,11 +1,12 @@
 //! What the words ask for, done.
 ghost use Rattle.std.specs.Prelude.{◌≡◌, ◌≢◌, map, IfOk, None};
 ghost use Rattle.std.specs.String.{string_bytes};
-ghost use Rattle.press_main.specs.Program.{Assembling, Makes, Performs, Runs, Writing};
+ghost use Rattle.press_main.specs.Program.{Assembling, Debugging, Makes, Performs, Runs, Writing};
 ghost use Rattle.press_main.specs.View.{made_seen, request_seen, status_of};
 ghost use Rattle.press_main.specs.Words.{asked};
 
 use crate::assembly::{asm_text, disasm_bytes};
+use crate::debugging::debug_lines;
 use crate::files::{Finished, print_files};
 use crate::inputs::InputError;
 use crate::jobs::write_files;
@@ -130,6 +131,10 @@ fn make<I: NamedInputs, F: Files, R: Read, W: Write + Drop, E: Write>(
             let status = disasm_bytes(alloc, reader, &mut out, err);
             Finished { status, out }
         }
+        Output::Debugged(name) => {
+            let status = debug_file(alloc, inputs, name, reader, &mut out, err);
+            Finished { status, out }
+        }
         Output::Assembled(name) => {
             let status = asm_file(alloc, files, reader, name, err);
             Finished { status, out }
@@ -138,6 +143,25 @@ fn make<I: NamedInputs, F: Files, R: Read, W: Write + Drop, E: Write>(
             let status = write_file(alloc, inputs, files, reader, name, images, err);
             Finished { status, out }
         }
+    }
+}
+
+/// Has a session with a debugger of the stream of the input of this name, by the lines that a reader has.
+fn debug_file<I: NamedInputs, R: Read, W: Write, E: Write>(
+    alloc: Global,
+    inputs: &I,
+    name: &str,
+    reader: &mut R,
+    out: &mut W,
+    err: &mut E,
+) -> u8
+    ensures { Debugging result (I.bytes inputs.now name.now)
+        (R.remaining reader.old) (R.remaining reader.new)
+        (W.contents out.old) (W.contents out.new) }
+{
+    match inputs.open(name) {
+        Ok(mut input) => debug_lines(alloc, &mut input, reader, out, err),
+        Err(_) => told(&InputError::ReadFault, err),
     }
 }
 

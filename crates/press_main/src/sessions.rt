@@ -33,11 +33,10 @@ use crate::event_lines::{LineEvent, event_of};
 use crate::inputs::{InputError, read_all};
 use crate::jobs::{JobFileError, images_named};
 use crate::line_reader::LineReader;
-use crate::lines::words_of;
+use crate::lines::{WHAT, line_of, words_of};
 use crate::listing::list_delivered;
 use crate::named_inputs::{NamedInputs, open_named};
 use crate::telling::{NO_OUTPUT, told, write_flushed};
-use press_cmd::LINE_FEED;
 use press_core::{OperatorCommand, Press, Turn, TurnError};
 use press_units::NO_MEMORY;
 use std::alloc::{AllocError, Global};
@@ -260,7 +259,7 @@ impl Session {
         let words = words_of(self.alloc, line)?;
         match event_of(&words) {
             Some(event) => self.happen(inputs, event),
-            None => Ok(line_of(self.alloc, b"what?")?),
+            None => Ok(line_of(self.alloc, WHAT)?),
         }
     }
 
@@ -327,16 +326,6 @@ impl Session {
         self.press.operator(command);
         Ok(line_of(self.alloc, b"ok")?)
     }
-}
-
-/// The line of a text: the text, and a line feed.
-fn line_of(alloc: Global, text: &[u8]) -> Result<Vec<u8>, AllocError>
-    ensures { IfOk result (λ line. line.items ≡ text.now ++ 10 ∷ []) }
-{
-    let mut line = Vec::new(alloc);
-    line.extend_from_slice(text)?;
-    line.push(LINE_FEED)?;
-    Ok(line)
 }
 
 /// The line of what a turn did.

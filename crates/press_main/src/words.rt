@@ -3,7 +3,7 @@ ghost use Rattle.std.specs.Prelude.{◌≡◌, ◌↔◌, ◌⊎◌, IfOk, IfErr
 ghost use Rattle.clap.specs.Words.{app_of, rule_of, new_rule, kind_of, first_of, rows_of, found_of, subcommand_of, subcommand_rows_of, fault_of, FailsBy};
 ghost use Rattle.clap.specs.declared.builder.command.Command.TheViews.{out-Command};
 ghost use Rattle.clap.specs.declared.error.kind.ErrorKind.TheVariants.{OutOfMemory};
-ghost use Rattle.press_main.specs.Words.{list_rule, needed_rule, images_rule, print_app, asm_app, disasm_app, write_app, session_app, press_app, source_of, made_of, images_of, print_asked, asm_asked, disasm_asked, job_asked, subcommand_named, asked_of, asked_by, asked, is_set};
+ghost use Rattle.press_main.specs.Words.{list_rule, needed_rule, images_rule, print_app, asm_app, disasm_app, debug_app, write_app, session_app, press_app, source_of, made_of, images_of, print_asked, asm_asked, disasm_asked, debug_asked, job_asked, subcommand_named, asked_of, asked_by, asked, is_set};
 ghost use Rattle.press_main.specs.View.{source_seen, made_seen, request_seen, status_of, IsForMemory};
 
 use clap::error::ErrorKind;
@@ -17,6 +17,7 @@ const AFTER_HELP: &str = "Examples:
   press print page.pcl page-%d.pbm
   press asm page.asm page.pcl
   press disasm page.pcl
+  press debug page.pcl < lines.txt
   press write ticket.json job.prn page-1.pbm page-2.pbm
   press press < events.txt
 
@@ -53,6 +54,8 @@ pub enum Output<'a> {
     Session,
     /// The assembly text of a stream.
     Text,
+    /// The answers to the lines of a debugger of the stream of this file.
+    Debugged(&'a str),
     /// The file of this name, of the bytes of assembly text.
     Assembled(&'a str),
     /// The file of this name, of the job of a ticket with the images of these files.
@@ -77,8 +80,8 @@ const SESSION: Request<'static> = Request {
 pub enum Refusal {
     /// The command line is refused, or asks for help; or memory ran out.
     Words(Error),
-    /// Neither a listing is asked for nor a template given.
-    NoTemplate,
+    /// A subcommand lacks what its words have to name: `print` a template, where no listing is asked for, or `debug` a file.
+    NoName,
 }
 
 impl From<Error> for Refusal {
@@ -112,9 +115,9 @@ impl fmt::Display for Refusal {
                 writeln!(f, "{NO_MEMORY}")
             }
             Refusal::Words(error) => write!(f, "{error}"),
-            Refusal::NoTemplate => writeln!(
+            Refusal::NoName => writeln!(
                 f,
-                "usage: press print IN OUT, or press print --list IN"
+                "usage: press print IN OUT, press print --list IN, or press debug FILE"
             ),
         }
     }
@@ -198,6 +201,16 @@ fn disasm_command<'a>(alloc: Global) -> Result<Command<'a>, AllocError>
         ))
 }
 
+/// The subcommand `debug`.
+fn debug_command<'a>(alloc: Global) -> Result<Command<'a>, AllocError>
+    ensures app { IfOk result (λ command. app_of command ≡ debug_app) }
+    ensures local { IfOk result (λ command. (out-Command command).has_globals ≡ false) }
+{
+    Command::new(alloc, "debug")
+        .about("Steps through a stream by the lines on standard input")
+        .arg(needed_word(alloc, "in", "The file of the stream"))
+}
+
 /// The words for the images.
 fn images_word<'a>(alloc: Global) -> Arg<'a>
     ensures rule { rule_of result ≡ images_rule }
@@ -244,6 +257,7 @@ fn command<'a>(alloc: Global) -> Result<Command<'a>, AllocError>
         .subcommand(print_command(alloc)?)?
         .subcommand(asm_command(alloc)?)?
         .subcommand(disasm_command(alloc)?)?
+        .subcommand(debug_command(alloc)?)?
         .subcommand(write_command(alloc)?)?
         .subcommand(press_command(alloc))
 }
@@ -361,12 +375,28 @@ fn disasm_request<'a>(matches: &ArgMatches<'a>) -> Option<Request<'a>>
     })
 }
 
+/// What the matches of `debug` ask for. The lines stand on standard input, so the stream does not.
+#[tactic(auto, using(crate::proofs::WordsLemmas::value_by_rows))]
+fn debug_request<'a>(matches: &ArgMatches<'a>) -> Option<Request<'a>>
+    ensures { option_map request_seen result ≡ debug_asked (rows_of (found_of matches.now)) }
+{
+    let name = matches.get_str("in")?;
+    if name == "-" {
+        return None;
+    }
+    Some(Request {
+        input: Input::Standard,
+        output: Output::Debugged(name),
+    })
+}
+
 /// A subcommand.
 #[derive(Clone, Copy)]
 enum Subcommand {
     Print,
     Asm,
     Disasm,
+    Debug,
     Write,
     Press,
 }
@@ -381,6 +411,8 @@ fn subcommand_named(name: &str) -> Option<Subcommand>
         Some(Subcommand::Asm)
     } else if name == "disasm" {
         Some(Subcommand::Disasm)
+    } else if name == "debug" {
+        Some(Subcommand::Debug)
     } else if name == "write" {
         Some(Subcommand::Write)
     } else if name == "press" {
@@ -403,6 +435,7 @@ fn subcommand_request<'a>(
         Subcommand::Print => Ok(print_request(matches)),
         Subcommand::Asm => Ok(asm_request(matches)),
         Subcommand::Disasm => Ok(disasm_request(matches)),
+        Subcommand::Debug => Ok(debug_request(matches)),
         Subcommand::Write => job_request(alloc, matches),
         Subcommand::Press => Ok(Some(SESSION)),
     }
@@ -454,5 +487,5 @@ pub fn request_of<'a>(alloc: Global, words: &'a [&'a str]) -> Result<Request<'a>
     }
     let matches = parse(alloc, words)?;
     let request = request_in(alloc, &matches)?;
-    request.ok_or(Refusal::NoTemplate)
+    request.ok_or(Refusal::NoName)
 }

@@ -6,6 +6,8 @@ mod debugger;
 #[cfg(test)]
 mod jobs_of_tickets;
 #[cfg(test)]
+mod program_debugging;
+#[cfg(test)]
 mod program_devices;
 #[cfg(test)]
 mod program_jobs;

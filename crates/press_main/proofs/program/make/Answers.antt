@@ -13,6 +13,9 @@ returns-in-Session g c = rw c.in-Session.is (record { done = c.press_lines-statu
 pub returns-in-Text : goal.returns-in-Text
 returns-in-Text g c = rw c.in-Text.is (record { done = c.disasm_bytes-status.ensures.disassembled; stops = c.disasm_bytes-status.ensures.stopped })
 
+pub returns-in-Debugged : goal.returns-in-Debugged
+returns-in-Debugged g c = rw c.in-Debugged.is c.debug_file-status.ensures
+
 pub returns-in-Assembled : goal.returns-in-Assembled
 returns-in-Assembled g c = rw c.in-Assembled.is (c.asm_file-status.ensures, refl)
 

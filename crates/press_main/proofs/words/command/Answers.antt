@@ -2,7 +2,7 @@ use Rattle.std.proofs.Common.{◌≡◌, rules}
 use Rattle.std.specs.Prelude.{codes}
 use Rattle.std.proofs.lemmas.Result.{IfOk-weaker}
 use Rattle.clap.specs.Words.{new_app, with_subcommand, app_of}
-use Rattle.press_main.specs.Words.{print_app, asm_app, disasm_app, write_app, session_app}
+use Rattle.press_main.specs.Words.{print_app, asm_app, disasm_app, debug_app, write_app, session_app}
 use Rattle.press_main.proofs.WordsLemmas.{subcommand_added}
 use Rattle.press_main.proofs.words.command.Goals as goal
 
@@ -12,10 +12,12 @@ returns c =
     let one = with_subcommand none print_app.top in
     let two = with_subcommand one asm_app.top in
     let three = with_subcommand two disasm_app.top in
-    let four = with_subcommand three write_app.top in
+    let four = with_subcommand three debug_app.top in
+    let five = with_subcommand four write_app.top in
     let begun : app_of c.after_help.result ≡ none = search rules in
     let first = subcommand_added _ _ _ none print_app c.in_ok-subcommand.ensures c.in_ok-print_command.ensures.local begun c.in_ok-print_command.ensures.app in
     let second = subcommand_added _ _ _ one asm_app c.in_ok-subcommand-2.ensures c.in_ok-asm_command.ensures.local first c.in_ok-asm_command.ensures.app in
     let third = subcommand_added _ _ _ two disasm_app c.in_ok-subcommand-3.ensures c.in_ok-disasm_command.ensures.local second c.in_ok-disasm_command.ensures.app in
-    let fourth = subcommand_added _ _ _ three write_app c.in_ok-subcommand-4.ensures c.in_ok-write_command.ensures.local third c.in_ok-write_command.ensures.app in
-    IfOk-weaker c.subcommand-5.result _ _ (λ command adds. subcommand_added _ _ command four session_app adds c.press_command.ensures.local fourth c.press_command.ensures.app) c.subcommand-5.ensures
+    let fourth = subcommand_added _ _ _ three debug_app c.in_ok-subcommand-4.ensures c.in_ok-debug_command.ensures.local third c.in_ok-debug_command.ensures.app in
+    let fifth = subcommand_added _ _ _ four write_app c.in_ok-subcommand-5.ensures c.in_ok-write_command.ensures.local fourth c.in_ok-write_command.ensures.app in
+    IfOk-weaker c.subcommand-6.result _ _ (λ command adds. subcommand_added _ _ command five session_app adds c.press_command.ensures.local fifth c.press_command.ensures.app) c.subcommand-6.ensures

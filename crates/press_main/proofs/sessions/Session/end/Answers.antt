@@ -2,7 +2,8 @@ use Rattle.std.proofs.Common.{◌∙◌, sym, inl}
 use Rattle.std.proofs.KnownBytes.{Appends-nil}
 use Rattle.std.proofs.lemmas.Result.{err_from_is_err_and}
 use Rattle.press_main.specs.Sessions.{delivered_by}
-use Rattle.press_main.proofs.SessionLemmas.{TakesLines-nothing, Ends-listed, StopsEnding-listed, no-lines, one-line}
+use Rattle.press_main.proofs.LineLemmas.{no-lines, one-line}
+use Rattle.press_main.proofs.SessionLemmas.{TakesLines-nothing, Ends-listed, StopsEnding-listed}
 use Rattle.press_main.proofs.sessions.Session.end.Goals as goal
 
 pub returns-then-is_empty-clause-ok : goal.returns-then-is_empty-clause-ok

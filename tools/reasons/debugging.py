@@ -1,0 +1,38 @@
+"""Why a line of a debugger is answered so: lines that ask nothing, and breakpoints that are refused."""
+
+from model import press_lines
+from model.debug_lines import DebugLines
+from seen import program
+
+from .finding import Finding
+
+LINES = "A line is step, over, go N, break KIND, clear N or recent, with one space between words"
+KINDS = "KIND is esc E, par *cP, ctl 0C or uel, without value and data (docs/DEBUGGER.md)"
+REFUSALS = {
+    "fault 501": ("32 breakpoints are set", "Free a number first: clear 0"),
+    "fault 502": ("no breakpoint stands at that number", "Look at what break answered"),
+}
+
+
+def findings(script, name, stream, chosen=program.PROGRAM):
+    """The findings on the lines of a debugger of this stream, in order."""
+    model = DebugLines(stream)
+    printed = iter(program.ask(["debug", name], script, chosen).stdout.decode(errors="replace").splitlines()) if program.stands(chosen) else None
+    for number, line in enumerate(press_lines.lines_of(script), 1):
+        answers = model.answers(line)
+        if printed:
+            answers = [next(printed, "") for _ in answers]
+        shown = f"line {number}"
+        if answers == ["what?"]:
+            yield Finding(None, f"{shown} asks nothing of the debugger: {line.decode(errors='replace')[:60]!r}", advice_for(line))
+        elif answers and answers[0] in REFUSALS:
+            sentence, advice = REFUSALS[answers[0]]
+            yield Finding(None, f"{shown} is answered {answers[0]}: {sentence}", advice)
+
+
+def advice_for(line):
+    if line.endswith(b"\r"):
+        return "A carriage return stands at its end: save the lines with line feeds alone"
+    if line != line.strip(b" ") or b"  " in line:
+        return "A space is too many. " + LINES
+    return KINDS if line.startswith(b"break") else LINES
