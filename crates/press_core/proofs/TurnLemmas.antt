@@ -37,7 +37,7 @@ use Rattle.press_core.proofs.WorkLemmas.{IsSound-without_job, IsSound-set, none_
 
 -- ---- a value set under a number
 
-set_lookup : {X : Type 0} (n number : ℕ) (es : List (ℕ × X)) (w : X) → IsSome (lookup (nat_eq number) es)
+pub set_lookup : {X : Type 0} (n number : ℕ) (es : List (ℕ × X)) (w : X) → IsSome (lookup (nat_eq number) es)
     → lookup (nat_eq n) (set_value (nat_eq number) es w) ≡ cond (nat_eq number n) (Some w) (lookup (nat_eq n) es)
 set_lookup n number es w some = lookup-set_value nat_eq_equiv (nat_eq number) (λ x y same. ap (λ m. nat_eq m y) (eqb-true number x same)) n w es some
 
@@ -175,7 +175,7 @@ begins_at world new number none is = ap (λ o. at_turn_with o world.queue) none 
 
 -- ---- an entry that ends as it begins
 
-ended_is : (queue new : QueueState) (number : ℕ) (end : End) → (begins : IsBegun queue new number)
+pub ended_is : (queue new : QueueState) (number : ℕ) (end : End) → (begins : IsBegun queue new number)
     → rows.finish_entry number end new ≡ rows.with_entries (with_entry number (record begins.entry { status = status_at_end end; begun = true }) queue.entries) queue
 ended_is queue new number end begins =
     let ended = record begins.entry { status = status_at_end end; begun = true } in

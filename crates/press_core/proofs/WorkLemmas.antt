@@ -20,7 +20,7 @@ use Rattle.press_core.proofs.EntryLemmas.{listed_set, listed_insert, listed_appe
 
 -- ---- works of entries that are gone
 
-kept_work : (new : QueueState) (works : List (ℕ × Work)) (n : ℕ) → lookup (nat_eq n) (works_listed new works) ≡ cond (is_listed n new) (lookup (nat_eq n) works) None
+pub kept_work : (new : QueueState) (works : List (ℕ × Work)) (n : ℕ) → lookup (nat_eq n) (works_listed new works) ≡ cond (is_listed n new) (lookup (nat_eq n) works) None
 kept_work new works n =
     lookup-filter-keys (nat_eq n) (λ k. is_listed k new) (is_listed n new) (λ k same. ap (λ m. is_listed m new) (sym (eqb-true n k same))) works
 
