@@ -20,7 +20,7 @@ use Rattle.press_core.specs.Response.{adding}
 use Rattle.press_core.specs.Rows as table
 use Rattle.press_core.specs.Work.{IsPrintable, new_work}
 use Rattle.press_core.specs.World.{World, with_new_work, with_queue}
-use Rattle.press_core.proofs.ChangeLemmas.{QueueChanges, abort-changes, enters-changes, flush-changes, hold-changes, idle, remove-changes, resume-changes, set_position-changes, set_priority-changes}
+use Rattle.press_core.proofs.ChangeLemmas.{QueueChanges, abort-changes, enters-changes, flush-changes, hold-changes, idle, remove-changes, resume-changes, set_position-changes, set_priority-changes, suspend-changes}
 use Rattle.press_core.proofs.SoundLemmas.{submitted_is}
 use Rattle.press_core.proofs.Standings.{Change, Stays, IsWhole, standing}
 
@@ -89,6 +89,9 @@ answered-becomes law types.HoldQueueEntry message images world whole printable =
 answered-becomes law types.ResumeQueueEntry message images world whole printable =
     named-becomes None (table.named_entry message world.queue) world _ whole (λ number _.
     queue-becomes None (rows.resume number world.queue) world whole (law.resume number world.queue whole.queue_is) (resume-changes None world.queue world.works number whole))
+answered-becomes law types.SuspendQueueEntry message images world whole printable =
+    named-becomes None (table.named_entry message world.queue) world _ whole (λ number _.
+    queue-becomes None (rows.suspend number world.queue) world whole (law.suspend number world.queue whole.queue_is) (suspend-changes None world.queue world.works number whole))
 answered-becomes law types.AbortQueueEntry message images world whole printable =
     named-becomes None (table.named_entry message world.queue) world _ whole (λ number _.
     row-becomes None (rows.abort number world.queue) world _ whole (λ a queue is.

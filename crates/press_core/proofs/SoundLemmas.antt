@@ -76,6 +76,15 @@ set_status_keeps number status entry queue still = record {
 pub hold_keeps : (number : ℕ) (queue : QueueState) → Keeps queue (rows.hold number queue).0
 hold_keeps number queue = at_entry_keeps commands.Hold number queue _ _ refl (λ entry legal. set_status_keeps number statuses.Held entry queue refl)
 
+keeps_cond : (queue : QueueState) (b : Bool) (one other : rows.QueueAnswer (Unit {0})) → Keeps queue one.0 → Keeps queue other.0 → Keeps queue (if b then one else other).0
+keeps_cond queue true one other p q = p
+keeps_cond queue false one other p q = q
+
+pub suspend_keeps : (number : ℕ) (queue : QueueState) → Keeps queue (rows.suspend number queue).0
+suspend_keeps number queue =
+    at_entry_keeps commands.Suspend number queue _ _ refl
+    (λ entry legal. keeps_cond queue _ _ _ (Keeps-same queue) (set_status_keeps number statuses.Suspended entry queue refl))
+
 pub resume_keeps : (number : ℕ) (queue : QueueState) → Keeps queue (rows.resume number queue).0
 resume_keeps number queue = at_entry_keeps commands.Resume number queue _ _ refl (λ entry legal. set_status_keeps number statuses.Waiting entry queue refl)
 

@@ -49,6 +49,7 @@ impl Press {
         match message_type {
             MessageType::SubmitQueueEntry => self.submit(heading, message, images),
             MessageType::HoldQueueEntry => self.hold(heading, message),
+            MessageType::SuspendQueueEntry => self.suspend(heading, message),
             MessageType::ResumeQueueEntry => self.resume(heading, message),
             MessageType::AbortQueueEntry => self.abort(heading, message),
             MessageType::RemoveQueueEntry => self.remove(heading, message),
@@ -135,6 +136,18 @@ impl Press {
         let number = self.named_entry(message)?;
         let response = accepted(self.alloc, heading, None)?;
         self.queue.hold(number)?;
+        Ok(response)
+    }
+
+    /// Suspends the entry that runs, unless the most entries are in flight. Its job stays where it is.
+    fn suspend(&mut self, heading: Heading<'_>, message: &Value) -> Result<Vec<u8>, Stop>
+        ensures { AnswersMessage (table.entry_row (view message.now) self.old rows.suspend
+            (λ number after. table.accepting after))
+            self.old (shown_heading heading.entry) result self.new }
+    {
+        let number = self.named_entry(message)?;
+        let response = accepted(self.alloc, heading, None)?;
+        self.queue.suspend(number)?;
         Ok(response)
     }
 
