@@ -4,7 +4,6 @@ use Rattle.std.specs.List.{IsDistinct}
 use Rattle.std.specs.Map.{keys_of, lookup, set_value}
 use Rattle.std.proofs.lemmas.Bool.{eqb-true}
 use Rattle.std.proofs.lemmas.Cmp.{nat_eq_equiv}
-use Rattle.std.proofs.lemmas.Map.{lookup-insert, lookup-remove_entry, none_passes_from_lookup}
 use Rattle.std.proofs.lemmas.Map.Entries.{lookup-filter-values, option_filter}
 use Rattle.press_bits.specs.Page.{Page}
 use Rattle.press_page.specs.Environment.{changed_by}
@@ -24,13 +23,9 @@ use Rattle.press_sink.specs.Sides.{Sides}
 use Rattle.press_ticket.specs.Ticket.{JobTicket}
 use Rattle.press_core.specs.Work.{IsPrintable, Work, new_work, without_job}
 use Rattle.press_core.specs.World.{works_listed, works_without_job}
-use Rattle.press_core.proofs.SoundLemmas.{IsLegal, legal_of}
+use Rattle.press_core.proofs.EntryLemmas.{added_lookup, inserted_lookup, kept_lookup, moved_lookup, removed_lookup, set_lookup}
+use Rattle.press_core.proofs.SoundLemmas.{IsLegal, kept_work, legal_of}
 use Rattle.press_core.proofs.Standings.{Change, Stays, Enters, Moves, Aborts, Leaves, IsIdle, IsOpen, IsProper, IsWhole, Listed, MayStand, Unknown, aborted_entry, listed_is, listed_of, standing, standing_of, unknown_of}
-use Rattle.press_core.proofs.TurnLemmas.{set_lookup}
-use Rattle.press_core.proofs.WorkLemmas.{kept_work}
-
-pub same_number : (m n : ℕ) → nat_eq m n ≡ true → m ≡ n
-same_number m n same = eqb-true m n same
 
 pub idle : IsIdle [] 0
 idle = record { no_sheets = refl; no_steps = refl }
@@ -58,7 +53,7 @@ one-changes submits old new works after number was is work left sheets steps fai
 
     at : (b : Bool) → nat_eq number n ≡ b → Change submits (standing n old works) (standing n new after) sheets steps failed
     at true same =
-        let here : number ≡ n = same_number number n same in
+        let here : number ≡ n = eqb-true number n same in
         let before : standing n old works ≡ Listed was work = subst (λ m. standing m old works ≡ Listed was work) here there in
         let given : nat_le n new.last ≡ true = ap (λ l. nat_le n l) entry_set.last ∙ subst (λ m. nat_le m old.last ≡ true) here listed in
         let entry_is : entry_numbered n new.entries ≡ Some is = entry_set.entries n ∙ ap (λ b. cond b (Some is) (entry_numbered n old.entries)) same in
@@ -82,31 +77,12 @@ set-work works number work left there n = set_lookup n number works left (ap is_
 
 -- a work stays
 pub same-work : (works : List (ℕ × Work)) (number : ℕ) (work : Work) → lookup (nat_eq number) works ≡ Some work → SetsWork works works number work
-same-work works number work there n = at (nat_eq number n) refl
-  where
-    at : (b : Bool) → nat_eq number n ≡ b → lookup (nat_eq n) works ≡ cond b (Some work) (lookup (nat_eq n) works)
-    at true same = subst (λ m. lookup (nat_eq m) works ≡ Some work) (same_number number n same) there
-    at false apart = refl
+same-work works number work there n = kept_lookup n number works ∙ ap (λ o. cond (nat_eq number n) o (lookup (nat_eq n) works)) there
 
 -- an entry is taken out and put somewhere
 pub moved-entry : (queue : QueueState) (i number : ℕ) (is : Entry) → IsDistinct nat_eq (keys_of queue.entries)
     → SetsEntry queue (rows.with_entries (insert (without_entry number queue.entries) i (number, is)) queue) number is
-moved-entry queue i number is distinct = record { last = refl; entries = found }
-  where
-    removed : (n : ℕ) → lookup (nat_eq n) (without_entry number queue.entries) ≡ cond (nat_eq number n) None (entry_numbered n queue.entries)
-    removed n = lookup-remove_entry nat_eq_equiv (nat_eq number) (λ x y same. ap (λ m. nat_eq m y) (same_number number x same)) n queue.entries distinct
-
-    gone : lookup (nat_eq number) (without_entry number queue.entries) ≡ None
-    gone = removed number ∙ (let same : nat_eq number number ≡ true = grind (arith, rules) in ap (λ b. cond b None (entry_numbered number queue.entries)) same)
-
-    twice : (b : Bool) (o : Option Entry) → cond b (Some is) (cond b None o) ≡ cond b (Some is) o
-    twice true o = refl
-    twice false o = refl
-
-    found : (n : ℕ) → lookup (nat_eq n) (insert (without_entry number queue.entries) i (number, is)) ≡ cond (nat_eq number n) (Some is) (entry_numbered n queue.entries)
-    found n =
-        lookup-insert nat_eq_equiv number is n (without_entry number queue.entries) i (none_passes_from_lookup (nat_eq number) (without_entry number queue.entries) gone)
-        ∙ ap (cond (nat_eq number n) (Some is)) (removed n) ∙ twice (nat_eq number n) (entry_numbered n queue.entries)
+moved-entry queue i number is distinct = record { last = refl; entries = λ n. moved_lookup n i number queue.entries is distinct }
 
 -- ---- commands to one entry
 
@@ -285,8 +261,7 @@ removed-changes : (submits : Option (JobTicket × List Page)) (number : ℕ) (qu
     (standing n (rows.with_entries (without_entry number queue.entries) queue) (works_listed (rows.with_entries (without_entry number queue.entries) queue) works)) [] 0 false
 removed-changes submits number queue works whole =
     gone-changes submits queue (rows.with_entries (without_entry number queue.entries) queue) works whole refl
-    (λ n. cond_none (nat_eq number n) (entry_numbered n queue.entries) _
-    (lookup-remove_entry nat_eq_equiv (nat_eq number) (λ x y same. ap (λ m. nat_eq m y) (same_number number x same)) n queue.entries whole.queue_is.distinct))
+    (λ n. cond_none (nat_eq number n) (entry_numbered n queue.entries) _ (removed_lookup n number queue.entries whole.queue_is.distinct))
 
 pub remove-changes : (submits : Option (JobTicket × List Page)) (number : ℕ) (queue new : QueueState) (works : List (ℕ × Work)) → IsWhole queue works → rows.remove number queue ≡ (new, Ok tt)
     → (n : ℕ) → Change submits (standing n queue works) (standing n new (works_listed new works)) [] 0 false
@@ -319,14 +294,6 @@ flush-changes submits queue works whole =
 
 -- ---- an entry that enters
 
-lookup-last : {X : Type 0} (n : ℕ) (es : List (ℕ × X)) (x : X) → lookup (nat_eq n) es ≡ None → lookup (nat_eq n) (es ++ (n, x) ∷ []) ≡ Some x
-lookup-last n [] x none = grind (arith, rules)
-lookup-last n (e ∷ es) x none = grind (arith, rules, none, lookup-last n es x)
-
-lookup-others : {X : Type 0} (n number : ℕ) (es : List (ℕ × X)) (x : X) → nat_eq n number ≡ false → lookup (nat_eq n) (es ++ (number, x) ∷ []) ≡ lookup (nat_eq n) es
-lookup-others n number [] x apart = grind (arith, rules, apart)
-lookup-others n number (e ∷ es) x apart = grind (arith, rules, apart, lookup-others n number es x apart)
-
 le-next : (n last : ℕ) → nat_eq (last + 1) n ≡ false → nat_le n (last + 1) ≡ nat_le n last
 le-next n last apart = grind (arith, rules, apart)
 
@@ -343,28 +310,29 @@ enters-changes submits queue works number priority ticket images whole next brin
     fresh = unknown_of (nat_le number queue.last) (entry_numbered number queue.entries) (lookup (nat_eq number) works) (whole.proper number) above
 
     entries : entry_numbered n (put number (new_entry priority) queue.entries) ≡ cond (nat_eq number n) (Some (new_entry priority)) (entry_numbered n queue.entries)
-    entries =
-        lookup-insert nat_eq_equiv number (new_entry priority) n queue.entries (place_of priority queue.entries) (none_passes_from_lookup (nat_eq number) queue.entries fresh.0)
+    entries = inserted_lookup n (place_of priority queue.entries) number queue.entries (new_entry priority) fresh.0
+
+    works_are : lookup (nat_eq n) (works ++ (number, new_work ticket images) ∷ []) ≡ cond (nat_eq number n) (Some (new_work ticket images)) (lookup (nat_eq n) works)
+    works_are = added_lookup n number works (new_work ticket images) fresh.1
 
     at : (b : Bool) → nat_eq number n ≡ b
         → Change submits (standing n queue works)
         (standing n (record queue { entries = put number (new_entry priority) queue.entries; last = number }) (works ++ (number, new_work ticket images) ∷ [])) [] 0 false
     at true same =
-        let here : number ≡ n = same_number number n same in
+        let here : number ≡ n = eqb-true number n same in
         let before : standing n queue works ≡ Unknown =
         subst (λ m. standing m queue works ≡ Unknown) here (λ j. standing_of (above j) (fresh.0 j) (fresh.1 j)) in
         let given : nat_le n number ≡ true = subst (λ m. nat_le m number ≡ true) here (grind (arith, rules)) in
         let entry_is : entry_numbered n (put number (new_entry priority) queue.entries) ≡ Some (new_entry priority) =
         entries ∙ ap (λ b. cond b (Some (new_entry priority)) (entry_numbered n queue.entries)) same in
         let work_is : lookup (nat_eq n) (works ++ (number, new_work ticket images) ∷ []) ≡ Some (new_work ticket images) =
-        subst (λ m. lookup (nat_eq m) (works ++ (number, new_work ticket images) ∷ []) ≡ Some (new_work ticket images)) here (lookup-last number works (new_work ticket images) fresh.1) in
+        works_are ∙ ap (λ b. cond b (Some (new_work ticket images)) (lookup (nat_eq n) works)) same in
         Enters priority ticket images brings printable before (λ j. standing_of (given j) (entry_is j) (work_is j)) idle
     at false apart =
-        let other : nat_eq n number ≡ false = grind (arith, rules, apart) in
         let given : nat_le n number ≡ nat_le n queue.last =
         ap (λ m. nat_le n m) next ∙ le-next n queue.last (subst (λ m. nat_eq m n ≡ false) next apart) in
         let entry_is : entry_numbered n (put number (new_entry priority) queue.entries) ≡ entry_numbered n queue.entries =
         entries ∙ ap (λ b. cond b (Some (new_entry priority)) (entry_numbered n queue.entries)) apart in
         let work_is : lookup (nat_eq n) (works ++ (number, new_work ticket images) ∷ []) ≡ lookup (nat_eq n) works =
-        lookup-others n number works (new_work ticket images) other in
+        works_are ∙ ap (λ b. cond b (Some (new_work ticket images)) (lookup (nat_eq n) works)) apart in
         Stays (λ j. standing_of (given j) (entry_is j) (work_is j)) idle

@@ -2,6 +2,7 @@
 use Rattle.std.proofs.Common.{◌≡◌, ◌≤◌, ◌+◌, ◌-◌, ◌==◌, ℕ, nat_le, nat_eq, if◌then◌else◌, find, Bool, true, false, MatchBool, List, [], length, Option, Some, None, Result, Ok, Err, is_some, option_map, refl, sym, ap, subst, ◌∙◌, arith, rules, true≢false}
 use Rattle.std.specs.List.{IsDistinct}
 use Rattle.std.specs.Map.{keys_of, lookup, set_value}
+use Rattle.std.proofs.lemmas.Bool.{eqb-true}
 use Rattle.std.proofs.lemmas.Map.Steps.{set_value_same}
 use Rattle.std.proofs.lemmas.Option.{same_Some}
 use Rattle.press_engine.specs.Machine.{Run}
@@ -28,7 +29,7 @@ use Rattle.press_core.specs.History.{handed_under, is_fault_of, is_number, steps
 use Rattle.press_core.specs.Turns.{EntrySteps, IsJobOf, StepsTo, TakesTurn, TurnAt, at_turn, at_turn_with, completed, is_idle, place_in_job, steps_from}
 use Rattle.press_core.specs.Work.{Work, at_place, with_delivered, without_job}
 use Rattle.press_core.specs.World.{World, with_queue, with_work, works_without_job}
-use Rattle.press_core.proofs.ChangeLemmas.{ends-changes, idle, one-changes, same_number, set-entry, set-work}
+use Rattle.press_core.proofs.ChangeLemmas.{ends-changes, idle, one-changes, set-entry, set-work}
 use Rattle.press_core.proofs.EntryLemmas.{first_is_numbered}
 use Rattle.press_core.proofs.HandedLemmas.{handed-other, handed-own}
 use Rattle.press_core.proofs.MessageChanges.{Becomes, becomes_same}
@@ -148,7 +149,7 @@ stepped-each old new number was is work left sheets answer whole stepped none ch
     let same : listed.0 ≡ work = same_Some listed.0 work (sym of.work_is ∙ stepped.here) in
     let there : standing number old.queue old.works ≡ Listed was work = listed.1 ∙ ap (λ w. Listed was w) same in
     let own : nat_eq number n ≡ true → Change None (Listed was work) (Listed is left) (handed_under n (under_tag number sheets)) (steps_answered n answer) (is_fault_of n old answer) =
-    λ e. let here : number ≡ n = same_number number n e in
+    λ e. let here : number ≡ n = eqb-true number n e in
     subst (λ m. Change None (Listed was work) (Listed is left) (handed_under m (under_tag number sheets)) (steps_answered m answer) (is_fault_of m old answer)) here
     (subst (λ l. Change None (Listed was work) (Listed is left) l (steps_answered number answer) (is_fault_of number old answer)) (sym (handed-own number sheets)) changes) in
     let others : nat_eq number n ≡ false → IsIdle (handed_under n (under_tag number sheets)) (steps_answered n answer) =

@@ -88,7 +88,8 @@ impl Press {
 
     /// The entry that a message names, and a number beside it.
     fn named_entry_with(&self, key: &str, message: &Value) -> Result<(u64, i128), Refused>
-        ensures { result ≡ table.named_entry_with key.now (view message.now) self.now.queue }
+        ensures value { result ≡ table.named_entry_with key.now (view message.now) self.now.queue }
+        ensures distinct { OnOk result (IsDistinct nat_eq (keys_of self.now.queue.entries)) }
     {
         match id_and_number(message, key) {
             Ok((id, number)) => Ok((self.number_of(id)?, number)),
@@ -109,6 +110,8 @@ impl Press {
             (table.ticket_of_type SubmitQueueEntry (view message.now) images.now) images.now result }
     {
         let (ticket, priority) = submission(self.alloc, message, images)?;
+        // Asked before the images are copied.
+        self.queue.admits(priority)?;
         let response = self.entered(heading)?;
         self.works.reserve(1)?;
         let work = Work::new(self.alloc, ticket, images)?;
