@@ -76,19 +76,20 @@ WAYS = [
     ("Waiting", [], []),
     ("Held", [entry("HoldQueueEntry", 1, 0)], []),
     ("Running", [turn(1, "Q1", 1)], []),
+    ("Suspended", [turn(1, "Q1", 1), entry("SuspendQueueEntry", 1, 0)], []),
     ("Completed", [turn(ALL, "Q1", 18)], [SHEET]),
     ("Aborted", [entry("AbortQueueEntry", 1, 0)], []),
 ]
 
 # A message about an entry, and its return code at each of these statuses.
 OF_ENTRIES = [
-    ("HoldQueueEntry", {}, [0, 22, 22, 22, 22]),
-    ("ResumeQueueEntry", {}, [22, 0, 22, 22, 22]),
-    ("SuspendQueueEntry", {}, [5, 5, 5, 5, 5]),
-    ("AbortQueueEntry", {}, [0, 0, 0, 22, 22]),
-    ("RemoveQueueEntry", {}, [0, 0, 22, 0, 0]),
-    ("SetQueueEntryPriority", {"Priority": 70}, [0, 0, 22, 22, 22]),
-    ("SetQueueEntryPosition", {"Position": 0}, [0, 0, 22, 22, 22]),
+    ("HoldQueueEntry", {}, [0, 22, 22, 22, 22, 22]),
+    ("ResumeQueueEntry", {}, [22, 0, 22, 0, 22, 22]),
+    ("SuspendQueueEntry", {}, [22, 22, 0, 22, 22, 22]),
+    ("AbortQueueEntry", {}, [0, 0, 0, 0, 22, 22]),
+    ("RemoveQueueEntry", {}, [0, 0, 22, 22, 0, 0]),
+    ("SetQueueEntryPriority", {"Priority": 70}, [0, 0, 22, 22, 22, 22]),
+    ("SetQueueEntryPosition", {"Position": 0}, [0, 0, 22, 22, 22, 22]),
 ]
 SESSIONS = [session(submit(1), *way, queue("Running" if status == "Running" else "Waiting", (1, status, 50)),
                     entry(kind, 1, codes[place], **members), sheets=sheets)
@@ -111,7 +112,10 @@ SESSIONS += [session(*(ask(kind, 0) for kind in kinds), queue(status), submit(1)
 # Messages that are refused where two entries wait.
 REFUSED = [
     ask("Foo", 5),
-    entry("SuspendQueueEntry", 1, 5),
+    entry("SuspendQueueEntry", 1, 22),
+    ask("SuspendQueueEntry", 7),
+    ask("SuspendQueueEntry", 6, QueueEntryID=[]),
+    entry("SuspendQueueEntry", 3, 21),
     ask("HoldQueueEntry", 7),
     ask("HoldQueueEntry", 6, QueueEntryID=1),
     entry("HoldQueueEntry", 3, 21),
@@ -176,6 +180,18 @@ SESSIONS += [
     # a held queue begins no entry, and goes on with one
     session(submit(1), ask("HoldQueue", 0), turn(1, "-", 0), ask("ResumeQueue", 0), turn(1, "Q1", 1), ask("HoldQueue", 0),
             turn(2, "Q1", 2), device("Running", "Q1")),
+    # what is suspended goes on where it stood, behind what ran meanwhile; a flush takes it off the list
+    session(submit(1), turn(13, "Q1", 13), entry("SuspendQueueEntry", 1, 0), entry("SuspendQueueEntry", 1, 22), turn(1, "-", 0),
+            device("Idle"), submit(2), turn(ALL, "Q2", 18), entry("ResumeQueueEntry", 1, 0), turn(1, "Q1", 1),
+            device("Running", "Q1", 1), entry("SuspendQueueEntry", 1, 0), ask("HoldQueue", 0), entry("ResumeQueueEntry", 1, 0), turn(1, "-", 0),
+            ask("ResumeQueue", 0), turn(ALL, "Q1", 4), submit(3), turn(1, "Q3", 1), entry("SuspendQueueEntry", 3, 0), ask("FlushQueue", 0),
+            queue("Waiting"), sheets=["Q2 sheet 1 front 2550x3300 black 1", SHEET]),
+    # seven are suspended; the eighth, which runs, is not, until one of them ends
+    session(*(step for number in range(1, 8)
+              for step in (submit(number), turn(1, f"Q{number}", 1), entry("SuspendQueueEntry", number, 0))),
+            submit(8), turn(1, "Q8", 1), entry("SuspendQueueEntry", 8, 27), entry("SuspendQueueEntry", 7, 22),
+            queue("Running", *((number, "Suspended", 50) for number in range(1, 8)), (8, "Running", 50)),
+            entry("AbortQueueEntry", 3, 0), entry("SuspendQueueEntry", 8, 0)),
     # a paused device is stopped, and what runs is aborted at once
     session(submit(1), turn(14, "Q1", 14), operator("pause"), device("Stopped", "Q1", 1), turn(1, "-", 0), operator("abort"),
             device("Stopped"), operator("continue"), device("Idle"), queue("Waiting", (1, "Aborted", 50)), sheets=[SHEET]),

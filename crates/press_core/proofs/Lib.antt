@@ -1,13 +1,21 @@
+mod AccountLemmas
 mod AnswerLemmas
+mod ChangeLemmas
 mod EntryLemmas
 mod EventLemmas
 mod FloatLemmas
 mod FoundLemmas
+mod HandedLemmas
 mod HandingLemmas
 mod JobLemmas
+mod MessageChanges
+mod RunLemmas
 mod SoundLemmas
 mod StandLemmas
+mod Standings
 mod StepsLemmas
+mod TurnChanges
 mod TurnLemmas
 mod WorkLemmas
+pub mod WorkedHistory
 pub mod WorkedMessages

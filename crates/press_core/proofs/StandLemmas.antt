@@ -1,27 +1,19 @@
 -- A work whose job stands at its place.
-use Rattle.std.proofs.Common.{◌≡◌, ◌∙◌, ◌+◌, ◌<◌, ◌≤◌, ◌↔◌, ℕ, List, [], length, nat_eq, IsTrue, Bool, true, false, Option, Some, IfSome, Result, Ok, Err, OnErr, option_map, unwrap_or, refl, sym, ap, subst, arith, rules}
-use Rattle.press_units.specs.Limits.{greatest_of_64_bits}
+use Rattle.std.proofs.Common.{◌≡◌, ◌∙◌, ◌+◌, ◌<◌, ◌≤◌, ◌↔◌, ℕ, List, [], length, nat_eq, IsTrue, Bool, Option, Some, IfSome, Result, Ok, Err, OnErr, option_map, unwrap_or, sym, ap, subst}
 use Rattle.press_engine.specs.Machine.{Run}
 use Rattle.press_sink.specs.declared.sheet.Delivery.{Delivery}
 use Rattle.press_sink.specs.Sending.{under_tag}
-use Rattle.press_stream.specs.Left.{LeftOf}
-use Rattle.press_stream.specs.State.{JobState}
-use Rattle.press_writer.specs.Job.{job_bytes}
-use Rattle.press_writer.specs.Printing.{PrintsTheTicket}
+use Rattle.press_stream.specs.Left.{LeftWith}
 use Rattle.press_core.specs.declared.work.RunningJob.{RunningJob}
 use Rattle.press_core.specs.Inside.{IsJobAt}
-use Rattle.press_core.specs.Jobs.{IsAt, JobGoesOn, job_at_start}
+use Rattle.press_core.specs.Jobs.{IsAt, JobGoesOn}
 use Rattle.press_core.specs.Turns.{IsJobOf, place_in_job, sheets_from}
 use Rattle.press_core.specs.Work.{Work, at_place}
-use Rattle.press_core.proofs.JobLemmas.{IsJobOf-one, IsJobOf-some, starts_at, over_is}
+use Rattle.press_core.proofs.JobLemmas.{IsJobOf-one, IsJobOf-some, over_is}
 
 -- a job that begins stands at the first place
-pub begins : (work : Work) (job : JobState) → PrintsTheTicket work.ticket work.images (job_bytes work.ticket work.images)
-    → job ≡ job_at_start (job_bytes work.ticket work.images) → length (job_bytes work.ticket work.images) + 1 ≤ greatest_of_64_bits
-    → (items : List Run) × IsJobOf work items × IsAt items 0 job
-begins work job prints is small =
-    let some = IsJobOf-some work in
-    (some.0, some.1, subst (λ j. IsAt some.0 0 j) (sym is) (starts_at work some.0 some.1 prints small))
+pub begins : (work : Work) (running : RunningJob) → ((items : List Run) → IsJobOf work items → IsAt items work.images running) → IsJobAt work running
+begins work running at = let some = IsJobOf-some work in (some.0, some.1, at some.0 some.1)
 
 pub standing : (work : Work) (o : Option RunningJob) (running : RunningJob) → o ≡ Some running → IfSome o (λ r. IsJobAt work r) → IsJobAt work running
 standing work o running is stands = subst (λ r. IfSome r (λ r. IsJobAt work r)) is stands
@@ -32,11 +24,11 @@ placed work o running is place = ap (λ p. unwrap_or p 0) (place ∙ ap (λ r. o
 
 -- no step is left exactly at the end of the items
 pub over_place : (work : Work) (o : Option RunningJob) (running : RunningJob) (over : Bool) → o ≡ Some running → work.place ≡ option_map (λ r. r.steps) o → IfSome o (λ r. IsJobAt work r)
-    → ((left : List Run) → LeftOf running.job left → IsTrue over ↔ (left ≡ []))
+    → ((bytes : List ℕ) (left : List Run) → LeftWith running.job bytes left → IsTrue over ↔ (left ≡ []))
     → (items : List Run) → IsJobOf work items → over ≡ nat_eq (place_in_job work) (length items)
 over_place work o running over is place stands tells items job =
     let at = standing work o running is stands in
-    over_is at.0 running.steps running.job over at.2 tells
+    over_is at.0 work.images running over at.2 tells
     ∙ ap (λ n. nat_eq n (length at.0)) (sym (placed work o running is place)) ∙ ap (λ cs. nat_eq (place_in_job work) (length cs)) (IsJobOf-one work at.0 items at.1 job)
 
 -- no job is behind the end of its items
@@ -50,20 +42,20 @@ within_place work o running is place stands items job =
 -- a job that may go on is before the end of its items
 pub may_go_on : (work : Work) (o : Option RunningJob) (running : RunningJob) → o ≡ Some running → work.place ≡ option_map (λ r. r.steps) o → IfSome o (λ r. IsJobAt work r)
     → ((items : List Run) → IsJobOf work items → place_in_job work < length items)
-    → (items : List Run) × IsAt items running.steps running.job × (running.steps < length items)
+    → (items : List Run) × IsAt items work.images running × (running.steps < length items)
 may_go_on work o running is place stands going =
     let at = standing work o running is stands in
     (at.0, at.2, subst (λ n. n < length at.0) (placed work o running is place) (going at.0 at.1))
 
 -- the work of a job that went on
 pub advances : (work : Work) (o : Option RunningJob) (running new : RunningJob) (number : ℕ) (sheets : List Delivery) → o ≡ Some running → work.place ≡ option_map (λ r. r.steps) o
-    → IfSome o (λ r. IsJobAt work r) → ((items : List Run) → IsAt items running.steps running.job → JobGoesOn items number running new sheets)
+    → IfSome o (λ r. IsJobAt work r) → ((items : List Run) → IsAt items work.images running → JobGoesOn items work.images number running new sheets)
     → (items : List Run) → IsJobOf work items
     → (at_place new.steps work ≡ at_place (place_in_job work + 1) work) × (sheets ≡ under_tag number (sheets_from (place_in_job work) 1 items))
 advances work o running new number sheets is place stands goes items job =
     let at = standing work o running is stands in
     let here = placed work o running is place in
-    let on = goes items (subst (λ cs. IsAt cs running.steps running.job) (IsJobOf-one work at.0 items at.1 job) at.2) in
+    let on = goes items (subst (λ cs. IsAt cs work.images running) (IsJobOf-one work at.0 items at.1 job) at.2) in
     (ap (λ n. at_place n work) (on.next ∙ ap (λ n. n + 1) (sym here)), on.sheets_are ∙ ap (λ n. under_tag number (sheets_from n 1 items)) (sym here))
 
 pub on_err : {A E P : Type 0} (r : Result A E) → P → OnErr r P

@@ -4,9 +4,6 @@ use Rattle.std.specs.declared.alloc.AllocError.{AllocError}
 use Rattle.std.specs.List.{IsDistinct}
 use Rattle.std.specs.Map.{keys_of, lookup, set_value}
 use Rattle.std.specs.Option.{option_map_or}
-use Rattle.std.proofs.lemmas.Bool.{eqb-true}
-use Rattle.std.proofs.lemmas.Cmp.{nat_eq_equiv}
-use Rattle.std.proofs.lemmas.Map.{keys-set_value, lookup-set_value}
 use Rattle.std.proofs.lemmas.Map.Steps.{set_value_same}
 use Rattle.press_engine.specs.Machine.{Run}
 use Rattle.press_page.specs.Environment.{changed_by}
@@ -26,53 +23,34 @@ use Rattle.press_core.specs.declared.turn.Turn.{Turn}
 use Rattle.press_core.specs.declared.turn.TurnError.{TurnError}
 use Rattle.press_core.specs.declared.turn.TurnError.TheVariants.{SinkFault, NoMemory}
 use Rattle.press_core.specs.Handing.{IsAfterSteps, TakesSteps}
-use Rattle.press_core.specs.Inside.{Begins, EachRunning, HasPlace, IsSound, begun_work, begun_works, with_begun}
+use Rattle.press_core.specs.Inside.{AreTogether, Begins, HasPlace, IsSound, begun_work, begun_works, with_begun}
 use Rattle.press_core.specs.Turns.{EntrySteps, FaultsAfter, IsJobOf, NamesEntry, StepsTo, TakesTurn, TurnAt, WereHandedOut, aborted, after_steps, completed, is_idle, place_in_job, sheets_from, steps_from, steps_of, at_turn, at_turn_with}
 use Rattle.press_core.specs.Work.{Work, at_place, with_delivered, without_job}
 use Rattle.press_core.specs.World.{World, works_without_job, with_queue, with_work, work_numbered}
-use Rattle.press_core.proofs.EntryLemmas.{listed_set, none_runs, first_is_numbered, running_more, running_set}
+use Rattle.press_core.proofs.EntryLemmas.{first_is_numbered, set_twice, there_set}
 use Rattle.press_core.proofs.JobLemmas.{IsJobOf-some}
-use Rattle.press_core.proofs.SoundLemmas.{Keeps, IsSound-kept, set_status_keeps, still_at_end}
-use Rattle.press_core.proofs.WorkLemmas.{IsSound-without_job, IsSound-set, none_runs_after, there_set}
+use Rattle.press_core.proofs.SoundLemmas.{over_at_end, runs_as, some_not, still_at_end}
+use Rattle.press_core.proofs.WorkLemmas.{ended_entry, has_work, running_place, set_both, set_work}
 
--- ---- a value set under a number
+-- ---- works of entries that run
 
-set_lookup : {X : Type 0} (n number : ℕ) (es : List (ℕ × X)) (w : X) → IsSome (lookup (nat_eq number) es)
-    → lookup (nat_eq n) (set_value (nat_eq number) es w) ≡ cond (nat_eq number n) (Some w) (lookup (nat_eq n) es)
-set_lookup n number es w some = lookup-set_value nat_eq_equiv (nat_eq number) (λ x y same. ap (λ m. nat_eq m y) (eqb-true number x same)) n w es some
+-- the work of an entry that runs stands at a place
+pub runs_placed : (number : ℕ) (queue : QueueState) (works : List (ℕ × Work)) → IsTrue (rows.entry_runs number queue) → IsSound queue works → HasPlace works number
+runs_placed number queue works runs sound =
+    let it = runs_as number queue runs in
+    let has = has_work queue works number it.entry it.there sound in
+    subst (λ o. IsSome (option_and_then (λ work. work.place) o)) (sym has.is) (running_place it.entry has.work it.runs has.together)
 
-set_twice : {X : Type 0} (number : ℕ) (es : List (ℕ × X)) (v w : X) → set_value (nat_eq number) (set_value (nat_eq number) es v) w ≡ set_value (nat_eq number) es w
-set_twice number [] v w = refl
-set_twice number (x ∷ es) v w = grind (arith, rules, set_twice number es v w)
-
-place_set : (n number : ℕ) (works : List (ℕ × Work)) (work : Work) → IsSome work.place → IsSome (lookup (nat_eq number) works) → HasPlace works n
-    → HasPlace (set_value (nat_eq number) works work) n
-place_set n number works work placed there has =
-    subst (λ o. IsSome (option_and_then (λ work. work.place) o)) (sym (set_lookup n number works work there)) (at_number (nat_eq number n))
-  where
-    at_number : (b : Bool) → IsSome (option_and_then (λ work. work.place) (cond b (Some work) (lookup (nat_eq n) works)))
-    at_number true = placed
-    at_number false = has
-
--- a work at a place of its job may stand for another
-pub IsSound-placed : (number : ℕ) (queue : QueueState) (works : List (ℕ × Work)) (work : Work) → IsSome work.place → IsSome (lookup (nat_eq number) works) → IsSound queue works
+-- another that stands at a place may stand for it
+pub IsSound-placed : (number : ℕ) (queue : QueueState) (works : List (ℕ × Work)) (work : Work) → IsTrue (rows.entry_runs number queue) → IsSome work.place → IsSound queue works
     → IsSound queue (set_value (nat_eq number) works work)
-IsSound-placed number queue works work placed there sound = record {
-  listed = λ n. sound.listed n ∙ sym (listed_set n number works work);
-  begun = running_more (HasPlace works) (HasPlace (set_value (nat_eq number) works work)) queue.entries
-      (λ n some has. place_set n number works work placed there has) sound.begun;
-}
+IsSound-placed number queue works work runs placed sound =
+    let it = runs_as number queue runs in
+    let has = has_work queue works number it.entry it.there sound in
+    let flies = sym has.together.in_flight ∙ running_place it.entry has.work it.runs has.together in
+    set_work number queue works it.entry has.work work it.there has.is (record { in_flight = placed ∙ sym flies; begun = has.together.begun }) sound
 
 -- ---- an entry that begins
-
-each_cond : (P : ℕ → Type 0) (b : Bool) (xs ys : List (ℕ × Entry)) → (b ≡ true → EachRunning P xs) → EachRunning P ys → EachRunning P (cond b xs ys)
-each_cond P true xs ys p q = p refl
-each_cond P false xs ys p q = q
-
-running_begun : (P : ℕ → Type 0) (number : ℕ) (es : List (ℕ × Entry)) (e : Entry) → P number → EachRunning P es → EachRunning P (set_value (nat_eq number) es e)
-running_begun P number [] e p all = all
-running_begun P number (x ∷ es) e p all =
-    each_cond P (nat_eq number x.0) _ _ (λ same. (λ runs. subst P (eqb-true number x.0 same) p, all.1)) (all.0, running_begun P number es e p all.1)
 
 -- The entry of this number, which waited, runs.
 pub record IsBegun (queue new : QueueState) (number : ℕ) : Type 0 where
@@ -104,40 +82,18 @@ begun_runs queue new number begins =
     ap (λ (q : QueueState). rows.entry_runs number q) begins.is
     ∙ ap (λ o. option_map_or (λ entry. is_running entry.status) o false) (there_set number queue.entries begins.entry (rows.begun_entry begins.entry) begins.there)
 
--- there is a work for it
-pub has_work : (queue : QueueState) (works : List (ℕ × Work)) (number : ℕ) (entry : Entry) → IsSound queue works → entry_numbered number queue.entries ≡ Some entry → IsSome (lookup (nat_eq number) works)
-has_work queue works number entry sound there = sym (sound.listed number) ∙ ap is_some there
+-- its work has begun
+begun_together : (entry : Entry) (work : Work) → AreTogether (rows.begun_entry entry) (begun_work work)
+begun_together entry work = record { in_flight = refl; begun = λ runs. refl }
 
 pub IsSound-begun : (queue new : QueueState) (works : List (ℕ × Work)) (number : ℕ) → IsBegun queue new number → IsSound queue works → IsSound new (begun_works number works)
-IsSound-begun queue new works number begins sound = at_work (lookup (nat_eq number) works) refl
-  where
-    some : IsSome (lookup (nat_eq number) works)
-    some = has_work queue works number begins.entry sound begins.there
-
-    at_work : (o : Option Work) → lookup (nat_eq number) works ≡ o → IsSound new (begun_works number works)
-    at_work None is = absurd (true≢false (sym some ∙ ap is_some is))
-    at_work (Some work) is =
-        let after = set_value (nat_eq number) works (begun_work work) in
-        let placed : HasPlace after number = ap (λ o. is_some (option_and_then (λ work. work.place) o)) (there_set number works work (begun_work work) is) in
-        rw (is, begins.is) (record {
-          listed = λ n. listed_set n number queue.entries (rows.begun_entry begins.entry) ∙ sound.listed n ∙ sym (listed_set n number works (begun_work work));
-          begun = running_begun (HasPlace after) number queue.entries (rows.begun_entry begins.entry) placed
-              (running_more (HasPlace works) (HasPlace after) queue.entries (λ n there has. place_set n number works (begun_work work) refl some has) sound.begun);
-        })
+IsSound-begun queue new works number begins sound =
+    let has = has_work queue works number begins.entry begins.there sound in
+    let works_are : begun_works number works ≡ set_value (nat_eq number) works (begun_work has.work) = ap (λ o. changed_by o (λ w all. set_value (nat_eq number) all (begun_work w)) works) has.is in
+    rw (works_are, begins.is)
+    (set_both number queue works begins.entry (rows.begun_entry begins.entry) has.work (begun_work has.work) begins.there has.is (begun_together begins.entry has.work) sound)
 
 -- ---- the entry that runs
-
--- what is true of each entry that runs is true of this one
-running_has : (P : ℕ → Type 0) (number : ℕ) (es : List (ℕ × Entry)) → option_map_or (λ entry. is_running entry.status) (lookup (nat_eq number) es) false ≡ true → EachRunning P es → P number
-running_has P number [] runs all = absurd (true≢false (sym runs))
-running_has P number (x ∷ es) runs all = at_head (nat_eq number x.0) refl (λ below. running_has P number es below all.1)
-  where
-    at_head : (b : Bool) → nat_eq number x.0 ≡ b → (option_map_or (λ entry. is_running entry.status) (lookup (nat_eq number) es) false ≡ true → P number) → P number
-    at_head true is below = subst P (sym (eqb-true number x.0 is)) (all.0 (grind (arith, rules, is, runs)))
-    at_head false is below = below (grind (arith, rules, is, runs))
-
-pub runs_placed : (number : ℕ) (queue : QueueState) (works : List (ℕ × Work)) → IsTrue (rows.entry_runs number queue) → IsSound queue works → HasPlace works number
-runs_placed number queue works runs sound = running_has (HasPlace works) number queue.entries runs sound.begun
 
 -- its work, and that its job has begun
 pub placed_work : (number : ℕ) (works : List (ℕ × Work)) (o : Option Work) (work : Work) → HasPlace works number → lookup (nat_eq number) works ≡ o → o ≡ Some work → IsSome work.place
@@ -175,7 +131,7 @@ begins_at world new number none is = ap (λ o. at_turn_with o world.queue) none 
 
 -- ---- an entry that ends as it begins
 
-ended_is : (queue new : QueueState) (number : ℕ) (end : End) → (begins : IsBegun queue new number)
+pub ended_is : (queue new : QueueState) (number : ℕ) (end : End) → (begins : IsBegun queue new number)
     → rows.finish_entry number end new ≡ rows.with_entries (with_entry number (record begins.entry { status = status_at_end end; begun = true }) queue.entries) queue
 ended_is queue new number end begins =
     let ended = record begins.entry { status = status_at_end end; begun = true } in
@@ -184,32 +140,12 @@ ended_is queue new number end begins =
     ∙ ap (λ (q : QueueState). rows.set_status number (status_at_end end) (rows.begun_entry begins.entry) q) begins.is
     ∙ ap (λ es. rows.with_entries es queue) (set_twice number queue.entries (rows.begun_entry begins.entry) ended)
 
--- no number stands twice then
-pub distinct_begun : (queue new : QueueState) (number : ℕ) → IsBegun queue new number → IsDistinct nat_eq (keys_of queue.entries) → IsDistinct nat_eq (keys_of new.entries)
-distinct_begun queue new number begins distinct =
-    subst (λ (q : QueueState). IsDistinct nat_eq (keys_of q.entries)) (sym begins.is)
-    (subst (λ ks. IsDistinct nat_eq ks) (sym (keys-set_value (nat_eq number) queue.entries (rows.begun_entry begins.entry))) distinct)
-
-pub distinct_ended : (queue new : QueueState) (number : ℕ) (end : End) → IsBegun queue new number → IsDistinct nat_eq (keys_of queue.entries)
-    → IsDistinct nat_eq (keys_of (rows.finish_entry number end new).entries)
-distinct_ended queue new number end begins distinct =
-    subst (λ (q : QueueState). IsDistinct nat_eq (keys_of q.entries)) (sym (ended_is queue new number end begins))
-    (subst (λ ks. IsDistinct nat_eq ks) (sym (keys-set_value (nat_eq number) queue.entries (record begins.entry { status = status_at_end end; begun = true }))) distinct)
-
-pub IsSound-given_up : (queue new : QueueState) (works : List (ℕ × Work)) (number : ℕ) (end : End) → IsDistinct nat_eq (keys_of queue.entries) → IsBegun queue new number → IsSound queue works
+pub IsSound-given_up : (queue new : QueueState) (works : List (ℕ × Work)) (number : ℕ) (end : End) → IsBegun queue new number → IsSound queue works
     → IsSound (rows.finish_entry number end new) (works_without_job number works)
-IsSound-given_up queue new works number end distinct begins sound =
+IsSound-given_up queue new works number end begins sound =
     let ended = record begins.entry { status = status_at_end end; begun = true } in
-    let after = rows.with_entries (with_entry number ended queue.entries) queue in
-    let keeps : Keeps queue after = record {
-      listed = λ n. listed_set n number queue.entries ended;
-      running = λ P all. running_set P number queue.entries ended (still_at_end end) all;
-    } in
-    let none = none_runs number after.entries ended
-    (subst (λ ks. IsDistinct nat_eq ks) (sym (keys-set_value (nat_eq number) queue.entries ended)) distinct)
-    (there_set number queue.entries begins.entry ended begins.there) (still_at_end end) in
     subst (λ q. IsSound q (works_without_job number works)) (sym (ended_is queue new number end begins))
-    (IsSound-without_job number after works none (IsSound-kept queue after works keeps sound))
+    (ended_entry number begins.entry ended queue works begins.there (over_at_end end) (still_at_end end) sound)
 
 pub begins_given_up : (world : World) (number : ℕ) (new after : QueueState) (works : List (ℕ × Work)) (error : AllocError) → rows.running world.queue ≡ None
     → IsDistinct nat_eq (keys_of world.queue.entries) → IsSound world.queue world.works → (new, Some number) ≡ rows.begin world.queue
@@ -220,7 +156,7 @@ begins_given_up world number new after works error none distinct sound is ends l
     begins = begun_is world.queue new number distinct is
 
     at_work : (o : Option Work) → lookup (nat_eq number) world.works ≡ o → Begins world (Err error) (record { queue = after; paused = world.paused; works = works })
-    at_work None there = absurd (true≢false (sym (has_work world.queue world.works number begins.entry sound begins.there) ∙ ap is_some there))
+    at_work None there = let has = has_work world.queue world.works number begins.entry begins.there sound in absurd (some_not (sym there ∙ has.is))
     at_work (Some work) there =
         let same = begins_at world new number none is in
         let works_are = lands ∙ ap (λ o. changed_by o (λ w all. set_value (nat_eq number) all (without_job w)) world.works) there in (
@@ -238,21 +174,6 @@ pub without_job_set : (number : ℕ) (works : List (ℕ × Work)) (old work : Wo
 without_job_set number works old work there =
     ap (λ o. changed_by o (λ w all. set_value (nat_eq number) all (without_job w)) (set_value (nat_eq number) works work)) (there_set number works old work there)
     ∙ set_twice number works work (without_job work)
-
--- ---- the entry that runs ends
-
--- the entry ends, and its work is what its steps left of it, given up
-pub IsSound-ended : (number : ℕ) (end : End) (queue : QueueState) (works : List (ℕ × Work)) (work : Work) → IsTrue (rows.entry_runs number queue) → IsDistinct nat_eq (keys_of queue.entries)
-    → IsSound queue works → IsSound (rows.finish_entry number end queue) (set_value (nat_eq number) works work)
-IsSound-ended number end queue works work runs distinct sound = at_entry (entry_numbered number queue.entries) refl
-  where
-    at_entry : (o : Option Entry) → entry_numbered number queue.entries ≡ o → IsSound (rows.finish_entry number end queue) (set_value (nat_eq number) works work)
-    at_entry None is = absurd (true≢false (sym runs ∙ ap (λ o. option_map_or (λ entry. is_running entry.status) o false) is))
-    at_entry (Some entry) is =
-        let new = rows.set_status number (status_at_end end) entry queue in
-        subst (λ o. IsSound (rows.finish_entry_at o number end queue) (set_value (nat_eq number) works work)) (sym is)
-        (IsSound-set number new works work (none_runs_after number (status_at_end end) entry queue (still_at_end end) is distinct)
-        (IsSound-kept queue new works (set_status_keeps number (status_at_end end) entry queue (still_at_end end)) sound))
 
 -- ---- steps
 

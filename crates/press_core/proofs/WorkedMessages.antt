@@ -30,15 +30,10 @@ pub no_message : (responding_in None [] empty_world).0 ≡ codes "{\"ReturnCode\
 unfolding digits serde_json_on_literals
 no_message = refl
 
--- no type that there is; suspension is none
+-- no type that there is
 pub unknown_type : response_to (message (codes "Foo")) empty_world ≡ codes "{\"ReturnCode\":5,\"Type\":\"Foo\",\"refID\":\"m1\"}"
 unfolding digits serde_json_on_literals
 unknown_type = refl
-
-pub no_suspension : response_to (entry_message (codes "SuspendQueueEntry") (codes "Q1")) empty_world
-    ≡ codes "{\"ReturnCode\":5,\"Type\":\"SuspendQueueEntry\",\"refID\":\"m1\"}"
-unfolding digits serde_json_on_literals
-no_suspension = refl
 
 pub no_type : response_to (object (member (codes "ID") (string (codes "m1")) no_members)) empty_world
     ≡ codes "{\"ReturnCode\":7,\"Type\":\"\",\"refID\":\"m1\"}"
@@ -106,6 +101,16 @@ pub held : response_to (entry_message (codes "HoldQueueEntry") (codes "Q2")) bus
     ≡ codes "{\"ReturnCode\":0,\"Type\":\"HoldQueueEntry\",\"refID\":\"m1\"}"
 unfolding digits serde_json_on_literals
 held = refl
+
+pub suspended : response_to (entry_message (codes "SuspendQueueEntry") (codes "Q1")) busy_world
+    ≡ codes "{\"ReturnCode\":0,\"Type\":\"SuspendQueueEntry\",\"refID\":\"m1\"}"
+unfolding digits serde_json_on_literals
+suspended = refl
+
+pub not_suspended : response_to (entry_message (codes "SuspendQueueEntry") (codes "Q2")) busy_world
+    ≡ codes "{\"ReturnCode\":22,\"Type\":\"SuspendQueueEntry\",\"refID\":\"m1\"}"
+unfolding digits serde_json_on_literals
+not_suspended = refl
 
 pub removed : response_to (entry_message (codes "RemoveQueueEntry") (codes "Q2")) busy_world
     ≡ codes "{\"ReturnCode\":0,\"Status\":\"Removed\",\"Type\":\"RemoveQueueEntry\",\"refID\":\"m1\"}"

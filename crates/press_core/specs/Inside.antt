@@ -1,18 +1,19 @@
 -- What is true of a press and of its works. No public clause cites this.
-use Rattle.std.specs.Prelude.{◌≡◌, ℕ, List, [], true, Option, Some, None, IfSome, IsSome, ◌∷◌, option_map, option_and_then, is_some, nat_eq, Result, Ok, Err}
+use Rattle.std.specs.Prelude.{◌≡◌, ℕ, List, true, Option, Some, None, IfSome, IsSome, option_map, option_and_then, is_some, nat_eq, Result, Ok, Err}
 use Rattle.std.specs.declared.alloc.AllocError.{AllocError}
 use Rattle.std.specs.Map.{lookup, set_value}
 use Rattle.std.specs.Option.{option_map_or}
 use Rattle.press_engine.specs.Machine.{Run}
 use Rattle.press_queue.specs.declared.entry.Entry.{Entry}
 use Rattle.press_queue.specs.State.{QueueState}
-use Rattle.press_queue.specs.Status.{is_running}
+use Rattle.press_queue.specs.Entries.{entry_numbered}
+use Rattle.press_queue.specs.Status.{is_in_flight, is_running}
 use Rattle.press_core.specs.declared.work.RunningJob.{RunningJob}
 use Rattle.press_core.specs.declared.work.Work.TheInside.{Inside}
 use Rattle.press_core.specs.Jobs.{IsAt}
 use Rattle.press_core.specs.Turns.{IsJobOf, aborted, place_in_job, at_turn}
 use Rattle.press_core.specs.Work.{Work, IsPrintable, at_place}
-use Rattle.press_core.specs.World.{work_changed, World, is_listed, with_queue, work_numbered}
+use Rattle.press_core.specs.World.{work_changed, World, with_queue, work_numbered}
 
 abbrev pub work_of : Inside → Work
 work_of work = record {
@@ -24,7 +25,7 @@ work_of work = record {
 
 -- it is at its place in the job of the work
 abbrev pub IsJobAt : Work → RunningJob → Type 0
-IsJobAt work running = (items : List Run) × IsJobOf work items × IsAt items running.steps running.job
+IsJobAt work running = (items : List Run) × IsJobOf work items × IsAt items work.images running
 
 -- Its ticket is printed with its images, and its job stands at its place.
 pub record IsSoundWork (work : Inside) : Type 0 where
@@ -35,10 +36,17 @@ pub record IsSoundWork (work : Inside) : Type 0 where
 abbrev pub HasPlace : List (ℕ × Work) → (number : ℕ) → Type 0
 HasPlace works number = IsSome (option_and_then (λ work. work.place) (lookup (nat_eq number) works))
 
--- of each entry that runs
-abbrev pub EachRunning : (ℕ → Type 0) → List (ℕ × Entry) → Type 0
-EachRunning P [] = Unit {0}
-EachRunning P (e ∷ entries) = (is_running e.1.status ≡ true → P e.0) × EachRunning P entries
+-- An entry and its work: the work stands at a place of its job exactly where the entry is in flight; and an entry that runs has
+-- begun.
+pub record AreTogether (entry : Entry) (work : Work) : Type 0 where
+  pub in_flight : is_some work.place ≡ is_in_flight entry
+  pub begun : is_running entry.status ≡ true → entry.begun ≡ true
+
+abbrev pub GoTogether : Option Entry → Option Work → Type 0
+GoTogether (Some entry) (Some work) = AreTogether entry work
+GoTogether None None = Unit {0}
+GoTogether (Some entry) None = ⊥
+GoTogether None (Some work) = ⊥
 
 -- a work that has begun: at the place that it had, or at the first
 abbrev pub begun_work : Work → Work
@@ -60,7 +68,6 @@ Begins old (Err error) new =
     (number : ℕ) × (work : Work) × ((at_turn old.queue).1 ≡ Some number) × (work_numbered number old ≡ Some work)
     × (new ≡ aborted number work (with_queue (at_turn old.queue).0 old))
 
--- There is a work for each entry of the queue, and for no other; that of an entry that runs has begun.
+-- There is a work for each entry of the queue, and for no other, and they go together.
 pub record IsSound (queue : QueueState) (works : List (ℕ × Work)) : Type 0 where
-  pub listed : (number : ℕ) → is_listed number queue ≡ is_some (lookup (nat_eq number) works)
-  pub begun : EachRunning (HasPlace works) queue.entries
+  pub together : (number : ℕ) → GoTogether (entry_numbered number queue.entries) (lookup (nat_eq number) works)

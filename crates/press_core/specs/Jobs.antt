@@ -1,30 +1,42 @@
 -- A job at a place of its items. No public clause cites this.
-use Rattle.std.specs.Prelude.{◌≡◌, ◌≤◌, ◌+◌, ℕ, List, [], length, drop, true, Some}
+use Rattle.std.specs.Prelude.{◌≡◌, ◌≤◌, ◌<◌, ◌+◌, ℕ, List, length, drop, if◌then◌else◌, Some}
 use Rattle.press_units.specs.Limits.{greatest_of_64_bits}
+use Rattle.press_bits.specs.Page.{Page}
 use Rattle.press_engine.specs.Machine.{Run}
 use Rattle.press_sink.specs.declared.sheet.Delivery.{Delivery}
 use Rattle.press_sink.specs.Sending.{under_tag}
-use Rattle.press_stream.specs.Left.{LeftOf}
-use Rattle.press_stream.specs.State.{JobState, opened, with_piece, input_ended}
+use Rattle.press_stream.specs.Left.{LeftWith}
+use Rattle.press_stream.specs.State.{JobState}
+use Rattle.press_writer.specs.Left.{HasImages, bytes_left}
 use Rattle.press_core.specs.declared.work.RunningJob.{RunningJob}
 use Rattle.press_core.specs.Turns.{IsJobOf, machine_at, sheets_from, place_in_job}
 use Rattle.press_core.specs.Work.{Work, at_place}
 
--- a job that was handed these bytes and their end, and took no step
-abbrev pub job_at_start : List ℕ → JobState
-job_at_start bytes = input_ended (with_piece bytes opened)
-
--- the job has done so many of the items, and the others are left of it
-pub record IsAt (items : List Run) (place : ℕ) (job : JobState) : Type 0 where
-  pub within : place ≤ length items
-  pub machine : job.machine ≡ Some (machine_at place items)
-  pub ended : job.held.ended ≡ true
-  pub left : LeftOf job (drop place items)
+-- The job has done so many of the items as it took steps, and with the bytes that its writer has still to give, of these images,
+-- the others are left of it.
+pub record IsAt (items : List Run) (images : List Page) (running : RunningJob) : Type 0 where
+  pub within : running.steps ≤ length items
+  pub machine : running.job.machine ≡ Some (machine_at running.steps items)
+  pub left : LeftWith running.job (bytes_left running.writer images) (drop running.steps items)
+  pub has_images : HasImages (length images) running.writer
   pub fits : length items ≤ greatest_of_64_bits
 
+-- how much may still be handed to a job: the bytes that its writer has, and their end
+abbrev pub end_to_come : JobState → ℕ
+end_to_come job = if job.held.ended then 0 else 1
+
+abbrev pub still_to_come : RunningJob → List Page → ℕ
+still_to_come running images = length (bytes_left running.writer images) + end_to_come running.job
+
+-- A job was handed the next piece of it, or its end, and stands where it stood.
+pub record IsSupplied (images : List Page) (old new : RunningJob) : Type 0 where
+  pub stands : (items : List Run) → IsAt items images old → IsAt items images new
+  pub steps : new.steps ≡ old.steps
+  pub fewer : still_to_come new images < still_to_come old images
+
 -- a job took the next step, and these were its sheets
-pub record JobGoesOn (items : List Run) (number : ℕ) (old new : RunningJob) (sheets : List Delivery) : Type 0 where
-  pub at : IsAt items new.steps new.job
+pub record JobGoesOn (items : List Run) (images : List Page) (number : ℕ) (old new : RunningJob) (sheets : List Delivery) : Type 0 where
+  pub at : IsAt items images new
   pub next : new.steps ≡ old.steps + 1
   pub sheets_are : sheets ≡ under_tag number (sheets_from old.steps 1 items)
 

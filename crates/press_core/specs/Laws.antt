@@ -1,12 +1,57 @@
--- The law of jobs of a press, as a statement.
-use Rattle.std.specs.Prelude.{◌≡◌, List, length}
+-- The laws of jobs and of runs of events, as statements.
+use Rattle.std.specs.Prelude.{◌≡◌, ◌≤◌, ℕ, List, [], length, false, true, Some, None}
+use Rattle.press_bits.specs.Page.{Page}
 use Rattle.press_engine.specs.Machine.{Run}
+use Rattle.press_queue.specs.EveryQueue.{IsQueue}
+use Rattle.press_ticket.specs.Ticket.{JobTicket}
 use Rattle.press_writer.specs.Wanted.{wanted}
+use Rattle.press_core.specs.Events.{Happening, IsRun, Leads}
+use Rattle.press_core.specs.History.{AreGiven, Seen, TakesInAll, entered_with, handed_in, last_seen, seen_in}
 use Rattle.press_core.specs.Turns.{IsJobOf, sheets_from}
-use Rattle.press_core.specs.Work.{Work, IsPrintable}
+use Rattle.press_core.specs.Work.{Work, IsPrintable, new_work}
+use Rattle.press_core.specs.World.{World, is_listed}
 
 -- The sheets of all steps of a work's job are those that its ticket wants, where the ticket is printed with its images.
 abbrev pub JobsHandOutTheWantedSheets : Type 0
 JobsHandOutTheWantedSheets =
     (work : Work) (items : List Run) → IsPrintable work.ticket work.images → IsJobOf work items
     → sheets_from 0 (length items) items ≡ wanted work.ticket work.images
+
+-- In a run of events what was handed out under a number is what its entry says, as it was seen last: an entry of the list as it
+-- stands there, one that left it as it stood before. It has the ticket and the images with which it entered. Under a number that
+-- was never seen nothing was handed out.
+pub record GivenUnder (happenings : List Happening) (last : World) (number : ℕ) : Type 0 where
+  pub given : (seen : Seen) → last_seen number happenings ≡ Some seen → AreGiven seen.entry seen.work (handed_in number happenings)
+  pub entered : (seen : Seen) → last_seen number happenings ≡ Some seen
+      → entered_with number happenings ≡ Some (seen.work.ticket, seen.work.images)
+  pub listed : is_listed number last.queue ≡ true → last_seen number happenings ≡ seen_in number last
+  pub never : last_seen number happenings ≡ None → handed_in number happenings ≡ []
+
+-- From a world of a run on, nothing is handed out under a number whose entry left the list, and it has no entry again.
+pub record StaysGone (after : List Happening) (last : World) (number : ℕ) : Type 0 where
+  pub nothing : handed_in number after ≡ []
+  pub absent : is_listed number last.queue ≡ false
+
+-- The law of given sheets: so it is in every run of events, under every number.
+pub record SheetsAreGiven : Type 0 where
+  pub under : (happenings : List Happening) (last : World) (number : ℕ) → IsRun happenings last → GivenUnder happenings last number
+  pub gone : (before after : List Happening) (mid last : World) (number : ℕ) → IsRun before mid → Leads mid after last
+      → number ≤ mid.queue.last → is_listed number mid.queue ≡ false → StaysGone after last number
+
+-- The law of no interference: two entries, each of a run of its own, that have the same ticket and images, met no fault in their
+-- own turns and took as many steps in all, were handed out alike, whatever else came in the two runs: the sheets of so many steps
+-- of the job.
+pub record EntriesDoNotInterfere : Type 0 where
+  pub alike : (ticket : JobTicket) (images : List Page) (steps one other : ℕ) (first second : List Happening)
+      → TakesInAll one steps ticket images first → TakesInAll other steps ticket images second
+      → handed_in one first ≡ handed_in other second
+  pub sheets : (ticket : JobTicket) (images : List Page) (steps number : ℕ) (happenings : List Happening) (items : List Run)
+      → TakesInAll number steps ticket images happenings → IsJobOf (new_work ticket images) items
+      → handed_in number happenings ≡ sheets_from 0 steps items
+
+-- The law of bounds: in every run of events the queue is as every queue is: at most one entry runs, at most eight are in flight,
+-- at most 64 are in the list, under numbers that differ; and a number that was given is not given again.
+pub record EntriesAreBounded : Type 0 where
+  pub queue : (happenings : List Happening) (last : World) → IsRun happenings last → IsQueue last.queue
+  pub once : (before after : List Happening) (mid last : World) (number : ℕ) → IsRun before mid → Leads mid after last
+      → number ≤ mid.queue.last → is_listed number mid.queue ≡ false → is_listed number last.queue ≡ false

@@ -15,7 +15,8 @@ use Rattle.press_core.specs.Parameters.{Found, if_object, text_parameter}
 abbrev pub message_types : List (List ℕ × MessageType)
 message_types =
     (codes "SubmitQueueEntry", types.SubmitQueueEntry) ∷ (codes "HoldQueueEntry", types.HoldQueueEntry)
-    ∷ (codes "ResumeQueueEntry", types.ResumeQueueEntry) ∷ (codes "AbortQueueEntry", types.AbortQueueEntry)
+    ∷ (codes "SuspendQueueEntry", types.SuspendQueueEntry) ∷ (codes "ResumeQueueEntry", types.ResumeQueueEntry)
+    ∷ (codes "AbortQueueEntry", types.AbortQueueEntry)
     ∷ (codes "RemoveQueueEntry", types.RemoveQueueEntry) ∷ (codes "SetQueueEntryPriority", types.SetQueueEntryPriority)
     ∷ (codes "SetQueueEntryPosition", types.SetQueueEntryPosition) ∷ (codes "HoldQueue", types.HoldQueue)
     ∷ (codes "ResumeQueue", types.ResumeQueue) ∷ (codes "OpenQueue", types.OpenQueue)

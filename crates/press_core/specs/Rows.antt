@@ -152,6 +152,7 @@ flagged flags.Close queue = rows.close_queue queue
 abbrev pub answered : MessageType → Data → List Page → World → MessageAnswer
 answered types.SubmitQueueEntry message images world = submit_row message images world
 answered types.HoldQueueEntry message images world = entry_row message world rows.hold (λ number after. accepting after)
+answered types.SuspendQueueEntry message images world = entry_row message world rows.suspend (λ number after. accepting after)
 answered types.ResumeQueueEntry message images world = entry_row message world rows.resume (λ number after. accepting after)
 answered types.AbortQueueEntry message images world = entry_row message world rows.abort (λ number after. accepting (without_job_of number after))
 answered types.RemoveQueueEntry message images world =

@@ -49,6 +49,7 @@ impl Press {
         match message_type {
             MessageType::SubmitQueueEntry => self.submit(heading, message, images),
             MessageType::HoldQueueEntry => self.hold(heading, message),
+            MessageType::SuspendQueueEntry => self.suspend(heading, message),
             MessageType::ResumeQueueEntry => self.resume(heading, message),
             MessageType::AbortQueueEntry => self.abort(heading, message),
             MessageType::RemoveQueueEntry => self.remove(heading, message),
@@ -87,7 +88,8 @@ impl Press {
 
     /// The entry that a message names, and a number beside it.
     fn named_entry_with(&self, key: &str, message: &Value) -> Result<(u64, i128), Refused>
-        ensures { result ≡ table.named_entry_with key.now (view message.now) self.now.queue }
+        ensures value { result ≡ table.named_entry_with key.now (view message.now) self.now.queue }
+        ensures distinct { OnOk result (IsDistinct nat_eq (keys_of self.now.queue.entries)) }
     {
         match id_and_number(message, key) {
             Ok((id, number)) => Ok((self.number_of(id)?, number)),
@@ -108,6 +110,8 @@ impl Press {
             (table.ticket_of_type SubmitQueueEntry (view message.now) images.now) images.now result }
     {
         let (ticket, priority) = submission(self.alloc, message, images)?;
+        // Asked before the images are copied.
+        self.queue.admits(priority)?;
         let response = self.entered(heading)?;
         self.works.reserve(1)?;
         let work = Work::new(self.alloc, ticket, images)?;
@@ -135,6 +139,18 @@ impl Press {
         let number = self.named_entry(message)?;
         let response = accepted(self.alloc, heading, None)?;
         self.queue.hold(number)?;
+        Ok(response)
+    }
+
+    /// Suspends the entry that runs, unless the most entries are in flight. Its job stays where it is.
+    fn suspend(&mut self, heading: Heading<'_>, message: &Value) -> Result<Vec<u8>, Stop>
+        ensures { AnswersMessage (table.entry_row (view message.now) self.old rows.suspend
+            (λ number after. table.accepting after))
+            self.old (shown_heading heading.entry) result self.new }
+    {
+        let number = self.named_entry(message)?;
+        let response = accepted(self.alloc, heading, None)?;
+        self.queue.suspend(number)?;
         Ok(response)
     }
 

@@ -1,7 +1,9 @@
-//! The law of jobs of a press, the contract of a function that calls the writer's.
+//! The laws of a press: of its jobs, and of every run of events. Each is the contract of a function that does nothing but call those
+//! whose laws it takes.
 
-ghost use Rattle.press_core.specs.Laws.{JobsHandOutTheWantedSheets};
+ghost use Rattle.press_core.specs.Laws.{JobsHandOutTheWantedSheets, SheetsAreGiven, EntriesDoNotInterfere, EntriesAreBounded};
 
+use press_queue::laws::each_row_keeps_the_queue;
 use press_writer::laws::jobs_print_their_tickets;
 
 /// The job of a ticket that is printed with its images hands out the wanted sheets in its steps, in order, and nothing else. So
@@ -10,4 +12,31 @@ pub fn jobs_hand_out_the_wanted_sheets()
     ensures { JobsHandOutTheWantedSheets }
 {
     jobs_print_their_tickets();
+}
+
+/// In every run of events, whatever messages, turns, operators and faults it has: what was handed out under the number of an
+/// entry in flight are the sheets of the steps that were taken of its job; of a completed one all sheets that its ticket wants; and
+/// of every entry a front of those, and nothing where it never began, also of one that left the list. From then on nothing more is.
+pub fn sheets_are_given()
+    ensures { SheetsAreGiven }
+{
+    jobs_hand_out_the_wanted_sheets();
+    each_row_keeps_the_queue();
+}
+
+/// Two entries, each of a run of its own, with the same ticket and images, that met no fault in their own turns and took as many
+/// steps in all, were handed out alike, whatever else came in the two runs: the sheets of the first so many steps of their job.
+pub fn entries_do_not_interfere()
+    ensures { EntriesDoNotInterfere }
+{
+    jobs_hand_out_the_wanted_sheets();
+    each_row_keeps_the_queue();
+}
+
+/// In every run of events at most one entry runs, at most eight are in flight, and at most 64 are in the list, under numbers that
+/// differ; a number that was given is not given again.
+pub fn entries_are_bounded()
+    ensures { EntriesAreBounded }
+{
+    each_row_keeps_the_queue();
 }

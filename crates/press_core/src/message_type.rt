@@ -8,6 +8,7 @@ ghost use Rattle.press_core.specs.Messages.{type_named};
 pub enum MessageType {
     SubmitQueueEntry,
     HoldQueueEntry,
+    SuspendQueueEntry,
     ResumeQueueEntry,
     AbortQueueEntry,
     RemoveQueueEntry,
@@ -30,6 +31,7 @@ impl MessageType {
         match name {
             "SubmitQueueEntry" => Some(MessageType::SubmitQueueEntry),
             "HoldQueueEntry" => Some(MessageType::HoldQueueEntry),
+            "SuspendQueueEntry" => Some(MessageType::SuspendQueueEntry),
             "ResumeQueueEntry" => Some(MessageType::ResumeQueueEntry),
             "AbortQueueEntry" => Some(MessageType::AbortQueueEntry),
             "RemoveQueueEntry" => Some(MessageType::RemoveQueueEntry),

@@ -1,14 +1,13 @@
 //! What an entry of the queue is to print, and how far that has come.
 
-ghost use Rattle.std.specs.Prelude.{◌≡◌, ◌≤◌, ◌<◌, ◌+◌, List, length, None, Some, IfOk, OnOk, OnErr, IsSome, nat_eq};
-ghost use Rattle.press_units.specs.Limits.{greatest_of_64_bits};
+ghost use Rattle.std.specs.Prelude.{◌≡◌, ◌≤◌, ◌<◌, List, length, None, Some, IfOk, OnOk, OnErr, IsSome, nat_eq, false};
 ghost use Rattle.press_engine.specs.Machine.{Run};
 ghost use Rattle.press_sink.specs.Kept.{deliveries};
 ghost use Rattle.press_sink.specs.Told.{most_faults};
-ghost use Rattle.press_writer.specs.Job.{job_bytes};
+ghost use Rattle.press_writer.specs.Fitting.{refusal};
 ghost use Rattle.press_core.specs.Handing.{TakesSteps};
 ghost use Rattle.press_core.specs.Inside.{begun_work};
-ghost use Rattle.press_core.specs.Jobs.{IsAt, JobGoesOn, Advances, job_at_start};
+ghost use Rattle.press_core.specs.Jobs.{IsAt, IsSupplied, JobGoesOn, Advances};
 ghost use Rattle.press_core.specs.Turns.{IsJobOf, place_in_job};
 ghost use Rattle.press_core.specs.Work.{IsPrintable, new_work, without_job};
 
@@ -20,15 +19,15 @@ use press_sink::{ListSink, SheetSink};
 use press_stream::laws::what_is_left;
 use press_stream::{Job, Step};
 use press_ticket::Ticket;
-use press_writer::laws::jobs_print_their_tickets;
-use press_writer::write_job;
+use press_writer::JobWriter;
 use std::alloc::{AllocError, Global};
 use std::marker::Model;
 
-/// The job of an entry that is in flight.
+/// The job of an entry that is in flight: an engine of its own, what is still to be written of the job, and how far it has come.
 #[derive(Drop)]
 pub struct RunningJob {
     pub job: Job,
+    pub writer: JobWriter,
     /// How many steps of it were taken.
     pub steps: u64,
 }
@@ -59,45 +58,73 @@ impl Model for Work {
     ghost invariant = { IsSoundWork };
 }
 
-/// The job of a ticket with these images, at its beginning, with its end given.
-fn opened_job(alloc: Global, ticket: &Ticket, images: &[Bitmap]) -> Result<Job, AllocError>
-    ensures job { IfOk result (λ job. job ≡ job_at_start (job_bytes ticket.now images.now)) }
-    ensures small { OnOk result
-        (length (job_bytes ticket.now images.now) + 1 ≤ greatest_of_64_bits) }
-{
-    let mut bytes = Vec::new(alloc);
-    // A vector refuses bytes for want of memory alone.
-    if write_job(alloc, ticket, images, &mut bytes).is_err() {
-        return Err(AllocError);
-    }
-    let mut job = Job::open(alloc)?;
-    if job.push(&bytes).is_err() {
-        return Err(AllocError);
-    }
-    job.end_input();
-    Ok(job)
-}
-
 impl RunningJob {
+    /// The job of a ticket that is printed with these images, at its beginning.
+    fn open(alloc: Global, ticket: &Ticket, images: &[Bitmap]) -> Result<Self, AllocError>
+        requires { refusal ticket.now images.now ≡ None }
+        ensures begins { IfOk result (λ running. running.steps ≡ 0) }
+        ensures at { IfOk result (λ running.
+            (items : List Run) → IsJobOf (new_work ticket.now images.now) items
+            → IsAt items images.now running) }
+    {
+        what_is_left();
+        let job = Job::open(alloc)?;
+        match JobWriter::open(alloc, ticket, images) {
+            Ok(writer) => Ok(RunningJob {
+                job,
+                writer,
+                steps: 0,
+            }),
+            // The ticket is printed with these images: memory ran out.
+            Err(_) => Err(AllocError),
+        }
+    }
+
+    /// Hands the next piece of the job over, or, where none is left, its end.
+    fn supply(&mut self, alloc: Global, images: &[Bitmap]) -> Result<(), AllocError>
+        requires at { (items : List Run) × IsAt items images.now self.old }
+        requires going { self.old.job.held.ended ≡ false }
+        ensures { OnOk result (IsSupplied images.now self.old self.new) }
+    {
+        what_is_left();
+        let mut piece = Vec::new(alloc);
+        if !self.writer.piece(images, &mut piece)? {
+            self.job.end_input();
+            return Ok(());
+        }
+        // The job goes on: a piece is refused for want of memory alone.
+        if self.job.push(&piece).is_err() {
+            return Err(AllocError);
+        }
+        Ok(())
+    }
+
     /// Carries out the next step, and gives its sheets.
-    fn step(&mut self, alloc: Global, number: u64) -> Result<ListSink, AllocError>
-        requires at { (items : List Run)
-            × IsAt items self.old.steps self.old.job × (self.old.steps < length items) }
+    fn step(
+        &mut self,
+        alloc: Global,
+        images: &[Bitmap],
+        number: u64,
+    ) -> Result<ListSink, AllocError>
+        requires at { (items : List Run) × IsAt items images.now self.old
+            × (self.old.steps < length items) }
         ensures { IfOk result (λ sink.
-            (items : List Run) → IsAt items self.old.steps self.old.job
-            → JobGoesOn items number self.old self.new (deliveries sink)) }
+            (items : List Run) → IsAt items images.now self.old
+            → JobGoesOn items images.now number self.old self.new (deliveries sink)) }
     {
         what_is_left();
         let mut sheets = ListSink::new(alloc);
-        match self.job.step(number, &mut sheets, &mut NoReplies) {
-            Ok(Step::Ran(_)) => {
-                self.steps += 1;
-                Ok(sheets)
+        loop {
+            match self.job.step(number, &mut sheets, &mut NoReplies) {
+                Ok(Step::Ran(_)) => {
+                    self.steps += 1;
+                    return Ok(sheets);
+                }
+                Ok(Step::Hungry) => self.supply(alloc, images)?,
+                Ok(Step::Ended) => unreachable!(),
+                // Neither the list nor the sink without replies has a fault.
+                Err(_) => return Err(AllocError),
             }
-            Ok(Step::Hungry) => unreachable!(),
-            Ok(Step::Ended) => unreachable!(),
-            // Neither the list nor the sink without replies has a fault.
-            Err(_) => Err(AllocError),
         }
     }
 }
@@ -142,9 +169,7 @@ impl Work {
         if self.running.is_some() {
             return Ok(());
         }
-        jobs_print_their_tickets();
-        let job = opened_job(alloc, &self.ticket, &self.images)?;
-        self.running = Some(RunningJob { job, steps: 0 });
+        self.running = Some(RunningJob::open(alloc, &self.ticket, &self.images)?);
         Ok(())
     }
 
@@ -172,7 +197,7 @@ impl Work {
         let Some(mut running) = self.running.take() else {
             unreachable!()
         };
-        let sheets = running.step(alloc, number)?;
+        let sheets = running.step(alloc, &self.images, number)?;
         self.running = Some(running);
         Ok(sheets)
     }

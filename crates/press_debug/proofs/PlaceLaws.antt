@@ -51,7 +51,7 @@ goes_on bytes items taken old new behind advances =
 
 at_end : (bytes : List ℕ) (items : List Run) (now : Standing) → StandsBehind bytes items now → IsOver now.job → IsTraceAtEnd bytes items
 at_end bytes items now behind over =
-    let none = left_goes_on.over now.job behind.others over behind.left in
+    let none = left_goes_on.over now.job [] behind.others over behind.left in
     subst (IsTraceAtEnd bytes) (ap (λ (more : List Run). items ++ more) none ∙ append-nil items) behind.are
 
 pub places_go_on : PlacesGoOn

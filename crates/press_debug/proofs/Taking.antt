@@ -97,7 +97,7 @@ Advances-one law old new tag kind before after recent last ran kept = record {
   from = ran.goes.carried.from;
   starts = ran.goes.carried.starts;
   ends = ran.goes.carried.ends ∙ ap (λ (done : List Run). Some (last_machine ran.goes.carried.from done)) ran.one;
-  left = λ all is. let on = law.steps old new tag kind before after all is ran in (on.others, on.are, on.still);
+  left = λ all is. let on = law.steps old new tag kind before after [] all is ran in (on.others, on.are, on.still);
   recent = kept ∙ ap (λ (kinds : List Kind). keep_last 64 (recent ++ kinds)) (kind_once ran.item.machine.last kind ran.is_kind);
 }
 
@@ -156,7 +156,7 @@ EndsOutside-none job none = λ items is. absurd (some_not (sym none ∙ is.start
 pub outside_over : LeftGoesOn → (job : JobState) (machine : Machine) → EndsOutside job → IsOver job → job.machine ≡ Some machine → machine.depth ≡ 0
 outside_over law job machine outside over is =
     let some = LeftOf-some job machine is in
-    let none = law.over job (items_left job) over some in
+    let none = law.over job [] (items_left job) over some in
     let same : machine ≡ some.from = same_some job.machine machine some.from is some.starts in
     ap (λ (at : Machine). at.depth) same
     ∙ ap (λ (items : List Run). (last_machine some.from items).depth) (sym none) ∙ outside (items_left job) some

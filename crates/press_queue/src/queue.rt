@@ -47,7 +47,7 @@ impl Model for Queue {
 }
 
 impl Queue {
-    ghost use Rattle.std.specs.Prelude.{◌≡◌, None, IfOk, IsTrue};
+    ghost use Rattle.std.specs.Prelude.{◌≡◌, ◌<◌, None, Err, IfOk, IfErr, OnOk, IsTrue, length};
     ghost use Rattle.press_queue.specs.Answers.{Submits};
     ghost use Rattle.press_queue.specs.Entries.{entry_numbered};
     ghost use Rattle.press_queue.specs.EveryQueue.{IsQueue};
@@ -78,19 +78,33 @@ impl Queue {
         ensures row { Submits (rows.submit priority self.old) self.old result self.new }
         ensures fresh { IfOk result (λ number. entry_numbered number self.old.entries ≡ None) }
     {
-        if self.closed {
-            return Err(SubmitError::Refused(Refusal::Closed));
-        }
-        if self.entries.len() >= MAX_ENTRIES || self.last == u64::MAX {
-            return Err(SubmitError::Refused(Refusal::Full));
-        }
-        let Some(priority) = priority_of(priority) else {
-            return Err(SubmitError::Refused(Refusal::BadPriority));
-        };
+        let priority = self.admits(priority)?;
         let number = self.last + 1;
         entries::put(&mut self.entries, number, Entry::waiting(priority))?;
         self.last = number;
         Ok(number)
+    }
+
+    /// The priority of a new entry that would be taken.
+    ///
+    /// # Errors
+    ///
+    /// `Closed` (23), `Full` (24), `BadPriority` (25), in this order: those of `submit`.
+    pub fn admits(&self, priority: i128) -> Result<u8, Refusal>
+        ensures ok { IfOk result (λ taken.
+            rows.submit priority self.now ≡ rows.submitted taken self.now) }
+        ensures room { OnOk result (length self.now.entries < rows.most_entries) }
+        ensures below { OnOk result (self.now.last < rows.last_number) }
+        ensures err { IfErr result (λ refusal.
+            rows.submit priority self.now ≡ (self.now, Err refusal)) }
+    {
+        if self.closed {
+            return Err(Refusal::Closed);
+        }
+        if self.entries.len() >= MAX_ENTRIES || self.last == u64::MAX {
+            return Err(Refusal::Full);
+        }
+        priority_of(priority).ok_or(Refusal::BadPriority)
     }
 
     /// The entry that a command names, where the command is legal.
@@ -234,7 +248,8 @@ impl Queue {
 
     /// Takes every entry that does not run off the list.
     pub fn flush(&mut self)
-        ensures { self.new ≡ rows.flush self.old }
+        ensures row { self.new ≡ rows.flush self.old }
+        ensures bounds { IsQueue self.old }
     {
         entries::keep_running(&mut self.entries);
     }

@@ -60,6 +60,17 @@ pub enum SubmitError {
     NoMemory,
 }
 
+impl From<Refusal> for SubmitError {
+    ghost use Rattle.std.specs.Prelude.{◌≡◌};
+    ghost use Rattle.press_queue.specs.declared.refusal.SubmitError.TheVariants.{Refused};
+
+    ghost from_gives = { λ refusal error. error ≡ Refused refusal };
+
+    fn from(refusal: Refusal) -> SubmitError {
+        SubmitError::Refused(refusal)
+    }
+}
+
 impl From<AllocError> for SubmitError {
     ghost use Rattle.std.specs.Prelude.{◌≡◌};
     ghost use Rattle.press_queue.specs.declared.refusal.SubmitError.TheVariants.{NoMemory};

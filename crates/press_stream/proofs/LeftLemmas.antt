@@ -1,23 +1,23 @@
 -- What is left of a job, from step to step.
-use Rattle.std.proofs.Common.{◌≡◌, ◌≢◌, ◌∙◌, ◌↔◌, inl, inr, ℕ, List, [], ◌∷◌, ◌++◌, Bool, true, false, IsTrue, MatchBool, refl, sym, ap, subst}
+use Rattle.std.proofs.Common.{◌≡◌, ◌≢◌, ◌∙◌, ◌↔◌, inl, inr, ℕ, List, [], ◌∷◌, ◌++◌, Bool, true, false, IsTrue, MatchBool, refl, sym, ap, subst, append_assoc}
 use Rattle.std.proofs.lemmas.Bool.{false≢true}
 use Rattle.press_cmd.specs.Token.{Token}
-use Rattle.press_cmd.specs.Split.{ClosedFrom}
+use Rattle.press_cmd.specs.Split.{ClosedFrom, Closed}
 use Rattle.press_cmd.proofs.Splits.{closed_once}
 use Rattle.press_cmd.specs.declared.variant.Kind.{Kind}
 use Rattle.press_sink.specs.Told.{Told}
 use Rattle.press_engine.specs.declared.frame.Frame.{Frame}
 use Rattle.press_engine.specs.declared.machine.Machine.{Machine}
-use Rattle.press_engine.specs.Machine.{Run, levels}
+use Rattle.press_engine.specs.Machine.{Run, levels, power_on}
 use Rattle.press_engine.specs.Stack.{owed, HasNext, IsReady}
-use Rattle.press_engine.specs.Trace.{last_machine, trace_each, trace_at}
+use Rattle.press_engine.specs.Trace.{last_machine, trace, trace_each, trace_at}
 use Rattle.press_engine.proofs.StackLaws.{inner-owed, outer-owed}
 use Rattle.press_stream.specs.declared.phase.Phase.{Phase}
 use Rattle.press_stream.specs.declared.phase.Phase.TheVariants as phases
-use Rattle.press_stream.specs.State.{JobState, IsOver, is_exited}
+use Rattle.press_stream.specs.State.{JobState, IsOver, opened, with_piece, input_ended, is_exited}
 use Rattle.press_stream.specs.Meaning.{with_exit, left, Owes}
 use Rattle.press_stream.specs.Answers.{RanOne}
-use Rattle.press_stream.specs.Left.{LeftOf, StepsOn, LeftGoesOn}
+use Rattle.press_stream.specs.Left.{LeftWith, StepsOn, LeftGoesOn}
 use Rattle.press_stream.proofs.Items.{left-none, left-then}
 use Rattle.press_stream.proofs.Going.{Owes-some, same_some}
 
@@ -32,15 +32,16 @@ Owes-one job bytes commands others owes other = at_exit job.exited owes.1 other.
     at_exit true is are = is ∙ sym are
     at_exit false (c, closed, is) (d, other, are) = is ∙ ap with_exit (closed_once job.held.mode (job.held.bytes ++ bytes) c d closed other) ∙ sym are
 
-left_steps : (old new : JobState) (tag : ℕ) (kind : Kind) (before after : Told) (items : List Run) → LeftOf old items → (ran : RanOne old tag kind new before after) → StepsOn new items ran.item
-left_steps old new tag kind before after items is ran =
-    let later = Owes-some new [] (λ _. refl) in
+left_steps : (old new : JobState) (tag : ℕ) (kind : Kind) (before after : Told) (bytes : List ℕ) (items : List Run) → LeftWith old bytes items → (ran : RanOne old tag kind new before after)
+    → StepsOn new bytes items ran.item
+left_steps old new tag kind before after bytes items is ran =
+    let later = Owes-some new bytes (λ e. is.owes.0 (sym ran.still ∙ e)) in
     let rest = later.0 in
     let goes = ran.goes in
     let from = goes.carried.from in
     let at = last_machine from goes.items in
     let same : is.from ≡ from = same_some old.machine is.from from is.starts goes.carried.starts in
-    let commands : is.commands ≡ ran.given ++ rest = Owes-one old [] is.commands (ran.given ++ rest) is.owes (goes.to_end [] rest later.1) in
+    let commands : is.commands ≡ ran.given ++ rest = Owes-one old bytes is.commands (ran.given ++ rest) is.owes (goes.to_end bytes rest later.1) in
     record {
       others = left rest new.bodies at;
       are =
@@ -52,22 +53,49 @@ left_steps old new tag kind before after items is ran =
 
 -- ---- nothing is left exactly of a job that is over
 
-no_commands : (job : JobState) (commands : List Token) → job.exited ≡ true → Owes job [] commands → commands ≡ []
-no_commands job commands exited owes =
-    subst (λ (out : Bool). MatchBool out (commands ≡ []) ((closed : List Token) × ClosedFrom job.held.mode (job.held.bytes ++ []) closed × (commands ≡ with_exit closed))) exited owes.1
+no_commands : (job : JobState) (bytes : List ℕ) (commands : List Token) → job.exited ≡ true → Owes job bytes commands → commands ≡ []
+no_commands job bytes commands exited owes =
+    subst (λ (out : Bool). MatchBool out (commands ≡ []) ((closed : List Token) × ClosedFrom job.held.mode (job.held.bytes ++ bytes) closed × (commands ≡ with_exit closed))) exited owes.1
 
-nothing_left : (job : JobState) (items : List Run) → job.bodies ≡ [] → job.exited ≡ true → LeftOf job items → items ≡ []
-nothing_left job items idle exited is =
+nothing_left : (job : JobState) (bytes : List ℕ) (items : List Run) → job.bodies ≡ [] → job.exited ≡ true → LeftWith job bytes items → items ≡ []
+nothing_left job bytes items idle exited is =
     is.are
-    ∙ ap (λ (commands : List Token). left commands job.bodies is.from) (no_commands job is.commands exited is.owes)
+    ∙ ap (λ (commands : List Token). left commands job.bodies is.from) (no_commands job bytes is.commands exited is.owes)
     ∙ left-none job.bodies is.from
     ∙ ap (λ (bodies : List Frame). owed bodies is.from) idle
 
-left_over : (job : JobState) (items : List Run) → IsOver job → LeftOf job items → items ≡ []
-left_over job items over is = nothing_left job items over.idle over.exited is
+left_over : (job : JobState) (bytes : List ℕ) (items : List Run) → IsOver job → LeftWith job bytes items → items ≡ []
+left_over job bytes items over is = nothing_left job bytes items over.idle over.exited is
+
+-- ---- what comes in
+
+left_opens : (bytes : List ℕ) (closed : List Token) → Closed bytes closed → LeftWith opened bytes (trace (with_exit closed) power_on)
+left_opens bytes closed is = record {
+  from = power_on;
+  starts = refl;
+  commands = with_exit closed;
+  owes = (λ ended. absurd (false≢true ended), (closed, is, refl));
+  are = refl;
+}
+
+left_pushes : (job : JobState) (piece more : List ℕ) (items : List Run) → job.held.ended ≡ false → LeftWith job (piece ++ more) items → LeftWith (with_piece piece job) more items
+left_pushes job piece more items going is = record {
+  from = is.from;
+  starts = is.starts;
+  commands = is.commands;
+  owes = (
+    λ ended. absurd (false≢true (sym going ∙ ended)),
+    subst (λ (all : List ℕ). MatchBool job.exited (is.commands ≡ []) ((closed : List Token) × ClosedFrom job.held.mode all closed × (is.commands ≡ with_exit closed)))
+        (sym (append_assoc job.held.bytes piece more)) is.owes.1,
+  );
+  are = is.are;
+}
+
+left_ends : (job : JobState) (items : List Run) → LeftWith job [] items → LeftWith (input_ended job) [] items
+left_ends job items is = record { from = is.from; starts = is.starts; commands = is.commands; owes = (λ _. refl, is.owes.1); are = is.are }
 
 pub left_goes_on : LeftGoesOn
-left_goes_on = record { steps = left_steps; over = left_over }
+left_goes_on = record { opens = left_opens; pushes = left_pushes; ends = left_ends; steps = left_steps; over = left_over }
 
 -- something is owed by bodies of which the innermost has a command
 some-then : (items others : List Run) → items ++ others ≡ [] → items ≡ []
@@ -101,26 +129,27 @@ exit_owes [] bodies machine none = command_owes _ [] bodies machine none
 exit_owes (command ∷ closed) bodies machine none = command_owes command (with_exit closed) bodies machine none
 
 -- Before the exit something is left.
-pub left_before_exit : (job : JobState) (items : List Run) → job.exited ≡ false → LeftOf job items → items ≡ [] → ⊥
-left_before_exit job items going is none =
-    let some = subst (λ (out : Bool). MatchBool out (is.commands ≡ []) ((closed : List Token) × ClosedFrom job.held.mode (job.held.bytes ++ []) closed × (is.commands ≡ with_exit closed))) going is.owes.1 in
+pub left_before_exit : (job : JobState) (bytes : List ℕ) (items : List Run) → job.exited ≡ false → LeftWith job bytes items → items ≡ [] → ⊥
+left_before_exit job bytes items going is none =
+    let some = subst (λ (out : Bool). MatchBool out (is.commands ≡ []) ((closed : List Token) × ClosedFrom job.held.mode (job.held.bytes ++ bytes) closed × (is.commands ≡ with_exit closed))) going is.owes.1 in
     exit_owes some.0 job.bodies is.from (ap (λ (commands : List Token). left commands job.bodies is.from) (sym some.2) ∙ sym is.are ∙ none)
 
 -- While a body runs something is left.
-pub left_inside : (job : JobState) (items : List Run) → HasNext job.bodies → LeftOf job items → items ≡ [] → ⊥
-left_inside job items next is none =
+pub left_inside : (job : JobState) (bytes : List ℕ) (items : List Run) → HasNext job.bodies → LeftWith job bytes items → items ≡ [] → ⊥
+left_inside job bytes items next is none =
     ready_owes job.bodies is.from next (some-then (owed job.bodies is.from) _ (sym is.are ∙ none))
 
 -- whether something is left, by what tells whether a body runs, and before the exit
-pub tells_left : (job : JobState) (idle : Bool) (items : List Run) → (IsTrue idle ↔ (job.bodies ≡ [])) → IsReady job.bodies → job.exited ≡ true → LeftOf job items → IsTrue idle ↔ (items ≡ [])
-tells_left job idle items tells ready exited is =
-    (λ still. nothing_left job items (tells.0 still) exited is, λ none. by_ready none ready) where
+pub tells_left : (job : JobState) (idle : Bool) (bytes : List ℕ) (items : List Run) → (IsTrue idle ↔ (job.bodies ≡ [])) → IsReady job.bodies → job.exited ≡ true → LeftWith job bytes items
+    → IsTrue idle ↔ (items ≡ [])
+tells_left job idle bytes items tells ready exited is =
+    (λ still. nothing_left job bytes items (tells.0 still) exited is, λ none. by_ready none ready) where
       by_ready : items ≡ [] → IsReady job.bodies → IsTrue idle
       by_ready none (inl empty) = tells.1 empty
-      by_ready none (inr next) = absurd (left_inside job items next is none)
+      by_ready none (inr next) = absurd (left_inside job bytes items next is none)
 
-pub tells_before : (job : JobState) (items : List Run) → job.exited ≡ false → LeftOf job items → IsTrue false ↔ (items ≡ [])
-tells_before job items going is = (λ e. absurd (false≢true e), λ none. absurd (left_before_exit job items going is none))
+pub tells_before : (job : JobState) (bytes : List ℕ) (items : List Run) → job.exited ≡ false → LeftWith job bytes items → IsTrue false ↔ (items ≡ [])
+tells_before job bytes items going is = (λ e. absurd (false≢true e), λ none. absurd (left_before_exit job bytes items going is none))
 
 pub not_exited : (phase : Phase) → phase ≢ phases.Exited → is_exited phase ≡ false
 not_exited phases.Running other = refl

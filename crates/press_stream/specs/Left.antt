@@ -1,31 +1,42 @@
--- What is left of a job once its input ended.
-use Rattle.std.specs.Prelude.{◌≡◌, List, [], ◌∷◌, Some, ℕ}
+-- What is left of a job, with the bytes that are still to come.
+use Rattle.std.specs.Prelude.{◌≡◌, List, [], ◌∷◌, ◌++◌, Some, false, ℕ}
+use Rattle.press_cmd.specs.Split.{Closed}
 use Rattle.press_cmd.specs.Token.{Token}
 use Rattle.press_cmd.specs.declared.variant.Kind.{Kind}
 use Rattle.press_sink.specs.Told.{Told}
 use Rattle.press_engine.specs.declared.machine.Machine.{Machine}
-use Rattle.press_engine.specs.Machine.{Run}
-use Rattle.press_stream.specs.State.{JobState, IsOver}
-use Rattle.press_stream.specs.Meaning.{left, Owes}
+use Rattle.press_engine.specs.Machine.{Run, power_on}
+use Rattle.press_engine.specs.Trace.{trace}
+use Rattle.press_stream.specs.State.{JobState, IsOver, opened, with_piece, input_ended}
+use Rattle.press_stream.specs.Meaning.{left, Owes, with_exit}
 use Rattle.press_stream.specs.Answers.{RanOne}
 
--- These items are left of a job where no more bytes come: those that its bodies owe, and those of the commands that it still
--- has to carry out.
-pub record LeftOf (job : JobState) (items : List Run) : Type 0 where
+-- These items are left of a job where these bytes are still to come, and then its end: those that its bodies owe, and those of
+-- the commands that it still has to carry out.
+pub record LeftWith (job : JobState) (bytes : List ℕ) (items : List Run) : Type 0 where
   pub from : Machine
   pub starts : job.machine ≡ Some from
   pub commands : List Token
-  pub owes : Owes job [] commands
+  pub owes : Owes job bytes commands
   pub are : items ≡ left commands job.bodies from
 
+-- the same, where no more bytes come
+abbrev pub LeftOf : JobState → List Run → Type 0
+LeftOf job items = LeftWith job [] items
+
 -- A step does the first of the items that are left, and the others are left behind it.
-pub record StepsOn (new : JobState) (items : List Run) (item : Run) : Type 0 where
+pub record StepsOn (new : JobState) (bytes : List ℕ) (items : List Run) (item : Run) : Type 0 where
   pub others : List Run
   pub are : items ≡ item ∷ others
-  pub still : LeftOf new others
+  pub still : LeftWith new bytes others
 
--- What is left of a job, from step to step: a step does the first item; and nothing is left of a job that is over.
+-- What is left of a job, from call to call: at the beginning the items of all bytes that come; a piece that is pushed and the end
+-- of input leave what was left; a step does the first item; and nothing is left of a job that is over.
 pub record LeftGoesOn : Type 0 where
-  pub steps : (old new : JobState) (tag : ℕ) (kind : Kind) (before after : Told) (items : List Run)
-      → LeftOf old items → (ran : RanOne old tag kind new before after) → StepsOn new items ran.item
-  pub over : (job : JobState) (items : List Run) → IsOver job → LeftOf job items → items ≡ []
+  pub opens : (bytes : List ℕ) (closed : List Token) → Closed bytes closed → LeftWith opened bytes (trace (with_exit closed) power_on)
+  pub pushes : (job : JobState) (piece more : List ℕ) (items : List Run)
+      → job.held.ended ≡ false → LeftWith job (piece ++ more) items → LeftWith (with_piece piece job) more items
+  pub ends : (job : JobState) (items : List Run) → LeftWith job [] items → LeftWith (input_ended job) [] items
+  pub steps : (old new : JobState) (tag : ℕ) (kind : Kind) (before after : Told) (bytes : List ℕ) (items : List Run)
+      → LeftWith old bytes items → (ran : RanOne old tag kind new before after) → StepsOn new bytes items ran.item
+  pub over : (job : JobState) (bytes : List ℕ) (items : List Run) → IsOver job → LeftWith job bytes items → items ≡ []

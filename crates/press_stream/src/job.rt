@@ -43,12 +43,12 @@ impl Model for Job {
 }
 
 impl Job {
-    ghost use Rattle.std.specs.Prelude.{◌≡◌, ◌≢◌, ◌<◌, ◌≤◌, ◌↔◌, List, [], length, take, false, None, IfOk, IfSome, IsTrue, IsSome, IsErrOf};
+    ghost use Rattle.std.specs.Prelude.{◌≡◌, ◌≢◌, ◌<◌, ◌≤◌, ◌↔◌, ℕ, List, [], length, take, false, None, IfOk, IfSome, IsTrue, IsSome, IsErrOf};
     ghost use Rattle.press_sink.specs.Told.{both, CanCount};
     ghost use Rattle.press_engine.specs.Engine.{view_of};
     ghost use Rattle.press_engine.specs.Machine.{Run};
     ghost use Rattle.press_engine.specs.Stack.{IsReady};
-    ghost use Rattle.press_stream.specs.Left.{LeftOf};
+    ghost use Rattle.press_stream.specs.Left.{LeftWith};
     ghost use Rattle.press_stream.specs.State.{opened, with_piece, input_ended, IsHungry, IsOver, IsAfterEnd};
     ghost use Rattle.press_stream.specs.Answers.{Pushes, IsGoing, IsEarly, Takes, WantsMemory, RunsOut, Drains, ComesToWant, Feeds, Finishes, RunsReader};
     ghost use Rattle.press_stream.specs.Pieces.{most_reads, no_reads, HasFault};
@@ -164,7 +164,7 @@ impl Job {
     /// Whether no step is left. Before the end of input, and in a job that has failed, it is false.
     pub fn ended(&self) -> bool
         ensures over { IsTrue result ↔ IsOver self.now }
-        ensures left { (items : List Run) → LeftOf self.now items
+        ensures left { (bytes : List ℕ) (items : List Run) → LeftWith self.now bytes items
             → IsTrue result ↔ (items ≡ []) }
     {
         match self.phase {

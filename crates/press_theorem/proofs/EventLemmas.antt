@@ -12,9 +12,10 @@ use Rattle.press_core.specs.declared.operator.OperatorCommand.{OperatorCommand}
 use Rattle.press_core.specs.declared.turn.Turn.{Turn}
 use Rattle.press_core.specs.declared.turn.TurnError.{TurnError}
 use Rattle.press_core.specs.Events.{Event, Message, TurnOf, Operator, EventAnswer, Response, Turned, Nothing, Happening, Happens, Leads, response_to}
+use Rattle.press_core.specs.Laws.{EntriesAreBounded, SheetsAreGiven}
 use Rattle.press_core.specs.Turns.{FaultsAfter, WereHandedOut}
-use Rattle.press_core.specs.World.{World}
-use Rattle.press_theorem.specs.Events.{HappenAll, line_of}
+use Rattle.press_core.specs.World.{World, empty_world}
+use Rattle.press_theorem.specs.Events.{HappenAll, HappenFromNew, line_of}
 
 Leads-join : (world middle last : World) (happenings others : List Happening) → Leads world happenings middle → Leads middle others last → Leads world (happenings ++ others) last
 Leads-join world middle last [] others first second = subst (λ (w : World). Leads w others last) first second
@@ -101,3 +102,15 @@ events-next {A} f events i event inside is =
 -- the sink can count as before
 pub can_count-then : (before after : SheetsTold) → after.faults ≡ before.faults → before.faults < most_faults → after.faults < most_faults
 can_count-then before after is can = subst (λ (n : ℕ). n < most_faults) (sym is) can
+
+-- ---- from a new press
+
+pub from-new : SheetsAreGiven → EntriesAreBounded → (start : World) (events : List Event) (last : World) (before after : SheetsTold) (old new : List ℕ) → start ≡ empty_world
+    → HappenAll start events last before after old new → HappenFromNew events last before after old new
+from-new given bounded start events last before after old new is all =
+    let happened = subst (λ (w : World). HappenAll w events last before after old new) is all in
+    record {
+      happened = happened;
+      given = λ number. given.under happened.happenings last number happened.leads;
+      queue = bounded.queue happened.happenings last happened.leads;
+    }

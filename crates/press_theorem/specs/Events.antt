@@ -1,9 +1,11 @@
 -- What happens to a press, one event after another.
 use Rattle.std.specs.Prelude.{◌≡◌, ℕ, List, [], ◌∷◌, ◌++◌, Some, map, option_map}
 use Rattle.std.specs.List.{flat_map}
+use Rattle.press_queue.specs.EveryQueue.{IsQueue}
 use Rattle.press_sink.specs.Told.{SheetsTold}
 use Rattle.press_core.specs.Events.{Event, Message, TurnOf, Operator, EventAnswer, Response, Happening, Leads}
-use Rattle.press_core.specs.World.{World}
+use Rattle.press_core.specs.Laws.{GivenUnder}
+use Rattle.press_core.specs.World.{World, empty_world}
 use Rattle.press_theorem.specs.declared.events.PressEvent.{PressEvent}
 use Rattle.press_theorem.specs.declared.events.PressEvent.TheVariants as events
 
@@ -27,3 +29,10 @@ pub record HappenAll (world : World) (events : List Event) (last : World) (befor
   pub told : after.delivered ≡ option_map (λ all. all ++ flat_map (λ happening. happening.handed) happenings) before.delivered
   pub no_fault : after.faults ≡ before.faults
   pub responses : new ≡ old ++ flat_map (λ happening. line_of happening.answer) happenings
+
+-- They happened one after another to a new press. Under each number was handed out what its entry says, as it was seen last; and the
+-- queue is as every queue is.
+pub record HappenFromNew (events : List Event) (last : World) (before after : SheetsTold) (old new : List ℕ) : Type 0 where
+  pub happened : HappenAll empty_world events last before after old new
+  pub given : (number : ℕ) → GivenUnder happened.happenings last number
+  pub queue : IsQueue last.queue

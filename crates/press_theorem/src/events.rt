@@ -1,10 +1,11 @@
 //! What happens to a press, one event after another (CIP4 JDF 1.5, the queue and JMF messages).
 ghost use Rattle.std.specs.Prelude.{◌≡◌, ◌<◌, [], ◌∷◌, ◌++◌, OnOk, map};
 ghost use Rattle.press_sink.specs.Told.{most_faults};
-ghost use Rattle.press_theorem.specs.Events.{HappenAll, event_of};
+ghost use Rattle.press_core.specs.World.{empty_world};
+ghost use Rattle.press_theorem.specs.Events.{HappenAll, HappenFromNew, event_of};
 
 use press_bits::Bitmap;
-use press_core::{OperatorCommand, Press, TurnError};
+use press_core::{OperatorCommand, Press, TurnError, laws};
 use press_sink::SheetSink;
 use std::alloc::AllocError;
 
@@ -26,6 +27,9 @@ pub enum PressEvent<'a> {
 /// turns and commands of the operator come, the press goes from world to world as its rows say, and the sink takes the sheets
 /// that are handed out, each under the number of its entry, and nothing else.
 ///
+/// To a new press they happen by the laws of every run: what was handed out under the number of an entry in flight are the sheets of
+/// the steps that were taken of its job, of a completed one all sheets that its ticket wants, of every other one a front of those.
+///
 /// # Errors
 ///
 /// `SinkFault` (301) and `NoMemory`: the events before it happened. Of the turn that met it the entry is aborted, as
@@ -37,9 +41,14 @@ pub fn carry_out_events<S: SheetSink>(
     responses: &mut Vec<u8>,
 ) -> Result<(), TurnError>
     requires { (S.told sheets.old).faults < most_faults }
-    ensures { OnOk result (HappenAll press.old (map event_of events.now) press.new
+    ensures all { OnOk result (HappenAll press.old (map event_of events.now) press.new
+        (S.told sheets.old) (S.told sheets.new) responses.old.items responses.new.items) }
+    ensures from_new { OnOk result (press.old ≡ empty_world
+        → HappenFromNew (map event_of events.now) press.new
         (S.told sheets.old) (S.told sheets.new) responses.old.items responses.new.items) }
 {
+    laws::sheets_are_given();
+    laws::entries_are_bounded();
     for event in events {
         carry_out(press, *event, sheets, responses)?;
     }

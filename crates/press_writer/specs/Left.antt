@@ -14,6 +14,10 @@ use Rattle.press_writer.specs.Picture.{raster_rows, row_before, rows_from}
 use Rattle.press_writer.specs.Sequences.{command, written}
 use Rattle.press_writer.specs.Wanted.{image_of}
 
+-- no job of a ticket has more commands
+abbrev pub most_job_commands : ℕ
+most_job_commands = 4000000000000
+
 -- On what the job prints; what is left of the page that is begun, if one is; and the parts that are not begun.
 pub record JobLeft : Type 0 where
   pub media : Media

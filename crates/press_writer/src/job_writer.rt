@@ -1,11 +1,13 @@
 //! A job that is written piece by piece.
 
-ghost use Rattle.std.specs.Prelude.{◌≡◌, ◌<◌, None, Some, Err, IfOk, IfErr, IfSome, OnErr, length};
+ghost use Rattle.std.specs.Prelude.{◌≡◌, ◌≤◌, ◌<◌, List, None, Some, Err, IfOk, IfErr, IfSome, OnOk, OnErr, length};
+ghost use Rattle.press_cmd.specs.Split.{Closed};
+ghost use Rattle.press_cmd.specs.Token.{Token};
 ghost use Rattle.press_writer.specs.declared.fault.WriterError.TheVariants.{NoMemory};
 ghost use Rattle.press_writer.specs.Fitting.{refusal};
 ghost use Rattle.press_writer.specs.Inside.{AppendsSome};
 ghost use Rattle.press_writer.specs.Job.{FitsPart, commands_of_part, job_bytes, page};
-ghost use Rattle.press_writer.specs.Left.{whole_job, rest_of_begun, bytes_left, HasImages, GivesPiece};
+ghost use Rattle.press_writer.specs.Left.{whole_job, rest_of_begun, bytes_left, most_job_commands, HasImages, GivesPiece};
 ghost use Rattle.press_writer.specs.Printing.{PrintsTheTicket};
 ghost use Rattle.press_writer.specs.Wanted.{image_of};
 
@@ -132,6 +134,9 @@ impl JobWriter {
         ensures bytes { IfOk result (λ writer.
             bytes_left writer images.now ≡ job_bytes ticket.now images.now) }
         ensures images { IfOk result (HasImages (length images.now)) }
+        ensures few { OnOk result ((commands : List Token)
+            → Closed (job_bytes ticket.now images.now) commands
+            → length commands ≤ most_job_commands) }
         ensures refused { IfSome (refusal ticket.now images.now) (λ error. result ≡ Err error) }
         ensures prints { refusal ticket.now images.now ≡ None
             → PrintsTheTicket ticket.now images.now (job_bytes ticket.now images.now) }

@@ -1,7 +1,7 @@
 use Rattle.std.proofs.Common.{◌+◌, [], ◌∷◌, map, take, subst}
 use Rattle.std.proofs.lemmas.List.{take_all}
 use Rattle.press_theorem.specs.Events.{HappenAll, event_of}
-use Rattle.press_theorem.proofs.EventLemmas.{HappenAll-none, HappenAll-then, events-next, can_count-then}
+use Rattle.press_theorem.proofs.EventLemmas.{HappenAll-none, HappenAll-then, can_count-then, events-next, from-new}
 use Rattle.press_theorem.proofs.events.carry_out_events.Goals as goal
 
 pub loop-event-init : goal.loop-event-init
@@ -23,9 +23,17 @@ loop-event-preserved g c =
       can_count = can_count-then (told c.loop-event.sheets) (told c.carry_out.new.sheets) more.no_fault so_far.can_count;
     }
 
-pub returns : goal.returns
-returns g c =
+pub returns-clause-all : goal.returns-clause-all
+returns-clause-all g c =
     let told = g.S.SheetSink.told in
     let events = c.args.events.now in
     let i = c.loop-event.event-index in
     subst (λ (some : _). HappenAll c.args.press.now (map event_of some) c.loop-event.press (told c.args.sheets.now) (told c.loop-event.sheets) c.args.responses.now.items c.loop-event.responses.items) (take_all i events c.loop-event-test.false) c.loop-event.invariant.happened
+
+pub returns-clause-from_new : goal.returns-clause-from_new
+returns-clause-from_new g c = λ new.
+    let told = g.S.SheetSink.told in
+    let events = c.args.events.now in
+    let i = c.loop-event.event-index in
+    from-new c.sheets_are_given.ensures c.entries_are_bounded.ensures c.args.press.now (map event_of events) c.loop-event.press (told c.args.sheets.now) (told c.loop-event.sheets) c.args.responses.now.items c.loop-event.responses.items new
+    (subst (λ (some : _). HappenAll c.args.press.now (map event_of some) c.loop-event.press (told c.args.sheets.now) (told c.loop-event.sheets) c.args.responses.now.items c.loop-event.responses.items) (take_all i events c.loop-event-test.false) c.loop-event.invariant.happened)

@@ -2,7 +2,7 @@ use Rattle.std.proofs.Common.{◌<◌, ◌∙◌, List, Some, length, subst, sym
 use Rattle.press_engine.specs.Machine.{Run}
 use Rattle.press_sink.specs.Kept.{deliveries}
 use Rattle.press_core.specs.Inside.{work_of}
-use Rattle.press_core.specs.Jobs.{Advances}
+use Rattle.press_core.specs.Jobs.{Advances, IsAt, JobGoesOn}
 use Rattle.press_core.specs.Turns.{IsJobOf, place_in_job}
 use Rattle.press_core.specs.Work.{Work, at_place}
 use Rattle.press_core.proofs.StandLemmas.{may_go_on, advances, on_err}
@@ -10,8 +10,10 @@ use Rattle.press_core.proofs.work.Work.advance.Goals as goal
 
 pub step-requires : goal.step-requires
 step-requires c = record {
-  at = may_go_on (work_of c.self.inside) c.self.inside.running c.in-Some.running (sym c.take.ensures.value ∙ c.in-Some.is) refl c.self.invariant.stands
-      (subst (λ (w : Work). (items : List Run) → IsJobOf w items → place_in_job w < length items) (sym c.self.view_is) c.requires.going);
+  at =
+      subst (λ images. (items : List Run) × IsAt items images c.in-Some.running × (c.in-Some.running.steps < length items)) (sym c.deref.ensures.value)
+      (may_go_on (work_of c.self.inside) c.self.inside.running c.in-Some.running (sym c.take.ensures.value ∙ c.in-Some.is) refl c.self.invariant.stands
+      (subst (λ (w : Work). (items : List Run) → IsJobOf w items → place_in_job w < length items) (sym c.self.view_is) c.requires.going));
 }
 
 pub returns-in_err-sheets-clause-err : goal.returns-in_err-sheets-clause-err
@@ -21,4 +23,6 @@ pub returns-clause-ok : goal.returns-clause-ok
 returns-clause-ok c =
     subst (λ (w : Work). Advances c.args.number w (at_place c.step.new.self.steps (work_of c.self.inside)) (deliveries c.in_ok-sheets.sheets)) c.self.view_is
     (λ items job. advances (work_of c.self.inside) c.self.inside.running c.in-Some.running c.step.new.self c.args.number (deliveries c.in_ok-sheets.sheets)
-    (sym c.take.ensures.value ∙ c.in-Some.is) refl c.self.invariant.stands c.in_ok-sheets.ensures items job)
+    (sym c.take.ensures.value ∙ c.in-Some.is) refl c.self.invariant.stands
+    (subst (λ images. (items : List Run) → IsAt items images c.in-Some.running → JobGoesOn items images c.args.number c.in-Some.running c.step.new.self (deliveries c.in_ok-sheets.sheets))
+    c.deref.ensures.value c.in_ok-sheets.ensures) items job)

@@ -1,0 +1,100 @@
+-- What a history tells of its numbers, computed: entry 1 takes two turns, is completed and removed; entry 2 meets a fault in its turn.
+use Rattle.std.proofs.Common.{◌≡◌, ℕ, List, [], ◌∷◌, Some, None, Ok, Err, true, false, refl}
+use Rattle.press_bits.specs.Page.{blank}
+use Rattle.press_queue.specs.declared.entry.Entry.{Entry}
+use Rattle.press_queue.specs.declared.status.Status.TheVariants.{Running, Completed, Aborted}
+use Rattle.press_queue.specs.State.{QueueState}
+use Rattle.press_queue.specs.Status.{new_entry}
+use Rattle.press_sink.specs.Sides.{Sides}
+use Rattle.press_core.specs.declared.turn.TurnError.TheVariants.{SinkFault}
+use Rattle.press_core.specs.Events.{Happening, Message, Response, TurnOf, Turned}
+use Rattle.press_core.specs.History.{entering, handed_in, last_seen, met_fault, steps_in}
+use Rattle.press_core.specs.Work.{Work}
+use Rattle.press_core.specs.World.{World, empty_world}
+
+abbrev sheet_of : (width : ℕ) → Sides
+sheet_of width = record { front = blank width 1; back = None }
+
+abbrev queue_with : List (ℕ × Entry) → QueueState
+queue_with entries = record { entries = entries; held = false; closed = false; last = 2 }
+
+abbrev world_with : List (ℕ × Entry) → List (ℕ × Work) → World
+world_with entries works = record { queue = queue_with entries; paused = false; works = works }
+
+abbrev running_entry : Entry
+running_entry = record { priority = 50; status = Running; begun = true }
+
+abbrev completed_entry : Entry
+completed_entry = record running_entry { status = Completed }
+
+abbrev aborted_entry : Entry
+aborted_entry = record running_entry { status = Aborted }
+
+-- two entries come; 1 takes three steps, and then its last two; it is removed; the turn of 2 has a fault
+abbrev both_come : (one two : Work) → Happening
+both_come one two =
+    record { event = Message [] []; answer = Response (Some []); handed = []; next = world_with ((1, new_entry 50) ∷ (2, new_entry 50) ∷ []) ((1, one) ∷ (2, two) ∷ []) }
+
+abbrev first_turn : (one two : Work) → Happening
+first_turn one two = record {
+  event = TurnOf 3;
+  answer = Turned (Ok (record { entry = Some 1; steps = 3 }));
+  handed = record { tag = 1; sheet = sheet_of 1 } ∷ [];
+  next = world_with ((1, running_entry) ∷ (2, new_entry 50) ∷ []) ((1, one) ∷ (2, two) ∷ []);
+}
+
+abbrev last_turn : (one two : Work) → Happening
+last_turn one two = record {
+  event = TurnOf 3;
+  answer = Turned (Ok (record { entry = Some 1; steps = 2 }));
+  handed = record { tag = 1; sheet = sheet_of 2 } ∷ [];
+  next = world_with ((1, completed_entry) ∷ (2, new_entry 50) ∷ []) ((1, one) ∷ (2, two) ∷ []);
+}
+
+abbrev removal : (two : Work) → Happening
+removal two = record { event = Message [] []; answer = Response (Some []); handed = []; next = world_with ((2, new_entry 50) ∷ []) ((2, two) ∷ []) }
+
+abbrev failed_turn : (two : Work) → Happening
+failed_turn two = record {
+  event = TurnOf 3;
+  answer = Turned (Err SinkFault);
+  handed = record { tag = 2; sheet = sheet_of 3 } ∷ [];
+  next = world_with ((2, aborted_entry) ∷ []) ((2, two) ∷ []);
+}
+
+abbrev history : (one two : Work) → List Happening
+history one two = both_come one two ∷ first_turn one two ∷ last_turn one two ∷ removal two ∷ failed_turn two ∷ []
+
+-- what was handed out under each number
+pub handed_of_one : (one two : Work) → handed_in 1 (history one two) ≡ sheet_of 1 ∷ sheet_of 2 ∷ []
+handed_of_one one two = refl
+
+pub handed_of_two : (one two : Work) → handed_in 2 (history one two) ≡ sheet_of 3 ∷ []
+handed_of_two one two = refl
+
+-- an entry that left was seen last as it stood before; a number without an entry never
+pub completed_one : (one two : Work) → last_seen 1 (history one two) ≡ Some (record { entry = completed_entry; work = one })
+completed_one one two = refl
+
+pub aborted_two : (one two : Work) → last_seen 2 (history one two) ≡ Some (record { entry = aborted_entry; work = two })
+aborted_two one two = refl
+
+pub never_three : (one two : Work) → last_seen 3 (history one two) ≡ None
+never_three one two = refl
+
+-- both entered with the first event
+pub entered_two : (one two : Work) → entering 2 (history one two) ≡ Some (both_come one two)
+entered_two one two = refl
+
+-- steps and faults of their own turns
+pub steps_of_one : (one two : Work) → steps_in 1 (history one two) ≡ 5
+steps_of_one one two = refl
+
+pub steps_of_two : (one two : Work) → steps_in 2 (history one two) ≡ 0
+steps_of_two one two = refl
+
+pub no_fault_of_one : (one two : Work) → met_fault 1 empty_world (history one two) ≡ false
+no_fault_of_one one two = refl
+
+pub fault_of_two : (one two : Work) → met_fault 2 empty_world (history one two) ≡ true
+fault_of_two one two = refl
