@@ -1,5 +1,5 @@
 -- A job at its place, and its next step.
-use Rattle.std.proofs.Common.{◌≡◌, ◌∙◌, ◌+◌, ◌<◌, ◌≤◌, ◌++◌, ◌↔◌, ℕ, zero, suc, List, [], ◌∷◌, length, take, drop, nat_eq, Bool, true, false, if◌then◌else◌, Option, Some, IsTrue, option_map, Result, Ok, Err, is_err, refl, sym, ap, subst, arith, rules, length-append}
+use Rattle.std.proofs.Common.{◌≡◌, ◌∙◌, ◌+◌, ◌<◌, ◌≤◌, ◌++◌, ◌↔◌, ℕ, zero, suc, List, [], ◌∷◌, length, take, drop, nat_eq, Bool, true, false, Some, IsTrue, option_map, Result, Ok, Err, is_err, refl, sym, ap, subst, arith, rules, length-append}
 use Rattle.std.proofs.lemmas.Bool.{true≢false}
 use Rattle.std.proofs.lemmas.Option.{same_Some}
 use Rattle.press_bits.specs.Page.{Page}
@@ -26,7 +26,7 @@ use Rattle.press_writer.specs.Left.{JobLeft, HasImages, bytes_left, most_job_com
 use Rattle.press_writer.specs.Printing.{PrintsTheTicket}
 use Rattle.press_core.specs.declared.work.RunningJob.{RunningJob}
 use Rattle.press_core.specs.Jobs.{IsAt, JobGoesOn, end_to_come, still_to_come}
-use Rattle.press_core.specs.Turns.{IsJobOf, machine_at, sheets_from}
+use Rattle.press_core.specs.Turns.{IsJobOf, sheets_from}
 use Rattle.press_core.specs.Work.{Work}
 
 -- ---- the items of a job are one list

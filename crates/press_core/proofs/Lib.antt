@@ -10,6 +10,7 @@ mod HandingLemmas
 mod JobLemmas
 mod MessageChanges
 mod RunLemmas
+mod RepeatLemmas
 mod SoundLemmas
 mod StandLemmas
 mod Standings

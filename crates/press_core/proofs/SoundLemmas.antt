@@ -1,7 +1,7 @@
 -- What each row of the queue leaves of a press: entries and their works go together.
-use Rattle.std.proofs.Common.{◌≡◌, ℕ, ℤ, ◌+◌, ◌&&◌, ◌||◌, ◌⊎◌, inl, inr, not, Bool, true, false, if◌then◌else◌, List, [], ◌∷◌, ◌++◌, Option, Some, None, Result, Ok, Err, is_some, nat_eq, nat_le, insert, option_map, refl, sym, ap, subst, ◌∙◌, arith, rules, length, find, filter, is_ok, IfSome, IsTrue, cond, true≢false}
+use Rattle.std.proofs.Common.{◌≡◌, ℕ, ℤ, ◌+◌, ◌&&◌, ◌||◌, ◌⊎◌, inl, inr, not, Bool, true, false, if◌then◌else◌, List, [], ◌∷◌, ◌++◌, Option, Some, None, Result, Ok, Err, is_some, nat_eq, nat_le, insert, option_map, refl, sym, ap, subst, ◌∙◌, arith, rules, length, find, is_ok, IfSome, IsTrue, cond, true≢false}
 use Rattle.std.specs.List.{IsDistinct}
-use Rattle.std.specs.Map.{keys_of, lookup, remove_entry, set_value}
+use Rattle.std.specs.Map.{keys_of, lookup, set_value}
 use Rattle.std.specs.Option.{option_map_or}
 use Rattle.std.proofs.lemmas.Bool.{eqb-true}
 use Rattle.std.proofs.lemmas.Cmp.{nat_eq_equiv}
@@ -24,7 +24,7 @@ use Rattle.press_queue.specs.Priority.{priority_of, position_within}
 use Rattle.press_queue.specs.Rows as rows
 use Rattle.press_queue.specs.State.{QueueState}
 use Rattle.press_queue.specs.Status.{has_ended, is_running, new_entry, status_at_end}
-use Rattle.press_core.specs.Inside.{AreTogether, GoTogether, IsSound}
+use Rattle.press_core.specs.Inside.{GoTogether, IsSound}
 use Rattle.press_core.specs.Work.{Work}
 use Rattle.press_core.specs.World.{is_listed, works_listed, works_without_job}
 use Rattle.press_core.proofs.EntryLemmas.{added_lookup, first_is_numbered, inserted_lookup, moved_lookup, removed_lookup, set_lookup}

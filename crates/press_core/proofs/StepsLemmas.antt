@@ -3,7 +3,6 @@ use Rattle.std.proofs.Common.{◌≡◌, ◌∙◌, ◌+◌, ◌-◌, ◌<◌, �
 use Rattle.std.proofs.Math.Seq.{take-add}
 use Rattle.std.proofs.lemmas.List.{append_assoc, append-nil, drop-drop, map-append}
 use Rattle.press_engine.specs.Machine.{Run}
-use Rattle.press_engine.specs.Counts.{counted}
 use Rattle.press_engine.specs.Trace.{joined}
 use Rattle.press_sink.specs.declared.sheet.Delivery.{Delivery}
 use Rattle.press_sink.specs.Sending.{sheets_of, under_tag, sheets_in}
@@ -16,7 +15,7 @@ use Rattle.press_core.specs.Handing.{HandsOver, TakesSteps}
 use Rattle.press_core.specs.Jobs.{Advances}
 use Rattle.press_core.specs.Turns.{IsJobOf, WereHandedOut, place_in_job, sheets_from, steps_from}
 use Rattle.press_core.specs.Work.{Work, at_place, counting, with_delivered, without_job}
-use Rattle.press_core.proofs.HandingLemmas.{handed_twice}
+use Rattle.press_core.proofs.HandingLemmas.{counting-append, handed_twice}
 use Rattle.press_core.proofs.JobLemmas.{IsJobOf-some}
 
 -- ---- the sheets of steps
@@ -115,10 +114,6 @@ handed_on : {A B : Type 0} (number : ℕ) (sheets handed : List Sides) (done : A
 handed_on number sheets handed done result before between after first second =
     subst (λ l. WereHandedOut l result before after) (sym (map-append (λ (sheet : Sides). record { tag = number; sheet = sheet }) sheets handed))
     (handed_twice (under_tag number sheets) (under_tag number handed) done result before between after first second)
-
-counting-append : (sheets others : List Sides) (count : ℕ) → counting (sheets ++ others) count ≡ counting others (counting sheets count)
-counting-append [] others count = refl
-counting-append (sheet ∷ sheets) others count = counting-append sheets others (counted count 1)
 
 -- the count after the sheets so far and those of a step
 counts_on : (number taken : ℕ) (old now next : Work) (deliveries : List Delivery) (result : Result (Unit {0}) TurnError) (before between after : SheetsTold) (count : ℕ)

@@ -1,5 +1,5 @@
 -- Turns: the entry that begins, and what its steps leave of the press.
-use Rattle.std.proofs.Common.{◌≡◌, ℕ, ◌+◌, Bool, true, false, List, [], ◌∷◌, Option, Some, None, Result, Ok, Err, IsSome, IsTrue, OnErr, is_some, nat_eq, cond, if◌then◌else◌, length, option_and_then, ◌==◌, refl, sym, ap, subst, ◌∙◌, arith, rules, true≢false}
+use Rattle.std.proofs.Common.{◌≡◌, ℕ, ◌+◌, Bool, true, false, List, [], Option, Some, None, Result, Ok, Err, IsSome, IsTrue, OnErr, is_some, nat_eq, if◌then◌else◌, length, option_and_then, ◌==◌, refl, sym, ap, subst, ◌∙◌, arith, rules, true≢false}
 use Rattle.std.specs.declared.alloc.AllocError.{AllocError}
 use Rattle.std.specs.List.{IsDistinct}
 use Rattle.std.specs.Map.{keys_of, lookup, set_value}

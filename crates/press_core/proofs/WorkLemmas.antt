@@ -1,5 +1,5 @@
 -- Entries and their works, where what stands under one number changes.
-use Rattle.std.proofs.Common.{◌≡◌, ℕ, ◌&&◌, not, Bool, true, false, List, Option, Some, None, IsSome, is_some, nat_eq, cond, option_and_then, refl, sym, ap, subst, ◌∙◌, true≢false}
+use Rattle.std.proofs.Common.{◌≡◌, ℕ, ◌&&◌, not, Bool, true, false, List, Option, Some, None, IsSome, is_some, nat_eq, cond, refl, sym, ap, subst, ◌∙◌, true≢false}
 use Rattle.std.specs.Map.{lookup, set_value}
 use Rattle.press_page.specs.Environment.{changed_by}
 use Rattle.press_queue.specs.declared.entry.Entry.{Entry}
@@ -9,7 +9,7 @@ use Rattle.press_queue.specs.Entries.{entry_numbered, with_entry}
 use Rattle.press_queue.specs.Rows as rows
 use Rattle.press_queue.specs.State.{QueueState}
 use Rattle.press_queue.specs.Status.{has_ended, is_in_flight, is_running}
-use Rattle.press_core.specs.Inside.{AreTogether, GoTogether, HasPlace, IsSound}
+use Rattle.press_core.specs.Inside.{AreTogether, GoTogether, IsSound}
 use Rattle.press_core.specs.Work.{Work, without_job}
 use Rattle.press_core.specs.World.{is_listed, works_without_job}
 use Rattle.press_core.proofs.EntryLemmas.{kept_lookup, set_lookup}

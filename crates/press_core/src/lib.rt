@@ -14,6 +14,7 @@ mod no_replies;
 mod operator;
 mod parameters;
 mod press;
+mod repeats;
 mod response;
 mod submission;
 mod turn;

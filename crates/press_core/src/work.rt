@@ -2,20 +2,21 @@
 
 ghost use Rattle.std.specs.Prelude.{◌≡◌, ◌≤◌, ◌<◌, List, length, None, Some, IfOk, OnOk, OnErr, IsSome, nat_eq, false};
 ghost use Rattle.press_engine.specs.Machine.{Run};
-ghost use Rattle.press_sink.specs.Kept.{deliveries};
 ghost use Rattle.press_sink.specs.Told.{most_faults};
 ghost use Rattle.press_writer.specs.Fitting.{refusal};
 ghost use Rattle.press_core.specs.Handing.{TakesSteps};
 ghost use Rattle.press_core.specs.Inside.{begun_work};
+ghost use Rattle.press_core.specs.Repeats.{deliveries};
 ghost use Rattle.press_core.specs.Jobs.{IsAt, IsSupplied, JobGoesOn, Advances};
 ghost use Rattle.press_core.specs.Turns.{IsJobOf, place_in_job};
 ghost use Rattle.press_core.specs.Work.{IsPrintable, new_work, without_job};
 
 use crate::handing::hand_over;
 use crate::no_replies::NoReplies;
+use crate::repeats::RepeatSink;
 use crate::turn::TurnError;
 use press_bits::Bitmap;
-use press_sink::{ListSink, SheetSink};
+use press_sink::SheetSink;
 use press_stream::laws::what_is_left;
 use press_stream::{Job, Step};
 use press_ticket::Ticket;
@@ -105,7 +106,7 @@ impl RunningJob {
         alloc: Global,
         images: &[Bitmap],
         number: u64,
-    ) -> Result<ListSink, AllocError>
+    ) -> Result<RepeatSink, AllocError>
         requires at { (items : List Run) × IsAt items images.now self.old
             × (self.old.steps < length items) }
         ensures { IfOk result (λ sink.
@@ -113,7 +114,7 @@ impl RunningJob {
             → JobGoesOn items images.now number self.old self.new (deliveries sink)) }
     {
         what_is_left();
-        let mut sheets = ListSink::new(alloc);
+        let mut sheets = RepeatSink::new(alloc);
         loop {
             match self.job.step(number, &mut sheets, &mut NoReplies) {
                 Ok(Step::Ran(_)) => {
@@ -122,7 +123,7 @@ impl RunningJob {
                 }
                 Ok(Step::Hungry) => self.supply(alloc, images)?,
                 Ok(Step::Ended) => unreachable!(),
-                // Neither the list nor the sink without replies has a fault.
+                // Neither this sink nor the one without replies has a fault.
                 Err(_) => return Err(AllocError),
             }
         }
@@ -187,7 +188,7 @@ impl Work {
     }
 
     /// Carries out the next step of its job, and gives the sheets. Where memory ran out, the job is given up.
-    pub fn advance(&mut self, alloc: Global, number: u64) -> Result<ListSink, AllocError>
+    pub fn advance(&mut self, alloc: Global, number: u64) -> Result<RepeatSink, AllocError>
         requires begun { IsSome self.old.place }
         requires going { (items : List Run) → IsJobOf self.old items
             → place_in_job self.old < length items }
@@ -218,7 +219,7 @@ impl Work {
         let mut taken = 0;
         while taken < most && !self.is_over() {
             let sheets = self.advance(alloc, number)?;
-            hand_over(number, sheets.deliveries(), sink, &mut self.delivered)?;
+            hand_over(number, sheets.repeats(), sink, &mut self.delivered)?;
             taken += 1;
         }
         Ok(taken)

@@ -1,6 +1,6 @@
 use Rattle.std.proofs.Common.{◌≡◌, List, []}
 use Rattle.press_engine.specs.Machine.{Run}
-use Rattle.press_sink.specs.Kept.{deliveries}
+use Rattle.press_core.specs.Repeats.{deliveries}
 use Rattle.press_core.specs.Jobs.{IsAt, still_to_come}
 use Rattle.press_core.proofs.work.RunningJob.step.Given as goal
 

@@ -1,7 +1,7 @@
-use Rattle.std.proofs.Common.{◌<◌, ◌∙◌, List, Some, length, subst, sym, refl}
+use Rattle.std.proofs.Common.{◌<◌, ◌∙◌, List, length, subst, sym, refl}
 use Rattle.press_engine.specs.Machine.{Run}
-use Rattle.press_sink.specs.Kept.{deliveries}
 use Rattle.press_core.specs.Inside.{work_of}
+use Rattle.press_core.specs.Repeats.{deliveries}
 use Rattle.press_core.specs.Jobs.{Advances, IsAt, JobGoesOn}
 use Rattle.press_core.specs.Turns.{IsJobOf, place_in_job}
 use Rattle.press_core.specs.Work.{Work, at_place}

@@ -1,0 +1,17 @@
+use Rattle.std.proofs.Common.{◌≡◌, ◌<◌, ◌-◌, suc, replicate, arith, sym, subst}
+use Rattle.press_sink.specs.Told.{most_faults}
+use Rattle.press_core.specs.Handing.{HandsOver}
+use Rattle.press_core.proofs.HandingLemmas.{HandsOver-then}
+use Rattle.press_core.proofs.handing.hand_over_again.Goals as goal
+
+pub loop-left-preserved : goal.loop-left-preserved
+loop-left-preserved g c =
+    let some = c.loop-left-test.true in
+    let left : c.loop-left.left ≡ suc (c.loop-left.left - 1) = omega (arith, some) in
+    record {
+      can_count = subst (λ n. n < most_faults) (sym c.in_ok-deliver.ensures.1) c.loop-left.invariant.can_count;
+      rest = λ result after count hands.
+          c.loop-left.invariant.rest result after count
+          (subst (λ n. HandsOver c.args.number (replicate n c.args.sheet.now) result (g.S.SheetSink.told c.loop-left.sink) after c.loop-left.delivered count) (sym left)
+          (HandsOver-then c.args.number c.args.sheet.now (replicate (c.loop-left.left - 1) c.args.sheet.now) result _ _ after c.loop-left.delivered c.saturating_add.result count c.in_ok-deliver.ensures c.saturating_add.ensures hands));
+    }
