@@ -14,7 +14,7 @@ use Rattle.press_sink.specs.declared.sheet.Delivery.{Delivery}
 use Rattle.press_sink.specs.Sides.{Sides}
 use Rattle.press_ticket.specs.Ticket.{JobTicket}
 use Rattle.press_core.specs.Events.{Event, EventAnswer, Happening, Happens, IsRun, Leads, Message, Nothing, Operator, Response, TurnOf, Turned}
-use Rattle.press_core.specs.History.{Seen, TakesInAll, both_seen, entering, handed_in, handed_under, is_fault_of, last_seen, met_fault, seen_after, steps_answered, steps_in, submitted_by}
+use Rattle.press_core.specs.History.{Seen, TakesInAll, both_seen, entering, handed_under, sheets_under, is_fault_of, last_seen, met_fault, seen_after, steps_answered, steps_in, submitted_by}
 use Rattle.press_core.specs.Laws.{EntriesAreBounded, EntriesDoNotInterfere, GivenUnder, JobsHandOutTheWantedSheets, SheetsAreGiven, StaysGone}
 use Rattle.press_core.specs.Turns.{IsJobOf, sheets_from}
 use Rattle.press_core.specs.Work.{new_work}
@@ -31,14 +31,14 @@ use Rattle.press_core.proofs.TurnChanges.{operator-becomes, turn-becomes}
 -- What an event does to the queue and to each number.
 pub record EventDoes (old : World) (event : Event) (answer : EventAnswer) (handed : List Delivery) (next : World) : Type 0 where
   pub queue : IsQueue next.queue
-  pub each : (n : ℕ) → Change (submitted_by event) (standing n old.queue old.works) (standing n next.queue next.works) (handed_under n handed) (steps_answered n answer) (is_fault_of n old answer)
+  pub each : (n : ℕ) → Change (submitted_by event) (standing n old.queue old.works) (standing n next.queue next.works) (sheets_under n handed) (steps_answered n answer) (is_fault_of n old answer)
 
 of-message : (old : World) (text : List ℕ) (images : List Page) (bytes : List ℕ) (handed : List Delivery) (between next : World) → handed ≡ [] → next ≡ between
     → Becomes (submitted_by (Message text images)) old between → EventDoes old (Message text images) (Response (Some bytes)) handed next
 of-message old text images bytes handed between next none same becomes = record {
   queue = subst (λ (w : World). IsQueue w.queue) (sym same) becomes.queue;
   each = λ n.
-      subst (λ l. Change (submitted_by (Message text images)) (standing n old.queue old.works) (standing n next.queue next.works) (handed_under n l) 0 false) (sym none)
+      subst (λ l. Change (submitted_by (Message text images)) (standing n old.queue old.works) (standing n next.queue next.works) (sheets_under n l) 0 false) (sym none)
       (subst (λ (w : World). Change (submitted_by (Message text images)) (standing n old.queue old.works) (standing n w.queue w.works) [] 0 false) (sym same) (becomes.each n));
 }
 
@@ -48,7 +48,7 @@ event-does law old (Message text images) (Response (Some bytes)) handed next who
     of-message old text images bytes handed _ next happens.0 (ap (λ r. r.1) happens.1) (message-becomes law text images old whole happens.2)
 event-does law old (Message text images) (Response None) handed next whole happens = record {
   queue = subst (λ (w : World). IsQueue w.queue) (sym happens.1) whole.queue_is;
-  each = λ n. Stays (ap (λ (w : World). standing n w.queue w.works) happens.1) (record { no_sheets = ap (handed_under n) happens.0; no_steps = refl });
+  each = λ n. Stays (ap (λ (w : World). standing n w.queue w.works) happens.1) (record { no_sheets = ap (sheets_under n) happens.0; no_steps = refl });
 }
 event-does law old (TurnOf most) (Turned result) handed next whole happens =
     let becomes = turn-becomes law old most result handed next whole happens in record { queue = becomes.queue; each = becomes.each }
@@ -57,7 +57,7 @@ event-does law old (Operator command) Nothing handed next whole happens =
     record {
       queue = subst (λ (w : World). IsQueue w.queue) (sym happens.1) becomes.queue;
       each = λ n.
-          subst (λ l. Change None (standing n old.queue old.works) (standing n next.queue next.works) (handed_under n l) 0 false) (sym happens.0)
+          subst (λ l. Change None (standing n old.queue old.works) (standing n next.queue next.works) (sheets_under n l) 0 false) (sym happens.0)
           (subst (λ (w : World). Change None (standing n old.queue old.works) (standing n w.queue w.works) [] 0 false) (sym happens.1) (becomes.each n));
     }
 event-does law old (Message text images) (Turned result) handed next whole happens = absurd happens
@@ -71,7 +71,7 @@ whole-next : (old : World) (event : Event) (answer : EventAnswer) (handed : List
     → IsWhole next.queue next.works
 whole-next old event answer handed next whole does = record {
   queue_is = does.queue;
-  proper = λ n. proper-kept (submitted_by event) (standing n old.queue old.works) (standing n next.queue next.works) (handed_under n handed) (steps_answered n answer) (is_fault_of n old answer) (does.each n) (whole.proper n);
+  proper = λ n. proper-kept (submitted_by event) (standing n old.queue old.works) (standing n next.queue next.works) (sheets_under n handed) (steps_answered n answer) (is_fault_of n old answer) (does.each n) (whole.proper n);
 }
 
 -- ---- runs
@@ -110,7 +110,7 @@ empty-account n false = (refl, refl, record { no_sheets = refl; no_steps = refl 
 
 run-account : JobsHandOutTheWantedSheets → EachRowKeepsTheQueue → (n : ℕ) (world : World) (happenings : List Happening) (last : World) (seen : Option Seen) (found : Option Happening) (sheets : List Sides) (steps : ℕ)
     (failed : Bool) → IsWhole world.queue world.works → Leads world happenings last → Account (standing n world.queue world.works) seen found sheets steps failed
-    → Account (standing n last.queue last.works) (seen_after n seen happenings) (option_or found (entering n happenings)) (sheets ++ handed_in n happenings) (steps + steps_in n happenings)
+    → Account (standing n last.queue last.works) (seen_after n seen happenings) (option_or found (entering n happenings)) (sheets ++ handed_under n happenings) (steps + steps_in n happenings)
     (failed || met_fault n world happenings)
 run-account jobs law n world [] last seen found sheets steps failed whole leads account =
     subst (λ (w : World). Account (standing n w.queue w.works) seen (option_or found None) (sheets ++ []) (steps + 0) (failed || false)) (sym leads)
@@ -133,32 +133,32 @@ run-account jobs law n world (h ∷ happenings) last seen found sheets steps fai
     let entry = entry_numbered n h.next.queue.entries in
     let work = lookup (nat_eq n) h.next.works in
     let new = standing_of given entry work in
-    let next = account-next jobs (standing n world.queue world.works) new given h seen found sheets (handed_under n h.handed) steps (steps_answered n h.answer) failed (is_fault_of n world h.answer)
+    let next = account-next jobs (standing n world.queue world.works) new given h seen found sheets (sheets_under n h.handed) steps (steps_answered n h.answer) failed (is_fault_of n world h.answer)
     (does.each n) (given_as given entry work) account in
     let seen_next = option_or (both_seen entry work) seen in
-    let next_seen : Account new seen_next (found_now given h found) (sheets ++ handed_under n h.handed) (steps + steps_answered n h.answer) (failed || is_fault_of n world h.answer) =
-    subst (λ o. Account new o (found_now given h found) (sheets ++ handed_under n h.handed) (steps + steps_answered n h.answer) (failed || is_fault_of n world h.answer))
+    let next_seen : Account new seen_next (found_now given h found) (sheets ++ sheets_under n h.handed) (steps + steps_answered n h.answer) (failed || is_fault_of n world h.answer) =
+    subst (λ o. Account new o (found_now given h found) (sheets ++ sheets_under n h.handed) (steps + steps_answered n h.answer) (failed || is_fault_of n world h.answer))
     (sym (seen_now-is given entry work seen (after.proper n))) next in
-    let run = run-account jobs law n h.next happenings last seen_next (found_now given h found) (sheets ++ handed_under n h.handed) (steps + steps_answered n h.answer) (failed || is_fault_of n world h.answer)
+    let run = run-account jobs law n h.next happenings last seen_next (found_now given h found) (sheets ++ sheets_under n h.handed) (steps + steps_answered n h.answer) (failed || is_fault_of n world h.answer)
     after leads next_seen in
-    let sheets_are : (sheets ++ handed_under n h.handed) ++ handed_in n happenings ≡ sheets ++ handed_in n (h ∷ happenings) =
-    append_assoc sheets (handed_under n h.handed) (handed_in n happenings)
+    let sheets_are : (sheets ++ sheets_under n h.handed) ++ handed_under n happenings ≡ sheets ++ handed_under n (h ∷ happenings) =
+    append_assoc sheets (sheets_under n h.handed) (handed_under n happenings)
     ∙ ap (λ l. sheets ++ l) (sym (handed-append n h.handed (flat_map (λ (x : Happening). x.handed) happenings))) in
     let steps_are : (steps + steps_answered n h.answer) + steps_in n happenings ≡ steps + steps_in n (h ∷ happenings) =
     omega (arith, sum_by-cons (λ (x : Happening). steps_answered n x.answer) h happenings) in
     let failed_is = or-assoc failed (is_fault_of n world h.answer) (met_fault n h.next happenings) in
     let found_is = found-next (λ (x : Happening). nat_le n x.next.queue.last) h happenings found in
-    subst (λ o. Account (standing n last.queue last.works) (seen_after n seen_next happenings) o (sheets ++ handed_in n (h ∷ happenings)) (steps + steps_in n (h ∷ happenings)) (failed || met_fault n world (h ∷ happenings))) found_is
+    subst (λ o. Account (standing n last.queue last.works) (seen_after n seen_next happenings) o (sheets ++ handed_under n (h ∷ happenings)) (steps + steps_in n (h ∷ happenings)) (failed || met_fault n world (h ∷ happenings))) found_is
     (subst (λ l. Account (standing n last.queue last.works) (seen_after n seen_next happenings) (option_or (found_now given h found) (entering n happenings)) l (steps + steps_in n (h ∷ happenings)) (failed || met_fault n world (h ∷ happenings))) sheets_are
-    (subst (λ k. Account (standing n last.queue last.works) (seen_after n seen_next happenings) (option_or (found_now given h found) (entering n happenings)) ((sheets ++ handed_under n h.handed) ++ handed_in n happenings) k (failed || met_fault n world (h ∷ happenings))) steps_are
-    (subst (λ b. Account (standing n last.queue last.works) (seen_after n seen_next happenings) (option_or (found_now given h found) (entering n happenings)) ((sheets ++ handed_under n h.handed) ++ handed_in n happenings) ((steps + steps_answered n h.answer) + steps_in n happenings) b) failed_is run)))
+    (subst (λ k. Account (standing n last.queue last.works) (seen_after n seen_next happenings) (option_or (found_now given h found) (entering n happenings)) ((sheets ++ sheets_under n h.handed) ++ handed_under n happenings) k (failed || met_fault n world (h ∷ happenings))) steps_are
+    (subst (λ b. Account (standing n last.queue last.works) (seen_after n seen_next happenings) (option_or (found_now given h found) (entering n happenings)) ((sheets ++ sheets_under n h.handed) ++ handed_under n happenings) ((steps + steps_answered n h.answer) + steps_in n happenings) b) failed_is run)))
 
 -- from the empty press
 run-from-empty : JobsHandOutTheWantedSheets → EachRowKeepsTheQueue → (n : ℕ) (happenings : List Happening) (last : World) → IsRun happenings last
-    → Account (standing n last.queue last.works) (last_seen n happenings) (entering n happenings) (handed_in n happenings) (steps_in n happenings) (met_fault n empty_world happenings)
+    → Account (standing n last.queue last.works) (last_seen n happenings) (entering n happenings) (handed_under n happenings) (steps_in n happenings) (met_fault n empty_world happenings)
 run-from-empty jobs law n happenings last run =
     let account = run-account jobs law n empty_world happenings last None None [] 0 false (empty-whole law) run (empty-account n (nat_le n 0)) in
-    subst (λ k. Account (standing n last.queue last.works) (last_seen n happenings) (entering n happenings) (handed_in n happenings) k (met_fault n empty_world happenings)) (omega arith) account
+    subst (λ k. Account (standing n last.queue last.works) (last_seen n happenings) (entering n happenings) (handed_under n happenings) k (met_fault n empty_world happenings)) (omega arith) account
 
 -- ---- given sheets
 
@@ -167,26 +167,26 @@ given-under jobs law happenings last number run = record {
   given = λ seen is. let known = of seen is in is_given seen.entry seen.work _ _ _ known.1;
   entered = λ seen is. (of seen is).0;
   listed = account-listed (nat_le number last.queue.last) (entry_numbered number last.queue.entries) (lookup (nat_eq number) last.works) (last_seen number happenings) _ _ _ _ account;
-  never = λ is. (account-never (standing number last.queue last.works) _ _ _ _ (subst (λ o. Account (standing number last.queue last.works) o (entering number happenings) (handed_in number happenings) (steps_in number happenings) (met_fault number empty_world happenings)) is account)).no_sheets;
+  never = λ is. (account-never (standing number last.queue last.works) _ _ _ _ (subst (λ o. Account (standing number last.queue last.works) o (entering number happenings) (handed_under number happenings) (steps_in number happenings) (met_fault number empty_world happenings)) is account)).no_sheets;
 } where
-  account : Account (standing number last.queue last.works) (last_seen number happenings) (entering number happenings) (handed_in number happenings) (steps_in number happenings) (met_fault number empty_world happenings)
+  account : Account (standing number last.queue last.works) (last_seen number happenings) (entering number happenings) (handed_under number happenings) (steps_in number happenings) (met_fault number empty_world happenings)
   account = run-from-empty jobs law number happenings last run
 
   of : (seen : Seen) → last_seen number happenings ≡ Some seen
-      → EnteredBy (entering number happenings) seen.work × IsKnown seen.entry seen.work (handed_in number happenings) (steps_in number happenings) (met_fault number empty_world happenings)
+      → EnteredBy (entering number happenings) seen.work × IsKnown seen.entry seen.work (handed_under number happenings) (steps_in number happenings) (met_fault number empty_world happenings)
   of seen is = account-seen (standing number last.queue last.works) seen _ _ _ _
-      (subst (λ o. Account (standing number last.queue last.works) o (entering number happenings) (handed_in number happenings) (steps_in number happenings) (met_fault number empty_world happenings)) is account)
+      (subst (λ o. Account (standing number last.queue last.works) o (entering number happenings) (handed_under number happenings) (steps_in number happenings) (met_fault number empty_world happenings)) is account)
 
 -- ---- numbers that are gone
 
 run-gone : EachRowKeepsTheQueue → (n : ℕ) (world : World) (happenings : List Happening) (last : World) → IsWhole world.queue world.works → Leads world happenings last
-    → standing n world.queue world.works ≡ Gone → (handed_in n happenings ≡ []) × (standing n last.queue last.works ≡ Gone)
+    → standing n world.queue world.works ≡ Gone → (handed_under n happenings ≡ []) × (standing n last.queue last.works ≡ Gone)
 run-gone law n world [] last whole leads gone = (refl, ap (λ (w : World). standing n w.queue w.works) leads ∙ gone)
 run-gone law n world (h ∷ happenings) last whole (happens, leads) gone =
     let does = event-does law world h.event h.answer h.handed h.next whole happens in
     let kept = gone-kept _ _ _ _ _ _ (does.each n) gone in
     let rest = run-gone law n h.next happenings last (whole-next world h.event h.answer h.handed h.next whole does) leads kept.0 in (
-      handed-append n h.handed (flat_map (λ (x : Happening). x.handed) happenings) ∙ ap (λ l. l ++ handed_in n happenings) kept.1 ∙ rest.0,
+      handed-append n h.handed (flat_map (λ (x : Happening). x.handed) happenings) ∙ ap (λ l. l ++ handed_under n happenings) kept.1 ∙ rest.0,
       rest.1,
     )
 
@@ -209,15 +209,15 @@ sheets-are-given jobs law = record { under = given-under jobs law; gone = stays-
 
 -- what was handed out in so many steps
 took-sheets : JobsHandOutTheWantedSheets → EachRowKeepsTheQueue → (ticket : JobTicket) (images : List Page) (steps number : ℕ) (happenings : List Happening) (items : List Run)
-    → TakesInAll number steps ticket images happenings → IsJobOf (new_work ticket images) items → handed_in number happenings ≡ sheets_from 0 steps items
+    → TakesInAll number steps ticket images happenings → IsJobOf (new_work ticket images) items → handed_under number happenings ≡ sheets_from 0 steps items
 took-sheets jobs law ticket images steps number happenings items took job = at (last_seen number happenings) account
   where
-    account : Account (standing number took.last.queue took.last.works) (last_seen number happenings) (entering number happenings) (handed_in number happenings) (steps_in number happenings)
+    account : Account (standing number took.last.queue took.last.works) (last_seen number happenings) (entering number happenings) (handed_under number happenings) (steps_in number happenings)
         (met_fault number empty_world happenings)
     account = run-from-empty jobs law number happenings took.last took.run
 
-    at : (o : Option Seen) → Account (standing number took.last.queue took.last.works) o (entering number happenings) (handed_in number happenings) (steps_in number happenings) (met_fault number empty_world happenings)
-        → handed_in number happenings ≡ sheets_from 0 steps items
+    at : (o : Option Seen) → Account (standing number took.last.queue took.last.works) o (entering number happenings) (handed_under number happenings) (steps_in number happenings) (met_fault number empty_world happenings)
+        → handed_under number happenings ≡ sheets_from 0 steps items
     at None account =
         let never = account-never (standing number took.last.queue took.last.works) _ _ _ _ account in
         never.no_sheets ∙ ap (λ n. sheets_from 0 n items) (sym never.no_steps ∙ took.steps_are)

@@ -25,7 +25,7 @@ use Rattle.press_core.specs.declared.operator.OperatorCommand.TheVariants as ope
 use Rattle.press_core.specs.declared.turn.Turn.{Turn}
 use Rattle.press_core.specs.declared.turn.TurnError.{TurnError}
 use Rattle.press_core.specs.Events.{EventAnswer, Turned, aborted_running, operated}
-use Rattle.press_core.specs.History.{handed_under, is_fault_of, is_number, steps_answered}
+use Rattle.press_core.specs.History.{sheets_under, is_fault_of, is_number, steps_answered}
 use Rattle.press_core.specs.Turns.{EntrySteps, IsJobOf, StepsTo, TakesTurn, TurnAt, at_turn, at_turn_with, completed, is_idle, place_in_job, steps_from}
 use Rattle.press_core.specs.Work.{Work, at_place, with_delivered, without_job}
 use Rattle.press_core.specs.World.{World, with_queue, with_work, works_without_job}
@@ -128,7 +128,7 @@ begun-none queue new is = at_first (if queue.held then None else first_waiting q
 -- The queue is still one, and this happens to each number.
 pub record TurnBecomes (old new : World) (handed : List Delivery) (answer : EventAnswer) : Type 0 where
   pub queue : IsQueue new.queue
-  pub each : (n : ℕ) → Change None (standing n old.queue old.works) (standing n new.queue new.works) (handed_under n handed) (steps_answered n answer) (is_fault_of n old answer)
+  pub each : (n : ℕ) → Change None (standing n old.queue old.works) (standing n new.queue new.works) (sheets_under n handed) (steps_answered n answer) (is_fault_of n old answer)
 
 -- ---- the steps of the entry
 
@@ -142,23 +142,23 @@ record Stepped (old new : World) (number : ℕ) (was is : Entry) (work left : Wo
 stepped-each : (old new : World) (number : ℕ) (was is : Entry) (work left : Work) (sheets : List Sides) (answer : EventAnswer) → IsWhole old.queue old.works → Stepped old new number was is work left
     → ((n : ℕ) → nat_eq number n ≡ false → steps_answered n answer ≡ 0)
     → Change None (Listed was work) (Listed is left) sheets (steps_answered number answer) (is_fault_of number old answer)
-    → (n : ℕ) → Change None (standing n old.queue old.works) (standing n new.queue new.works) (handed_under n (under_tag number sheets)) (steps_answered n answer) (is_fault_of n old answer)
+    → (n : ℕ) → Change None (standing n old.queue old.works) (standing n new.queue new.works) (sheets_under n (under_tag number sheets)) (steps_answered n answer) (is_fault_of n old answer)
 stepped-each old new number was is work left sheets answer whole stepped none changes n =
     let listed = listed_of (nat_le number old.queue.last) (entry_numbered number old.queue.entries) (lookup (nat_eq number) old.works) was (whole.proper number) stepped.there in
     let of = listed_is (nat_le number old.queue.last) (entry_numbered number old.queue.entries) (lookup (nat_eq number) old.works) was listed.0 listed.1 in
     let same : listed.0 ≡ work = same_Some listed.0 work (sym of.work_is ∙ stepped.here) in
     let there : standing number old.queue old.works ≡ Listed was work = listed.1 ∙ ap (λ w. Listed was w) same in
-    let own : nat_eq number n ≡ true → Change None (Listed was work) (Listed is left) (handed_under n (under_tag number sheets)) (steps_answered n answer) (is_fault_of n old answer) =
+    let own : nat_eq number n ≡ true → Change None (Listed was work) (Listed is left) (sheets_under n (under_tag number sheets)) (steps_answered n answer) (is_fault_of n old answer) =
     λ e. let here : number ≡ n = eqb-true number n e in
-    subst (λ m. Change None (Listed was work) (Listed is left) (handed_under m (under_tag number sheets)) (steps_answered m answer) (is_fault_of m old answer)) here
+    subst (λ m. Change None (Listed was work) (Listed is left) (sheets_under m (under_tag number sheets)) (steps_answered m answer) (is_fault_of m old answer)) here
     (subst (λ l. Change None (Listed was work) (Listed is left) l (steps_answered number answer) (is_fault_of number old answer)) (sym (handed-own number sheets)) changes) in
-    let others : nat_eq number n ≡ false → IsIdle (handed_under n (under_tag number sheets)) (steps_answered n answer) =
+    let others : nat_eq number n ≡ false → IsIdle (sheets_under n (under_tag number sheets)) (steps_answered n answer) =
     λ apart. record { no_sheets = handed-other number n sheets apart; no_steps = none n apart } in
-    subst (λ (q : QueueState). Change None (standing n old.queue old.works) (standing n q new.works) (handed_under n (under_tag number sheets)) (steps_answered n answer) (is_fault_of n old answer)) (sym stepped.queue_is)
-    (subst (λ ws. Change None (standing n old.queue old.works) (standing n (rows.with_entries (with_entry number is old.queue.entries) old.queue) ws) (handed_under n (under_tag number sheets)) (steps_answered n answer) (is_fault_of n old answer))
+    subst (λ (q : QueueState). Change None (standing n old.queue old.works) (standing n q new.works) (sheets_under n (under_tag number sheets)) (steps_answered n answer) (is_fault_of n old answer)) (sym stepped.queue_is)
+    (subst (λ ws. Change None (standing n old.queue old.works) (standing n (rows.with_entries (with_entry number is old.queue.entries) old.queue) ws) (sheets_under n (under_tag number sheets)) (steps_answered n answer) (is_fault_of n old answer))
     (sym stepped.works_are)
     (one-changes None old.queue (rows.with_entries (with_entry number is old.queue.entries) old.queue) old.works (set_value (nat_eq number) old.works left) number was is work left
-    (handed_under n (under_tag number sheets)) (steps_answered n answer) (is_fault_of n old answer) there (set-entry old.queue number was is stepped.there) (set-work old.works number work left stepped.here) n own others))
+    (sheets_under n (under_tag number sheets)) (steps_answered n answer) (is_fault_of n old answer) there (set-entry old.queue number was is stepped.there) (set-work old.works number work left stepped.here) n own others))
 
 -- the steps of an answer, for the numbers that it does not name
 steps-other : (turn : Turn) (number n : ℕ) → turn.entry ≡ Some number → nat_eq number n ≡ false → steps_answered n (Turned (Ok turn)) ≡ 0
@@ -217,7 +217,7 @@ turn-ok law old new number most turn handed next takes whole queue names es true
     (Completes entry work es.items takes.is_open (steps-of work es.items most turn.steps es.sheets es.is_job es.steps) all refl refl) in
     record {
       queue = subst IsQueue (sym (ap (λ (w : World). w.queue) after)) (law.finish number Completed new queue);
-      each = λ n. subst (λ l. Change None (standing n old.queue old.works) (standing n next.queue next.works) (handed_under n l) (steps_answered n (Turned (Ok turn))) false) (sym es.handed_are)
+      each = λ n. subst (λ l. Change None (standing n old.queue old.works) (standing n next.queue next.works) (sheets_under n l) (steps_answered n (Turned (Ok turn))) false) (sym es.handed_are)
           (stepped-each old next number entry (completed_entry entry) work left es.sheets (Turned (Ok turn)) whole went (λ n apart. steps-other turn number n names apart) change n);
     }
 turn-ok law old new number most turn handed next takes whole queue names es false is =
@@ -238,7 +238,7 @@ turn-ok law old new number most turn handed next takes whole queue names es fals
     (Steps entry work es.items takes.is_open (steps-of work es.items most turn.steps es.sheets es.is_job es.steps) refl refl) in
     record {
       queue = subst IsQueue (sym (ap (λ (w : World). w.queue) after)) queue;
-      each = λ n. subst (λ l. Change None (standing n old.queue old.works) (standing n next.queue next.works) (handed_under n l) (steps_answered n (Turned (Ok turn))) false) (sym es.handed_are)
+      each = λ n. subst (λ l. Change None (standing n old.queue old.works) (standing n next.queue next.works) (sheets_under n l) (steps_answered n (Turned (Ok turn))) false) (sym es.handed_are)
           (stepped-each old next number entry (rows.begun_entry entry) work left es.sheets (Turned (Ok turn)) whole went (λ n apart. steps-other turn number n names apart) change n);
     }
 
@@ -256,7 +256,7 @@ turn-err law old new number most error handed next takes whole queue named es =
     Fails entry work es.items takes.is_open (front-of work es.items most error es.sheets es.is_job es.steps) fault refl refl in
     record {
       queue = subst IsQueue (sym (ap (λ (w : World). w.queue) es.after)) (law.finish number Aborted new queue);
-      each = λ n. subst (λ l. Change None (standing n old.queue old.works) (standing n next.queue next.works) (handed_under n l) 0 (is_fault_of n old (Turned (Err error)))) (sym es.handed_are)
+      each = λ n. subst (λ l. Change None (standing n old.queue old.works) (standing n next.queue next.works) (sheets_under n l) 0 (is_fault_of n old (Turned (Err error)))) (sym es.handed_are)
           (stepped-each old next number entry (failed_entry entry) work left es.sheets (Turned (Err error)) whole went (λ n apart. refl) change n);
     }
 
@@ -273,7 +273,7 @@ turn-none old new most result handed next whole same turn = record {
   queue = subst (λ (w : World). IsQueue w.queue) (sym turn.2) (subst IsQueue (sym same) whole.queue_is);
   each = λ n.
       Stays (ap (λ (w : World). standing n w.queue w.works) turn.2 ∙ ap (λ q. standing n q old.works) same)
-      (record { no_sheets = ap (handed_under n) turn.1; no_steps = ap (λ r. steps_answered n (Turned r)) turn.0 });
+      (record { no_sheets = ap (sheets_under n) turn.1; no_steps = ap (λ r. steps_answered n (Turned r)) turn.0 });
 }
 
 -- A turn.

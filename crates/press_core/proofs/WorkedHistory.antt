@@ -6,11 +6,12 @@ use Rattle.press_queue.specs.declared.status.Status.TheVariants.{Running, Comple
 use Rattle.press_queue.specs.State.{QueueState}
 use Rattle.press_queue.specs.Status.{new_entry}
 use Rattle.press_sink.specs.Sides.{Sides}
+use Rattle.press_core.specs.declared.operator.OperatorCommand.TheVariants.{AbortRunning, Continue, Pause}
 use Rattle.press_core.specs.declared.turn.TurnError.TheVariants.{SinkFault}
-use Rattle.press_core.specs.Events.{Happening, Message, Response, TurnOf, Turned}
-use Rattle.press_core.specs.History.{entering, handed_in, last_seen, met_fault, steps_in}
+use Rattle.press_core.specs.Events.{Event, EventAnswer, Happening, IsRun, Message, Nothing, Operator, Response, TurnOf, Turned}
+use Rattle.press_core.specs.History.{entering, handed_under, last_seen, met_fault, steps_in}
 use Rattle.press_core.specs.Work.{Work}
-use Rattle.press_core.specs.World.{World, empty_world}
+use Rattle.press_core.specs.World.{World, empty_world, with_pause}
 
 abbrev sheet_of : (width : ℕ) → Sides
 sheet_of width = record { front = blank width 1; back = None }
@@ -66,10 +67,10 @@ abbrev history : (one two : Work) → List Happening
 history one two = both_come one two ∷ first_turn one two ∷ last_turn one two ∷ removal two ∷ failed_turn two ∷ []
 
 -- what was handed out under each number
-pub handed_of_one : (one two : Work) → handed_in 1 (history one two) ≡ sheet_of 1 ∷ sheet_of 2 ∷ []
+pub handed_of_one : (one two : Work) → handed_under 1 (history one two) ≡ sheet_of 1 ∷ sheet_of 2 ∷ []
 handed_of_one one two = refl
 
-pub handed_of_two : (one two : Work) → handed_in 2 (history one two) ≡ sheet_of 3 ∷ []
+pub handed_of_two : (one two : Work) → handed_under 2 (history one two) ≡ sheet_of 3 ∷ []
 handed_of_two one two = refl
 
 -- an entry that left was seen last as it stood before; a number without an entry never
@@ -98,3 +99,20 @@ no_fault_of_one one two = refl
 
 pub fault_of_two : (one two : Work) → met_fault 2 empty_world (history one two) ≡ true
 fault_of_two one two = refl
+
+-- A run from a new press: it is paused, its turn does nothing; a message meets want of memory; it goes on, no entry waits, and none
+-- runs that an operator could abort.
+abbrev nothing_of : (event : Event) → EventAnswer → World → Happening
+nothing_of event answer next = record { event = event; answer = answer; handed = []; next = next }
+
+abbrev no_turn : EventAnswer
+no_turn = Turned (Ok (record { entry = None; steps = 0 }))
+
+abbrev quiet_run : List Happening
+quiet_run =
+    nothing_of (Operator Pause) Nothing (with_pause true empty_world) ∷ nothing_of (TurnOf 3) no_turn (with_pause true empty_world)
+    ∷ nothing_of (Message [] []) (Response None) (with_pause true empty_world) ∷ nothing_of (Operator Continue) Nothing empty_world
+    ∷ nothing_of (TurnOf 3) no_turn empty_world ∷ nothing_of (Operator AbortRunning) Nothing empty_world ∷ []
+
+pub quiet_run_is : IsRun quiet_run empty_world
+quiet_run_is = ((refl, refl), ((refl, refl, refl), ((refl, refl), ((refl, refl), ((refl, refl, refl), ((refl, refl), refl))))))

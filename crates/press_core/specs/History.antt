@@ -22,12 +22,12 @@ use Rattle.press_core.specs.World.{World, empty_world, work_numbered}
 -- ---- what was handed out
 
 -- the sheets that were delivered under a number
-abbrev pub handed_under : (number : ℕ) → List Delivery → List Sides
-handed_under number deliveries = sheets_in (filter (λ (delivery : Delivery). delivery.tag == number) deliveries)
+abbrev pub sheets_under : (number : ℕ) → List Delivery → List Sides
+sheets_under number deliveries = sheets_in (filter (λ (delivery : Delivery). delivery.tag == number) deliveries)
 
 -- what events handed out under a number
-abbrev pub handed_in : (number : ℕ) → List Happening → List Sides
-handed_in number happenings = handed_under number (flat_map (λ (happening : Happening). happening.handed) happenings)
+abbrev pub handed_under : (number : ℕ) → List Happening → List Sides
+handed_under number happenings = sheets_under number (flat_map (λ (happening : Happening). happening.handed) happenings)
 
 -- the sheets that the ticket of a work wants
 abbrev pub wanted_of : Work → List Sides

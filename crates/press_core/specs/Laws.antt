@@ -6,7 +6,7 @@ use Rattle.press_queue.specs.EveryQueue.{IsQueue}
 use Rattle.press_ticket.specs.Ticket.{JobTicket}
 use Rattle.press_writer.specs.Wanted.{wanted}
 use Rattle.press_core.specs.Events.{Happening, IsRun, Leads}
-use Rattle.press_core.specs.History.{AreGiven, Seen, TakesInAll, entered_with, handed_in, last_seen, seen_in}
+use Rattle.press_core.specs.History.{AreGiven, Seen, TakesInAll, entered_with, handed_under, last_seen, seen_in}
 use Rattle.press_core.specs.Turns.{IsJobOf, sheets_from}
 use Rattle.press_core.specs.Work.{Work, IsPrintable, new_work}
 use Rattle.press_core.specs.World.{World, is_listed}
@@ -21,15 +21,15 @@ JobsHandOutTheWantedSheets =
 -- stands there, one that left it as it stood before. It has the ticket and the images with which it entered. Under a number that
 -- was never seen nothing was handed out.
 pub record GivenUnder (happenings : List Happening) (last : World) (number : ℕ) : Type 0 where
-  pub given : (seen : Seen) → last_seen number happenings ≡ Some seen → AreGiven seen.entry seen.work (handed_in number happenings)
+  pub given : (seen : Seen) → last_seen number happenings ≡ Some seen → AreGiven seen.entry seen.work (handed_under number happenings)
   pub entered : (seen : Seen) → last_seen number happenings ≡ Some seen
       → entered_with number happenings ≡ Some (seen.work.ticket, seen.work.images)
   pub listed : is_listed number last.queue ≡ true → last_seen number happenings ≡ seen_in number last
-  pub never : last_seen number happenings ≡ None → handed_in number happenings ≡ []
+  pub never : last_seen number happenings ≡ None → handed_under number happenings ≡ []
 
 -- From a world of a run on, nothing is handed out under a number whose entry left the list, and it has no entry again.
 pub record StaysGone (after : List Happening) (last : World) (number : ℕ) : Type 0 where
-  pub nothing : handed_in number after ≡ []
+  pub nothing : handed_under number after ≡ []
   pub absent : is_listed number last.queue ≡ false
 
 -- The law of given sheets: so it is in every run of events, under every number.
@@ -44,10 +44,10 @@ pub record SheetsAreGiven : Type 0 where
 pub record EntriesDoNotInterfere : Type 0 where
   pub alike : (ticket : JobTicket) (images : List Page) (steps one other : ℕ) (first second : List Happening)
       → TakesInAll one steps ticket images first → TakesInAll other steps ticket images second
-      → handed_in one first ≡ handed_in other second
+      → handed_under one first ≡ handed_under other second
   pub sheets : (ticket : JobTicket) (images : List Page) (steps number : ℕ) (happenings : List Happening) (items : List Run)
       → TakesInAll number steps ticket images happenings → IsJobOf (new_work ticket images) items
-      → handed_in number happenings ≡ sheets_from 0 steps items
+      → handed_under number happenings ≡ sheets_from 0 steps items
 
 -- The law of bounds: in every run of events the queue is as every queue is: at most one entry runs, at most eight are in flight,
 -- at most 64 are in the list, under numbers that differ; and a number that was given is not given again.
