@@ -10,7 +10,7 @@ use Rattle.press_debug.specs.declared.debugger.Stop.{Stop}
 use Rattle.press_debug.specs.declared.debugger.Stop.TheVariants as stops
 use Rattle.press_debug.specs.Steps.{Standing, Advances, Remains}
 use Rattle.press_debug.specs.Stops.{StateMeets, StopsAt, Goes}
-use Rattle.press_debug.proofs.Taking.{Advances-then}
+use Rattle.press_debug.proofs.Taking.{Advances-then, RanOut-then}
 
 module _ (watches : View → Bool → Type 0) (table : List (Option Break)) where
   StopsAt-next : (item : Run) (items : List Run) (max : ℕ) (stop : Stop) (new : JobState) → StateMeets watches table None item.machine → StopsAt watches table items max stop new → StopsAt watches table (item ∷ items) (max + 1) stop new
@@ -36,7 +36,7 @@ module _ (watches : View → Bool → Type 0) (table : List (Option Break)) wher
   Goes-next old mid new item max stops.Ended one passes goes = Goes-some old mid new item max stops.Ended one passes goes
   Goes-next old mid new item max stops.LimitReached one passes goes = Goes-some old mid new item max stops.LimitReached one passes goes
   Goes-next old mid new item max stops.Stepped one passes goes = Goes-some old mid new item max stops.Stepped one passes goes
-  Goes-next old mid new item max stops.Failed one passes goes = goes
+  Goes-next old mid new item max stops.Failed one passes goes = RanOut-then old mid new (item ∷ []) one goes
 
   -- the one that is taken meets something
   Goes-met : (old new : Standing) (item : Run) (max number : ℕ) → Advances old (item ∷ []) new → StateMeets watches table (Some number) item.machine → Goes watches table old (max + 1) (stops.AtBreak number) new

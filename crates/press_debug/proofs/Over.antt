@@ -1,5 +1,5 @@
 -- Steps to the first state of no greater depth.
-use Rattle.std.proofs.Common.{◌≡◌, ◌∙◌, ◌+◌, ◌<◌, ◌≤◌, ℕ, List, [], ◌∷◌, ◌++◌, length, Some, None, IfSome, refl, sym, ap, subst, arith}
+use Rattle.std.proofs.Common.{◌≡◌, ◌∙◌, ◌+◌, ◌<◌, ◌≤◌, ℕ, List, [], ◌∷◌, ◌++◌, length, Some, None, IfSome, refl, sym, ap, subst, inl, arith}
 use Rattle.std.proofs.lemmas.List.Elements.{All-nil, All-cons, All-append}
 use Rattle.std.specs.List.{All}
 use Rattle.press_engine.specs.declared.machine.Machine.{Machine}
@@ -8,9 +8,9 @@ use Rattle.press_engine.specs.Trace.{last_machine}
 use Rattle.press_stream.specs.State.{IsOver}
 use Rattle.press_debug.specs.declared.stepper.Taken.{Taken}
 use Rattle.press_debug.specs.declared.stepper.Taken.TheVariants as answers
-use Rattle.press_debug.specs.Steps.{Standing, Advances, TakesOne, TakesOver, IsOutside, IsDeeper, IsBack}
+use Rattle.press_debug.specs.Steps.{Standing, Advances, TakesOne, TakesOver, IsOutside, IsDeeper, IsBack, RanOut}
 use Rattle.press_stream.proofs.Going.{same_some}
-use Rattle.press_debug.proofs.Taking.{Advances-then, items_left, items_left-none, fewer_left, at_machine}
+use Rattle.press_debug.proofs.Taking.{Advances-then, RanOut-then, items_left, items_left-none, fewer_left, at_machine}
 
 -- steps were taken, all but the last to deeper states
 pub record ReachesOne (old new : Standing) : Type 0 where
@@ -22,7 +22,7 @@ pub record ReachesOne (old new : Standing) : Type 0 where
 abbrev pub Reaches : Standing → Taken → Standing → Type 0
 Reaches old answers.Steps new = ReachesOne old new
 Reaches old answers.Nothing new = IsOver old.job × (new ≡ old)
-Reaches old answers.Fault new = new.job.machine ≡ None
+Reaches old answers.Fault new = RanOut old new
 
 last_of_more : (items : List Run) (item : Run) (machine : Machine) → last_machine machine (items ++ item ∷ []) ≡ item.machine
 last_of_more [] item machine = refl
@@ -40,7 +40,7 @@ pub begins : (old new : Standing) (taken : Taken) → TakesOne old taken new →
 begins old new answers.Steps (item, advances) =
     record { passed = []; here = item; advances = advances; deeper = All-nil (λ item. advances.from.depth < item.machine.depth) }
 begins old new answers.Nothing takes = takes
-begins old new answers.Fault takes = takes
+begins old new answers.Fault (none, may) = (none, inl may)
 
 one_more : (old mid new : Standing) (item : Run) (reaches : ReachesOne old mid) → reaches.advances.from.depth < reaches.here.machine.depth → Advances mid (item ∷ []) new → ReachesOne old new
 one_more old mid new item reaches here advances =
@@ -67,7 +67,8 @@ goes_on old mid new answers.Nothing depth reaches before deeper (over, same) out
     let here = at_machine mid.job.machine (λ machine. depth < machine.depth) reaches.here.machine (here_is old mid reaches) deeper in
     let none = outside refl reaches.here.machine (ap (λ (standing : Standing). standing.job.machine) same ∙ here_is old mid reaches) in
     absurd (omega (arith, none, here))
-goes_on old mid new answers.Fault depth reaches before deeper takes outside = takes
+goes_on old mid new answers.Fault depth reaches before deeper (none, may) outside =
+    RanOut-then old mid new (reaches.passed ++ reaches.here ∷ []) reaches.advances (none, inl may)
 
 pub goes_further : (old mid new : Standing) (last taken : Taken) (depth : ℕ) → last ≡ answers.Steps → Reaches old last mid
     → IfSome old.job.machine (λ machine. depth ≡ machine.depth) → IsDeeper mid.job depth
@@ -101,7 +102,7 @@ steps_left taken now = length (items_left now.job) + steps_flag taken
 one_fewer : (mid new : Standing) (taken : Taken) → TakesOne mid taken new → steps_left taken new < steps_left answers.Steps mid
 one_fewer mid new answers.Steps (item, advances) = omega (arith, fewer_left mid new item advances)
 one_fewer mid new answers.Nothing (over, same) = omega (arith, ap (λ (standing : Standing). length (items_left standing.job)) same)
-one_fewer mid new answers.Fault none = omega (arith, ap length (items_left-none new.job none))
+one_fewer mid new answers.Fault (none, _) = omega (arith, ap length (items_left-none new.job none))
 
 pub fewer_steps : (mid new : Standing) (last taken : Taken) → last ≡ answers.Steps → TakesOne mid taken new → steps_left taken new < steps_left last mid
 fewer_steps mid new last taken is takes = subst (λ (one : Taken). steps_left taken new < steps_left one mid) (sym is) (one_fewer mid new taken takes)

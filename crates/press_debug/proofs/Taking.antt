@@ -1,5 +1,5 @@
 -- Steps of a job, one after another.
-use Rattle.std.proofs.Common.{◌≡◌, ◌∙◌, ◌+◌, ◌≤◌, ◌↔◌, ℕ, List, [], ◌∷◌, ◌++◌, length, Bool, true, false, Option, Some, None, IfSome, IsSome, IsTrue, IsFalse, Ok, MatchBool, refl, sym, ap, subst, arith}
+use Rattle.std.proofs.Common.{◌≡◌, ◌∙◌, ◌+◌, ◌≤◌, ◌↔◌, ℕ, List, [], ◌∷◌, ◌++◌, length, Bool, true, false, Option, Some, None, IfSome, IsSome, IsTrue, IsFalse, Ok, MatchBool, refl, sym, ap, subst, inl, inr, arith}
 use Rattle.std.proofs.lemmas.Bool.{false≢true, true≢false}
 use Rattle.std.proofs.lemmas.List.{append_assoc}
 use Rattle.press_cmd.specs.Token.{Token}
@@ -22,7 +22,7 @@ use Rattle.press_stream.specs.State.{JobState, IsOver}
 use Rattle.press_stream.proofs.Going.{Owes-some, same_some, some_of}
 use Rattle.press_stream.proofs.Items.{left-then, last-append}
 use Rattle.circular_buffer.specs.Buffer.{Buffer, buffer, keep_last}
-use Rattle.press_debug.specs.Steps.{Standing, Advances, EndsOutside, IsOutside, IsSound, Remains, kind_taken, kinds_of, with_kinds}
+use Rattle.press_debug.specs.Steps.{Standing, Advances, EndsOutside, IsOutside, IsSound, Remains, RanOut, kind_taken, kinds_of, with_kinds}
 use Rattle.press_debug.proofs.Tables.{keep_last-twice, keep_last-all, keep_last-few}
 
 -- ---- what is left before a step, and that it is one list
@@ -137,6 +137,12 @@ Advances-then old between new items others first second =
           (end.0, mid.1 ∙ ap (λ (more : List Run). items ++ more) end.1 ∙ sym (append_assoc items others end.0), end.2);
       recent = second.recent ∙ ap (λ (kinds : List Kind). with_kinds kinds others) first.recent ∙ with_kinds-append old.recent items others;
     }
+
+-- items were taken, and then memory ran out
+pub RanOut-then : (old between new : Standing) (items : List Run) → Advances old items between → RanOut between new → RanOut old new
+RanOut-then old between new items first (none, inl may) = (none, inr (items, between, first, may))
+RanOut-then old between new items first (none, inr (others, last, second, may)) =
+    (none, inr (items ++ others, last, Advances-then old between last items others first second, may))
 
 -- ---- the last of what is left has no running body
 

@@ -1,5 +1,5 @@
 -- The steps of a stream whose end was given.
-use Rattle.std.specs.Prelude.{◌≡◌, ◌≢◌, ◌≤◌, ◌<◌, ℕ, List, [], ◌∷◌, ◌++◌, length, Some, None, IfSome, IsSome, Bool, true, false}
+use Rattle.std.specs.Prelude.{◌≡◌, ◌≢◌, ◌⊎◌, ◌≤◌, ◌<◌, ℕ, List, [], ◌∷◌, ◌++◌, length, Some, None, IfSome, IsSome, Bool, true, false}
 use Rattle.std.specs.List.{All}
 use Rattle.circular_buffer.specs.Buffer.{Buffer, keep_last}
 use Rattle.press_cmd.specs.declared.variant.Kind.{Kind}
@@ -8,6 +8,7 @@ use Rattle.press_engine.specs.declared.machine.Last.TheVariants as lasts
 use Rattle.press_engine.specs.declared.machine.Machine.{Machine}
 use Rattle.press_engine.specs.Machine.{Run}
 use Rattle.press_engine.specs.Trace.{last_machine}
+use Rattle.press_stream.specs.Answers.{WantsMemory}
 use Rattle.press_stream.specs.Left.{LeftOf}
 use Rattle.press_stream.specs.State.{JobState, IsOver, opened, with_piece, input_ended}
 use Rattle.press_debug.specs.declared.stepper.Taken.{Taken}
@@ -50,11 +51,20 @@ pub record Advances (old : Standing) (items : List Run) (new : Standing) : Type 
   pub left : (all : List Run) → LeftOf old.job all → (others : List Run) × (all ≡ items ++ others) × LeftOf new.job others
   pub recent : new.recent ≡ with_kinds old.recent items
 
--- One step was taken; or none is left, and nothing changed; or there was a fault.
+-- What comes next may take memory; or the job had failed before.
+abbrev pub MayFail : JobState → Type 0
+MayFail job = WantsMemory job ⊎ (job.machine ≡ None)
+
+-- Memory ran out, behind some items that were taken: what came next may take some.
+abbrev pub RanOut : Standing → Standing → Type 0
+RanOut old new =
+    (new.job.machine ≡ None) × (MayFail old.job ⊎ ((items : List Run) × (last : Standing) × Advances old items last × MayFail last.job))
+
+-- One step was taken; or none is left, and nothing changed; or memory ran out.
 abbrev pub TakesOne : Standing → Taken → Standing → Type 0
 TakesOne old answers.Steps new = (item : Run) × Advances old (item ∷ []) new
 TakesOne old answers.Nothing new = IsOver old.job × (new ≡ old)
-TakesOne old answers.Fault new = new.job.machine ≡ None
+TakesOne old answers.Fault new = (new.job.machine ≡ None) × MayFail old.job
 
 -- Steps were taken to the first state of no greater depth.
 pub record PassesDeeper (old : Standing) (new : Standing) : Type 0 where
@@ -67,7 +77,7 @@ pub record PassesDeeper (old : Standing) (new : Standing) : Type 0 where
 abbrev pub TakesOver : Standing → Taken → Standing → Type 0
 TakesOver old answers.Steps new = PassesDeeper old new
 TakesOver old answers.Nothing new = IsOver old.job × (new ≡ old)
-TakesOver old answers.Fault new = new.job.machine ≡ None
+TakesOver old answers.Fault new = RanOut old new
 
 -- the last of what is left of a job has no running body
 abbrev pub EndsOutside : JobState → Type 0

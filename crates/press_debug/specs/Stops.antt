@@ -10,7 +10,7 @@ use Rattle.press_debug.specs.declared.breakpoints.Break.{Break}
 use Rattle.press_debug.specs.declared.debugger.Stop.{Stop}
 use Rattle.press_debug.specs.declared.debugger.Stop.TheVariants as stops
 use Rattle.press_debug.specs.Breaks.{met, most_breaks}
-use Rattle.press_debug.specs.Steps.{Standing, Advances, TakesOne, TakesOver, Remains}
+use Rattle.press_debug.specs.Steps.{Standing, Advances, RanOut, TakesOne, TakesOver, Remains}
 use Rattle.press_debug.specs.declared.stepper.Taken.TheVariants as answers
 
 -- What a view meets, by the least number: a breakpoint; or the watch, whose number comes after all of them; or nothing.
@@ -41,9 +41,9 @@ StopsAt watches table items max stops.LimitReached new = (length items ≡ max) 
 StopsAt watches table items max stops.Stepped new = ⊥
 StopsAt watches table items max stops.Failed new = ⊥
 
--- It took so many steps at most, and stopped for such a reason; or it had a fault, and fails from then on.
+-- It took so many steps at most, and stopped for such a reason; or memory ran out, and it fails from then on.
 abbrev pub Goes : (View → Bool → Type 0) → List (Option Break) → Standing → (max : ℕ) → Stop → Standing → Type 0
-Goes watches table old max stops.Failed new = new.job.machine ≡ None
+Goes watches table old max stops.Failed new = RanOut old new
 Goes watches table old max stop new = (items : List Run) × Advances old items new × StopsAt watches table items max stop new.job
 
 -- One step, and steps to the first state of no greater depth.

@@ -1,4 +1,4 @@
-use Rattle.std.proofs.Common.{◌≡◌, ◌+◌, ◌-◌, Some, None, IsSome, [], refl, sym, subst, arith}
+use Rattle.std.proofs.Common.{◌≡◌, ◌+◌, ◌-◌, Some, None, IsSome, [], refl, sym, subst, inl, arith}
 use Rattle.std.specs.Fn.{FnReturnsAt}
 use Rattle.press_stream.specs.State.{IsOver}
 use Rattle.press_debug.specs.declared.debugger.Stop.TheVariants as stops
@@ -61,3 +61,8 @@ returns-else-ended-clause-goes g c =
     c.loop-step.invariant.rest stops.LimitReached now
     (Goes-limit (FnReturnsAt g.F.Fn c.args.self.now.watch.test) c.args.self.now.breaks now (c.args.max - c.loop-step._step)
     none (c.ended.ensures.left c.if-ended.false) (where_running now.job.machine (Advances now [] now) c.loop-step.invariant.running c.ended.ensures.none))
+
+pub returns-in-Fault-clause-goes : goal.returns-in-Fault-clause-goes
+returns-in-Fault-clause-goes g c =
+    let takes = c.in-Fault.ensures.takes in
+    c.loop-step.invariant.rest stops.Failed c.take.new.self (takes.0, inl takes.1)

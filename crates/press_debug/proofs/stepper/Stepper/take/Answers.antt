@@ -1,4 +1,7 @@
-use Rattle.press_debug.proofs.Faults.{no_machine}
+use Rattle.std.proofs.Common.{Err, refl, ap, subst}
+use Rattle.press_stream.specs.declared.fault.JobError.{JobError}
+use Rattle.press_debug.specs.Steps.{Standing, MayFail}
+use Rattle.press_debug.proofs.Faults.{no_machine, may_fail}
 use Rattle.press_debug.proofs.Taking.{IsSound-ran, IsSound-fault, takes_one, takes_none, outside_none}
 use Rattle.press_debug.proofs.stepper.Stepper.take.Goals as goal
 
@@ -26,3 +29,9 @@ pub returns-in-Ok-Ended-clause-outside : goal.returns-in-Ok-Ended-clause-outside
 returns-in-Ok-Ended-clause-outside c = λ _.
     outside_none c.what_is_left.ensures c.self.inside.job c.step.new.self 0 c.in-Ok-Ended.field-0 _ _ c.self.invariant.outside
     c.in-Ok-Ended.field-0-is c.in-Ok-Ended.ensures.takes
+
+pub returns-in-Err-clause-takes : goal.returns-in-Err-clause-takes
+returns-in-Err-clause-takes c =
+    let job = c.self.inside.job in
+    let may = may_fail job 0 c.in-Err.field-0 c.step.new.self _ _ refl (λ is. c.in-Err.ensures.memory (ap (λ (error : JobError). Err error) is)) c.in-Err.ensures.takes in
+    (no_machine job 0 c.in-Err.field-0 c.step.new.self _ _ c.in-Err.ensures.takes, subst (λ (standing : Standing). MayFail standing.job) c.self.view_is may)
