@@ -68,14 +68,14 @@ module _ (bytes : List ℕ) where
   stands_into : (old new : Standing) (stop : Stop) → StopsInto old stop new → StandsIn bytes old → StandsIn bytes new
   stands_into old new Stepped (item, advances) stands = stands_on old new (item ∷ []) stands advances
   stands_into old new Ended (over, same) stands = stands_still old new same stands
-  stands_into old new Failed none stands = inr none
+  stands_into old new Failed (none, _) stands = inr none
   stands_into old new (AtBreak number) stops stands = absurd stops
   stands_into old new LimitReached stops stands = absurd stops
 
   stands_over : (old new : Standing) (stop : Stop) → StopsOver old stop new → StandsIn bytes old → StandsIn bytes new
   stands_over old new Stepped passes stands = stands_on old new (passes.passed ++ passes.here ∷ []) stands passes.advances
   stands_over old new Ended (over, same) stands = stands_still old new same stands
-  stands_over old new Failed none stands = inr none
+  stands_over old new Failed (none, _) stands = inr none
   stands_over old new (AtBreak number) stops stands = absurd stops
   stands_over old new LimitReached stops stands = absurd stops
 
@@ -84,7 +84,7 @@ module _ (bytes : List ℕ) where
   stands_gone table old new max Ended (items, advances, _) stands = stands_on old new items stands advances
   stands_gone table old new max LimitReached (items, advances, _) stands = stands_on old new items stands advances
   stands_gone table old new max Stepped (items, advances, _) stands = stands_on old new items stands advances
-  stands_gone table old new max Failed none stands = inr none
+  stands_gone table old new max Failed (none, _) stands = inr none
 
   stands_asked : (asked : DebuggerLine) (old : Seat) (answer : List ℕ) (new : Seat) → DoesAsked asked old answer new → StandsIn bytes old.steps → StandsIn bytes new.steps
   stands_asked line.Step old answer new does stands = stands_into old.steps new.steps does.0 does.1 stands

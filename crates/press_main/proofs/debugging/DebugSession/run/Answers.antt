@@ -8,6 +8,15 @@ use Rattle.press_main.proofs.DebuggerLemmas.{IsAnswered-begun, IsAnswered-more, 
 use Rattle.press_main.proofs.LineLemmas.{no-lines, one-line}
 use Rattle.press_main.proofs.debugging.DebugSession.run.Goals as goal
 
+pub loop-line-init : goal.loop-line-init
+loop-line-init g c =
+    let old = c.args.self.now.debugger in
+    record {
+      callable = c.requires.callable;
+      quiet = c.requires.quiet;
+      answered = λ bytes stands. IsAnswered-begun bytes (seat old.stepper old.breaks) (g.R.Read.remaining c.args.reader.now) (g.W.Write.contents c.args.out.now) (held c.new-lines.result) c.new-lines.ensures stands;
+    }
+
 pub returns-in_err-next-clause-err : goal.returns-in_err-next-clause-err
 returns-in_err-next-clause-err g c =
     let old = c.args.self.now.debugger in
