@@ -38,7 +38,10 @@ fn whole_lines_before_a_failed_read_are_answered(rt: HostRuntime) -> Result<(), 
         };
         assert_eq!(rt; status, wanted);
         assert_eq!(rt; err.as_slice(), told.as_bytes());
-        assert_eq!(rt; out.as_slice(), [ANSWERS, last].concat(rt.alloc())?.as_bytes());
+        assert_eq!(rt;
+            out.as_slice(),
+            [ANSWERS, last].concat(rt.alloc())?.as_bytes()
+        );
     }
     Ok(())
 }
