@@ -1,6 +1,7 @@
 mod DebuggerSteps
 mod DebuggerLemmas
 mod EntryLines
+mod FilesLemmas
 mod JobLemmas
 mod LineLemmas
 pub mod ListingLemmas

@@ -56,7 +56,7 @@ lines_from-more listed i one inside is =
     ∙ ap (λ (n : ℕ). lines_from 1 before ++ sheet_lines n one.sheet.value) place
 
 -- a reader that had no fault was read to its end
-read_all : (bytes : List ℕ) (left : Option (List ℕ)) (read : List ℕ) → Reads (Some bytes) left None read → read ≡ bytes
+pub read_all : (bytes : List ℕ) (left : Option (List ℕ)) (read : List ℕ) → Reads (Some bytes) left None read → read ≡ bytes
 read_all bytes None read reads = absurd reads.lost
 read_all bytes (Some rest) read reads = sym (reads.lost ∙ ap (λ last. read ++ last) (reads.at_end refl) ∙ append-nil read)
 

@@ -1,10 +1,27 @@
 -- Streams that are printed to files.
-use Rattle.std.specs.Prelude.{◌≡◌, ℕ, List, Option}
-use Rattle.press_sink.specs.Told.{SheetsTold, RepliesTold, both, nothing_told}
+use Rattle.std.specs.Prelude.{◌≡◌, ℕ, zero, suc, List, [], ◌∷◌, ◌++◌, Option, Some, refl}
+use Rattle.std.specs.Coded.{Coded, code_by, coded×, coded_ℕ}
+use Rattle.press_cmd.specs.Token.{Token}
+use Rattle.press_cmd.specs.Split.{Closed}
+use Rattle.press_sink.specs.Sides.{Sides, sides_code}
+use Rattle.press_sink.specs.declared.sheet.Delivery.{Delivery}
+use Rattle.press_sink.specs.Told.{SheetsTold, RepliesTold, both}
+use Rattle.press_sink.specs.Sending.{sheets_of, sheets_in}
+use Rattle.press_sink.specs.Outputs.{MadeOutput, IsFront, with_outputs, sheet_outputs}
+use Rattle.press_sink.specs.Template.{NameParts, IsTemplate, number_after, side_count}
 use Rattle.press_engine.specs.declared.machine.Machine.{Machine}
 use Rattle.press_stream.specs.declared.fault.JobError.{JobError}
+use Rattle.press_stream.specs.Meaning.{meaning_of, with_exit}
 use Rattle.press_stream.specs.Printed.{Printed}
 use Rattle.press_main.specs.Printing.{status_of_fault}
+
+-- deliveries are stored as the pairs of their tags and sheets
+abbrev pub delivery_code : Coded Delivery
+delivery_code =
+    code_by (ℕ × Sides) (coded× coded_ℕ sides_code)
+    (λ delivery. (delivery.tag, delivery.sheet))
+    (λ parts. record { tag = parts.0; sheet = parts.1 })
+    (λ _. refl)
 
 -- what a writer tells as a reply sink: the bytes that it holds, and so many replies that failed
 abbrev pub replies_written : Option (List ℕ) → ℕ → RepliesTold
@@ -20,12 +37,58 @@ pub record PrintsTo (status : ℕ) (had left : Option (List ℕ)) (before after 
   pub printed : Printed had left 0 error machine (both before (replies_written old 0)) (both after (replies_written new faults))
   pub answers : status ≡ status_of_fault error
 
--- A stream was printed to files, which tell no list of sheets: the same, from no fault on.
-abbrev pub PrintsFiles : ℕ → (had left old new : Option (List ℕ)) → Type 0
-PrintsFiles status had left old new = (after : SheetsTold) × PrintsTo status had left (nothing_told 0) after old new
+-- The outputs of sheets in their order, the first front of which has this number.
+abbrev pub sheets_outputs : NameParts → ℕ → List Sides → List MadeOutput
+sheets_outputs parts number [] = []
+sheets_outputs parts number (sheet ∷ sheets) = sheet_outputs parts number sheet ++ sheets_outputs parts (number_after (side_count sheet) number) sheets
 
--- Nothing was read, nothing was written, and the status is 1.
-pub record PrintsNothing (status : ℕ) (had left old new : Option (List ℕ)) : Type 0 where
+-- the number of the side behind these sheets, the first front of which has this number
+abbrev pub number_behind : ℕ → List Sides → ℕ
+number_behind number [] = number
+number_behind number (sheet ∷ sheets) = number_behind (number_after (side_count sheet) number) sheets
+
+-- What stands behind the outputs of sheets that a sink took, by its faults: nothing; or a front of the outputs of one sheet more,
+-- whose front has this number.
+abbrev pub ComesBehind : (faults : ℕ) → List MadeOutput → NameParts → ℕ → Type 0
+ComesBehind zero behind parts number = behind ≡ []
+ComesBehind (suc faults) behind parts number = (sheet : Sides) × IsFront behind (sheet_outputs parts number sheet)
+
+-- What was made of the sheets that a sink took, numbered from 1: the outputs of all of them, and nothing else, but for a front of
+-- those of the sheet at which it had a fault.
+pub record MakesSheets (parts : NameParts) (sheets : List Sides) (faults : ℕ) (before after : Option (List MadeOutput)) : Type 0 where
+  pub behind : List MadeOutput
+  pub comes : ComesBehind faults behind parts (number_behind 1 sheets)
+  pub made : after ≡ with_outputs (sheets_outputs parts 1 sheets ++ behind) before
+
+-- what a sink of files tells that took these sheets
+abbrev pub files_told : List Delivery → ℕ → SheetsTold
+files_told deliveries faults = record { delivered = Some deliveries; faults = faults }
+
+-- A stream was printed to files by a template of these parts: what went out of it is what the sink took, and that was made.
+pub record PrintsBy (parts : NameParts) (status : ℕ) (had left old new : Option (List ℕ)) (before after : Option (List MadeOutput)) : Type 0 where
+  pub deliveries : List Delivery
+  pub faults : ℕ
+  pub prints : PrintsTo status had left (files_told [] 0) (files_told deliveries faults) old new
+  pub makes : ∥ MakesSheets parts (sheets_in deliveries) faults before after ∥₁
+
+-- The same by a text, which is a template.
+pub record PrintsFiles (template : List ℕ) (status : ℕ) (had left old new : Option (List ℕ)) (before after : Option (List MadeOutput)) : Type 0 where
+  pub parts : NameParts
+  pub is_template : IsTemplate template parts
+  pub by_parts : PrintsBy parts status had left old new before after
+
+-- The files of a stream of these bytes were made by a template, and nothing else: the sides of the sheets that its meaning delivers,
+-- in order, each under the name with its number, and each the P4 file of its page.
+pub record MakesFiles (template : List ℕ) (bytes : List ℕ) (before after : Option (List MadeOutput)) : Type 0 where
+  pub parts : NameParts
+  pub is_template : IsTemplate template parts
+  pub commands : List Token
+  pub closed : Closed bytes commands
+  pub made : after ≡ with_outputs (sheets_outputs parts 1 (sheets_of (meaning_of (with_exit commands)).outputs)) before
+
+-- Nothing was read, nothing was written or made, and the status is 1.
+pub record DoesNothing (status : ℕ) (had left old new : Option (List ℕ)) (before after : Option (List MadeOutput)) : Type 0 where
   pub answers : status ≡ 1
   pub unread : left ≡ had
   pub unwritten : new ≡ old
+  pub unmade : after ≡ before

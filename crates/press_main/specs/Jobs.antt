@@ -4,6 +4,7 @@ use Rattle.std.specs.Io.KnownBytes.{Consumes, Appends}
 use Rattle.press_bits.specs.Page.{Page}
 use Rattle.press_pbm.specs.File.{IsFile, Refused}
 use Rattle.press_pbm.specs.Spelling.{AppendsFront}
+use Rattle.press_sink.specs.Outputs.{MadeOutput, MakesFront, holding, with_outputs}
 use Rattle.press_ticket.specs.Reading.{ticket_in}
 use Rattle.press_ticket.specs.Ticket.{JobTicket}
 use Rattle.press_ticket.specs.declared.fault.TicketError.{TicketError}
@@ -63,13 +64,38 @@ WritesNoJob ticket images old new WriteFault = WritesAFront ticket images old ne
 WritesNoJob ticket images old new NoMemory = WritesAFront ticket images old new
 WritesNoJob ticket images old new why = (refusal ticket images ≡ Some why) × Appends old new []
 
--- The job of the ticket that a reader had was written, with the images that the inputs had in their order.
-pub record WritesTheTicket (had left : Option (List ℕ)) (inputs : List (Option (List ℕ))) (old new : Option (List ℕ)) : Type 0 where
+-- The ticket fits these images, and an output of this name was made, which holds its job with them; that prints it.
+pub record MakesAJob (name : List ℕ) (ticket : JobTicket) (images : List Page) (before after : Option (List MadeOutput)) : Type 0 where
+  pub fits : refusal ticket images ≡ None
+  pub made : after ≡ with_outputs (holding name (job_bytes ticket images) ∷ []) before
+  pub prints : PrintsTheTicket ticket images (job_bytes ticket images)
+
+-- The ticket fits these images, and a front of the output was made, since it cannot be made or written, or memory ran out.
+pub record MakesAFront (name : List ℕ) (ticket : JobTicket) (images : List Page) (before after : Option (List MadeOutput)) (why : WriterError) : Type 0 where
+  pub fits : refusal ticket images ≡ None
+  pub told : (why ≡ WriteFault) ⊎ (why ≡ NoMemory)
+  pub made : MakesFront (holding name (job_bytes ticket images) ∷ []) before after
+
+-- What was made of a job whose output was not made whole: nothing, and this is why the ticket does not fit the images; else a front.
+abbrev pub MakesNoJob : (name : List ℕ) → JobTicket → List Page → (before after : Option (List MadeOutput)) → WriterError → Type 0
+MakesNoJob name ticket images before after why =
+    ((refusal ticket images ≡ Some why) × (after ≡ before)) ⊎ MakesAFront name ticket images before after why
+
+-- A reader had a ticket and the inputs had images in their order, of which this holds.
+pub record HasTicket (had left : Option (List ℕ)) (inputs : List (Option (List ℕ))) (Of : JobTicket → List Page → Type 0) : Type 0 where
   pub ticket : JobTicket
   pub images : List Page
   pub ticket_read : TicketRead had left ticket
   pub images_read : HaveImages inputs images
-  pub job : WritesAJob ticket images old new
+  pub job : Of ticket images
+
+-- The job of the ticket that a reader had was written, with the images that the inputs had in their order.
+abbrev pub WritesTheTicket : (had left : Option (List ℕ)) (inputs : List (Option (List ℕ))) (old new : Option (List ℕ)) → Type 0
+WritesTheTicket had left inputs old new = HasTicket had left inputs (λ ticket images. WritesAJob ticket images old new)
+
+-- The same was made an output of this name.
+abbrev pub MakesTheTicket : (name : List ℕ) (had left : Option (List ℕ)) (inputs : List (Option (List ℕ))) (before after : Option (List MadeOutput)) → Type 0
+MakesTheTicket name had left inputs before after = HasTicket had left inputs (λ ticket images. MakesAJob name ticket images before after)
 
 -- Why a reader gave no ticket, by the fault: what it had is none; else it cannot be read, or memory ran out.
 abbrev pub TicketRefused : (had left : Option (List ℕ)) → JobFileError → Type 0
@@ -98,30 +124,32 @@ pub record LacksAnImage (inputs : List (Option (List ℕ))) (why : JobFileError)
 abbrev pub ImagesRefused : (inputs : List (Option (List ℕ))) → JobFileError → Type 0
 ImagesRefused inputs why = LacksAnImage inputs why ⊎ (why ≡ fault.NoMemory)
 
--- The reader gave no ticket, and nothing was written.
-pub record StopsAtTheTicket (had left old new : Option (List ℕ)) (why : JobFileError) : Type 0 where
+-- The reader gave no ticket, and nothing was written or made.
+pub record StopsAtTheTicket {T : Type 0} (had left : Option (List ℕ)) (old new : T) (why : JobFileError) : Type 0 where
   pub refused : TicketRefused had left why
   pub unwritten : new ≡ old
 
--- The reader had a ticket, the inputs gave no images, and nothing was written.
-pub record StopsAtAnImage (had left : Option (List ℕ)) (inputs : List (Option (List ℕ))) (old new : Option (List ℕ)) (why : JobFileError) : Type 0 where
+-- The reader had a ticket, the inputs gave no images, and nothing was written or made.
+pub record StopsAtAnImage {T : Type 0} (had left : Option (List ℕ)) (inputs : List (Option (List ℕ))) (old new : T) (why : JobFileError) : Type 0 where
   pub ticket : JobTicket
   pub ticket_read : TicketRead had left ticket
   pub refused : ImagesRefused inputs why
   pub unwritten : new ≡ old
 
--- The reader had a ticket and the inputs had images, and its job with them was not written whole.
-pub record StopsAtTheJob (had left : Option (List ℕ)) (inputs : List (Option (List ℕ))) (old new : Option (List ℕ)) (why : JobFileError) : Type 0 where
-  pub ticket : JobTicket
-  pub images : List Page
-  pub error : WriterError
-  pub ticket_read : TicketRead had left ticket
-  pub images_read : HaveImages inputs images
-  pub told : why ≡ fault.Writer error
-  pub job : WritesNoJob ticket images old new error
+-- The reader had a ticket and the inputs had images, and of its job with them this holds.
+abbrev pub StopsAtTheJob : (had left : Option (List ℕ)) (inputs : List (Option (List ℕ))) (Of : JobTicket → List Page → WriterError → Type 0) → JobFileError → Type 0
+StopsAtTheJob had left inputs Of why =
+    (error : WriterError) × (why ≡ fault.Writer error) × HasTicket had left inputs (λ ticket images. Of ticket images error)
 
 -- Why no job was written whole, and what was written then: the ticket is asked first, then the images in their order, and then
 -- whether they fit.
 abbrev pub StopsWriting : (had left : Option (List ℕ)) (inputs : List (Option (List ℕ))) (old new : Option (List ℕ)) → JobFileError → Type 0
 StopsWriting had left inputs old new why =
-    StopsAtTheTicket had left old new why ⊎ StopsAtAnImage had left inputs old new why ⊎ StopsAtTheJob had left inputs old new why
+    StopsAtTheTicket had left old new why ⊎ StopsAtAnImage had left inputs old new why
+    ⊎ StopsAtTheJob had left inputs (λ ticket images error. WritesNoJob ticket images old new error) why
+
+-- The same of an output of this name that was not made whole.
+abbrev pub StopsMakingJob : (name : List ℕ) (had left : Option (List ℕ)) (inputs : List (Option (List ℕ))) (before after : Option (List MadeOutput)) → JobFileError → Type 0
+StopsMakingJob name had left inputs before after why =
+    StopsAtTheTicket had left before after why ⊎ StopsAtAnImage had left inputs before after why
+    ⊎ StopsAtTheJob had left inputs (λ ticket images error. MakesNoJob name ticket images before after error) why

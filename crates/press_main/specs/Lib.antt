@@ -5,6 +5,7 @@ pub mod EntryListing
 pub mod EntrySheets
 pub mod EventLines
 pub mod Files
+pub mod Folders
 pub mod Inputs
 pub mod Jobs
 pub mod LineReading

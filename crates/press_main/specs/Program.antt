@@ -1,11 +1,12 @@
 -- What the program does for what its words ask.
 use Rattle.std.specs.Prelude.{◌≡◌, ◌≢◌, ◌⊎◌, ℕ, List, Option, Some, None, map}
 use Rattle.clap.specs.Words.{Text}
+use Rattle.press_sink.specs.Outputs.{MadeOutput}
 use Rattle.press_main.specs.Words.{Source, Standard, FileNamed, Made, Listed, FilesBy, Answered, AsText, DebuggedOf, StreamTo, JobTo, Asked}
-use Rattle.press_main.specs.Assembly.{AssembledTo, StopsAssembling, DisassembledTo, StopsDisassembling}
+use Rattle.press_main.specs.Assembly.{AssembledInto, StopsMaking, DisassembledTo, StopsDisassembling}
 use Rattle.press_main.specs.Debugging.{Debugs, StopsDebugging}
-use Rattle.press_main.specs.Files.{PrintsFiles, PrintsNothing}
-use Rattle.press_main.specs.Jobs.{WritesTheTicket, StopsWriting}
+use Rattle.press_main.specs.Files.{PrintsFiles, DoesNothing}
+use Rattle.press_main.specs.Jobs.{MakesTheTicket, StopsMakingJob}
 use Rattle.press_main.specs.Listing.{PrintsListing}
 use Rattle.press_main.specs.Sessions.{Plays, Stops}
 use Rattle.press_main.specs.declared.assembly.TextError.{TextError}
@@ -13,20 +14,20 @@ use Rattle.press_main.specs.declared.debugging.DebugError.{DebugError}
 use Rattle.press_main.specs.declared.jobs.JobFileError.{JobFileError}
 use Rattle.press_main.specs.declared.sessions.SessionError.{SessionError}
 
--- A text was assembled to a writer, or not; the status is 0 exactly where it was.
-pub record Assembling (status : ℕ) (had left old new : Option (List ℕ)) : Type 0 where
-  pub done : status ≡ 0 → AssembledTo had left old new
-  pub stops : status ≢ 0 → (why : TextError) × StopsAssembling had left old new why
+-- A text was assembled into an output of this name, or not; the status is 0 exactly where it was.
+pub record Assembling (name : Text) (status : ℕ) (had left : Option (List ℕ)) (before after : Option (List MadeOutput)) : Type 0 where
+  pub done : status ≡ 0 → AssembledInto name had left before after
+  pub stops : status ≢ 0 → (why : TextError) × StopsMaking name had left before after why
 
--- The same of a stream that was disassembled.
+-- The same of a stream that was disassembled to a writer.
 pub record Disassembling (status : ℕ) (had left old new : Option (List ℕ)) : Type 0 where
   pub done : status ≡ 0 → DisassembledTo had left old new
   pub stops : status ≢ 0 → (why : TextError) × StopsDisassembling had left old new why
 
--- The same of a ticket, of which the job was written with the images of these inputs.
-pub record Writing (status : ℕ) (had left : Option (List ℕ)) (images : List (Option (List ℕ))) (old new : Option (List ℕ)) : Type 0 where
-  pub done : status ≡ 0 → WritesTheTicket had left images old new
-  pub stops : status ≢ 0 → (why : JobFileError) × StopsWriting had left images old new why
+-- The same of a ticket, of which an output of this name was made, the job with the images of these inputs.
+pub record Writing (name : Text) (status : ℕ) (had left : Option (List ℕ)) (images : List (Option (List ℕ))) (before after : Option (List MadeOutput)) : Type 0 where
+  pub done : status ≡ 0 → MakesTheTicket name had left images before after
+  pub stops : status ≢ 0 → (why : JobFileError) × StopsMakingJob name had left images before after why
 
 -- A session was played to its end, or stopped, with the files of its messages among these inputs.
 pub record Playing (status : ℕ) (inputs : Text → Option (List ℕ)) (had left old new : Option (List ℕ)) : Type 0 where
@@ -38,36 +39,31 @@ pub record Debugging (status : ℕ) (stream had left old new : Option (List ℕ)
   pub done : status ≡ 0 → (rest : Option (List ℕ)) × Debugs stream rest had left old new
   pub stops : status ≢ 0 → (rest : Option (List ℕ)) × (why : DebugError) × StopsDebugging stream rest had left old new why
 
--- What is asked for was made of what a reader had: its status, and what standard output took. What named files hold is not known;
--- where one is made, standard output takes nothing; the inputs are what they have by their names.
-abbrev pub Makes : Made → (inputs : Text → Option (List ℕ)) → ℕ → (had left old new : Option (List ℕ)) → Type 0
-Makes Listed inputs status had left old new = PrintsListing status had left old new
-Makes (FilesBy template) inputs status had left old new =
-    PrintsFiles status had left old new ⊎ PrintsNothing status had left old new
-Makes Answered inputs status had left old new = Playing status inputs had left old new
-Makes AsText inputs status had left old new = Disassembling status had left old new
-Makes (DebuggedOf name) inputs status had left old new = Debugging status (inputs name) had left old new
-Makes (StreamTo name) inputs status had left old new = Assembling status had left None None × (new ≡ old)
-Makes (JobTo name images) inputs status had left old new = Writing status had left (map inputs images) None None × (new ≡ old)
-
--- Nothing was read or written, and the status is 1.
-pub record DoesNothing (status : ℕ) (had left old new : Option (List ℕ)) : Type 0 where
-  pub answers : status ≡ 1
-  pub unread : left ≡ had
-  pub unwritten : new ≡ old
+-- What is asked for was made of what a reader had: its status, what standard output took, and the outputs that were made. Standard
+-- output takes nothing where an output is named, and no output is made where none is; the inputs are what they have by their names.
+abbrev pub Makes : Made → (inputs : Text → Option (List ℕ)) → ℕ → (had left old new : Option (List ℕ)) → (before after : Option (List MadeOutput)) → Type 0
+Makes Listed inputs status had left old new before after = PrintsListing status had left old new × (after ≡ before)
+Makes (FilesBy template) inputs status had left old new before after =
+    PrintsFiles template status had left old new before after ⊎ DoesNothing status had left old new before after
+Makes Answered inputs status had left old new before after = Playing status inputs had left old new × (after ≡ before)
+Makes AsText inputs status had left old new before after = Disassembling status had left old new × (after ≡ before)
+Makes (DebuggedOf name) inputs status had left old new before after = Debugging status (inputs name) had left old new × (after ≡ before)
+Makes (StreamTo name) inputs status had left old new before after = Assembling name status had left before after × (new ≡ old)
+Makes (JobTo name images) inputs status had left old new before after = Writing name status had left (map inputs images) before after × (new ≡ old)
 
 -- What is asked for was made of the bytes of a file; or it cannot be opened. Standard input stays.
-abbrev pub MakesOfFile : Text → Made → (inputs : Text → Option (List ℕ)) → ℕ → (had left old new : Option (List ℕ)) → Type 0
-MakesOfFile name made inputs status had left old new =
-    ((left ≡ had) × (rest : Option (List ℕ)) × Makes made inputs status (inputs name) rest old new) ⊎ DoesNothing status had left old new
+abbrev pub MakesOfFile : Text → Made → (inputs : Text → Option (List ℕ)) → ℕ → (had left old new : Option (List ℕ)) → (before after : Option (List MadeOutput)) → Type 0
+MakesOfFile name made inputs status had left old new before after =
+    ((left ≡ had) × (rest : Option (List ℕ)) × Makes made inputs status (inputs name) rest old new before after)
+    ⊎ DoesNothing status had left old new before after
 
 -- What is asked for was done, of what standard input had or of a file.
-abbrev pub Performs : Source → Made → (inputs : Text → Option (List ℕ)) → ℕ → (had left old new : Option (List ℕ)) → Type 0
-Performs Standard made inputs status had left old new = Makes made inputs status had left old new
-Performs (FileNamed name) made inputs status had left old new = MakesOfFile name made inputs status had left old new
+abbrev pub Performs : Source → Made → (inputs : Text → Option (List ℕ)) → ℕ → (had left old new : Option (List ℕ)) → (before after : Option (List MadeOutput)) → Type 0
+Performs Standard made inputs status had left old new before after = Makes made inputs status had left old new before after
+Performs (FileNamed name) made inputs status had left old new before after = MakesOfFile name made inputs status had left old new before after
 
--- What words ask for was done, unless memory ran out before; words that are refused or ask for help read nothing.
-abbrev pub Runs : Option Asked → (inputs : Text → Option (List ℕ)) → ℕ → (had left old new : Option (List ℕ)) → Type 0
-Runs None inputs status had left old new = left ≡ had
-Runs (Some asked) inputs status had left old new =
-    Performs asked.source asked.made inputs status had left old new ⊎ DoesNothing status had left old new
+-- What words ask for was done, unless memory ran out before; words that are refused or ask for help read and make nothing.
+abbrev pub Runs : Option Asked → (inputs : Text → Option (List ℕ)) → ℕ → (had left old new : Option (List ℕ)) → (before after : Option (List MadeOutput)) → Type 0
+Runs None inputs status had left old new before after = (left ≡ had) × (after ≡ before)
+Runs (Some asked) inputs status had left old new before after =
+    Performs asked.source asked.made inputs status had left old new before after ⊎ DoesNothing status had left old new before after

@@ -56,7 +56,7 @@ impl From<AllocError> for TextError {
 }
 
 /// The bytes of the assembly text that a reader has.
-fn assembled<R: Read>(alloc: Global, reader: &mut R) -> Result<Vec<u8>, TextError>
+pub(crate) fn assembled<R: Read>(alloc: Global, reader: &mut R) -> Result<Vec<u8>, TextError>
     ensures ok { IfOk result (λ bytes.
         Assembled (R.remaining reader.old) (R.remaining reader.new) bytes.items) }
     ensures err { IfErr result (λ why.

@@ -14,6 +14,7 @@ ghost use Rattle.press_main.specs.Jobs.{
 };
 ghost use Rattle.press_main.specs.declared.jobs.JobFileError.{JobFileError};
 
+use crate::counted_read::CountedRead;
 use crate::inputs::{InputError, read_all};
 use crate::named_inputs::{NamedInputs, open_named};
 use crate::telling::told;
@@ -80,7 +81,7 @@ fn image_named<I: NamedInputs>(
     ensures image { IfOk result (λ image. HasImage (I.bytes inputs.now name.now) image) }
     ensures refused { IfErr result (λ why. ImageRefused (I.bytes inputs.now name.now) why) }
 {
-    let mut input = open_named(inputs, name)?;
+    let mut input = CountedRead::new(open_named(inputs, name)?);
     read_pbm(alloc, &mut input).map_err(JobFileError::Image)
 }
 

@@ -3,6 +3,7 @@
 #![tactic(auto)]
 
 mod assembly;
+mod counted_read;
 mod debugger_lines;
 mod debugging;
 mod entry_sheets;
@@ -14,13 +15,15 @@ mod line_reader;
 mod lines;
 mod listing;
 mod listing_sink;
-mod made_file;
+mod making;
 mod measures;
 mod named_inputs;
 mod program;
 mod sessions;
 mod stream;
+mod taken;
 mod telling;
+mod told_folder;
 mod words;
 
 pub use assembly::{asm_text, disasm_bytes};
@@ -29,6 +32,7 @@ pub use files::{Finished, print_files};
 pub use inputs::InputError;
 pub use jobs::write_files;
 pub use listing::print_list;
+pub use making::{asm_file, job_file};
 pub use named_inputs::{NamedFile, NamedFiles, NamedInputs};
 pub use program::run_words;
 pub use sessions::press_lines;

@@ -1,52 +1,54 @@
 //! What the words ask for, done.
-ghost use Rattle.std.specs.Prelude.{◌≡◌, ◌≢◌, map, IfOk, None};
+ghost use Rattle.std.specs.Prelude.{◌≡◌, ◌≢◌, map, IfOk};
 ghost use Rattle.std.specs.String.{string_bytes};
-ghost use Rattle.press_main.specs.Program.{Assembling, Debugging, Makes, Performs, Runs, Writing};
+ghost use Rattle.press_main.specs.Program.{Debugging, Makes, Performs, Runs, Writing};
 ghost use Rattle.press_main.specs.View.{made_seen, request_seen, status_of};
 ghost use Rattle.press_main.specs.Words.{asked};
 
-use crate::assembly::{asm_text, disasm_bytes};
+use crate::assembly::disasm_bytes;
 use crate::debugging::debug_lines;
 use crate::files::{Finished, print_files};
 use crate::inputs::InputError;
-use crate::jobs::write_files;
 use crate::listing::print_list;
-use crate::made_file::MadeFile;
+use crate::making::{asm_file, job_file};
 use crate::named_inputs::NamedInputs;
 use crate::sessions::press_lines;
 use crate::telling::told;
 use crate::words::{Input, Output, Refusal, Request, request_of};
+use press_sink::NamedOutputs;
 use press_units::NO_MEMORY;
 use std::alloc::{AllocError, Global};
-use std::fs::Files;
 use std::io::{Read, Write};
 
 /// Does what the words ask for, the program's name among them. Inputs are opened by their names in `inputs`, and files are made in
-/// `files`. The answer has the status, and standard output.
-pub fn run_words<I: NamedInputs, F: Files, S: Read, W: Write + Drop, E: Write>(
+/// `outputs`. The answer has the status, and hands standard output and the outputs back.
+pub fn run_words<I: NamedInputs, O: NamedOutputs + Drop, S: Read, W: Write + Drop, E: Write>(
     alloc: Global,
     inputs: &I,
-    files: &F,
+    outputs: O,
     words: &[String],
     input: &mut S,
     mut out: W,
     err: &mut E,
-) -> Finished<W>
+) -> Finished<W, O>
     ensures { Runs (asked (map string_bytes words.now)) (I.bytes inputs.now) result.status
         (S.remaining input.old) (S.remaining input.new)
-        (W.contents out) (W.contents result.out) }
+        (W.contents out) (W.contents result.out)
+        (O.made outputs) (O.made result.outputs) }
 {
     let Ok(texts) = texts_of(alloc, words) else {
         return Finished {
             status: told(&NO_MEMORY, err),
             out,
+            outputs,
         };
     };
     match request_of(alloc, &texts) {
-        Ok(request) => perform(alloc, inputs, files, &request, input, out, err),
+        Ok(request) => perform(alloc, inputs, outputs, &request, input, out, err),
         Err(refusal) => Finished {
             status: refuse(&refusal, &mut out, err),
             out,
+            outputs,
         },
     }
 }
@@ -78,71 +80,79 @@ fn refuse<W: Write, E: Write>(refusal: &Refusal, out: &mut W, err: &mut E) -> u8
 }
 
 /// Opens the input of a request, and makes of it what is asked for.
-fn perform<I: NamedInputs, F: Files, S: Read, W: Write + Drop, E: Write>(
+fn perform<I: NamedInputs, O: NamedOutputs + Drop, S: Read, W: Write + Drop, E: Write>(
     alloc: Global,
     inputs: &I,
-    files: &F,
+    outputs: O,
     request: &Request<'_>,
     input: &mut S,
     out: W,
     err: &mut E,
-) -> Finished<W>
+) -> Finished<W, O>
     ensures { Performs (request_seen request.now).source (request_seen request.now).made
         (I.bytes inputs.now) result.status (S.remaining input.old) (S.remaining input.new)
-        (W.contents out) (W.contents result.out) }
+        (W.contents out) (W.contents result.out) (O.made outputs) (O.made result.outputs) }
 {
+    let output = &request.output;
     match request.input {
-        Input::Standard => make(alloc, inputs, files, input, &request.output, out, err),
+        Input::Standard => make(alloc, inputs, outputs, input, output, out, err),
         Input::File(name) => match inputs.open(name) {
-            Ok(mut file) => make(alloc, inputs, files, &mut file, &request.output, out, err),
+            Ok(mut file) => make(alloc, inputs, outputs, &mut file, output, out, err),
             Err(_) => Finished {
                 status: told(&InputError::ReadFault, err),
                 out,
+                outputs,
             },
         },
     }
 }
 
 /// Makes what is asked for of what a reader has.
-fn make<I: NamedInputs, F: Files, R: Read, W: Write + Drop, E: Write>(
+fn make<I: NamedInputs, O: NamedOutputs + Drop, R: Read, W: Write + Drop, E: Write>(
     alloc: Global,
     inputs: &I,
-    files: &F,
+    mut outputs: O,
     reader: &mut R,
     output: &Output<'_>,
     mut out: W,
     err: &mut E,
-) -> Finished<W>
+) -> Finished<W, O>
     ensures { Makes (made_seen output.now) (I.bytes inputs.now) result.status
         (R.remaining reader.old) (R.remaining reader.new)
-        (W.contents out) (W.contents result.out) }
+        (W.contents out) (W.contents result.out) (O.made outputs) (O.made result.outputs) }
 {
     match output {
-        Output::Listing => {
-            let status = print_list(alloc, reader, &mut out, err);
-            Finished { status, out }
-        }
-        Output::Files(template) => print_files(alloc, files, reader, template, out, err),
-        Output::Session => {
-            let status = press_lines(alloc, inputs, reader, &mut out, err);
-            Finished { status, out }
-        }
-        Output::Text => {
-            let status = disasm_bytes(alloc, reader, &mut out, err);
-            Finished { status, out }
-        }
-        Output::Debugged(name) => {
-            let status = debug_file(alloc, inputs, name, reader, &mut out, err);
-            Finished { status, out }
-        }
-        Output::Assembled(name) => {
-            let status = asm_file(alloc, files, reader, name, err);
-            Finished { status, out }
-        }
-        Output::Job(name, images) => {
-            let status = write_file(alloc, inputs, files, reader, name, images, err);
-            Finished { status, out }
-        }
+        Output::Listing => Finished {
+            status: print_list(alloc, reader, &mut out, err),
+            out,
+            outputs,
+        },
+        Output::Files(template) => print_files(alloc, outputs, reader, template, out, err),
+        Output::Session => Finished {
+            status: press_lines(alloc, inputs, reader, &mut out, err),
+            out,
+            outputs,
+        },
+        Output::Text => Finished {
+            status: disasm_bytes(alloc, reader, &mut out, err),
+            out,
+            outputs,
+        },
+        Output::Debugged(name) => Finished {
+            status: debug_file(alloc, inputs, name, reader, &mut out, err),
+            out,
+            outputs,
+        },
+        Output::Assembled(name) => Finished {
+            status: asm_file(alloc, reader, &mut outputs, name, err),
+            out,
+            outputs,
+        },
+        Output::Job(name, images) => Finished {
+            status: write_file(alloc, reader, inputs, images, &mut outputs, name, err),
+            out,
+            outputs,
+        },
     }
 }
 
@@ -165,38 +175,24 @@ fn debug_file<I: NamedInputs, R: Read, W: Write, E: Write>(
     }
 }
 
-/// Writes the bytes of the assembly text that a reader has to the file of this name, which is made once the text is assembled.
-fn asm_file<F: Files, R: Read, E: Write>(
+/// Makes the output of this name of the ticket that a reader has, with the images of the inputs of these names.
+fn write_file<R: Read, I: NamedInputs, O: NamedOutputs, E: Write>(
     alloc: Global,
-    files: &F,
     reader: &mut R,
-    name: &str,
-    err: &mut E,
-) -> u8
-    ensures { Assembling result (R.remaining reader.old) (R.remaining reader.new) None None }
-{
-    asm_text(alloc, reader, &mut MadeFile::new(files, name), err)
-}
-
-/// Writes the job of the ticket that a reader has, with the images of the inputs of these names, to the file of this name. The file
-/// is made once the images are found to fit.
-fn write_file<I: NamedInputs, F: Files, R: Read, E: Write>(
-    alloc: Global,
     inputs: &I,
-    files: &F,
-    reader: &mut R,
-    name: &str,
     images: &[&str],
+    outputs: &mut O,
+    name: &str,
     err: &mut E,
 ) -> u8
-    ensures { Writing result (R.remaining reader.old) (R.remaining reader.new)
-        (map (I.bytes inputs.now) (map (λ image. image.now) images.now)) None None }
+    ensures { Writing name.now result (R.remaining reader.old) (R.remaining reader.new)
+        (map (I.bytes inputs.now) (map (λ image. image.now) images.now))
+        (O.made outputs.old) (O.made outputs.new) }
 {
     let Ok(words) = names_of(alloc, images) else {
         return told(&NO_MEMORY, err);
     };
-    let mut out = MadeFile::new(files, name);
-    write_files(alloc, reader, inputs, &words, &mut out, err)
+    job_file(alloc, reader, inputs, &words, outputs, name, err)
 }
 
 /// The bytes of names.

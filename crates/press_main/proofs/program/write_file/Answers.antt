@@ -1,6 +1,7 @@
-use Rattle.std.proofs.Common.{◌≡◌, ◌∙◌, ℕ, List, Bor, Option, None, map, ap, refl, subst, inl, arith}
+use Rattle.std.proofs.Common.{◌≡◌, ◌∙◌, ℕ, List, Bor, Option, map, ap, refl, subst, inl, arith}
+use Rattle.press_sink.specs.Outputs.{MadeOutput}
 use Rattle.press_ticket.specs.declared.fault.TicketError.TheVariants as ticket_fault
-use Rattle.press_main.specs.Jobs.{WritesTheTicket, StopsWriting}
+use Rattle.press_main.specs.Jobs.{MakesTheTicket, StopsMakingJob}
 use Rattle.press_main.specs.declared.jobs.JobFileError.TheVariants as fault
 use Rattle.press_main.proofs.ProgramLemmas.{map-twice}
 use Rattle.press_main.proofs.program.write_file.Goals as goal
@@ -15,13 +16,15 @@ pub returns : goal.returns
 returns g c =
     let bytes = g.I.NamedInputs.bytes c.args.inputs.now in
     let had = g.R.Read.remaining c.args.reader.now in
-    let left = g.R.Read.remaining c.write_files.new.ticket in
+    let left = g.R.Read.remaining c.job_file.new.ticket in
+    let before : Option (List MadeOutput) = g.O.NamedOutputs.made c.args.outputs.now in
+    let after : Option (List MadeOutput) = g.O.NamedOutputs.made c.job_file.new.outputs in
     let now : Bor (List ℕ) → List ℕ = λ name. name.now in
     let same : map (λ (name : Bor (List ℕ)). bytes name.now) c.deref.result.now ≡ map bytes (map now c.args.images.now) =
     map-twice now bytes c.deref.result.now ∙ ap (map bytes) (ap (map now) c.deref.ensures.value ∙ c.in-Ok.ensures) in
     record {
-      done = λ zero. subst (λ (inputs : List (Option (List ℕ))). WritesTheTicket had left inputs None None) same (c.write_files.ensures.written zero);
+      done = λ zero. subst (λ (inputs : List (Option (List ℕ))). MakesTheTicket c.args.name.now had left inputs before after) same (c.job_file.ensures.made zero);
       stops = λ other.
-          let why = c.write_files.ensures.refused other in
-          (why.0, subst (λ (inputs : List (Option (List ℕ))). StopsWriting had left inputs None None why.0) same why.1);
+          let why = c.job_file.ensures.refused other in
+          (why.0, subst (λ (inputs : List (Option (List ℕ))). StopsMakingJob c.args.name.now had left inputs before after why.0) same why.1);
     }

@@ -1,0 +1,132 @@
+//! Outputs that are made of a text, and of a ticket.
+ghost use Rattle.std.specs.Prelude.{◌≡◌, ◌≢◌, ◌≤◌, map, IfErr, OnOk};
+ghost use Rattle.press_main.specs.Assembly.{AssembledInto, StopsMaking};
+ghost use Rattle.press_main.specs.Jobs.{MakesAJob, MakesNoJob, MakesTheTicket, StopsMakingJob};
+ghost use Rattle.press_main.specs.declared.assembly.TextError.{TextError};
+ghost use Rattle.press_main.specs.declared.jobs.JobFileError.{JobFileError};
+
+use crate::assembly::{TextError, assembled};
+use crate::jobs::{JobFileError, images_named, ticket_in};
+use crate::named_inputs::NamedInputs;
+use crate::telling::told;
+use press_bits::Bitmap;
+use press_sink::{NamedOutputs, write_output};
+use press_ticket::Ticket;
+use press_writer::{WriterError, check, write_job};
+use std::alloc::Global;
+use std::io::{Read, Write};
+
+/// Makes the output of this name, which holds the bytes of the assembly text that a reader has, and writes a fault to `err`. Of a text
+/// that is refused nothing is made. The answer is the status: 0, or 1 after a fault.
+pub fn asm_file<R: Read, O: NamedOutputs, E: Write>(
+    alloc: Global,
+    reader: &mut R,
+    outputs: &mut O,
+    name: &str,
+    err: &mut E,
+) -> u8
+    ensures status { result ≤ 1 }
+    ensures assembled { result ≡ 0 → AssembledInto name.now
+        (R.remaining reader.old) (R.remaining reader.new)
+        (O.made outputs.old) (O.made outputs.new) }
+    ensures refused { result ≢ 0 → (why : TextError) × StopsMaking name.now
+        (R.remaining reader.old) (R.remaining reader.new)
+        (O.made outputs.old) (O.made outputs.new) why }
+{
+    match make_stream(alloc, reader, outputs, name) {
+        Ok(()) => 0,
+        Err(error) => told(&error, err),
+    }
+}
+
+/// Makes the output of this name of the assembly text that a reader has.
+fn make_stream<R: Read, O: NamedOutputs>(
+    alloc: Global,
+    reader: &mut R,
+    outputs: &mut O,
+    name: &str,
+) -> Result<(), TextError>
+    ensures ok { OnOk result (AssembledInto name.now (R.remaining reader.old)
+        (R.remaining reader.new) (O.made outputs.old) (O.made outputs.new)) }
+    ensures err { IfErr result (λ why. StopsMaking name.now (R.remaining reader.old)
+        (R.remaining reader.new) (O.made outputs.old) (O.made outputs.new) why) }
+{
+    let bytes = assembled(alloc, reader)?;
+    write_output(outputs, name, &bytes).map_err(|_| TextError::WriteFault)
+}
+
+/// Makes the output of this name, which holds the job of the ticket that a reader has, with the images of the inputs of these names
+/// in the order of its pages, and writes a fault to `err`. Nothing is made before the images are found to fit. The answer is the
+/// status: 0, or 1 after a fault.
+pub fn job_file<T: Read, I: NamedInputs, O: NamedOutputs, E: Write>(
+    alloc: Global,
+    ticket: &mut T,
+    inputs: &I,
+    names: &[&[u8]],
+    outputs: &mut O,
+    name: &str,
+    err: &mut E,
+) -> u8
+    ensures status { result ≤ 1 }
+    ensures made { result ≡ 0 → MakesTheTicket name.now
+        (T.remaining ticket.old) (T.remaining ticket.new)
+        (map (λ name. I.bytes inputs.now name.now) names.now)
+        (O.made outputs.old) (O.made outputs.new) }
+    ensures refused { result ≢ 0 → (why : JobFileError) × StopsMakingJob name.now
+        (T.remaining ticket.old) (T.remaining ticket.new)
+        (map (λ name. I.bytes inputs.now name.now) names.now)
+        (O.made outputs.old) (O.made outputs.new) why }
+{
+    match make_ticket(alloc, ticket, inputs, names, outputs, name) {
+        Ok(()) => 0,
+        Err(error) => told(&error, err),
+    }
+}
+
+/// Makes the output of this name of the ticket that a reader has, with the images of these inputs.
+fn make_ticket<T: Read, I: NamedInputs, O: NamedOutputs>(
+    alloc: Global,
+    ticket: &mut T,
+    inputs: &I,
+    names: &[&[u8]],
+    outputs: &mut O,
+    name: &str,
+) -> Result<(), JobFileError>
+    ensures ok { OnOk result (MakesTheTicket name.now (T.remaining ticket.old) (T.remaining ticket.new)
+        (map (λ name. I.bytes inputs.now name.now) names.now)
+        (O.made outputs.old) (O.made outputs.new)) }
+    ensures err { IfErr result (λ why. StopsMakingJob name.now
+        (T.remaining ticket.old) (T.remaining ticket.new)
+        (map (λ name. I.bytes inputs.now name.now) names.now)
+        (O.made outputs.old) (O.made outputs.new) why) }
+{
+    let ticket = ticket_in(alloc, ticket)?;
+    let images = images_named(alloc, inputs, names)?;
+    make_job(alloc, &ticket, &images, outputs, name).map_err(JobFileError::Writer)
+}
+
+/// Makes the output of this name of the job of a ticket with these images, once they are found to fit.
+fn make_job<O: NamedOutputs>(
+    alloc: Global,
+    ticket: &Ticket,
+    images: &[Bitmap],
+    outputs: &mut O,
+    name: &str,
+) -> Result<(), WriterError>
+    ensures ok { OnOk result (MakesAJob name.now ticket.now images.now
+        (O.made outputs.old) (O.made outputs.new)) }
+    ensures err { IfErr result (λ why. MakesNoJob name.now ticket.now images.now
+        (O.made outputs.old) (O.made outputs.new) why) }
+{
+    check(ticket, images)?;
+    let Ok(mut output) = outputs.make(name) else {
+        return Err(WriterError::WriteFault);
+    };
+    let written = write_job(alloc, ticket, images, &mut output);
+    let closed = outputs.close(output);
+    written?;
+    if closed.is_err() {
+        return Err(WriterError::WriteFault);
+    }
+    Ok(())
+}
