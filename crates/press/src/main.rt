@@ -2,6 +2,7 @@
 #![tactic(auto)]
 
 use press_main::{NamedFiles, run_words};
+use press_sink::FileOutputs;
 use press_units::NO_MEMORY;
 use std::env;
 use std::io::{self, ErrorKind};
@@ -25,7 +26,8 @@ fn main(rt: HostRuntime) -> ExitCode {
     let out = io::writer(&rt);
     let mut err = rt.stderr();
     let inputs = NamedFiles { files: &rt };
-    let finished = run_words(rt.alloc(), &inputs, &rt, &words, &mut input, out, &mut err);
+    let outputs = FileOutputs { files: &rt };
+    let finished = run_words(rt.alloc(), &inputs, outputs, &words, &mut input, out, &mut err);
     ExitCode::from(finished.status)
 }
 
