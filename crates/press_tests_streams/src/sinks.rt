@@ -1,7 +1,7 @@
 //! Sinks of sheets and of replies.
 use press_bits::Bitmap;
 use press_sink::{
-    Delivery, FolderSink, FuseSink, ListReplies, ListSink, ReplySink, Sheet, SheetSink, SinkError,
+    Delivery, FolderSink, FuseSink, ListOutputs, ListReplies, ListSink, ReplySink, Sheet, SheetSink, SinkError,
 };
 use std::alloc::{AllocError, Global};
 use std::process::Abort;
@@ -83,13 +83,14 @@ fn a_template_has_one_place_for_the_number(rt: HostRuntime) -> Result<(), Fail> 
         ("%d-%D-%d", false),
     ];
     for (text, is_template) in cases {
-        match FolderSink::open(rt.alloc(), &rt, text) {
+        match FolderSink::open(rt.alloc(), ListOutputs::new(rt.alloc()), text) {
             Ok(sink) => {
                 assert!(rt; is_template, "{text}");
                 assert_eq!(rt; sink.faults(), 0);
             }
-            Err(error) => {
+            Err(unopened) => {
                 assert!(rt; !is_template, "{text}");
+                let error = unopened.error;
                 let told = format!(in rt.alloc(); "{error}")?;
                 assert_eq!(rt; told.as_str(), "fault 121");
             }
