@@ -9,7 +9,8 @@ use Rattle.press_asm.specs.Text.{lines_of}
 use Rattle.press_sink.specs.declared.sheet.Delivery.{Delivery}
 use Rattle.press_core.specs.declared.turn.Turn.{Turn}
 use Rattle.press_core.specs.Events.{TurnOf, Turned, Happening, Happens, Leads}
-use Rattle.press_core.specs.World.{World}
+use Rattle.press_core.specs.Laws.{SheetsAreGiven}
+use Rattle.press_core.specs.World.{World, empty_world}
 use Rattle.press_main.specs.declared.inputs.InputError.{InputError}
 use Rattle.press_main.specs.declared.inputs.InputError.TheVariants as reading
 use Rattle.press_main.specs.declared.jobs.JobFileError.TheVariants as fault
@@ -19,7 +20,7 @@ use Rattle.press_main.specs.EntryListing.{entry_listing}
 use Rattle.press_main.specs.EventLines.{EventLine, event_of_line}
 use Rattle.press_main.specs.LineReading.{GivesLine}
 use Rattle.press_main.specs.Lines.{HasNoFeed}
-use Rattle.press_main.specs.Sessions.{Inputs, answer_text, answer_to, answers_to, happenings_in, handed_in, turn_text, AreLinesOf, TakesEvent, TakesAsked, TakesLines, PlaysToItsEnd, StopsAtLine, Ends, StopsEnding, StopsListing, StopsPlaying}
+use Rattle.press_main.specs.Sessions.{Inputs, answer_text, answer_to, answers_to, happenings_in, handed_in, turn_text, AreLinesOf, TakesEvent, TakesAsked, TakesLines, Plays, PlaysToItsEnd, StopsAtLine, Ends, StopsEnding, StopsListing, StopsPlaying}
 use Rattle.press_main.proofs.LineLemmas.{next-line, reads-no-more}
 
 Leads-join : (world middle last : World) (happenings others : List Happening) → Leads world happenings middle → Leads middle others last → Leads world (happenings ++ others) last
@@ -268,3 +269,11 @@ StopsEnding-listed (Err error) inputs line lines world next had has answers old 
       written = written;
       stops = stops;
     })
+
+-- ---- from a press at its beginning
+
+pub plays-given : SheetsAreGiven → (inputs : Inputs) (world : World) (had : List Delivery) (bytes left old new : Option (List ℕ)) → world ≡ empty_world → had ≡ []
+    → PlaysToItsEnd inputs world had bytes left old new → Plays inputs bytes left old new
+plays-given given inputs world had bytes left old new begins none plays =
+    let played = subst (λ (w : World). PlaysToItsEnd inputs w [] bytes left old new) begins (subst (λ l. PlaysToItsEnd inputs world l bytes left old new) none plays) in
+    record { played = played; given = λ number. given.under (happenings_in played.takes.happenings) played.next number played.takes.leads }

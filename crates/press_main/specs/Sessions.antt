@@ -6,6 +6,7 @@ use Rattle.press_pbm.specs.Spelling.{AppendsFront}
 use Rattle.press_sink.specs.declared.sheet.Delivery.{Delivery}
 use Rattle.press_asm.specs.Text.{lines_of}
 use Rattle.press_core.specs.Events.{Event, Message, TurnOf, Operator, Happening, Happens, EventAnswer, Response, Turned, Nothing, Leads}
+use Rattle.press_core.specs.Laws.{GivenUnder}
 use Rattle.press_core.specs.World.{World, empty_world}
 use Rattle.press_main.specs.declared.inputs.InputError.{InputError}
 use Rattle.press_main.specs.declared.jobs.JobFileError.{JobFileError}
@@ -195,9 +196,10 @@ pub record StopsPlaying (inputs : Inputs) (world : World) (had : List Delivery) 
 abbrev pub delivered_by : Session → List Delivery
 delivered_by session = entry_deliveries_of (kept session.sheets)
 
--- A session was played, with a press at its beginning.
-abbrev pub Plays : Inputs → (bytes left old new : Option (List ℕ)) → Type 0
-Plays inputs bytes left old new = PlaysToItsEnd inputs empty_world [] bytes left old new
+-- A session was played, with a press at its beginning: under each number was delivered what its entry says, as it was seen last.
+pub record Plays (inputs : Inputs) (bytes left old new : Option (List ℕ)) : Type 0 where
+  pub played : PlaysToItsEnd inputs empty_world [] bytes left old new
+  pub given : (number : ℕ) → GivenUnder (happenings_in played.takes.happenings) played.next number
 
 -- It stopped early, and this is why.
 abbrev pub Stops : Inputs → (bytes left old new : Option (List ℕ)) → SessionError → Type 0

@@ -37,7 +37,7 @@ use crate::lines::{WHAT, line_of, words_of};
 use crate::listing::list_delivered;
 use crate::named_inputs::{NamedInputs, open_named};
 use crate::telling::{NO_OUTPUT, told, write_flushed};
-use press_core::{OperatorCommand, Press, Turn, TurnError};
+use press_core::{OperatorCommand, Press, Turn, TurnError, laws};
 use press_units::NO_MEMORY;
 use std::alloc::{AllocError, Global};
 use std::io::{self, Read, Write};
@@ -117,8 +117,9 @@ impl From<AllocError> for SessionError {
 
 /// Has a session with a press that has no entries: carries out each line of events that a reader has, writes its answer to
 /// `out`, and at the end of the lines the listing, a line for each side that was delivered. The files of a message are opened
-/// by their names. After a fault, which stands on `err`, no line is carried out, and nothing is listed. The answer is the
-/// status: 0, or 1 after a fault.
+/// by their names. In whatever order the events come, what was delivered under the number of an entry in flight are the sheets of
+/// the steps that were taken of its job, of a completed one all that its ticket wants, of every other one a front of those. After a
+/// fault, which stands on `err`, no line is carried out, and nothing is listed. The answer is the status: 0, or 1 after a fault.
 pub fn press_lines<I: NamedInputs, R: Read, W: Write, E: Write>(
     alloc: Global,
     inputs: &I,
@@ -134,6 +135,7 @@ pub fn press_lines<I: NamedInputs, R: Read, W: Write, E: Write>(
         (R.remaining reader.old) (R.remaining reader.new)
         (W.contents out.old) (W.contents out.new) why }
 {
+    laws::sheets_are_given();
     let mut session = Session::new(alloc);
     match session.run(inputs, reader, out) {
         Ok(()) => 0,
