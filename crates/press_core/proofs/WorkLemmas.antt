@@ -11,7 +11,7 @@ use Rattle.press_queue.specs.State.{QueueState}
 use Rattle.press_queue.specs.Status.{has_ended, is_in_flight, is_running}
 use Rattle.press_core.specs.Inside.{AreTogether, GoTogether, IsSound}
 use Rattle.press_core.specs.Work.{Work, without_job}
-use Rattle.press_core.specs.World.{is_listed, works_without_job}
+use Rattle.press_core.specs.World.{works_without_job}
 use Rattle.press_core.proofs.EntryLemmas.{kept_lookup, set_lookup}
 
 -- What stands under one number is another, and all else is as it was.
@@ -44,16 +44,6 @@ has_work queue works number entry there sound =
     by : (o : Option Work) → lookup (nat_eq number) works ≡ o → GoTogether (Some entry) o → HasWork works number entry
     by None is none = absurd none
     by (Some work) is together = record { work = work; is = is; together = together }
-
--- the same numbers are listed
-pub listed_together : (queue : QueueState) (works : List (ℕ × Work)) (number : ℕ) → IsSound queue works → is_listed number queue ≡ is_some (lookup (nat_eq number) works)
-listed_together queue works number sound = by (entry_numbered number queue.entries) (lookup (nat_eq number) works) (sound.together number)
-  where
-    by : (e : Option Entry) (w : Option Work) → GoTogether e w → is_some e ≡ is_some w
-    by None None together = refl
-    by (Some entry) (Some work) together = refl
-    by None (Some work) together = absurd together
-    by (Some entry) None together = absurd together
 
 -- what runs has not ended
 running_open : (status : Status) → is_running status ≡ true → has_ended status ≡ false

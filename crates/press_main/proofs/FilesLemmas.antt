@@ -12,7 +12,7 @@ use Rattle.press_sink.specs.declared.sheet.Delivery.{Delivery}
 use Rattle.press_sink.specs.Sending.{sheets_of, sheets_in, under_tag}
 use Rattle.press_sink.specs.Outputs.{MadeOutput, MakesFront, MakesOutputs, IsFront, with_outputs, sheet_outputs}
 use Rattle.press_sink.specs.Template.{NameParts, IsTemplate, number_after, side_count}
-use Rattle.press_sink.proofs.SendingLemmas.{sheets_in-tagged, told-twice, told-nothing}
+use Rattle.press_sink.proofs.SendingLemmas.{sheets_in-tagged, told-twice}
 use Rattle.press_stream.specs.declared.fault.JobError.{JobError}
 use Rattle.press_stream.specs.Meaning.{meaning_of, with_exit}
 use Rattle.press_sink.specs.Told.{both}
@@ -39,15 +39,6 @@ sheets_outputs-push parts number (first ∷ sheets) sheet =
 number_behind-push : (number : ℕ) (sheets : List Sides) (sheet : Sides) → number_behind number (sheets ++ sheet ∷ []) ≡ number_after (side_count sheet) (number_behind number sheets)
 number_behind-push number [] sheet = refl
 number_behind-push number (first ∷ sheets) sheet = number_behind-push (number_after (side_count first) number) sheets sheet
-
--- nothing was made of no sheets
-pub KeepsFolder-none : (parts : NameParts) (begun : Option (List MadeOutput)) (names : NameParts) (number own : ℕ) (now : Option (List MadeOutput)) → names ≡ parts → now ≡ begun → number ≡ 1 → own ≡ 0 → KeepsFolder parts begun [] 0 names number own now
-KeepsFolder-none parts begun names number own now named same first sound = record {
-  named = named;
-  makes = record { behind = []; comes = refl; made = same ∙ told-nothing begun };
-  numbered = λ none. first;
-  sound = λ none. sound;
-}
 
 -- a sheet was delivered
 pub KeepsFolder-more : (parts : NameParts) (begun : Option (List MadeOutput)) (deliveries : List Delivery) (one : Delivery) (names names' : NameParts) (number number' own own' : ℕ) (now now' : Option (List MadeOutput))
