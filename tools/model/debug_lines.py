@@ -29,7 +29,8 @@ def kind_of(words):
         character, group, end = found[1][0], found[2][0] if found[2] else None, found[3][0]
         return commands.kind(commands.Param(character, group, b"", end, b""))
     if found := CONTROL.fullmatch(words):
-        return commands.kind(commands.Control(int(found[1], 16)))
+        byte = int(found[1], 16)
+        return commands.kind(commands.Control(byte)) if byte < 32 and byte != 27 else None
     return None
 
 
