@@ -14,7 +14,7 @@ pub returns-in-Text : goal.returns-in-Text
 returns-in-Text g c = rw c.in-Text.is (record { done = c.disasm_bytes.ensures.disassembled; stops = c.disasm_bytes.ensures.stopped }, refl)
 
 pub returns-in-Debugged : goal.returns-in-Debugged
-returns-in-Debugged g c = rw c.in-Debugged.is c.debug_file-status.ensures
+returns-in-Debugged g c = rw c.in-Debugged.is (c.debug_file.ensures, refl)
 
 pub returns-in-Assembled : goal.returns-in-Assembled
 returns-in-Assembled g c = rw c.in-Assembled.is (record { done = c.asm_file.ensures.assembled; stops = c.asm_file.ensures.refused }, refl)
