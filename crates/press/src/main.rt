@@ -27,7 +27,15 @@ fn main(rt: HostRuntime) -> ExitCode {
     let mut err = rt.stderr();
     let inputs = NamedFiles { files: &rt };
     let outputs = FileOutputs { files: &rt };
-    let finished = run_words(rt.alloc(), &inputs, outputs, &words, &mut input, out, &mut err);
+    let finished = run_words(
+        rt.alloc(),
+        &inputs,
+        outputs,
+        &words,
+        &mut input,
+        out,
+        &mut err,
+    );
     ExitCode::from(finished.status)
 }
 

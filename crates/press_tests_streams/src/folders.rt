@@ -1,7 +1,9 @@
 //! Outputs of a folder sink, kept in a list, and over a writer that fails.
 use press_bits::Bitmap;
 use press_pbm::FuseWrite;
-use press_sink::{FolderSink, ListOutputs, ListedOutput, NamedOutputs, Sheet, SheetSink, SinkError};
+use press_sink::{
+    FolderSink, ListOutputs, ListedOutput, NamedOutputs, Sheet, SheetSink, SinkError,
+};
 use std::alloc::Global;
 use std::io;
 use std::test::Fail;
@@ -95,6 +97,11 @@ fn a_write_that_fails_is_a_fault(rt: HostRuntime) -> Result<(), Fail> {
     assert_eq!(rt; sink.faults(), 1);
     let outputs = sink.into_outputs().outputs;
     assert_eq!(rt; outputs.outputs().len(), 1);
-    assert!(rt; outputs.outputs().iter().all(|output| is_output(output, "1", b"P4\n")));
+    assert!(rt;
+        outputs
+            .outputs()
+            .iter()
+            .all(|output| is_output(output, "1", b"P4\n"))
+    );
     Ok(())
 }

@@ -1,7 +1,8 @@
 //! Sinks of sheets and of replies.
 use press_bits::Bitmap;
 use press_sink::{
-    Delivery, FolderSink, FuseSink, ListOutputs, ListReplies, ListSink, ReplySink, Sheet, SheetSink, SinkError,
+    Delivery, FolderSink, FuseSink, ListOutputs, ListReplies, ListSink, ReplySink, Sheet,
+    SheetSink, SinkError,
 };
 use std::alloc::{AllocError, Global};
 use std::process::Abort;
