@@ -2,8 +2,6 @@
 #![tactic(auto)]
 
 #[cfg(test)]
-mod contexts;
-#[cfg(test)]
 mod debugger;
 #[cfg(test)]
 mod jobs_of_tickets;
