@@ -15,7 +15,6 @@ use Rattle.press_engine.specs.declared.state.State.{State}
 use Rattle.press_engine.specs.Drawing.{initial_drawing}
 use Rattle.press_engine.specs.Motion.{to_home}
 use Rattle.press_engine.specs.Outcome.{bounds, ended_raster}
-use Rattle.press_engine.specs.Place.{resolution}
 
 -- What a call keeps at its start.
 abbrev pub kept_of : State → Kept
@@ -67,7 +66,7 @@ overlay_environment environment =
       orientation = environment.media.orientation;
       duplex = environment.media.duplex;
       binding = environment.media.binding;
-      resolution = resolution;
+      resolution = environment.media.resolution;
     })
 
 -- The body of the overlay, where it is on and its macro exists.

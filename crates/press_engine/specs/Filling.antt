@@ -12,18 +12,19 @@ use Rattle.press_engine.specs.declared.state.State.{State}
 use Rattle.press_engine.specs.Closing.{page_now}
 use Rattle.press_engine.specs.Outcome.{Effect, Changes, Makes}
 use Rattle.press_engine.specs.Patterns.{exists, kind_of_number, pattern_of_kind, pattern_now}
-use Rattle.press_engine.specs.Place.{resolution}
 use Rattle.press_engine.specs.Rectangle.{dots_up}
 
 -- the dot of the frame on which the cursor lies
 abbrev pub corner : State → Dot
-corner state = cursor_dot state.environment.media resolution state.environment.margins.top (position state.cursor)
+corner state = cursor_dot state.environment.media state.environment.margins.top (position state.cursor)
 
 -- the rectangle at the cursor, in dots of the frame
 abbrev pub rect_now : State → Rect
 rect_now state =
     let corner = corner state in
-    record { x = corner.x; y = corner.y; width = dots_up state.drawing.rectangle.width; height = dots_up state.drawing.rectangle.height }
+    let dots = dots_up state.environment.media.resolution in
+    let rectangle = state.drawing.rectangle in
+    record { x = corner.x; y = corner.y; width = dots rectangle.width; height = dots rectangle.height }
 
 -- the rectangle at the cursor painted with a pattern; the page has a mark then, and the cursor stays
 abbrev pub fill_rectangle : Pattern → State → State

@@ -5,7 +5,7 @@ use Rattle.press_page.specs.Numbers.{named, above}
 use Rattle.press_pattern.specs.Ink.{ink_of, black_ink}
 use Rattle.press_pattern.specs.declared.ink.Ink.{Ink}
 use Rattle.press_raster.specs.Graphics.{started, moved_down, takes_row}
-use Rattle.press_raster.specs.Settings.{row_height}
+use Rattle.press_raster.specs.Settings.{row_height, set_resolution}
 use Rattle.press_raster.specs.Transfer.{page_with_row, transferred}
 use Rattle.press_raster.specs.declared.raster.RowPlace.{RowPlace}
 use Rattle.press_raster.specs.declared.settings.RasterSettings.{RasterSettings}
@@ -14,7 +14,6 @@ use Rattle.press_engine.specs.declared.state.State.{State}
 use Rattle.press_engine.specs.Closing.{page_now}
 use Rattle.press_engine.specs.Outcome.{Effect, Changes, Makes, bounds, ended_raster, with_drawing}
 use Rattle.press_engine.specs.Patterns.{pattern_now}
-use Rattle.press_engine.specs.Place.{resolution}
 
 -- a change of what raster graphics is set to
 abbrev pub with_raster : (RasterSettings → RasterSettings) → State → State
@@ -23,6 +22,10 @@ with_raster change = with_drawing (λ drawing. record drawing { raster = change 
 -- one that raster graphics, while it is on, does not take
 abbrev pub while_off : (RasterSettings → RasterSettings) → State → State
 while_off change state = if is_some state.graphics then state else with_raster change state
+
+-- ESC*t#R, raster graphics resolution, on the page of now
+abbrev pub set_raster_resolution : ℤ → State → State
+set_raster_resolution value state = while_off (set_resolution state.environment.media.resolution value) state
 
 -- ESC*r#A, start raster graphics: rows begin at the left edge of the logical page by 0 and 2, and at the cursor by 1 and 3
 abbrev pub start_of : ℤ → (x : ℕ) → Option ℕ
@@ -72,7 +75,7 @@ ink_now state =
 
 -- where a row lies
 abbrev pub row_place : State → RowPlace
-row_place state = record { environment = state.environment; resolution = resolution; y = state.cursor.y }
+row_place state = record { environment = state.environment; y = state.cursor.y }
 
 -- a row that has effect: the page has a mark then, and the cursor is a row further down
 abbrev pub with_row : List ℕ → State → State

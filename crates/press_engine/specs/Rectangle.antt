@@ -2,7 +2,7 @@
 use Rattle.std.specs.Prelude.{ℕ, ℤ, pos, negsuc, Option, Some, None, unsigned_abs}
 use Rattle.std.specs.Int.{div_ceil}
 use Rattle.press_units.specs.Position.{position_of, positions_per_dot}
-use Rattle.press_engine.specs.Place.{resolution}
+use Rattle.press_units.specs.declared.position.Resolution.{Resolution}
 use Rattle.press_engine.specs.declared.rectangle.Rectangle.{Rectangle}
 
 -- no rectangle
@@ -14,6 +14,6 @@ abbrev pub size_of : ℤ → ℕ → Option ℕ
 size_of (pos n) unit = Some (unsigned_abs (position_of (pos n) unit))
 size_of (negsuc n) unit = None
 
--- how many dots a size takes, a begun one as a whole one
-abbrev pub dots_up : ℕ → ℕ
-dots_up size = div_ceil size (positions_per_dot resolution)
+-- how many dots of a page a size takes, a begun one as a whole one
+abbrev pub dots_up : Resolution → ℕ → ℕ
+dots_up resolution size = div_ceil size (positions_per_dot resolution)

@@ -7,7 +7,7 @@ use Rattle.press_cmd.specs.Token.{Token, field_of, data_of, line_of}
 use Rattle.press_cmd.specs.Kinds.{kind_of}
 use Rattle.press_page.specs.Environment.{set_unit_of_measure, set_line_termination, set_horizontal_motion, set_vertical_motion}
 use Rattle.press_page.specs.Environment.{set_line_spacing, set_text_length, clear_margins, set_copies}
-use Rattle.press_raster.specs.Settings.{set_resolution, set_source_width, set_source_height, set_method}
+use Rattle.press_raster.specs.Settings.{set_source_width, set_source_height, set_method}
 use Rattle.press_engine.specs.declared.operation.Operation.{Operation}
 use Rattle.press_engine.specs.declared.operation.Operation.TheVariants as operations
 use Rattle.press_engine.specs.declared.effect.Source.{Source}
@@ -23,7 +23,7 @@ use Rattle.press_engine.specs.Motion.{change_perforation_skip, change_left_margi
 use Rattle.press_engine.specs.Operation.{operation_of}
 use Rattle.press_engine.specs.Patterns.{select_pattern, define_pattern, control_patterns}
 use Rattle.press_engine.specs.Outcome.{Effect, Changes, Makes, ended_raster, with_drawing, with_environment}
-use Rattle.press_engine.specs.Raster.{with_raster, while_off, start_raster, end_raster_and_method, offset_raster, transfer}
+use Rattle.press_engine.specs.Raster.{with_raster, set_raster_resolution, while_off, start_raster, end_raster_and_method, offset_raster, transfer}
 
 -- the value of a command, in ten-thousandths; its whole part; and whether a sign stood, which makes a move relative
 abbrev pub value_of : Token → ℤ
@@ -82,7 +82,7 @@ table_row source operations.DefinePattern command = define_pattern (data_of comm
 table_row source operations.SourceTransparency command = λ state. Changes (with_drawing (set_source_transparency (whole_part_of command)) state)
 table_row source operations.PatternTransparency command = λ state. Changes (with_drawing (set_pattern_transparency (whole_part_of command)) state)
 table_row source operations.SelectPattern command = λ state. Changes (select_pattern (whole_part_of command) state)
-table_row source operations.RasterResolution command = λ state. Changes (while_off (set_resolution (value_of command)) state)
+table_row source operations.RasterResolution command = λ state. Changes (set_raster_resolution (value_of command) state)
 table_row source operations.StartRaster command = λ state. Changes (start_raster (whole_part_of command) state)
 table_row source operations.EndRaster command = λ state. Changes (ended_raster state)
 table_row source operations.EndRasterAndMethod command = λ state. Changes (end_raster_and_method state)

@@ -38,6 +38,7 @@ default_media defaults = record {
   orientation = defaults.orientation;
   duplex = defaults.duplex;
   binding = defaults.binding;
+  resolution = defaults.resolution;
 }
 
 -- The page environment after a reset.

@@ -4,7 +4,7 @@
 use Rattle.std.specs.Prelude.{ℕ, ◌*◌, ◌-◌, ◌/◌, ℤ, true, false, List, [], ◌∷◌, Option, if◌then◌else◌}
 use Rattle.press_units.specs.Measure.{positions_per_inch}
 use Rattle.press_units.specs.declared.position.Resolution.{Resolution}
-use Rattle.press_units.specs.declared.position.Resolution.TheVariants.{Dpi300}
+use Rattle.press_units.specs.declared.position.Resolution.TheVariants.{Dpi300, Dpi600}
 use Rattle.press_cursor.specs.declared.logical_page.LogicalPage.{LogicalPage}
 use Rattle.press_page.specs.Numbers.{numbered}
 use Rattle.press_page.specs.declared.media.Binding.{Binding}
@@ -91,22 +91,32 @@ offset_of Landscape size = size.landscape_offset
 offset_of ReversePortrait size = size.portrait_offset
 offset_of ReverseLandscape size = size.landscape_offset
 
--- how many dots of the engine a dot of the table is, along a line
+-- the frame and the offset of the logical page, in dots of the table
+abbrev pub table_frame : Media → Extent
+table_frame media =
+    let size = dimensions_of media.size in
+    turned media.orientation (record { width = size.width; height = size.height })
+
+abbrev pub table_offset : Media → ℕ
+table_offset media = offset_of media.orientation (dimensions_of media.size)
+
+-- how many dots of a page a dot of the table is, along a line
 abbrev pub scale : Resolution → ℕ
 scale Dpi300 = 1
+scale Dpi600 = 2
 
--- the physical page, the frame, and the offset of the logical page, in dots of the engine
-abbrev pub physical_page : Media → Resolution → Extent
-physical_page media resolution = record {
-  width = (dimensions_of media.size).width * scale resolution;
-  height = (dimensions_of media.size).height * scale resolution;
+-- the physical page, the frame, and the offset of the logical page, in dots of the page
+abbrev pub physical_page : Media → Extent
+physical_page media = record {
+  width = (dimensions_of media.size).width * scale media.resolution;
+  height = (dimensions_of media.size).height * scale media.resolution;
 }
 
-abbrev pub frame : Media → Resolution → Extent
-frame media resolution = turned media.orientation (physical_page media resolution)
+abbrev pub frame : Media → Extent
+frame media = turned media.orientation (physical_page media)
 
-abbrev pub offset : Media → Resolution → ℕ
-offset media resolution = offset_of media.orientation (dimensions_of media.size) * scale resolution
+abbrev pub offset : Media → ℕ
+offset media = table_offset media * scale media.resolution
 
 -- positions of a dot of the table
 abbrev pub table_dot : ℕ
@@ -114,11 +124,10 @@ table_dot = positions_per_inch / 300
 
 -- width and length of the logical page, in positions: they are the same at each resolution
 abbrev pub logical_width : Media → ℕ
-logical_width media =
-    table_dot * ((frame media Dpi300).width - 2 * offset media Dpi300)
+logical_width media = table_dot * ((table_frame media).width - 2 * table_offset media)
 
 abbrev pub logical_length : Media → ℕ
-logical_length media = table_dot * (frame media Dpi300).height
+logical_length media = table_dot * (table_frame media).height
 
 -- the logical page under a top margin
 abbrev pub logical_page : Media → (top_margin : ℕ) → LogicalPage

@@ -2,7 +2,6 @@
 -- Manual, the PCL coordinate system and Logical Page Orientation command; the offsets are this profile's).
 use Rattle.std.specs.Prelude.{◌≡◌, ◌↔◌, ℕ, ◌+◌, ◌-◌, ◌/◌, ℤ, pos, negsuc, ◌+ℤ◌, ◌&&◌, Bool, nat_lt, if◌then◌else◌, Option, Some, None}
 use Rattle.press_units.specs.Position.{positions_per_dot}
-use Rattle.press_units.specs.declared.position.Resolution.{Resolution}
 use Rattle.press_cursor.specs.declared.stack.CursorPosition.{CursorPosition}
 use Rattle.press_page.specs.Media.{turned, offset}
 use Rattle.press_page.specs.declared.media.Orientation.{Orientation}
@@ -55,8 +54,8 @@ below_edge (pos n) = n
 below_edge (negsuc n) = 0
 
 -- The cursor's frame dot: the dot of the frame on which the cursor lies, under a top margin.
-abbrev pub cursor_dot : Media → Resolution → (top_margin : ℕ) → CursorPosition → Dot
-cursor_dot media resolution top_margin cursor = record {
-  x = offset media resolution + cursor.x / positions_per_dot resolution;
-  y = below_edge (cursor.y +ℤ pos top_margin) / positions_per_dot resolution;
+abbrev pub cursor_dot : Media → (top_margin : ℕ) → CursorPosition → Dot
+cursor_dot media top_margin cursor = record {
+  x = offset media + cursor.x / positions_per_dot media.resolution;
+  y = below_edge (cursor.y +ℤ pos top_margin) / positions_per_dot media.resolution;
 }

@@ -45,3 +45,4 @@ binding_name bindings.ShortEdge = codes "SHORTEDGE"
 -- of resolutions
 abbrev pub resolution_name : Resolution → List ℕ
 resolution_name resolutions.Dpi300 = codes "300"
+resolution_name resolutions.Dpi600 = codes "600"

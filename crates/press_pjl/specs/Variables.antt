@@ -5,7 +5,7 @@ use Rattle.std.specs.Prelude.{None, option_map, codes, decimal}
 use Rattle.std.specs.Char.{is_ascii_digit}
 use Rattle.std.specs.List.{list_all}
 use Rattle.press_units.specs.Value.{number_of}
-use Rattle.press_units.specs.declared.position.Resolution.TheVariants.{Dpi300}
+use Rattle.press_units.specs.Position.{resolutions}
 use Rattle.press_page.specs.declared.defaults.Defaults.{Defaults}
 use Rattle.press_page.specs.declared.media.Binding.TheVariants.{LongEdge, ShortEdge}
 use Rattle.press_page.specs.declared.media.Orientation.TheVariants.{Portrait, Landscape}
@@ -71,7 +71,7 @@ entry_of variables.Binding =
     of_names (codes "BINDING") (LongEdge ∷ ShortEdge ∷ []) binding_name
     (λ (all : Defaults). all.binding) (λ edge (all : Defaults). record all { binding = edge })
 entry_of variables.Resolution =
-    of_names (codes "RESOLUTION") (Dpi300 ∷ []) resolution_name
+    of_names (codes "RESOLUTION") resolutions resolution_name
     (λ (all : Defaults). all.resolution) (λ dots (all : Defaults). record all { resolution = dots })
 
 -- all variables

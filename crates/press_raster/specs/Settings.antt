@@ -1,16 +1,17 @@
 -- What raster graphics is set to (PCL 5 Printer Language Technical Reference Manual, Raster Graphics: Raster Graphics
 -- Resolution, Raster Width, Raster Height and Set Compression Method commands).
-use Rattle.std.specs.Prelude.{ℕ, ◌/◌, ℤ, pos, negsuc, nat_lt, if◌then◌else◌, [], ◌∷◌, Option, Some, None}
+use Rattle.std.specs.Prelude.{ℕ, ◌/◌, ◌%◌, ◌==◌, ◌&&◌, Bool, ℤ, pos, negsuc, nat_lt, if◌then◌else◌, List, [], ◌∷◌, Option, Some, None}
+use Rattle.std.specs.List.{find}
+use Rattle.std.specs.Ordering.{int_eq}
 use Rattle.press_units.specs.Measure.{positions_per_inch}
 use Rattle.press_units.specs.Position as engine
 use Rattle.press_units.specs.Value.{whole_part}
 use Rattle.press_units.specs.declared.position.Resolution.{Resolution}
 use Rattle.press_page.specs.Environment.{changed_by}
-use Rattle.press_page.specs.Numbers.{named}
 use Rattle.press_rows.specs.Methods.{method_of}
 use Rattle.press_rows.specs.declared.compression.Method.TheVariants.{Unencoded}
 use Rattle.press_raster.specs.declared.settings.RasterResolution.{RasterResolution}
-use Rattle.press_raster.specs.declared.settings.RasterResolution.TheVariants.{Dpi75, Dpi100, Dpi150, Dpi300}
+use Rattle.press_raster.specs.declared.settings.RasterResolution.TheVariants.{Dpi75, Dpi100, Dpi150, Dpi200, Dpi300, Dpi600}
 use Rattle.press_raster.specs.declared.settings.RasterSettings.{RasterSettings}
 
 -- dots of an inch
@@ -18,13 +19,22 @@ abbrev pub raster_dots_per_inch : RasterResolution → ℕ
 raster_dots_per_inch Dpi75 = 75
 raster_dots_per_inch Dpi100 = 100
 raster_dots_per_inch Dpi150 = 150
+raster_dots_per_inch Dpi200 = 200
 raster_dots_per_inch Dpi300 = 300
+raster_dots_per_inch Dpi600 = 600
 
 -- how many positions a row takes down the page
 abbrev pub row_height : RasterResolution → ℕ
 row_height resolution = positions_per_inch / raster_dots_per_inch resolution
 
--- how many dots of the engine a dot of a row is wide and high
+-- all resolutions of rows
+abbrev pub raster_resolutions : List RasterResolution
+raster_resolutions = Dpi75 ∷ Dpi100 ∷ Dpi150 ∷ Dpi200 ∷ Dpi300 ∷ Dpi600 ∷ []
+
+-- whether a dot of a row is a whole number of dots of a page, and how many of them it is wide and high
+abbrev pub is_whole_dots : RasterResolution → Resolution → Bool
+is_whole_dots resolution print = engine.dots_per_inch print % raster_dots_per_inch resolution == 0
+
 abbrev pub dot_size : RasterResolution → Resolution → ℕ
 dot_size resolution print = engine.dots_per_inch print / raster_dots_per_inch resolution
 
@@ -32,13 +42,14 @@ dot_size resolution print = engine.dots_per_inch print / raster_dots_per_inch re
 abbrev pub initial : RasterSettings
 initial = record { resolution = Dpi75; method = Unencoded; source_width = None; source_height = None }
 
--- ESC*t#R, Raster Graphics Resolution
-abbrev pub resolution_of : ℤ → Option RasterResolution
-resolution_of = named ((75, Dpi75) ∷ (100, Dpi100) ∷ (150, Dpi150) ∷ (300, Dpi300) ∷ [])
+-- ESC*t#R, Raster Graphics Resolution: of so many dots per inch, if one is a whole number of dots of the page
+abbrev pub resolution_of : Resolution → ℤ → Option RasterResolution
+resolution_of print number =
+    find (λ resolution. int_eq (pos (raster_dots_per_inch resolution)) number && is_whole_dots resolution print) raster_resolutions
 
-abbrev pub set_resolution : ℤ → RasterSettings → RasterSettings
-set_resolution value =
-    changed_by (resolution_of (whole_part value))
+abbrev pub set_resolution : Resolution → ℤ → RasterSettings → RasterSettings
+set_resolution print value =
+    changed_by (resolution_of print (whole_part value))
     (λ resolution settings. record settings { resolution = resolution })
 
 -- a side of a raster picture, in its dots: at least one

@@ -36,14 +36,14 @@ row_of_data place settings «data» on =
 -- The row's upper left dot in the frame: the cursor's, were it where rows begin.
 abbrev pub row_corner : RowPlace → (left : ℕ) → Dot
 row_corner place left =
-    cursor_dot place.environment.media place.resolution place.environment.margins.top
+    cursor_dot place.environment.media place.environment.margins.top
     (record { x = left; y = place.y })
 
 -- The mark of the row.
 abbrev pub transfer_mark : RowPlace → RasterSettings → Ink → List ℕ → RasterGraphics → Page → Mark
 transfer_mark place settings ink «data» on page =
     raster_mark place.environment.media.orientation page (row_corner place on.left)
-    (dot_size settings.resolution place.resolution) (row_of_data place settings «data» on) ink
+    (dot_size settings.resolution place.environment.media.resolution) (row_of_data place settings «data» on) ink
 
 -- The page after the transfer of a row: marked where the row has effect.
 abbrev pub page_with_row : RowPlace → RasterSettings → Ink → List ℕ → Option RasterGraphics → Page → Page
