@@ -4,9 +4,9 @@ use Rattle.std.specs.Prelude.{ℕ, codes}
 use Rattle.std.specs.List.{filter, range_with_len}
 use Rattle.press_units.specs.Field.{is_value_field}
 use Rattle.press_units.specs.Value.{tenthousandths_of, is_signed, whole_part}
-use Rattle.press_units.specs.Position.{position_of, dot_of, positions_per_dot}
+use Rattle.press_units.specs.Position.{position_of, dot_of, positions_per_dot, resolutions}
 use Rattle.press_units.specs.Measure.{decipoint, horizontal_motion_unit, vertical_motion_unit, is_measure, pcl_unit}
-use Rattle.press_units.specs.declared.position.Resolution.TheVariants.{Dpi300}
+use Rattle.press_units.specs.declared.position.Resolution.TheVariants.{Dpi300, Dpi600}
 
 above : tenthousandths_of (codes "99999") ≡ pos 655350000
 above = refl
@@ -55,7 +55,7 @@ vertical_motion = refl
 units_of_300 : pcl_unit 300 ≡ 24
 units_of_300 = refl
 
-positions_of_a_dot : positions_per_dot Dpi300 ≡ 24
+positions_of_a_dot : map positions_per_dot resolutions ≡ 24 ∷ 12 ∷ []
 positions_of_a_dot = refl
 
 -- the greatest value and one, at a motion index of one unit: one product
@@ -130,3 +130,8 @@ first_position_of_a_dot = refl
 
 last_position_of_a_dot : dot_of (pos 47) Dpi300 ≡ pos 1
 last_position_of_a_dot = refl
+
+-- at 600 dots per inch a dot has 12 positions
+fine_dots : map (λ position. dot_of position Dpi600) (neg_ℤ (pos 13) ∷ neg_ℤ (pos 12) ∷ pos 11 ∷ pos 12 ∷ pos 47 ∷ [])
+    ≡ neg_ℤ (pos 2) ∷ neg_ℤ (pos 1) ∷ pos 0 ∷ pos 1 ∷ pos 3 ∷ []
+fine_dots = refl

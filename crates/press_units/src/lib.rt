@@ -10,7 +10,6 @@ mod value;
 
 pub use fault::NO_MEMORY;
 pub use position::{
-    POSITIONS_PER_DOT, POSITIONS_PER_INCH, Pos, Resolution, Unit, UnitOfMeasure, dot, position_of,
-    to_pos,
+    POSITIONS_PER_INCH, Pos, RESOLUTIONS, Resolution, Unit, UnitOfMeasure, dot, position_of, to_pos,
 };
 pub use value::{GREATEST_VALUE, LONGEST_FIELD, Value, is_field, read_value};

@@ -2,7 +2,7 @@
 
 ghost use Rattle.std.specs.Prelude.{◌≡◌, ◌<◌, ◌≤◌, ◌*◌, ◌^◌, ◌↔◌, IsSome, IfSome, is_some, unsigned_abs};
 ghost use Rattle.press_units.specs.Measure.{IsMeasure, is_measure, decipoint, horizontal_motion_unit, vertical_motion_unit, pcl_unit};
-ghost use Rattle.press_units.specs.Position.{position_of, dot_of, positions_per_dot};
+ghost use Rattle.press_units.specs.Position.{position_of, dot_of, dots_per_inch, positions_per_dot};
 
 use crate::value::Value;
 use std::marker::Model;
@@ -19,9 +19,6 @@ pub struct Unit {
 
 /// The positions of an inch.
 pub const POSITIONS_PER_INCH: u16 = 7200;
-
-/// The positions of a dot at 300 dots per inch.
-pub const POSITIONS_PER_DOT: u16 = POSITIONS_PER_INCH / 300;
 
 impl Unit {
     /// A decipoint: a tenth of a point, 1/720 inch.
@@ -52,20 +49,37 @@ impl Unit {
     }
 }
 
-/// The engine's resolution.
+/// The resolution of a page.
+///
+/// Source: PJL Technical Reference Manual, the RESOLUTION variable; which there are is this profile's.
 #[derive(Clone, Copy, Debug, PartialEq, Eq)]
 pub enum Resolution {
     Dpi300,
+    Dpi600,
 }
 
+/// All resolutions, the factory's first.
+pub const RESOLUTIONS: [Resolution; 2] = [Resolution::Dpi300, Resolution::Dpi600];
+
 impl Resolution {
-    /// The positions of a dot.
-    pub fn positions_per_dot(self) -> u16
-        ensures { result ≡ positions_per_dot self }
+    /// Dots per inch.
+    pub fn dots_per_inch(self) -> u16
+        ensures dots { result ≡ dots_per_inch self }
+        ensures some { 1 ≤ result }
+        ensures most { result ≤ 600 }
     {
         match self {
-            Resolution::Dpi300 => POSITIONS_PER_DOT,
+            Resolution::Dpi300 => 300,
+            Resolution::Dpi600 => 600,
         }
+    }
+
+    /// The positions of a dot.
+    pub fn positions_per_dot(self) -> u16
+        ensures positions { result ≡ positions_per_dot self }
+        ensures some { 1 ≤ result }
+    {
+        POSITIONS_PER_INCH / self.dots_per_inch()
     }
 }
 
