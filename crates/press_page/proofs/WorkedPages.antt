@@ -1,7 +1,7 @@
 -- Worked pages, margins and places, computed on the definitions.
 use Rattle.std.proofs.Common.{◌≡◌, ℕ, ℤ, pos, neg_ℤ, true, false, [], ◌∷◌, map, Option, Some, None, refl}
 use Rattle.press_units.specs.Value.{tenthousandths_of}
-use Rattle.press_units.specs.declared.position.Resolution.TheVariants.{Dpi300}
+use Rattle.press_units.specs.declared.position.Resolution.TheVariants.{Dpi600}
 use Rattle.press_cursor.specs.Cursor.{home, position, moved_x, moved_y}
 use Rattle.press_cursor.specs.CursorState.{CursorState}
 use Rattle.std.specs.Prelude.{codes}
@@ -32,7 +32,7 @@ abbrev dot : (column line : ℕ) → Dot
 dot column line = record { x = column; y = line }
 
 abbrev placed : PageEnv → Dot → Option Dot
-placed env place = to_physical env.media.orientation (physical_page env.media Dpi300) place
+placed env place = to_physical env.media.orientation (physical_page env.media) place
 
 -- ESC&l1O ESC*p0x0Y: the cursor's dot of the frame
 abbrev at_origin : CursorState
@@ -40,7 +40,7 @@ at_origin =
     moved_y (pos 0) false (logical_page_of landscape)
     (moved_x (pos 0) false (logical_page_of landscape) (home 0 1200 (logical_page_of landscape)))
 
-frame_of_origin : cursor_dot landscape.media Dpi300 landscape.margins.top (position at_origin) ≡ dot 60 150
+frame_of_origin : cursor_dot landscape.media landscape.margins.top (position at_origin) ≡ dot 60 150
 frame_of_origin = refl
 
 -- A rectangle of three columns and two lines there: dots x 150 and 151, y 3237 to 3239.
@@ -50,7 +50,7 @@ first_of_rectangle = refl
 last_of_rectangle : placed landscape (dot 62 151) ≡ Some (dot 151 3237)
 last_of_rectangle = refl
 
-back_to_frame : to_frame Landscape (physical_page landscape.media Dpi300) (dot 151 3237) ≡ Some (dot 62 151)
+back_to_frame : to_frame Landscape (physical_page landscape.media) (dot 151 3237) ≡ Some (dot 62 151)
 back_to_frame = refl
 
 below_the_frame : placed landscape (dot 60 2550) ≡ None
@@ -205,7 +205,7 @@ below_the_page = refl
 
 -- the cursor's dot of the frame: a dot has 24 positions, and above the page's edge it is line 0
 abbrev lies : (x : ℕ) (y : ℤ) → Dot
-lies x y = cursor_dot letter.media Dpi300 letter.margins.top (record { x = x; y = y })
+lies x y = cursor_dot letter.media letter.margins.top (record { x = x; y = y })
 
 first_dot : lies 0 (pos 0) ≡ dot 75 150
 first_dot = refl
@@ -225,6 +225,37 @@ above_the_margin = refl
 upper_edge : lies 0 (neg_ℤ (pos 3600)) ≡ dot 75 0
 upper_edge = refl
 
+-- after `SET RESOLUTION=600`: the logical page and the margins are as before, in twice as many dots
+abbrev fine : PageEnv
+fine = reset_environment (record factory { resolution = Dpi600 })
+
+same_margins : fine.margins ≡ letter.margins
+same_margins = refl
+
+same_logical_page : logical_page_of fine ≡ logical_page_of letter
+same_logical_page = refl
+
+fine_page : physical_page fine.media ≡ record { width = 5100; height = 6600 }
+fine_page = refl
+
+-- a dot has 12 positions there
+abbrev lies_fine : (x : ℕ) (y : ℤ) → Dot
+lies_fine x y = cursor_dot fine.media fine.margins.top (record { x = x; y = y })
+
+fine_dots : map (λ n. lies_fine n (pos n)) (0 ∷ 11 ∷ 12 ∷ 24 ∷ 57600 ∷ []) ≡ dot 150 300 ∷ dot 150 300 ∷ dot 151 301 ∷ dot 152 302 ∷ dot 4950 5100 ∷ []
+fine_dots = refl
+
+fine_home : lies_fine 0 (pos 900) ≡ dot 150 375
+fine_home = refl
+
+above_the_fine_margin : map (lies_fine 0) (neg_ℤ (pos 1) ∷ neg_ℤ (pos 3600) ∷ neg_ℤ (pos 3601) ∷ []) ≡ dot 150 299 ∷ dot 150 0 ∷ dot 150 0 ∷ []
+above_the_fine_margin = refl
+
+-- no command changes it: ESC&l1O, ESC&l6A, ESC&l2S
+still_fine : map (λ env. env.media.resolution) (set_orientation (tenthousandths_of (codes "1")) fine ∷ set_page_size (tenthousandths_of (codes "6")) fine ∷ set_sides (tenthousandths_of (codes "2")) fine ∷ [])
+    ≡ Dpi600 ∷ Dpi600 ∷ Dpi600 ∷ []
+still_fine = refl
+
 -- Ledger has 3300 x 5100 dots, and its logical page lies 75 and 60 of them from the edges in portrait and landscape
 abbrev ledger : Orientation → PageEnv
 ledger orientation = with_orientation orientation (with_page_size Ledger letter)
@@ -235,11 +266,11 @@ upright = record { width = 3300; height = 5100 }
 abbrev lying : Extent
 lying = record { width = 5100; height = 3300 }
 
-ledger-pages : map (λ o. physical_page (ledger o).media Dpi300) (Portrait ∷ Landscape ∷ ReversePortrait ∷ ReverseLandscape ∷ [])
+ledger-pages : map (λ o. physical_page (ledger o).media) (Portrait ∷ Landscape ∷ ReversePortrait ∷ ReverseLandscape ∷ [])
     ≡ upright ∷ upright ∷ upright ∷ upright ∷ []
 ledger-pages = refl
 
-ledger-frames : map (λ o. frame (ledger o).media Dpi300) (Portrait ∷ Landscape ∷ ReversePortrait ∷ ReverseLandscape ∷ [])
+ledger-frames : map (λ o. frame (ledger o).media) (Portrait ∷ Landscape ∷ ReversePortrait ∷ ReverseLandscape ∷ [])
     ≡ upright ∷ lying ∷ upright ∷ lying ∷ []
 ledger-frames = refl
 

@@ -15,7 +15,7 @@ use crate::settings::{
     line_spacing_of, line_termination_of, measure_of, skip_change_of, vertical_motion_of,
 };
 use press_cursor::{CursorPosition, LogicalPage};
-use press_units::{Resolution, Value};
+use press_units::Value;
 
 /// The page environment. A setter takes the value of its command; a value that the command does not know changes
 /// nothing.
@@ -63,6 +63,7 @@ impl PageEnv {
             orientation: defaults.orientation,
             duplex: defaults.duplex,
             binding: defaults.binding,
+            resolution: defaults.resolution,
         };
         PageEnv {
             settings: Settings::defaults(defaults.copies),
@@ -79,13 +80,13 @@ impl PageEnv {
     }
 
     /// The dot of the frame on which the cursor lies.
-    pub fn cursor_dot(&self, cursor: CursorPosition, resolution: Resolution) -> Dot
+    pub fn cursor_dot(&self, cursor: CursorPosition) -> Dot
         requires { unsigned_abs cursor.y < 2 ^ 33 }
-        ensures { result ≡ cursor_dot self.now.media resolution self.now.margins.top cursor }
+        ensures { result ≡ cursor_dot self.now.media self.now.margins.top cursor }
     {
-        let dot = u32::from(resolution.positions_per_dot());
+        let dot = u32::from(self.media.resolution.positions_per_dot());
         Dot {
-            x: self.media.offset(resolution) + cursor.x / dot,
+            x: self.media.offset() + cursor.x / dot,
             y: (below_edge(cursor.y, self.margins.top) / u64::from(dot)) as u32,
         }
     }

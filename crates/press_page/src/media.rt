@@ -2,14 +2,14 @@
 //! Reference Manual, Page Control Commands).
 
 ghost use Rattle.std.specs.Prelude.{◌≡◌, ◌≤◌, ◌<◌, ◌*◌};
-ghost use Rattle.press_page.specs.Media.{page_size_of, orientation_of, sides_of, sized, dimensions_of, turned, offset_of, scale};
+ghost use Rattle.press_page.specs.Media.{page_size_of, orientation_of, sides_of, sized, dimensions_of, turned, offset_of, scale, table_frame, table_offset};
 ghost use Rattle.press_page.specs.Media.{physical_page, frame, offset, logical_width, logical_length, logical_page, with_sides};
 ghost use Rattle.press_page.specs.Media.{printed_sides};
 
 use crate::numbered::find_numbered;
 use crate::place::{Dot, Extent, to_frame, to_physical};
 use press_cursor::LogicalPage;
-use press_units::{POSITIONS_PER_DOT, Resolution};
+use press_units::{POSITIONS_PER_INCH, Resolution};
 
 /// The page sizes of this press.
 #[derive(Clone, Copy, Debug, PartialEq, Eq)]
@@ -80,6 +80,8 @@ pub struct Media {
     pub duplex: bool,
     /// The edge of the binding in duplex; it is kept in simplex.
     pub binding: Binding,
+    /// The resolution of pages. No command sets it, but a line of the job language.
+    pub resolution: Resolution,
 }
 
 /// A page size in dots of 1/300 inch: width and height, and how far the logical page begins right of the page's left
@@ -93,7 +95,7 @@ pub(crate) struct Dimensions {
 }
 
 /// Positions (1/7200 inch) of a dot of the table of page sizes.
-const TABLE_DOT: u32 = POSITIONS_PER_DOT as u32;
+const TABLE_DOT: u32 = POSITIONS_PER_INCH as u32 / 300;
 
 /// A line of the table of page sizes.
 fn sized(width: u32, height: u32, portrait_offset: u32, landscape_offset: u32) -> Dimensions
@@ -107,13 +109,14 @@ fn sized(width: u32, height: u32, portrait_offset: u32, landscape_offset: u32) -
     }
 }
 
-/// How many dots of the engine a dot of the table of page sizes is, along a line.
+/// How many dots of a page a dot of the table of page sizes is, along a line.
 fn scale(resolution: Resolution) -> u32
     ensures scale { result ≡ scale resolution }
-    ensures bound { result < 256 }
+    ensures bound { result ≤ 2 }
 {
     match resolution {
         Resolution::Dpi300 => 1,
+        Resolution::Dpi600 => 2,
     }
 }
 
@@ -192,53 +195,76 @@ fn offset_of(orientation: Orientation, size: Dimensions) -> u32
 }
 
 impl Media {
-    ghost use Rattle.std.specs.Prelude.{◌≡◌, ◌<◌, ◌^◌};
-    ghost use Rattle.press_page.specs.Media.{physical_page, frame, offset, logical_width, logical_length, logical_page, with_sides, printed_sides};
+    ghost use Rattle.std.specs.Prelude.{◌≡◌, ◌≤◌, ◌<◌, ◌*◌, ◌^◌};
+    ghost use Rattle.press_page.specs.Media.{table_frame, table_offset, physical_page, frame, offset, logical_width, logical_length, logical_page};
+    ghost use Rattle.press_page.specs.Media.{with_sides, printed_sides};
     ghost use Rattle.press_page.specs.Place.{to_physical, to_frame};
 
-    /// The physical page, in dots of the engine.
-    pub fn physical_page(self, resolution: Resolution) -> Extent
-        ensures page { result ≡ physical_page self resolution }
-        ensures width { result.width < 2 ^ 21 }
-        ensures height { result.height < 2 ^ 21 }
+    /// The frame, in dots of the table of page sizes.
+    fn table_frame(self) -> Extent
+        ensures frame { result ≡ table_frame self }
+        ensures height { result.height < 8192 }
+        ensures offsets { 2 * table_offset self ≤ result.width }
+        ensures width { result.width < 8192 }
     {
         let size = self.size.dimensions();
-        let scale = scale(resolution);
+        let page = Extent {
+            width: size.width,
+            height: size.height,
+        };
+        turned(self.orientation, page)
+    }
+
+    /// How far the logical page begins right of the frame's left edge, and ends left of its right edge, in dots of the table
+    /// of page sizes.
+    fn table_offset(self) -> u32
+        ensures offset { result ≡ table_offset self }
+        ensures bound { result < 8192 }
+    {
+        offset_of(self.orientation, self.size.dimensions())
+    }
+
+    /// The physical page, in its dots.
+    pub fn physical_page(self) -> Extent
+        ensures page { result ≡ physical_page self }
+        ensures width { result.width < 2 ^ 14 }
+        ensures height { result.height < 2 ^ 14 }
+    {
+        let size = self.size.dimensions();
+        let scale = scale(self.resolution);
         Extent {
             width: size.width * scale,
             height: size.height * scale,
         }
     }
 
-    /// The frame, in dots of the engine: the physical page as the orientation turns it.
-    pub fn frame(self, resolution: Resolution) -> Extent
-        ensures { result ≡ frame self resolution }
+    /// The frame, in dots of the page: the physical page as the orientation turns it.
+    pub fn frame(self) -> Extent
+        ensures { result ≡ frame self }
     {
-        turned(self.orientation, self.physical_page(resolution))
+        turned(self.orientation, self.physical_page())
     }
 
-    /// How far the logical page begins right of the frame's left edge, and ends left of its right edge, in dots of the
-    /// engine.
-    pub fn offset(self, resolution: Resolution) -> u32
-        ensures offset { result ≡ offset self resolution }
-        ensures bound { result < 2 ^ 21 }
+    /// How far the logical page begins right of the frame's left edge, and ends left of its right edge, in dots of the page.
+    pub fn offset(self) -> u32
+        ensures offset { result ≡ offset self }
+        ensures bound { result < 2 ^ 14 }
     {
-        offset_of(self.orientation, self.size.dimensions()) * scale(resolution)
+        self.table_offset() * scale(self.resolution)
     }
 
-    /// The width of the logical page, in positions (1/7200 inch).
+    /// The width of the logical page, in positions (1/7200 inch): it is the same at each resolution.
     pub fn logical_width(self) -> u32
         ensures { result ≡ logical_width self }
     {
-        let offset = self.offset(Resolution::Dpi300);
-        TABLE_DOT * (self.frame(Resolution::Dpi300).width - 2 * offset)
+        TABLE_DOT * (self.table_frame().width - 2 * self.table_offset())
     }
 
-    /// The length of the logical page, in positions (1/7200 inch).
+    /// The length of the logical page, in positions (1/7200 inch): it is the same at each resolution.
     pub fn logical_length(self) -> u32
         ensures { result ≡ logical_length self }
     {
-        TABLE_DOT * self.frame(Resolution::Dpi300).height
+        TABLE_DOT * self.table_frame().height
     }
 
     /// The logical page under a top margin.
@@ -253,17 +279,17 @@ impl Media {
     }
 
     /// The dot of the physical page that a dot of the frame is; a dot outside of the frame has none.
-    pub fn to_physical(self, dot: Dot, resolution: Resolution) -> Option<Dot>
-        ensures { result ≡ to_physical self.orientation (physical_page self resolution) dot }
+    pub fn to_physical(self, dot: Dot) -> Option<Dot>
+        ensures { result ≡ to_physical self.orientation (physical_page self) dot }
     {
-        to_physical(self.orientation, self.physical_page(resolution), dot)
+        to_physical(self.orientation, self.physical_page(), dot)
     }
 
     /// The dot of the frame that a dot of the physical page is; a dot outside of the page has none.
-    pub fn to_frame(self, dot: Dot, resolution: Resolution) -> Option<Dot>
-        ensures { result ≡ to_frame self.orientation (physical_page self resolution) dot }
+    pub fn to_frame(self, dot: Dot) -> Option<Dot>
+        ensures { result ≡ to_frame self.orientation (physical_page self) dot }
     {
-        to_frame(self.orientation, self.physical_page(resolution), dot)
+        to_frame(self.orientation, self.physical_page(), dot)
     }
 
     /// The media after `ESC & l # S`: simplex leaves the binding.
