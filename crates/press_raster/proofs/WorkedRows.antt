@@ -1,26 +1,28 @@
 -- Worked raster rows, computed on the definitions.
-use Rattle.std.proofs.Common.{◌≡◌, ℕ, ◌*◌, ◌/◌, Bool, pos, true, false, [], ◌∷◌, Option, Some, None, refl}
+use Rattle.std.proofs.Common.{◌≡◌, ℕ, ◌*◌, ◌/◌, Bool, pos, true, false, [], ◌∷◌, Option, Some, None, map, refl}
 use Rattle.std.specs.Prelude.{codes}
 use Rattle.press_units.specs.Value.{tenthousandths_of}
-use Rattle.press_units.specs.declared.position.Resolution.TheVariants.{Dpi300}
+use Rattle.press_units.specs.declared.position.Resolution.TheVariants.{Dpi300, Dpi600}
 use Rattle.press_bits.specs.Mark.{row_dot, byte_dot}
 use Rattle.press_page.specs.Environment.{factory, reset_environment}
 use Rattle.press_rows.specs.DeltaRow.{deltas, replacements, laid_over}
 use Rattle.press_rows.specs.Row.{raster_row}
 use Rattle.press_raster.specs.Graphics.{RasterGraphics, started, moved_down}
 use Rattle.press_raster.specs.Mark.{strip_source}
-use Rattle.press_raster.specs.Settings.{initial, set_resolution, set_source_width, set_source_height, set_method, dot_size}
+use Rattle.press_raster.specs.Settings.{initial, raster_resolutions, resolution_of, row_height, set_resolution, set_source_width, set_source_height, set_method, dot_size}
 use Rattle.press_raster.specs.Transfer.{row_corner, row_of_data, row_dots, transferred}
 use Rattle.press_raster.specs.declared.raster.RowPlace.{RowPlace}
+use Rattle.press_raster.specs.declared.settings.RasterResolution.TheVariants.{Dpi75, Dpi100, Dpi150, Dpi200}
+use Rattle.press_raster.specs.declared.settings.RasterResolution.TheVariants as rows
 use Rattle.press_raster.specs.declared.settings.RasterSettings.{RasterSettings}
 
 -- the home of Letter in portrait, on the left edge of the logical page
 abbrev home : RowPlace
-home = record { environment = reset_environment factory; resolution = Dpi300; y = pos 900 }
+home = record { environment = reset_environment factory; y = pos 900 }
 
 -- ESC*t75R ESC*r8S
 abbrev eight_wide : RasterSettings
-eight_wide = set_source_width (tenthousandths_of (codes "8")) (set_resolution (tenthousandths_of (codes "75")) initial)
+eight_wide = set_source_width (tenthousandths_of (codes "8")) (set_resolution Dpi300 (tenthousandths_of (codes "75")) initial)
 
 -- ESC*r0A
 abbrev on : RasterGraphics
@@ -68,6 +70,34 @@ whole_width = refl
 -- from a left edge 100 positions on: (57600 - 100) * 75 / 7200, cut
 narrower : row_dots home initial 100 ≡ 598
 narrower = refl
+
+-- the resolutions of rows on a page of 300 dots per inch, and on one of 600
+on_coarse_pages : map (λ number. resolution_of Dpi300 (pos number)) (75 ∷ 100 ∷ 150 ∷ 200 ∷ 300 ∷ 600 ∷ 0 ∷ [])
+    ≡ Some Dpi75 ∷ Some Dpi100 ∷ Some Dpi150 ∷ None ∷ Some rows.Dpi300 ∷ None ∷ None ∷ []
+on_coarse_pages = refl
+
+on_fine_pages : map (λ number. resolution_of Dpi600 (pos number)) (75 ∷ 100 ∷ 150 ∷ 200 ∷ 300 ∷ 600 ∷ 0 ∷ 50 ∷ 120 ∷ 1200 ∷ [])
+    ≡ Some Dpi75 ∷ Some Dpi100 ∷ Some Dpi150 ∷ Some Dpi200 ∷ Some rows.Dpi300 ∷ Some rows.Dpi600 ∷ None ∷ None ∷ None ∷ None ∷ []
+on_fine_pages = refl
+
+coarse_dots : map (λ resolution. dot_size resolution Dpi300) (Dpi75 ∷ Dpi100 ∷ Dpi150 ∷ rows.Dpi300 ∷ []) ≡ 4 ∷ 3 ∷ 2 ∷ 1 ∷ []
+coarse_dots = refl
+
+fine_dots : map (λ resolution. dot_size resolution Dpi600) raster_resolutions ≡ 8 ∷ 6 ∷ 4 ∷ 3 ∷ 2 ∷ 1 ∷ []
+fine_dots = refl
+
+heights : map row_height raster_resolutions ≡ 96 ∷ 72 ∷ 48 ∷ 36 ∷ 24 ∷ 12 ∷ []
+heights = refl
+
+-- the same home on a page of 600 dots per inch; ESC*t200R, and a row as wide as the logical page
+abbrev fine_home : RowPlace
+fine_home = record { environment = reset_environment (record factory { resolution = Dpi600 }); y = pos 900 }
+
+fine_corner : row_corner fine_home 0 ≡ record { x = 150; y = 375 }
+fine_corner = refl
+
+fine_width : map (λ n. row_dots fine_home (set_resolution Dpi600 (tenthousandths_of n) initial) 0) (codes "75" ∷ codes "200" ∷ codes "600" ∷ []) ≡ 600 ∷ 1600 ∷ 4800 ∷ []
+fine_width = refl
 
 -- method 3 goes on from the seed, which a row of another method set: of F0 0F the second byte is replaced by AA
 abbrev sixteen_wide : RasterSettings

@@ -11,7 +11,7 @@ use press_bits::{Bitmap, DotRow};
 use press_cursor::CursorPosition;
 use press_page::{Dot, Media, PageEnv};
 use press_pattern::Ink;
-use press_units::{GREATEST_VALUE, Resolution};
+use press_units::GREATEST_VALUE;
 use std::alloc::{AllocError, Global};
 use std::marker::Model;
 
@@ -31,8 +31,6 @@ pub struct RasterPosition {
 #[derive(Clone, Copy, Debug)]
 pub struct RowPlace {
     pub environment: PageEnv,
-    /// The resolution of the page.
-    pub resolution: Resolution,
     /// The cursor's y: how far below the top margin the row begins, in positions (1/7200 inch).
     pub y: i64,
 }
@@ -44,7 +42,7 @@ impl RowPlace {
         ensures { result ≡ row_corner self.now left }
     {
         let cursor = CursorPosition { x: left, y: self.y };
-        self.environment.cursor_dot(cursor, self.resolution)
+        self.environment.cursor_dot(cursor)
     }
 
     fn media(&self) -> Media
@@ -199,10 +197,10 @@ impl Raster {
         if !is_within(settings.source_height, position.rows) {
             return Ok(());
         }
-        let size = settings.resolution.dot_size(place.resolution);
+        let media = place.media();
+        let size = settings.resolution.dot_size(media.resolution);
         let corner = place.corner(position.left);
         let alloc = *self.seed.allocator();
-        let media = place.media();
         let dots = settings.dots_of_row(media.logical_width(), position.left);
         let bits = decoded(alloc, settings.method, data, &self.seed, bytes_for(dots))?;
         let row = DotRow { bits: &bits, dots };

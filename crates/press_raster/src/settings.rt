@@ -1,8 +1,10 @@
 //! Resolution, method, source width and source height (PCL 5 Printer Language Technical Reference Manual, Raster
 //! Graphics).
 
-ghost use Rattle.std.specs.Prelude.{◌≡◌, ◌<◌, ◌≤◌, ◌^◌};
-ghost use Rattle.press_raster.specs.Settings.{raster_dots_per_inch, row_height, dot_size, resolution_of, side_of, initial, set_resolution, set_source_width, set_source_height, set_method};
+ghost use Rattle.std.specs.Prelude.{◌≡◌, ◌<◌, ◌≤◌, ◌^◌, pos};
+ghost use Rattle.std.specs.Ordering.{int_eq};
+ghost use Rattle.press_raster.specs.Settings.{raster_dots_per_inch, row_height, is_whole_dots, dot_size, resolution_of, side_of, initial};
+ghost use Rattle.press_raster.specs.Settings.{set_resolution, set_source_width, set_source_height, set_method};
 ghost use Rattle.press_raster.specs.Transfer.{dots_of_row};
 ghost use Rattle.press_units.specs.Value.{whole_part};
 
@@ -17,34 +19,59 @@ pub enum RasterResolution {
     Dpi75,
     Dpi100,
     Dpi150,
+    Dpi200,
     Dpi300,
+    Dpi600,
 }
 
+/// All resolutions of raster graphics.
+const RASTER_RESOLUTIONS: [RasterResolution; 6] = [
+    RasterResolution::Dpi75,
+    RasterResolution::Dpi100,
+    RasterResolution::Dpi150,
+    RasterResolution::Dpi200,
+    RasterResolution::Dpi300,
+    RasterResolution::Dpi600,
+];
+
 impl RasterResolution {
-    /// The resolution of so many dots per inch, where there is one.
-    fn of_number(number: i64) -> Option<Self>
-        ensures { result ≡ resolution_of number }
+    /// The resolution of so many dots per inch, where there is one, and a dot of it is whole dots of a page.
+    fn of_number(print: Resolution, number: i64) -> Option<Self>
+        ensures { result ≡ resolution_of print number }
     {
-        match number {
-            75 => Some(RasterResolution::Dpi75),
-            100 => Some(RasterResolution::Dpi100),
-            150 => Some(RasterResolution::Dpi150),
-            300 => Some(RasterResolution::Dpi300),
-            _ => None,
-        }
+        RASTER_RESOLUTIONS
+            .iter()
+            .copied()
+            .find(|resolution| resolution.is(number) && resolution.is_whole_dots(print))
+    }
+
+    /// Whether it is of so many dots per inch.
+    fn is(self, number: i64) -> bool
+        ensures { result ≡ int_eq (pos (raster_dots_per_inch self)) number }
+    {
+        i64::from(self.dots_per_inch()) == number
+    }
+
+    /// Whether a dot of a row is a whole number of dots of a page.
+    fn is_whole_dots(self, print: Resolution) -> bool
+        ensures { result ≡ is_whole_dots self print }
+    {
+        print.dots_per_inch() % self.dots_per_inch() == 0
     }
 
     /// Dots of a row per inch.
     pub fn dots_per_inch(self) -> u16
         ensures dots { result ≡ raster_dots_per_inch self }
         ensures some { 1 ≤ result }
-        ensures most { result ≤ 300 }
+        ensures most { result ≤ 600 }
     {
         match self {
             RasterResolution::Dpi75 => 75,
             RasterResolution::Dpi100 => 100,
             RasterResolution::Dpi150 => 150,
+            RasterResolution::Dpi200 => 200,
             RasterResolution::Dpi300 => 300,
+            RasterResolution::Dpi600 => 600,
         }
     }
 
@@ -55,15 +82,12 @@ impl RasterResolution {
         POSITIONS_PER_INCH / self.dots_per_inch()
     }
 
-    /// How many dots of the engine a dot of a row is wide and high.
+    /// How many dots of a page a dot of a row is wide and high.
     pub(crate) fn dot_size(self, print: Resolution) -> u32
         ensures size { result ≡ dot_size self print }
-        ensures some { 1 ≤ result }
-        ensures most { result ≤ 4 }
+        ensures most { result ≤ 8 }
     {
-        match print {
-            Resolution::Dpi300 => 300 / u32::from(self.dots_per_inch()),
-        }
+        u32::from(print.dots_per_inch() / self.dots_per_inch())
     }
 }
 
@@ -110,13 +134,14 @@ impl RasterSettings {
         }
     }
 
-    /// `ESC * t # R`: the resolution of the rows, 75, 100, 150 or 300 dots per inch.
+    /// `ESC * t # R`: the resolution of the rows on a page: 75, 100, 150 or 300 dots per inch, and on one of 600 also 200
+    /// or 600.
     ///
     /// Source: PCL 5 Printer Language Technical Reference Manual, Raster Graphics, Raster Graphics Resolution command.
-    pub fn set_resolution(&mut self, value: Value)
-        ensures { self.new ≡ set_resolution value.tenthousandths self.old }
+    pub fn set_resolution(&mut self, print: Resolution, value: Value)
+        ensures { self.new ≡ set_resolution print value.tenthousandths self.old }
     {
-        if let Some(resolution) = RasterResolution::of_number(value.whole()) {
+        if let Some(resolution) = RasterResolution::of_number(print, value.whole()) {
             self.resolution = resolution;
         }
     }
@@ -157,7 +182,7 @@ impl RasterSettings {
     /// How many dots a row has that begins at a distance from the left edge of a logical page, in positions (1/7200 inch).
     pub(crate) fn dots_of_row(self, logical_width: u32, left: u32) -> usize
         ensures dots { result ≡ dots_of_row self.source_width self.resolution logical_width left }
-        ensures bound { result < 2 ^ 28 }
+        ensures bound { result < 2 ^ 29 }
     {
         match self.source_width {
             Some(width) => usize::from(width),

@@ -223,9 +223,8 @@ pub(crate) fn paint_strip(
     source: DotRow<'_>,
     ink: &Ink<'_>,
 ) -> Result<(), AllocError>
-    requires some { 1 ≤ size }
-    requires most { size ≤ 4 }
-    requires dots { source.dots < 2 ^ 28 }
+    requires most { size ≤ 8 }
+    requires dots { source.dots < 2 ^ 29 }
     ensures painted { OnOk result (page.new.page ≡ painted page.old.page
         (raster_mark orientation page.old.page corner size (row source.entry) ink.now)) }
     ensures unchanged { OnErr result (page.new.page ≡ page.old.page) }
