@@ -1,6 +1,7 @@
 -- Worked lines of the job language, computed on the definitions.
 use Rattle.std.proofs.Common.{◌≡◌, ℕ, List, [], ◌∷◌, ◌++◌, map, true, false, refl, codes}
 use Rattle.std.specs.Fmt.{digits}
+use Rattle.press_units.specs.declared.position.Resolution.TheVariants.{Dpi600}
 use Rattle.press_page.specs.Environment.{factory}
 use Rattle.press_page.specs.declared.media.PageSize.TheVariants.{A4}
 use Rattle.press_page.specs.declared.media.Orientation.TheVariants.{Landscape}
@@ -61,7 +62,14 @@ too_many_copies = refl
 no_copies : done (codes "@PJL SET COPIES=0") ≡ nothing three
 no_copies = refl
 
-another_resolution : done (codes "@PJL SET RESOLUTION=0300") ≡ nothing three
+set_resolution : done (codes "@PJL SET Resolution = 600") ≡ sets_current (record factory { copies = 3; resolution = Dpi600 }) three
+set_resolution = refl
+
+default_resolution : done (codes "@PJL DEFAULT RESOLUTION=600") ≡ sets_default (record factory { resolution = Dpi600 }) three
+default_resolution = refl
+
+another_resolution : map done (codes "@PJL SET RESOLUTION=0300" ∷ codes "@PJL SET RESOLUTION=0600" ∷ codes "@PJL SET RESOLUTION=450" ∷ codes "@PJL SET RESOLUTION=1200" ∷ [])
+    ≡ nothing three ∷ nothing three ∷ nothing three ∷ nothing three ∷ []
 another_resolution = refl
 
 job : done (codes "@PJL JOB NAME=\"x\"") ≡ (power_on_language, effect true true [])
@@ -90,6 +98,24 @@ inquire = refl
 inquire_default : done (codes "@PJL DINQUIRE copies") ≡ replies (codes "@PJL DINQUIRE COPIES\r\n1\r\n" ++ 12 ∷ []) three
 unfolding digits
 inquire_default = refl
+
+-- after SET RESOLUTION=600 it is 600, and by default still 300
+abbrev fine : PjlEnv
+fine = record power_on_language { current = record factory { resolution = Dpi600 } }
+
+inquire_resolution : after_line (codes "@PJL INQUIRE RESOLUTION" ++ 10 ∷ []) facts fine ≡ replies (codes "@PJL INQUIRE RESOLUTION\r\n600\r\n" ++ 12 ∷ []) fine
+inquire_resolution = refl
+
+inquire_default_resolution : after_line (codes "@PJL DINQUIRE RESOLUTION" ++ 10 ∷ []) facts fine ≡ replies (codes "@PJL DINQUIRE RESOLUTION\r\n300\r\n" ++ 12 ∷ []) fine
+inquire_default_resolution = refl
+
+-- RESET and INITIALIZE: the default, and the factory value
+fine_by_default : after_line (codes "@PJL RESET" ++ 10 ∷ []) facts (record fine { default = record factory { resolution = Dpi600 } })
+    ≡ (record fine { default = record factory { resolution = Dpi600 } }, effect true false [])
+fine_by_default = refl
+
+coarse_again : after_line (codes "@PJL INITIALIZE" ++ 10 ∷ []) facts fine ≡ (power_on_language, effect true false [])
+coarse_again = refl
 
 inquire_another : done (codes "@PJL INQUIRE Foo") ≡ replies (codes "@PJL INQUIRE FOO\r\n\"?\"\r\n" ++ 12 ∷ []) three
 inquire_another = refl

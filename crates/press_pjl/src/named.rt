@@ -77,6 +77,7 @@ impl Named for Resolution {
     fn name(&self) -> &'static [u8] {
         match self {
             Resolution::Dpi300 => b"300",
+            Resolution::Dpi600 => b"600",
         }
     }
 }

@@ -9,7 +9,7 @@ ghost use Rattle.press_pjl.specs.Variables.{is_number, between, number_within, a
 use crate::named::{Named, find_named};
 use itoa::Buffer;
 use press_page::{Binding, Defaults, MOST_COPIES, Orientation, PAGE_SIZES};
-use press_units::Resolution;
+use press_units::RESOLUTIONS;
 use std::alloc::AllocError;
 
 /// A variable of the job language.
@@ -40,8 +40,6 @@ const ORIENTATIONS: [Orientation; 2] = [Orientation::Portrait, Orientation::Land
 pub(crate) const SWITCHES: [bool; 2] = [false, true];
 
 const BINDINGS: [Binding; 2] = [Binding::LongEdge, Binding::ShortEdge];
-
-const RESOLUTIONS: [Resolution; 1] = [Resolution::Dpi300];
 
 /// The number that digits spell, or 1,000 where it is not below that.
 fn number_to_a_thousand(digits: &[u8]) -> u16
