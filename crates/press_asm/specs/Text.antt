@@ -1,5 +1,6 @@
 -- Assembly text: its lines, and the commands and bytes that they stand for.
 use Rattle.std.specs.Prelude.{◌≡◌, ℕ, Bool, ◌+◌, ◌==◌, if◌then◌else◌, List, [], ◌∷◌, ◌++◌, length}
+use Rattle.std.specs.List.{flat_map}
 use Rattle.press_cmd.specs.Token.{Token, bytes_of}
 use Rattle.press_asm.specs.Form.{Form, HasForm, Gives, StandsFor, IsBadLine, IsBadValue, IsBadData}
 use Rattle.press_asm.specs.declared.fault.AssembleError.{AssembleError}
@@ -21,8 +22,7 @@ lines_of (byte ∷ text) = if is_feed byte then [] ∷ lines_of text else in_fro
 
 -- the bytes of commands, one after another
 abbrev pub all_bytes : List Token → List ℕ
-all_bytes [] = []
-all_bytes (command ∷ commands) = bytes_of command ++ all_bytes commands
+all_bytes = flat_map bytes_of
 
 -- the lines stand for these commands in order, each for one or for none
 abbrev pub LinesGive : List (List ℕ) → List Token → Type 0
