@@ -2,6 +2,8 @@
 #![tactic(auto)]
 
 #[cfg(test)]
+mod contexts;
+#[cfg(test)]
 mod debugger;
 #[cfg(test)]
 mod jobs_of_tickets;
