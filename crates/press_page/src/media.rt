@@ -7,7 +7,7 @@ ghost use Rattle.press_page.specs.Media.{physical_page, frame, offset, logical_w
 ghost use Rattle.press_page.specs.Media.{printed_sides};
 
 use crate::numbered::find_numbered;
-use crate::place::{Dot, Extent, to_frame, to_physical};
+use crate::place::{Dot, Extent, to_physical};
 use press_cursor::LogicalPage;
 use press_units::{POSITIONS_PER_INCH, Resolution};
 
@@ -198,7 +198,7 @@ impl Media {
     ghost use Rattle.std.specs.Prelude.{◌≡◌, ◌≤◌, ◌<◌, ◌*◌, ◌^◌};
     ghost use Rattle.press_page.specs.Media.{table_frame, table_offset, physical_page, frame, offset, logical_width, logical_length, logical_page};
     ghost use Rattle.press_page.specs.Media.{with_sides, printed_sides};
-    ghost use Rattle.press_page.specs.Place.{to_physical, to_frame};
+    ghost use Rattle.press_page.specs.Place.{to_physical};
 
     /// The frame, in dots of the table of page sizes.
     fn table_frame(self) -> Extent
@@ -283,13 +283,6 @@ impl Media {
         ensures { result ≡ to_physical self.orientation (physical_page self) dot }
     {
         to_physical(self.orientation, self.physical_page(), dot)
-    }
-
-    /// The dot of the frame that a dot of the physical page is; a dot outside of the page has none.
-    pub fn to_frame(self, dot: Dot) -> Option<Dot>
-        ensures { result ≡ to_frame self.orientation (physical_page self) dot }
-    {
-        to_frame(self.orientation, self.physical_page(), dot)
     }
 
     /// The media after `ESC & l # S`: simplex leaves the binding.

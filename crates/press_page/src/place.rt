@@ -2,7 +2,7 @@
 //! system).
 
 ghost use Rattle.std.specs.Prelude.{◌≡◌, ◌<◌, ◌^◌, ◌+ℤ◌, pos, unsigned_abs};
-ghost use Rattle.press_page.specs.Place.{lies_on, physical_dot, frame_dot, to_physical, to_frame, ArePlacementsInverse, below_edge};
+ghost use Rattle.press_page.specs.Place.{lies_on, to_physical, ArePlacementsInverse, below_edge};
 
 use crate::media::{Orientation, turned};
 
@@ -51,30 +51,6 @@ pub(crate) fn to_physical(orientation: Orientation, page: Extent, dot: Dot) -> O
         Orientation::ReverseLandscape => Dot {
             x: page.width - 1 - dot.y,
             y: dot.x,
-        },
-    })
-}
-
-/// The dot of the frame that a dot of the physical page is, which a dot outside of the page does not have.
-pub(crate) fn to_frame(orientation: Orientation, page: Extent, dot: Dot) -> Option<Dot>
-    ensures { result ≡ to_frame orientation page dot }
-{
-    if !page.contains(dot) {
-        return None;
-    }
-    Some(match orientation {
-        Orientation::Portrait => dot,
-        Orientation::Landscape => Dot {
-            x: page.height - 1 - dot.y,
-            y: dot.x,
-        },
-        Orientation::ReversePortrait => Dot {
-            x: page.width - 1 - dot.x,
-            y: page.height - 1 - dot.y,
-        },
-        Orientation::ReverseLandscape => Dot {
-            x: dot.y,
-            y: page.width - 1 - dot.x,
         },
     })
 }
