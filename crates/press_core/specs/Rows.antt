@@ -1,6 +1,6 @@
 -- What each message does to the world of a press, and what it is answered (CIP4 JDF 1.5, queue commands and queries of JMF;
 -- this profile).
-use Rattle.std.specs.Prelude.{ℕ, ℤ, pos, List, Option, Some, None, Result, Ok, Err, ok_or, option_map, option_and_then, codes}
+use Rattle.std.specs.Prelude.{ℕ, ℤ, pos, List, [], Option, Some, None, Result, Ok, Err, ok_or, option_map, option_and_then, codes}
 use Rattle.std.specs.Result.{result_ok}
 use Rattle.serde_json.specs.Data.{Data, string}
 use Rattle.press_bits.specs.Page.{Page}
@@ -25,13 +25,13 @@ use Rattle.press_core.specs.declared.message_type.MessageType.TheVariants as typ
 use Rattle.press_core.specs.Listings.{entry_id, number_with_id, listed_queue, listed_device}
 use Rattle.press_core.specs.Messages.{Heading, Headed, heading_of, message_in, no_message, refused_with, for_fault, for_parameter}
 use Rattle.press_core.specs.Parameters.{Found, optional_parameter, both_found, text_parameter, whole_parameter, object_parameter}
-use Rattle.press_core.specs.Response.{Addition, adding, accepted_text, refused_text, no_heading}
+use Rattle.press_core.specs.Response.{Additions, adding, accepted_text, refused_text, no_heading}
 use Rattle.press_core.specs.Work.{new_work}
 use Rattle.press_core.specs.World.{World, with_queue, with_new_work, without_gone, without_job_of, device}
 
 -- What a message is answered, and the world after it: what the response adds, or why nothing was done.
 abbrev pub MessageAnswer : Type 0
-MessageAnswer = Result Addition Refused × World
+MessageAnswer = Result Additions Refused × World
 
 -- nothing changes
 abbrev pub refusing : Refused → World → MessageAnswer
@@ -39,10 +39,10 @@ refusing refused world = (Err refused, world)
 
 -- the world changes, and the response adds nothing
 abbrev pub accepting : World → MessageAnswer
-accepting world = (Ok None, world)
+accepting world = (Ok [], world)
 
-abbrev pub telling : Addition → World → MessageAnswer
-telling addition world = (Ok addition, world)
+abbrev pub telling : Additions → World → MessageAnswer
+telling additions world = (Ok additions, world)
 
 -- what follows where a message names what it has to
 abbrev pub with_named : {A : Type 0} → Result A Refused → World → (A → MessageAnswer) → MessageAnswer
@@ -170,7 +170,7 @@ answered types.Status message images world = telling (adding (codes "Device") (l
 
 -- The response to a message of this heading, and the world after it.
 abbrev pub responding : Heading → MessageAnswer → List ℕ × World
-responding heading (Ok addition, world) = (accepted_text heading addition, world)
+responding heading (Ok additions, world) = (accepted_text heading additions, world)
 responding heading (Err refused, world) = (refused_text heading refused, world)
 
 abbrev pub responding_to : Headed → Data → List Page → World → List ℕ × World
