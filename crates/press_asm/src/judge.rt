@@ -102,7 +102,7 @@ fn add_form(alloc: Global, form: &Form, out: &mut Vec<u8>) -> Result<(), LineFau
 fn is_text(line: &[u8]) -> bool
     ensures { IsTrue result ↔ IsUtf8 line.now }
 {
-    str::from_utf8(line).is_ok()
+    line.is_ascii() || str::from_utf8(line).is_ok()
 }
 
 /// Appends the bytes of what a line stands for. What is no UTF-8 has no form.
