@@ -1,16 +1,20 @@
 -- Worked streams with lines of the job language, computed on the definitions: what goes out from power on.
 use Prim.Native.Char.{code}
 use Prim.Native.String.{String}
-use Rattle.std.proofs.Common.{◌≡◌, ℕ, List, [], ◌∷◌, ◌++◌, None, true, false, refl}
+use Rattle.std.proofs.Common.{◌≡◌, ℕ, ◌-◌, ◌*◌, List, [], ◌∷◌, ◌++◌, replicate, Some, None, true, false, refl}
 use Rattle.std.specs.Fmt.{digits}
 use Rattle.std.specs.Prelude.{codes}
 use Rattle.press_bits.specs.Page.{Page, blank}
 use Rattle.press_bits.specs.DotRule.{both_transparent}
 use Rattle.press_bits.specs.Mark.{painted}
-use Rattle.press_cmd.specs.Token.{Token, Grouped, Ungrouped, Control, PjlLine, Uel}
+use Rattle.press_cmd.specs.Token.{Token, Escape, Grouped, Ungrouped, Control, PjlLine, Uel}
 use Rattle.press_fill.specs.Fill.{fill_mark}
 use Rattle.press_page.specs.declared.media.Orientation.TheVariants.{Portrait}
+use Rattle.press_page.specs.declared.place.Dot.{Dot}
+use Rattle.press_pattern.specs.Ink.{black_ink}
 use Rattle.press_pattern.specs.Solid.{solid_black}
+use Rattle.press_raster.specs.Mark.{raster_mark}
+use Rattle.press_rows.specs.Row.{raster_row}
 use Rattle.press_sink.specs.Sending.{Output, Deliver, Reply}
 use Rattle.press_engine.specs.Machine.{Run, power_on, run_all, run_each, run_at}
 
@@ -92,6 +96,65 @@ a_front_goes_out_alone :
     ≡ front letter ∷ reply "@PJL USTATUS PAGE" "1" ∷ front (blank 2480 3507) ∷ reply "@PJL USTATUS PAGE" "2" ∷ []
 unfolding run_each run_at digits
 a_front_goes_out_alone = refl
+
+-- so does a page with a mark, and a front that waits, of another resolution
+abbrev fine_letter : Page
+fine_letter = blank 5100 6600
+
+another_resolution :
+    told (small_box ++ (line "@PJL SET RESOLUTION=600" ∷ form_feed ∷ line "@PJL SET RESOLUTION=300" ∷ form_feed ∷ []))
+    ≡ front boxed ∷ front fine_letter ∷ front letter ∷ []
+unfolding run_each run_at
+another_resolution = refl
+
+a_front_of_another_resolution :
+    told (line "@PJL SET DUPLEX=ON" ∷ form_feed ∷ line "@PJL SET RESOLUTION=600" ∷ form_feed ∷ form_feed ∷ [])
+    ≡ front letter ∷ Deliver (record { front = fine_letter; back = Some fine_letter }) ∷ []
+unfolding run_each run_at
+a_front_of_another_resolution = refl
+
+-- the resolution outlives a reset and the universal exit, until a line changes it
+abbrev reset : Token
+reset = Escape (code "E")
+
+a_resolution_stays :
+    told (line "@PJL SET RESOLUTION=600" ∷ reset ∷ Uel ∷ form_feed ∷ line "@PJL RESET" ∷ form_feed ∷ line "@PJL DEFAULT RESOLUTION=600" ∷ form_feed
+        ∷ line "@PJL EOJ" ∷ form_feed ∷ line "@PJL INITIALIZE" ∷ form_feed ∷ [])
+    ≡ front fine_letter ∷ front letter ∷ front letter ∷ front fine_letter ∷ front letter ∷ []
+unfolding run_each run_at
+a_resolution_stays = refl
+
+-- a PCL unit of 1/300 inch has two dots there: the box is at (150, 300), and has six columns and four lines
+abbrev fine_box : Page
+fine_box =
+    painted fine_letter
+    (fill_mark Portrait fine_letter (record { x = 150; y = 300; width = 6; height = 4 }) solid_black both_transparent)
+
+a_resolution_is_asked :
+    told (line "@PJL SET RESOLUTION=600" ∷ reset ∷ small_box ++ (reset ∷ line "@PJL INQUIRE RESOLUTION" ∷ line "@PJL DINQUIRE RESOLUTION" ∷ []))
+    ≡ front fine_box ∷ reply "@PJL INQUIRE RESOLUTION" "600" ∷ reply "@PJL DINQUIRE RESOLUTION" "300" ∷ []
+unfolding run_each run_at
+a_resolution_is_asked = refl
+
+-- ESC*t200R, ESC*r1A, ESC*b1W of a dot: three by three dots at (150, 375); at 300 dots per inch the resolution stays 75, and they
+-- are four by four at (75, 187)
+abbrev row_of_a_dot : List Token
+row_of_a_dot =
+    Grouped (code "*") (code "t") (codes "200") (code "R") [] ∷ Grouped (code "*") (code "r") (codes "1") (code "A") []
+    ∷ Grouped (code "*") (code "b") (codes "1") (code "W") (0x80 ∷ []) ∷ form_feed ∷ []
+
+abbrev with_row : Page → (corner : Dot) (size bytes : ℕ) → Page
+with_row page corner size bytes =
+    painted page
+    (raster_mark Portrait page corner size (record { bits = 0x80 ∷ replicate (bytes - 1) 0; dots = 8 * bytes }) (black_ink both_transparent))
+
+a_row_at_200 : told (line "@PJL SET RESOLUTION=600" ∷ row_of_a_dot) ≡ front (with_row fine_letter (record { x = 150; y = 375 }) 3 200) ∷ []
+unfolding run_each run_at raster_row
+a_row_at_200 = refl
+
+no_row_at_200 : told row_of_a_dot ≡ front (with_row letter (record { x = 75; y = 187 }) 4 75) ∷ []
+unfolding run_each run_at raster_row
+no_row_at_200 = refl
 
 -- a definition that is open is dropped where a value is set, and goes on at a query
 abbrev define : Token

@@ -3,7 +3,6 @@
 ghost use Rattle.std.specs.Prelude.{◌≡◌};
 ghost use Rattle.press_engine.specs.Calls.{lies_as, restored_environment, overlay_environment};
 
-use crate::canvas::RESOLUTION;
 use crate::drawing::Drawing;
 use crate::effect::BodyEnd;
 use crate::state::State;
@@ -56,7 +55,7 @@ fn overlay_environment(environment: PageEnv) -> PageEnv
         orientation: media.orientation,
         duplex: media.duplex,
         binding: media.binding,
-        resolution: RESOLUTION,
+        resolution: media.resolution,
     })
 }
 

@@ -6,12 +6,8 @@ use press_fill::{Rect, fill};
 use press_page::{Media, PageEnv};
 use press_pattern::{Ink, Pattern, Patterns};
 use press_raster::{Raster, RasterSettings, RowPlace};
-use press_units::Resolution;
 use std::alloc::{AllocError, Global};
 use std::marker::Model;
-
-/// The engine's resolution.
-pub const RESOLUTION: Resolution = Resolution::Dpi300;
 
 /// A page that is being printed, or waits for its back. Contracts see its dots alone.
 #[derive(Drop)]
@@ -41,7 +37,7 @@ impl Canvas {
     pub fn blank(alloc: Global, media: Media) -> Result<Self, AllocError>
         ensures { IfOk result (λ page. page ≡ blank_page media) }
     {
-        let page = media.physical_page(RESOLUTION);
+        let page = media.physical_page();
         match Bitmap::blank(alloc, page.width, page.height) {
             Ok(bitmap) => Ok(Canvas { bitmap }),
             Err(BlankError::NoMemory) => Err(AllocError),

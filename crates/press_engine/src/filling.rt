@@ -1,6 +1,5 @@
 //! The rows that fill rectangles.
 
-use crate::canvas::RESOLUTION;
 use crate::effect::Effect;
 use crate::patterns::kind_of_number;
 use crate::rectangle::dots_up;
@@ -21,15 +20,14 @@ impl State {
     fn rect_now(&self) -> Rect
         ensures { result ≡ rect_now self.now }
     {
-        let corner = self
-            .environment
-            .cursor_dot(self.cursor.position(), RESOLUTION);
+        let corner = self.environment.cursor_dot(self.cursor.position());
+        let resolution = self.environment.media.resolution;
         let rectangle = self.drawing.rectangle;
         Rect {
             x: corner.x,
             y: corner.y,
-            width: dots_up(rectangle.width),
-            height: dots_up(rectangle.height),
+            width: dots_up(resolution, rectangle.width),
+            height: dots_up(resolution, rectangle.height),
         }
     }
 

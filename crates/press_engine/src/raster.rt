@@ -4,7 +4,6 @@ ghost use Rattle.std.specs.Prelude.{◌≡◌};
 ghost use Rattle.press_units.specs.Value.{whole_part};
 ghost use Rattle.press_engine.specs.Raster.{start_of, asked_offset};
 
-use crate::canvas::RESOLUTION;
 use crate::effect::Effect;
 use crate::state::State;
 use press_pattern::Ink;
@@ -34,18 +33,19 @@ fn rows_of(value: Value) -> Option<u16>
 impl State {
     ghost use Rattle.std.specs.Prelude.{◌≡◌, ◌<◌, ◌^◌, unsigned_abs, IfOk, IsErr};
     ghost use Rattle.press_units.specs.Value.{whole_part};
-    ghost use Rattle.press_raster.specs.Settings.{set_resolution, set_source_width, set_source_height};
+    ghost use Rattle.press_raster.specs.Settings.{set_source_width, set_source_height};
     ghost use Rattle.press_engine.specs.Effects.{effect_of};
     ghost use Rattle.press_engine.specs.Engine.{TakesMemory};
-    ghost use Rattle.press_engine.specs.Raster.{while_off, start_at, start_raster, end_raster_and_method, rows_down};
+    ghost use Rattle.press_engine.specs.Raster.{set_raster_resolution, while_off, start_at, start_raster, end_raster_and_method, rows_down};
     ghost use Rattle.press_engine.specs.Raster.{offset_raster, row_place, with_row, transfer_row, transfer};
 
-    /// `*t#R`: the resolution of raster graphics, while it is off.
+    /// `*t#R`: the resolution of raster graphics on the page of now, while it is off.
     pub fn set_raster_resolution(&mut self, value: Value)
-        ensures { self.new ≡ while_off (set_resolution value.tenthousandths) self.old }
+        ensures { self.new ≡ set_raster_resolution value.tenthousandths self.old }
     {
         if !self.graphics.is_on() {
-            self.drawing.raster.set_resolution(value);
+            let page = self.environment.media.resolution;
+            self.drawing.raster.set_resolution(page, value);
         }
     }
 
@@ -126,7 +126,6 @@ impl State {
     {
         RowPlace {
             environment: self.environment,
-            resolution: RESOLUTION,
             y: self.cursor.y(),
         }
     }

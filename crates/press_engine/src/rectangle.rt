@@ -3,7 +3,7 @@
 ghost use Rattle.std.specs.Prelude.{◌≡◌};
 ghost use Rattle.press_engine.specs.Rectangle.{no_rectangle, size_of, dots_up};
 
-use press_units::{POSITIONS_PER_DOT, Unit, Value, to_pos};
+use press_units::{Resolution, Unit, Value, to_pos};
 
 /// The size of the rectangle that a fill paints, in positions (1/7200 inch).
 ///
@@ -37,9 +37,9 @@ pub(crate) fn size_of(value: Value, unit: Unit) -> Option<u32>
     }
 }
 
-/// How many dots a size takes, a begun one as a whole one.
-pub(crate) fn dots_up(size: u32) -> u32
-    ensures { result ≡ dots_up size }
+/// How many dots of a page a size takes, a begun one as a whole one.
+pub(crate) fn dots_up(resolution: Resolution, size: u32) -> u32
+    ensures { result ≡ dots_up resolution size }
 {
-    size.div_ceil(u32::from(POSITIONS_PER_DOT))
+    size.div_ceil(u32::from(resolution.positions_per_dot()))
 }
