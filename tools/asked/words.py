@@ -49,7 +49,7 @@ ROWS = [
     ("write", 2, None, FEED),
     ("write a", 2, None, FEED),
     ("press -", 2, None, FEED),
-    ("debug -", 2, "usage: press print IN OUT, press print --list IN, or press debug FILE\n", FEED),
+    ("debug -", 2, "usage: press print IN OUT, press print --list IN, or press debug IN, where IN is a file and not -\n", FEED),
     ("debug", 2, None, FEED),
     ("debug a b", 2, None, FEED),
     ("debug --list a", 2, None, FEED),
