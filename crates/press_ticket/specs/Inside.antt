@@ -12,4 +12,5 @@ job_ticket t = record {
   media = t.media;
   sides = t.sides;
   collate = t.collate;
+  resolution = t.resolution;
 }

@@ -1,9 +1,11 @@
 -- The members of a ticket's object: its keys, and the value that each may have.
-use Rattle.std.specs.Prelude.{ℕ, ◌&&◌, ℤ, List, [], ◌∷◌, length, Bool, nat_le, codes, bytes_eq, if◌then◌else◌, Option, Some, None, option_and_then, option_map}
-use Rattle.std.specs.List.{list_all, list_any}
-use Rattle.std.specs.Ordering.{nat_cmp, match_ordering}
+use Rattle.std.specs.Prelude.{ℕ, ◌&&◌, ℤ, pos, List, [], ◌∷◌, length, Bool, nat_le, codes, bytes_eq, if◌then◌else◌, Option, Some, None, option_and_then, option_map}
+use Rattle.std.specs.List.{find, list_all, list_any}
+use Rattle.std.specs.Ordering.{int_eq, nat_cmp, match_ordering}
 use Rattle.std.specs.Cmp.Lexicographic.{slice_cmp}
 use Rattle.press_units.specs.Ascii.{is_printable}
+use Rattle.press_units.specs.Position.{dots_per_inch, resolutions}
+use Rattle.press_units.specs.declared.position.Resolution.{Resolution}
 use Rattle.serde_json.specs.Data.{Data, Items, no_items, item, Members, no_members, member}
 use Rattle.serde_json.specs.Find.{as_integer, as_number, as_array, as_str}
 use Rattle.press_ticket.specs.declared.media.Media.{Media}
@@ -14,7 +16,7 @@ use Rattle.press_ticket.specs.Names.{media_named, sides_named}
 abbrev pub ticket_keys : List (List ℕ)
 ticket_keys =
     codes "Version" ∷ codes "Type" ∷ codes "JobID" ∷ codes "NPage" ∷ codes "Amount" ∷ codes "RunList" ∷ codes "Media"
-    ∷ codes "Sides" ∷ codes "Collate" ∷ []
+    ∷ codes "Sides" ∷ codes "Collate" ∷ codes "Resolution" ∷ []
 
 abbrev pub is_ticket_key : List ℕ → Bool
 is_ticket_key key = list_any (bytes_eq key) ticket_keys
@@ -71,3 +73,10 @@ as_media value = option_and_then media_named (as_str value)
 
 abbrev pub as_sides : Data → Option Sides
 as_sides value = option_and_then sides_named (as_str value)
+
+-- the resolution of so many dots per inch
+abbrev pub resolution_of : ℤ → Option Resolution
+resolution_of number = find (λ resolution. int_eq (pos (dots_per_inch resolution)) number) resolutions
+
+abbrev pub as_resolution : Data → Option Resolution
+as_resolution value = option_and_then resolution_of (as_whole value)

@@ -17,4 +17,5 @@ optional_parts parts = record {
   media = parts.media;
   sides = parts.sides;
   collate = parts.collate;
+  resolution = parts.resolution;
 }

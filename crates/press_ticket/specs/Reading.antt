@@ -6,6 +6,8 @@ use Rattle.std.specs.Str.{is_utf8}
 use Rattle.serde_json.specs.Data.{Data, Members}
 use Rattle.serde_json.specs.Find.{get, as_bool, as_object, as_str}
 use Rattle.serde_json.specs.Read.{read}
+use Rattle.press_units.specs.declared.position.Resolution.{Resolution}
+use Rattle.press_units.specs.declared.position.Resolution.TheVariants.{Dpi300}
 use Rattle.press_ticket.specs.declared.fault.TicketError.{TicketError}
 use Rattle.press_ticket.specs.declared.fault.TicketError.TheVariants.{NotJson, NotProfile, WrongProcess, BadRange, BadAmount}
 use Rattle.press_ticket.specs.declared.media.Media.{Media}
@@ -13,7 +15,7 @@ use Rattle.press_ticket.specs.declared.media.Media.TheVariants.{Letter}
 use Rattle.press_ticket.specs.declared.media.Sides.{Sides}
 use Rattle.press_ticket.specs.declared.media.Sides.TheVariants.{OneSidedFront}
 use Rattle.press_ticket.specs.declared.page_range.PageRange.{PageRange}
-use Rattle.press_ticket.specs.Members.{least_unknown, as_whole, as_version, as_job_id, as_run_list, as_media, as_sides}
+use Rattle.press_ticket.specs.Members.{least_unknown, as_whole, as_version, as_job_id, as_run_list, as_media, as_sides, as_resolution}
 use Rattle.press_ticket.specs.Pages.{page_at, page_order}
 use Rattle.press_ticket.specs.Ticket.{JobTicket, max_pages, max_amount}
 
@@ -55,6 +57,7 @@ pub record Optional : Type 0 where
   pub media : Media
   pub sides : Sides
   pub collate : Bool
+  pub resolution : Resolution
 
 -- all pages in order
 abbrev pub whole_set : List (ℤ × ℤ)
@@ -69,7 +72,8 @@ optional_of value =
     then_read (optional_member (codes "Media") as_media Letter value) (λ media.
     then_read (optional_member (codes "Sides") as_sides OneSidedFront value) (λ sides.
     then_read (optional_member (codes "Collate") as_bool true value) (λ collate.
-    Ok (record { run_list = run_list; media = media; sides = sides; collate = collate })))))
+    then_read (optional_member (codes "Resolution") as_resolution Dpi300 value) (λ resolution.
+    Ok (record { run_list = run_list; media = media; sides = sides; collate = collate; resolution = resolution }))))))
 
 -- a number from 1 to the most
 abbrev pub up_to : ℕ → ℤ → Option ℕ
@@ -107,6 +111,7 @@ in_range required optional =
       media = optional.media;
       sides = optional.sides;
       collate = optional.collate;
+      resolution = optional.resolution;
     }))))
     else Err WrongProcess
 

@@ -1,6 +1,7 @@
 -- What a ticket asks for (CIP4 JDF 1.5, digital printing; this profile).
 use Rattle.std.specs.Prelude.{ℕ, Bool, ◌&&◌, List, nat_le, nat_lt, length}
 use Rattle.std.specs.List.{list_all}
+use Rattle.press_units.specs.declared.position.Resolution.{Resolution}
 use Rattle.press_ticket.specs.declared.media.Media.{Media}
 use Rattle.press_ticket.specs.declared.media.Sides.{Sides}
 use Rattle.press_ticket.specs.declared.page_range.PageRange.{PageRange}
@@ -8,7 +9,7 @@ use Rattle.press_ticket.specs.Members.{is_job_id}
 use Rattle.press_ticket.specs.Pages.{page_order}
 
 -- A job of so many pages: the ranges whose pages make a set, on which medium and which sides; so many sets, whole ones one
--- after another where they are collated.
+-- after another where they are collated; and the resolution of its images and pages.
 pub record JobTicket : Type 0 where
   pub job_id : List ℕ
   pub page_count : ℕ
@@ -17,6 +18,7 @@ pub record JobTicket : Type 0 where
   pub media : Media
   pub sides : Sides
   pub collate : Bool
+  pub resolution : Resolution
 
 -- both ends are pages of so many
 abbrev pub is_within : ℕ → PageRange → Bool

@@ -6,11 +6,12 @@ ghost use Rattle.serde_json.specs.View.{view, items_view, members_view};
 ghost use Rattle.press_units.specs.Ascii.{is_printable};
 ghost use Rattle.press_ticket.specs.declared.fault.TicketError.TheVariants.{NoMemory, NotProfile};
 ghost use Rattle.press_ticket.specs.Members.{is_ticket_key, least_unknown, as_whole, as_version, is_job_id, as_job_id, as_pair};
-ghost use Rattle.press_ticket.specs.Members.{pairs_of, as_run_list, as_media, as_sides};
+ghost use Rattle.press_ticket.specs.Members.{pairs_of, as_run_list, as_media, as_sides, resolution_of, as_resolution};
 
 use crate::fault::TicketError;
 use crate::key::Key;
 use crate::media::{Media, Sides};
+use press_units::{RESOLUTIONS, Resolution};
 use serde_json::{Map, Value};
 use std::alloc::{AllocError, Global};
 
@@ -55,6 +56,7 @@ fn is_ticket_key(key: &str) -> bool
             | "Media"
             | "Sides"
             | "Collate"
+            | "Resolution"
     )
 }
 
@@ -125,6 +127,23 @@ pub fn sides(value: &Value) -> Option<Sides>
     ensures { result ≡ as_sides (view value.now) }
 {
     Sides::named(value.as_str()?)
+}
+
+/// The resolution of so many dots per inch.
+fn resolution_of(number: i128) -> Option<Resolution>
+    ensures { result ≡ resolution_of number }
+{
+    RESOLUTIONS
+        .iter()
+        .copied()
+        .find(|resolution| i128::from(resolution.dots_per_inch()) == number)
+}
+
+/// A resolution, by its dots per inch.
+pub fn resolution(value: &Value) -> Option<Resolution>
+    ensures { result ≡ as_resolution (view value.now) }
+{
+    resolution_of(whole(value)?)
 }
 
 /// A pair of whole numbers.

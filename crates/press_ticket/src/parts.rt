@@ -12,6 +12,7 @@ use crate::fault::TicketError;
 use crate::media::{Media, Sides};
 use crate::members;
 use crate::members::said;
+use press_units::Resolution;
 use serde_json::Value;
 use std::alloc::{AllocError, Global};
 
@@ -31,6 +32,7 @@ pub struct Optional {
     pub media: Media,
     pub sides: Sides,
     pub collate: bool,
+    pub resolution: Resolution,
 }
 
 pub fn required_of(alloc: Global, value: &Value) -> Result<Required<'_>, TicketError>
@@ -78,11 +80,16 @@ pub fn optional_of(alloc: Global, value: &Value) -> Result<Optional, TicketError
     let sides = said(alloc, "Sides", sides)?;
     let collate = value.get("Collate").map_or(Some(true), Value::as_bool);
     let collate = said(alloc, "Collate", collate)?;
+    let resolution = value
+        .get("Resolution")
+        .map_or(Some(Resolution::Dpi300), members::resolution);
+    let resolution = said(alloc, "Resolution", resolution)?;
     Ok(Optional {
         run_list,
         media,
         sides,
         collate,
+        resolution,
     })
 }
 

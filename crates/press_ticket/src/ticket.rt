@@ -5,6 +5,7 @@ use crate::media::{Media, Sides};
 use crate::page_range::{MAX_PAGES, PageRange};
 use crate::parts::{Optional, Required};
 use crate::{numbers, page_range};
+use press_units::Resolution;
 use std::alloc::{AllocError, Global};
 use std::marker::Model;
 
@@ -25,6 +26,7 @@ pub struct Ticket {
     media: Media,
     sides: Sides,
     collate: bool,
+    resolution: Resolution,
 }
 
 impl Model for Ticket {
@@ -82,6 +84,7 @@ impl Ticket {
             media: optional.media,
             sides: optional.sides,
             collate: optional.collate,
+            resolution: optional.resolution,
         })
     }
 
@@ -138,6 +141,13 @@ impl Ticket {
         ensures { result ≡ self.now.collate }
     {
         self.collate
+    }
+
+    /// The resolution of its images and pages.
+    pub fn resolution(&self) -> Resolution
+        ensures { result ≡ self.now.resolution }
+    {
+        self.resolution
     }
 
     /// The pages of a set, in order: at most 999 of them, each one of the job's pages, counted from 0.
