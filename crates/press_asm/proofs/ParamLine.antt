@@ -1,5 +1,7 @@
 -- The lines of parameters and of broken sequences, from their parts.
-use Rattle.std.proofs.Common.{◌≡◌, ◌∙◌, ◌<◌, ◌≤◌, ℕ, List, [], ◌∷◌, ◌++◌, length, sym, ap, arith, append_assoc, append-nil}
+use Rattle.std.proofs.Common.{◌≡◌, ◌∙◌, ◌<◌, ◌≤◌, ℕ, List, [], ◌∷◌, ◌++◌, length, take, drop, sym, ap, arith, append_assoc, append-nil}
+use Rattle.std.proofs.Math.Seq.{take-append_seam}
+use Rattle.std.proofs.lemmas.List.{take-append-drop}
 use Rattle.std.specs.Prelude.{codes, Option, Some, None}
 use Rattle.hex.specs.Hex.{encode_upper}
 use Rattle.press_cmd.specs.Token.{param_of, broken_of, field_of, end_of, data_of}
@@ -38,6 +40,15 @@ in_four o a b c d out w x y z hw hx hy hz h =
 pub in_three : (o a b c out w x y : List ℕ) → w ≡ o ++ a → x ≡ w ++ b → y ≡ x ++ c → out ≡ a ++ (b ++ c) → y ≡ o ++ out
 in_three o a b c out w x y hw hx hy h =
     hy ∙ ap (λ l. l ++ c) (hx ∙ ap (λ l. l ++ b) hw) ∙ append_assoc (o ++ a) b c ∙ append_assoc o a (b ++ c) ∙ ap (λ l. o ++ l) (sym h)
+
+-- what stood before an appended part stands before all that was appended behind it
+pub front_kept : (old added part new : List ℕ) → part ≡ old ++ added → take (length part) new ≡ part → take (length old) new ≡ old
+front_kept old added part new is kept =
+    let whole : new ≡ old ++ (added ++ drop (length part) new) =
+    sym (take-append-drop (length part) new)
+    ∙ ap (λ front. front ++ drop (length part) new) (kept ∙ is)
+    ∙ append_assoc old added (drop (length part) new) in
+    ap (take (length old)) whole ∙ take-append_seam old (added ++ drop (length part) new)
 
 -- nothing was appended
 pub nothing_spaced : (old payload : List ℕ) → length payload < 1 → old ≡ old ++ spaced (encode_upper payload)

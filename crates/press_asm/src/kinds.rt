@@ -1,5 +1,5 @@
 //! Kinds of commands as lines of assembly text, without fields and data.
-ghost use Rattle.std.specs.Prelude.{◌≡◌, ◌++◌, OnOk};
+ghost use Rattle.std.specs.Prelude.{◌≡◌, ◌++◌, length, take, OnOk, OnErr};
 ghost use Rattle.press_asm.specs.Kinds.{kind_in, kind_line, param_kind_line};
 
 use crate::form::{Form, form_of};
@@ -32,8 +32,9 @@ fn write_param_kind(
     end: u8,
     out: &mut Vec<u8>,
 ) -> Result<(), AllocError>
-    ensures { OnOk result
+    ensures ok { OnOk result
         (out.new.items ≡ out.old.items ++ param_kind_line character group end) }
+    ensures front { take (length out.old.items) out.new.items ≡ out.old.items }
 {
     out.extend_from_slice(&names::PARAM)?;
     match group {
@@ -42,14 +43,10 @@ fn write_param_kind(
     }
 }
 
-/// Appends the line of a kind: that of its commands, without fields and data. Of text, of bytes that broke, of a PJL line and of
-/// another language it is the name alone. No line feed is appended.
-///
-/// # Errors
-///
-/// Where memory ran out; a front of the line may then have been appended.
-pub fn write_kind(kind: Kind, out: &mut Vec<u8>) -> Result<(), AllocError>
-    ensures { OnOk result (out.new.items ≡ out.old.items ++ kind_line kind) }
+/// Appends the line of a kind, or a front of it.
+fn write_whole_kind(kind: Kind, out: &mut Vec<u8>) -> Result<(), AllocError>
+    ensures ok { OnOk result (out.new.items ≡ out.old.items ++ kind_line kind) }
+    ensures front { take (length out.old.items) out.new.items ≡ out.old.items }
 {
     match kind {
         Kind::Escape(byte) => {
@@ -68,4 +65,22 @@ pub fn write_kind(kind: Kind, out: &mut Vec<u8>) -> Result<(), AllocError>
         Kind::PjlLine => out.extend_from_slice(&names::LINE[..3]),
         Kind::Foreign(_) => out.extend_from_slice(&names::FOREIGN[..3]),
     }
+}
+
+/// Appends the line of a kind: that of its commands, without fields and data. Of text, of bytes that broke, of a PJL line and of
+/// another language it is the name alone. No line feed is appended.
+///
+/// # Errors
+///
+/// Where memory ran out; nothing is appended then.
+pub fn write_kind(kind: Kind, out: &mut Vec<u8>) -> Result<(), AllocError>
+    ensures ok { OnOk result (out.new.items ≡ out.old.items ++ kind_line kind) }
+    ensures err { OnErr result (out.new.items ≡ out.old.items) }
+{
+    let length = out.len();
+    let written = write_whole_kind(kind, out);
+    if written.is_err() {
+        out.truncate(length);
+    }
+    written
 }

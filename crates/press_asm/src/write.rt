@@ -1,5 +1,5 @@
 //! The lines of commands.
-ghost use Rattle.std.specs.Prelude.{◌≡◌, ◌∷◌, [], ◌++◌, OnOk};
+ghost use Rattle.std.specs.Prelude.{◌≡◌, ◌∷◌, [], ◌++◌, length, take, OnOk, OnErr};
 ghost use Rattle.hex.specs.Hex.{encode_upper};
 ghost use Rattle.press_cmd.specs.View.{token, param_token, broken_token};
 ghost use Rattle.press_asm.specs.Form.{escape_name, spaced};
@@ -15,7 +15,8 @@ const DIGITS: [u8; 16] = *b"0123456789ABCDEF";
 
 /// Appends two digits for each byte, in upper case.
 fn write_digits(bytes: &[u8], out: &mut Vec<u8>) -> Result<(), AllocError>
-    ensures { OnOk result (out.new.items ≡ out.old.items ++ encode_upper bytes.now) }
+    ensures ok { OnOk result (out.new.items ≡ out.old.items ++ encode_upper bytes.now) }
+    ensures front { take (length out.old.items) out.new.items ≡ out.old.items }
 {
     for byte in bytes {
         let high = DIGITS[usize::from(byte / 16)];
@@ -27,7 +28,8 @@ fn write_digits(bytes: &[u8], out: &mut Vec<u8>) -> Result<(), AllocError>
 
 /// Appends a name and two digits for each byte.
 pub fn write_named(name: &[u8], bytes: &[u8], out: &mut Vec<u8>) -> Result<(), AllocError>
-    ensures { OnOk result (out.new.items ≡ out.old.items ++ (name.now ++ encode_upper bytes.now)) }
+    ensures ok { OnOk result (out.new.items ≡ out.old.items ++ (name.now ++ encode_upper bytes.now)) }
+    ensures front { take (length out.old.items) out.new.items ≡ out.old.items }
 {
     out.extend_from_slice(name)?;
     write_digits(bytes, out)
@@ -35,7 +37,8 @@ pub fn write_named(name: &[u8], bytes: &[u8], out: &mut Vec<u8>) -> Result<(), A
 
 /// Appends the digits of data after a space, if there is any.
 fn write_spaced(payload: &[u8], out: &mut Vec<u8>) -> Result<(), AllocError>
-    ensures { OnOk result (out.new.items ≡ out.old.items ++ spaced (encode_upper payload.now)) }
+    ensures ok { OnOk result (out.new.items ≡ out.old.items ++ spaced (encode_upper payload.now)) }
+    ensures front { take (length out.old.items) out.new.items ≡ out.old.items }
 {
     match payload {
         [] => Ok(()),
@@ -45,8 +48,9 @@ fn write_spaced(payload: &[u8], out: &mut Vec<u8>) -> Result<(), AllocError>
 
 /// Appends the line of a two-character escape sequence.
 fn write_escape(escape: EscapeByte, out: &mut Vec<u8>) -> Result<(), AllocError>
-    ensures { OnOk result
+    ensures ok { OnOk result
         (out.new.items ≡ out.old.items ++ (escape_name ++ escape.byte ∷ [])) }
+    ensures front { take (length out.old.items) out.new.items ≡ out.old.items }
 {
     out.extend_from_slice(&names::ESCAPE)?;
     out.extend_from_slice(&[escape.byte])
@@ -54,8 +58,9 @@ fn write_escape(escape: EscapeByte, out: &mut Vec<u8>) -> Result<(), AllocError>
 
 /// Appends the name of a parameter's line, its character, and its group if it has one.
 fn write_front(param: &Param, out: &mut Vec<u8>) -> Result<(), AllocError>
-    ensures { OnOk result
+    ensures ok { OnOk result
         (out.new.items ≡ out.old.items ++ front_of (param_token param.now)) }
+    ensures front { take (length out.old.items) out.new.items ≡ out.old.items }
 {
     out.extend_from_slice(&names::PARAM)?;
     let character = param.character();
@@ -67,7 +72,8 @@ fn write_front(param: &Param, out: &mut Vec<u8>) -> Result<(), AllocError>
 
 /// Appends the line of a parameter.
 fn write_param(param: &Param, out: &mut Vec<u8>) -> Result<(), AllocError>
-    ensures { OnOk result (out.new.items ≡ out.old.items ++ written_line (param_token param.now)) }
+    ensures ok { OnOk result (out.new.items ≡ out.old.items ++ written_line (param_token param.now)) }
+    ensures front { take (length out.old.items) out.new.items ≡ out.old.items }
 {
     write_front(param, out)?;
     out.extend_from_slice(param.field())?;
@@ -77,7 +83,8 @@ fn write_param(param: &Param, out: &mut Vec<u8>) -> Result<(), AllocError>
 
 /// Appends the digits of the beginning of a sequence, if it stands apart.
 fn write_sequence(sequence: Option<(u8, u8)>, out: &mut Vec<u8>) -> Result<(), AllocError>
-    ensures { OnOk result (out.new.items ≡ out.old.items ++ encode_upper (beginning sequence)) }
+    ensures ok { OnOk result (out.new.items ≡ out.old.items ++ encode_upper (beginning sequence)) }
+    ensures front { take (length out.old.items) out.new.items ≡ out.old.items }
 {
     match sequence {
         Some((character, group)) => write_digits(&[ESCAPE, character, group], out),
@@ -87,8 +94,9 @@ fn write_sequence(sequence: Option<(u8, u8)>, out: &mut Vec<u8>) -> Result<(), A
 
 /// Appends the line of a broken command.
 fn write_broken(broken: &Broken, out: &mut Vec<u8>) -> Result<(), AllocError>
-    ensures { OnOk result
+    ensures ok { OnOk result
         (out.new.items ≡ out.old.items ++ written_line (broken_token broken.now)) }
+    ensures front { take (length out.old.items) out.new.items ≡ out.old.items }
 {
     let (sequence, bytes) = broken.parts();
     out.extend_from_slice(&names::BROKEN)?;
@@ -98,7 +106,8 @@ fn write_broken(broken: &Broken, out: &mut Vec<u8>) -> Result<(), AllocError>
 
 /// Appends the line of a command, without a line feed.
 fn write_text(command: &Command, out: &mut Vec<u8>) -> Result<(), AllocError>
-    ensures { OnOk result (out.new.items ≡ out.old.items ++ written_line (token command.now)) }
+    ensures ok { OnOk result (out.new.items ≡ out.old.items ++ written_line (token command.now)) }
+    ensures front { take (length out.old.items) out.new.items ≡ out.old.items }
 {
     match command {
         Command::Escape(escape) => write_escape(*escape, out),
@@ -112,19 +121,34 @@ fn write_text(command: &Command, out: &mut Vec<u8>) -> Result<(), AllocError>
     }
 }
 
+/// Appends the line of a command, with its line feed, or a front of it.
+fn write_ended(command: &Command, out: &mut Vec<u8>) -> Result<(), AllocError>
+    ensures ok { OnOk result
+        (out.new.items ≡ out.old.items ++ (written_line (token command.now) ++ (10 ∷ []))) }
+    ensures front { take (length out.old.items) out.new.items ≡ out.old.items }
+{
+    write_text(command, out)?;
+    out.extend_from_slice(&[LINE_FEED])
+}
+
 /// Appends the line of a command, with its line feed.
 ///
 /// The line stands for the command, whatever command it is, and has printable characters of ASCII alone.
 ///
 /// # Errors
 ///
-/// Where memory ran out; a front of the line may then have been appended.
+/// Where memory ran out; nothing is appended then.
 pub fn write_line(command: &Command, out: &mut Vec<u8>) -> Result<(), AllocError>
     ensures ok { OnOk result
         (out.new.items ≡ out.old.items ++ (written_line (token command.now) ++ (10 ∷ []))) }
+    ensures err { OnErr result (out.new.items ≡ out.old.items) }
     ensures written { IsWritten (token command.now) }
 {
     is_written(command);
-    write_text(command, out)?;
-    out.extend_from_slice(&[LINE_FEED])
+    let length = out.len();
+    let written = write_ended(command, out);
+    if written.is_err() {
+        out.truncate(length);
+    }
+    written
 }
