@@ -99,6 +99,10 @@ in_band w b left count dots skip m is low clipped some =
     let fits : left + count ≤ 8 * bytes_per_line w = fits_line w left count dots skip clipped some in
     omega (arith, line_before b m 64 low, fits, is)
 
+-- a run that lies in a line of its page lies in the bytes of a band, whichever of its lines it is
+pub in_bytes : (w b left count dots skip m size : ℕ) → b ≡ bytes_per_line w → size ≡ 64 * bytes_per_line w → m < 64 → count ≡ min (dots - skip) (w - left) → 0 < count → 8 * (m * b) + left + count ≤ 8 * size
+in_bytes w b left count dots skip m size is long low clipped some = omega (arith, in_band w b left count dots skip m is low clipped some, is, long)
+
 -- ---- a row that is painted into a band
 
 same_in_band : (n m : ℕ) → n / 64 ≡ m / 64 → nat_eq (n % 64) (m % 64) ≡ nat_eq n m

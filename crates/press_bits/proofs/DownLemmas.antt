@@ -1,6 +1,7 @@
 -- Columns of dots that are painted down the bands of a page, one band after another.
-use Rattle.std.proofs.Common.{◌≡◌, ◌≢◌, ℕ, ◌+◌, ◌-◌, ◌*◌, ◌/◌, ◌%◌, ◌<◌, ◌≤◌, ◌⊎◌, min, Bool, true, false, not, ◌&&◌, ◌||◌, List, [], ◌∷◌, length, set, refl, sym, ap, ◌∙◌, subst, inl, inr, arith}
+use Rattle.std.proofs.Common.{◌≡◌, ◌≢◌, ℕ, ◌+◌, ◌-◌, ◌*◌, ◌/◌, ◌%◌, ◌^◌, ◌<◌, ◌≤◌, ◌⊎◌, min, Bool, true, false, not, ◌&&◌, ◌||◌, List, [], ◌∷◌, length, set, refl, sym, ap, ◌∙◌, subst, inl, inr, arith}
 use Rattle.std.specs.Prelude.{nat_lt, nat_le, nat_eq, if◌then◌else◌, ℤ, pos, ◌+ℤ◌}
+use Rattle.std.proofs.Math.Nat.{mul-le-mul_right}
 use Rattle.std.proofs.lemmas.Bool.{cases_eq, cases_lt}
 use Rattle.std.proofs.lemmas.Bool.Decides.{nat_tests}
 use Rattle.std.proofs.lemmas.List.{length-set, get_or-set_same, get_or-set_other}
@@ -16,6 +17,13 @@ use Rattle.press_bits.proofs.MarkLemmas.{painted_by_effects, row_lands, effect_a
 use Rattle.press_bits.proofs.MixLemmas.{mixed_when, not_mixed}
 use Rattle.press_bits.proofs.PaintLemmas.{within_line}
 use Rattle.press_bits.proofs.BandLemmas.{width-page_of_bands, height-page_of_bands, no_dot_outside, black_at-page_of_bands}
+
+-- eight lines of a band that is there
+pub room_in_band : (bands : List (List ℕ)) (k : ℕ) (band : List ℕ) (bytes line : ℕ) → band ≡ band_at bands k → length (band_at bands k) ≡ 64 * bytes → line + 8 ≤ 64 → (line + 8) * bytes ≤ length band
+room_in_band bands k band bytes line is long low = omega (arith, ap length is, long, mul-le-mul_right bytes low)
+
+pub small_band : (bands : List (List ℕ)) (k : ℕ) (band : List ℕ) (bytes : ℕ) → band ≡ band_at bands k → length (band_at bands k) ≡ 64 * bytes → bytes ≤ 2 ^ 16 → length band < 2 ^ 40
+small_band bands k band bytes is long narrow = omega (arith, ap length is, long, narrow)
 
 none_yet : (t : Bool) (first n : ℕ) → ((t && nat_le first n) && nat_lt n first) ≡ false
 none_yet t first n = grind (arith, nat_tests)

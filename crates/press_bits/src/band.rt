@@ -2,13 +2,11 @@
 #![tactic(auto)]
 
 ghost use Rattle.std.specs.Prelude.{◌≡◌, ◌<◌, ◌≤◌, ◌+◌, ◌-◌, ◌*◌, ◌^◌, ◌&&◌, ◌==◌, ℕ, [], nat_lt, nat_le, length, replicate, take, drop, IfOk};
-ghost use Rattle.press_bits.specs.Mark.{row, row_dot, byte_dot, repeated};
-ghost use Rattle.press_bits.specs.DotRows.{mixed_dot};
+ghost use Rattle.press_bits.specs.Ranges.{IsPaintedAlong, IsStampedDown};
 ghost use Rattle.press_bits.specs.Bands.{band_lines};
 
-use crate::dot_row::DotRow;
-use crate::mode::Mode;
-use crate::painting::{Run, paint_across, stamp_down};
+use crate::painting::{paint_across, stamp_down};
+use crate::stroke::{Column, Stamp, Stroke};
 use std::alloc::{AllocError, Global};
 use std::marker::Model;
 
@@ -76,49 +74,26 @@ impl Band {
     }
 
     /// Paints a run of source dots, through a pattern, into the line that begins at a byte.
-    pub(crate) fn paint(
-        &mut self,
-        line: usize,
-        run: Run,
-        source: DotRow<'_>,
-        pattern: DotRow<'_>,
-        mode: Mode,
-    )
-        requires some { 0 < run.count }
-        requires within { 8 * line + run.first + run.count ≤ 8 * length self.old }
+    pub(crate) fn paint(&mut self, line: usize, stroke: Stroke<'_, '_>)
+        requires some { 0 < stroke.run.count }
+        requires within { 8 * line + stroke.run.first + stroke.run.count ≤ 8 * length self.old }
         requires small { length self.old < 2 ^ 40 }
-        requires enough { run.skip + run.count ≤ source.dots }
-        requires pattern { 1 ≤ pattern.dots }
+        requires enough { stroke.run.skip + stroke.run.count ≤ stroke.source.dots }
+        requires pattern { 1 ≤ stroke.pattern.dots }
         ensures long { length self.new ≡ length self.old }
-        ensures dots { (p : ℕ) → row_dot self.new p
-            ≡ mixed_dot (nat_le (8 * line + run.first) p
-            && nat_lt p (8 * line + run.first + run.count)) mode
-            (row_dot source.entry.bits.now (run.skip + (p - (8 * line + run.first))))
-            (repeated (row pattern.entry) (p - 8 * line)) (row_dot self.old p) }
+        ensures dots { IsPaintedAlong self.old self.new line stroke.entry }
     {
-        paint_across(&mut self.bytes, line, run, source, pattern, mode);
+        paint_across(&mut self.bytes, line, stroke);
     }
 
-    /// Paints eight source dots, through as many pattern dots, down a column of lines of `bytes` bytes, from a line on.
+    /// Paints a stamp down a column, from a line on.
     #[inline(always)]
-    pub(crate) fn stamp(
-        &mut self,
-        bytes: usize,
-        column: usize,
-        line: usize,
-        source: u8,
-        tile: u8,
-        mode: Mode,
-    )
-        requires inside { column < 8 * bytes }
-        requires within { (line + 8) * bytes ≤ length self.old }
+    pub(crate) fn stamp(&mut self, column: Column, line: usize, stamp: Stamp)
+        requires within { (line + 8) * column.bytes ≤ length self.old }
         requires small { length self.old < 2 ^ 40 }
         ensures long { length self.new ≡ length self.old }
-        ensures dots { (n c : ℕ) → c < 8 * bytes → row_dot self.new (8 * (n * bytes) + c)
-            ≡ mixed_dot (c == column && nat_le line n && nat_lt n (line + 8)) mode
-            (byte_dot source (n - line)) (byte_dot tile (n - line))
-            (row_dot self.old (8 * (n * bytes) + c)) }
+        ensures dots { IsStampedDown self.old self.new column line 8 stamp }
     {
-        stamp_down(&mut self.bytes, bytes, column, line, 8, source, tile, mode);
+        stamp_down(&mut self.bytes, column, line, 8, stamp);
     }
 }

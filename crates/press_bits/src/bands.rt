@@ -14,6 +14,7 @@ use crate::down::paint_down;
 use crate::making::make_bands;
 use crate::mode::Mode;
 use crate::painting::run_within;
+use crate::stroke::{Column, Stroke};
 use std::alloc::{AllocError, Global};
 use std::marker::Model;
 
@@ -280,7 +281,13 @@ impl Bands {
             return;
         }
         let start = line % BAND * line_bytes(self.width);
-        self.bands[line / BAND].paint(start, run, source, pattern, mode);
+        let stroke = Stroke {
+            run,
+            source,
+            pattern,
+            mode,
+        };
+        self.bands[line / BAND].paint(start, stroke);
     }
 
     /// Paints a column of source dots through a column of a pattern: source dot 0 at column `x` of line `y`, and the others
@@ -302,14 +309,23 @@ impl Bands {
             ≡ painted self.old.page (column_mark x y (row source.entry) (row pattern.entry) mode) }
         ensures ready { self.new.ready ≡ self.old.ready }
     {
-        let Some(column) = place_within(x, self.width) else {
+        let Some(place) = place_within(x, self.width) else {
             return;
         };
         let run = run_within(y, source.dots, self.height);
         if run.count == 0 {
             return;
         }
-        let bytes = line_bytes(self.width);
-        paint_down(&mut self.bands, bytes, column, run, source, pattern, mode);
+        let column = Column {
+            bytes: line_bytes(self.width),
+            place,
+        };
+        let stroke = Stroke {
+            run,
+            source,
+            pattern,
+            mode,
+        };
+        paint_down(&mut self.bands, column, stroke);
     }
 }

@@ -7,9 +7,9 @@ ghost use Rattle.press_bits.specs.Bands.{band_at, PaintedDown};
 
 use crate::band::Band;
 use crate::bands::WIDEST_ROW;
-use crate::dot_row::DotRow;
 use crate::mode::Mode;
-use crate::painting::{Run, paint_across};
+use crate::painting::paint_across;
+use crate::stroke::{Column, Stamp, Stroke};
 
 /// Where white dots of source and pattern change nothing.
 const TRANSPARENT: Mode = Mode {
@@ -23,36 +23,36 @@ const OPAQUE_PATTERN: Mode = Mode {
     pattern_opaque: true,
 };
 
-/// Paints the dots of a row that are black, through those of another, down a column of bands whose lines have `bytes` bytes:
-/// the eight dots of each byte from `from` on and before `to`, each on the line of its number.
-#[inline(always)]
-fn stamp_bands(
-    bands: &mut Vec<Band>,
-    bytes: usize,
-    column: usize,
-    from: usize,
-    to: usize,
-    source: &[u8],
-    tile: &[u8],
+/// Source dots that are painted through as many pattern dots, eight in each byte.
+#[derive(Clone, Copy, Debug)]
+struct Stamps<'a> {
+    source: &'a [u8],
+    tile: &'a [u8],
     mode: Mode,
-)
+}
+
+/// Paints the stamps from `from` on and before `to` down a column of bands: each dot on the line of its number.
+#[inline(always)]
+fn stamp_bands(bands: &mut Vec<Band>, column: Column, from: usize, to: usize, stamps: Stamps<'_>)
     requires onward { from ≤ to }
-    requires narrow { bytes ≤ 2 ^ 16 }
-    requires inside { column < 8 * bytes }
-    requires source { to ≤ length source.now }
-    requires tile { to ≤ length tile.now }
+    requires source { to ≤ length stamps.source.now }
+    requires tile { to ≤ length stamps.tile.now }
     requires within { to ≤ 8 * vec_len bands.old }
     requires there { (k : ℕ) → from / 8 ≤ k → 8 * k < to
-        → length (band_at bands.old.items k) ≡ 64 * bytes }
-    requires transparent { mode.source_opaque ≡ false }
-    ensures { PaintedDown bands.old.items bands.new.items (row_dot source.now) (row_dot tile.now) mode
-        bytes column (8 * from) (8 * to) }
+        → length (band_at bands.old.items k) ≡ 64 * column.bytes }
+    requires transparent { stamps.mode.source_opaque ≡ false }
+    ensures { PaintedDown bands.old.items bands.new.items (row_dot stamps.entry.source.now)
+        (row_dot stamps.entry.tile.now) stamps.entry.mode column.bytes column.place (8 * from) (8 * to) }
 {
     for index in from..to {
-        let dots = source[index];
-        if dots != 0 {
-            let line = 8 * (index % 8);
-            bands[index / 8].stamp(bytes, column, line, dots, tile[index], mode);
+        let source = stamps.source[index];
+        if source != 0 {
+            let stamp = Stamp {
+                source,
+                tile: stamps.tile[index],
+                mode: stamps.mode,
+            };
+            bands[index / 8].stamp(column, 8 * (index % 8), stamp);
         }
     }
 }
@@ -69,49 +69,44 @@ fn changed_dots(black: &[u8; WIDEST_ROW], kept: &[u8; WIDEST_ROW]) -> [u8; WIDES
     changed
 }
 
-/// Paints a run of source dots, through a pattern, down a column of bands whose lines have `bytes` bytes. What they do is
-/// found in two rows first: the dots that become black of white ones, and those that stay black.
-pub(crate) fn paint_down(
-    bands: &mut Vec<Band>,
-    bytes: usize,
-    column: usize,
-    run: Run,
-    source: DotRow<'_>,
-    pattern: DotRow<'_>,
-    mode: Mode,
-)
-    requires some { 0 < run.count }
-    requires small { run.first + run.count ≤ 8 * WIDEST_ROW }
-    requires narrow { bytes ≤ 2 ^ 16 }
-    requires inside { column < 8 * bytes }
-    requires within { run.first + run.count ≤ 64 * vec_len bands.old }
-    requires there { (k : ℕ) → run.first / 64 ≤ k → 64 * k < run.first + run.count
-        → length (band_at bands.old.items k) ≡ 64 * bytes }
-    requires enough { run.skip + run.count ≤ source.dots }
-    requires pattern { 1 ≤ pattern.dots }
+/// Paints a run of source dots, through a pattern, down a column of bands. What they do is found in two rows first: the dots
+/// that become black of white ones, and those that stay black.
+pub(crate) fn paint_down(bands: &mut Vec<Band>, column: Column, stroke: Stroke<'_, '_>)
+    requires some { 0 < stroke.run.count }
+    requires small { stroke.run.first + stroke.run.count ≤ 8 * WIDEST_ROW }
+    requires within { stroke.run.first + stroke.run.count ≤ 64 * vec_len bands.old }
+    requires there { (k : ℕ) → stroke.run.first / 64 ≤ k
+        → 64 * k < stroke.run.first + stroke.run.count
+        → length (band_at bands.old.items k) ≡ 64 * column.bytes }
+    requires enough { stroke.run.skip + stroke.run.count ≤ stroke.source.dots }
+    requires pattern { 1 ≤ stroke.pattern.dots }
     ensures { PaintedDown bands.old.items bands.new.items
-        (λ n. row_dot source.entry.bits.now (run.skip + (n - run.first)))
-        (repeated (row pattern.entry)) mode bytes column run.first (run.first + run.count) }
+        (λ n. row_dot stroke.entry.source.bits.now
+        (stroke.entry.run.skip + (n - stroke.entry.run.first)))
+        (repeated (row stroke.entry.pattern)) stroke.entry.mode column.bytes column.place
+        stroke.entry.run.first (stroke.entry.run.first + stroke.entry.run.count) }
 {
+    let run = stroke.run;
     let from = run.first / 8;
     let to = (run.first + run.count - 1) / 8 + 1;
     let mut black = [0; WIDEST_ROW];
-    paint_across(&mut black, 0, run, source, pattern, mode);
-    if mode.source_opaque || mode.pattern_opaque {
+    paint_across(&mut black, 0, stroke);
+    if stroke.mode.source_opaque || stroke.mode.pattern_opaque {
         let mut kept = [0xFF; WIDEST_ROW];
-        paint_across(&mut kept, 0, run, source, pattern, mode);
+        paint_across(&mut kept, 0, stroke);
         let changed = changed_dots(&black, &kept);
-        stamp_bands(
-            bands,
-            bytes,
-            column,
-            from,
-            to,
-            &changed,
-            &black,
-            OPAQUE_PATTERN,
-        );
+        let stamps = Stamps {
+            source: &changed,
+            tile: &black,
+            mode: OPAQUE_PATTERN,
+        };
+        stamp_bands(bands, column, from, to, stamps);
     } else {
-        stamp_bands(bands, bytes, column, from, to, &black, &black, TRANSPARENT);
+        let stamps = Stamps {
+            source: &black,
+            tile: &black,
+            mode: TRANSPARENT,
+        };
+        stamp_bands(bands, column, from, to, stamps);
     }
 }

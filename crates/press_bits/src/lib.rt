@@ -11,6 +11,7 @@ mod lanes;
 mod making;
 mod mode;
 mod painting;
+mod stroke;
 
 pub use band::white_bytes;
 pub use bands::{Bands, MAX_SIDE, WIDEST_ROW};

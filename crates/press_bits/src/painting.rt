@@ -2,23 +2,16 @@
 ghost use Rattle.std.specs.Prelude.{◌≡◌, ℕ, ◌+◌, ◌-◌, ◌*◌, ◌/◌, ◌%◌, ◌^◌, ◌<◌, ◌≤◌, ◌⊎◌, ◌&&◌, ◌||◌, not, ◌==◌, nat_le, nat_lt, min, pos, ◌+ℤ◌, length};
 ghost use Rattle.press_bits.specs.Mark.{row, row_dot, byte_dot, repeated};
 ghost use Rattle.press_bits.specs.DotRows.{mixed_dot};
+ghost use Rattle.press_bits.specs.Ranges.{IsPaintedAlong, IsStampedDown};
 
 use crate::dot_bytes::{eight_dots, is_black, is_dot_black};
 use crate::dot_row::DotRow;
 use crate::lanes::{WIDEST_TILE, paint_by_lanes};
 use crate::mode::Mode;
+use crate::stroke::{Column, Run, Stamp, Stroke};
 
 /// The fewest dots that are painted by lanes.
 const SHORTEST_RUN: usize = 256;
-
-/// The dots of a row that lie on a page, along one side of it: `count` of them from dot `skip` of the row on, which lies at
-/// place `first`.
-#[derive(Clone, Copy, Debug)]
-pub(crate) struct Run {
-    pub(crate) first: usize,
-    pub(crate) skip: usize,
-    pub(crate) count: usize,
-}
 
 /// The dots that lie on a side of a page, of a row whose first dot lies at place `at`.
 pub(crate) fn run_within(at: i64, dots: usize, side: u32) -> Run
@@ -139,25 +132,20 @@ fn eightfold(pattern: DotRow<'_>) -> [u8; 7]
 }
 
 /// Paints a run of source dots, through a pattern of at least eight dots, into the line that begins at byte `line`.
-fn paint_wide(
-    rows: &mut [u8],
-    line: usize,
-    run: Run,
-    source: DotRow<'_>,
-    pattern: DotRow<'_>,
-    mode: Mode,
-)
-    requires some { 0 < run.count }
-    requires within { 8 * line + run.first + run.count ≤ 8 * length rows.old }
+fn paint_wide(rows: &mut [u8], line: usize, stroke: Stroke<'_, '_>)
+    requires some { 0 < stroke.run.count }
+    requires within { 8 * line + stroke.run.first + stroke.run.count ≤ 8 * length rows.old }
     requires small { length rows.old < 2 ^ 40 }
-    requires enough { run.skip + run.count ≤ source.dots }
-    requires wide { 8 ≤ pattern.dots }
-    ensures { (p : ℕ) → row_dot rows.new p
-        ≡ mixed_dot (nat_le (8 * line + run.first) p
-        && nat_lt p (8 * line + run.first + run.count)) mode
-        (row_dot source.entry.bits.now (run.skip + (p - (8 * line + run.first))))
-        (repeated (row pattern.entry) (p - 8 * line)) (row_dot rows.old p) }
+    requires enough { stroke.run.skip + stroke.run.count ≤ stroke.source.dots }
+    requires wide { 8 ≤ stroke.pattern.dots }
+    ensures { IsPaintedAlong rows.old rows.new line stroke.entry }
 {
+    let Stroke {
+        run,
+        source,
+        pattern,
+        mode,
+    } = stroke;
     let at = 8 * line + run.first;
     let end = at + run.count;
     let mut phase = (8 * (run.first / 8)) % pattern.dots;
@@ -171,62 +159,52 @@ fn paint_wide(
 }
 
 /// Paints a run of source dots, through a pattern, into the line that begins at byte `line`.
-pub(crate) fn paint_across(
-    rows: &mut [u8],
-    line: usize,
-    run: Run,
-    source: DotRow<'_>,
-    pattern: DotRow<'_>,
-    mode: Mode,
-)
-    requires some { 0 < run.count }
-    requires within { 8 * line + run.first + run.count ≤ 8 * length rows.old }
+pub(crate) fn paint_across(rows: &mut [u8], line: usize, stroke: Stroke<'_, '_>)
+    requires some { 0 < stroke.run.count }
+    requires within { 8 * line + stroke.run.first + stroke.run.count ≤ 8 * length rows.old }
     requires small { length rows.old < 2 ^ 40 }
-    requires enough { run.skip + run.count ≤ source.dots }
-    requires pattern { 1 ≤ pattern.dots }
-    ensures { (p : ℕ) → row_dot rows.new p
-        ≡ mixed_dot (nat_le (8 * line + run.first) p
-        && nat_lt p (8 * line + run.first + run.count)) mode
-        (row_dot source.entry.bits.now (run.skip + (p - (8 * line + run.first))))
-        (repeated (row pattern.entry) (p - 8 * line)) (row_dot rows.old p) }
+    requires enough { stroke.run.skip + stroke.run.count ≤ stroke.source.dots }
+    requires pattern { 1 ≤ stroke.pattern.dots }
+    ensures { IsPaintedAlong rows.old rows.new line stroke.entry }
 {
-    if pattern.dots >= 8 {
-        paint_unrolled(rows, line, run, source, pattern, mode);
+    if stroke.pattern.dots >= 8 {
+        paint_unrolled(rows, line, stroke);
     } else {
-        let bytes = eightfold(pattern);
-        let unrolled = DotRow {
+        let Stroke {
+            run,
+            source,
+            mode,
+            ..
+        } = stroke;
+        let bytes = eightfold(stroke.pattern);
+        let pattern = DotRow {
             bits: &bytes,
-            dots: 8 * pattern.dots,
+            dots: 8 * stroke.pattern.dots,
         };
-        paint_unrolled(rows, line, run, source, unrolled, mode);
+        let unrolled = Stroke {
+            run,
+            source,
+            pattern,
+            mode,
+        };
+        paint_unrolled(rows, line, unrolled);
     }
 }
 
 /// Paints a run of source dots, through a pattern of at least eight dots, into the line that begins at byte `line`: by lanes
 /// where the run is long and the pattern narrow.
-fn paint_unrolled(
-    rows: &mut [u8],
-    line: usize,
-    run: Run,
-    source: DotRow<'_>,
-    pattern: DotRow<'_>,
-    mode: Mode,
-)
-    requires some { 0 < run.count }
-    requires within { 8 * line + run.first + run.count ≤ 8 * length rows.old }
+fn paint_unrolled(rows: &mut [u8], line: usize, stroke: Stroke<'_, '_>)
+    requires some { 0 < stroke.run.count }
+    requires within { 8 * line + stroke.run.first + stroke.run.count ≤ 8 * length rows.old }
     requires small { length rows.old < 2 ^ 40 }
-    requires enough { run.skip + run.count ≤ source.dots }
-    requires wide { 8 ≤ pattern.dots }
-    ensures { (p : ℕ) → row_dot rows.new p
-        ≡ mixed_dot (nat_le (8 * line + run.first) p
-        && nat_lt p (8 * line + run.first + run.count)) mode
-        (row_dot source.entry.bits.now (run.skip + (p - (8 * line + run.first))))
-        (repeated (row pattern.entry) (p - 8 * line)) (row_dot rows.old p) }
+    requires enough { stroke.run.skip + stroke.run.count ≤ stroke.source.dots }
+    requires wide { 8 ≤ stroke.pattern.dots }
+    ensures { IsPaintedAlong rows.old rows.new line stroke.entry }
 {
-    if pattern.dots <= WIDEST_TILE && run.count >= SHORTEST_RUN {
-        paint_by_lanes(rows, line, run, source, pattern, mode);
+    if stroke.pattern.dots <= WIDEST_TILE && stroke.run.count >= SHORTEST_RUN {
+        paint_by_lanes(rows, line, stroke);
     } else {
-        paint_wide(rows, line, run, source, pattern, mode);
+        paint_wide(rows, line, stroke);
     }
 }
 
@@ -253,31 +231,17 @@ fn stamped(before: u8, mask: u8, black: bool, white: bool) -> u8
     (before & !clear) | set
 }
 
-/// Paints at most eight source dots, through as many pattern dots, down a column of lines of `bytes` bytes, from line `first`
-/// on.
+/// Paints the first `count` dots of a stamp down a column, from line `first` on.
 #[inline(always)]
-pub(crate) fn stamp_down(
-    rows: &mut [u8],
-    bytes: usize,
-    column: usize,
-    first: usize,
-    count: usize,
-    source: u8,
-    tile: u8,
-    mode: Mode,
-)
+pub(crate) fn stamp_down(rows: &mut [u8], column: Column, first: usize, count: usize, stamp: Stamp)
     requires few { count ≤ 8 }
-    requires inside { column < 8 * bytes }
-    requires within { (first + count) * bytes ≤ length rows.old }
+    requires within { (first + count) * column.bytes ≤ length rows.old }
     requires small { length rows.old < 2 ^ 40 }
-    ensures { (n c : ℕ) → c < 8 * bytes → row_dot rows.new (8 * (n * bytes) + c)
-        ≡ mixed_dot (c == column && nat_le first n && nat_lt n (first + count)) mode
-        (byte_dot source (n - first)) (byte_dot tile (n - first))
-        (row_dot rows.old (8 * (n * bytes) + c)) }
+    ensures { IsStampedDown rows.old rows.new column first count stamp }
 {
-    let mask = 0x80 >> (column % 8);
-    let (black, white) = made(source, tile, mode);
-    let mut index = first * bytes + column / 8;
+    let mask = 0x80 >> (column.place % 8);
+    let (black, white) = made(stamp.source, stamp.tile, stamp.mode);
+    let mut index = first * column.bytes + column.place / 8;
     for i in 0..count {
         rows[index] = stamped(
             rows[index],
@@ -285,6 +249,6 @@ pub(crate) fn stamp_down(
             is_dot_black(black, i),
             is_dot_black(white, i),
         );
-        index += bytes;
+        index += column.bytes;
     }
 }

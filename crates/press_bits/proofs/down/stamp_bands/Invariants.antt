@@ -5,4 +5,4 @@ use Rattle.press_bits.proofs.down.stamp_bands.Given as goal
 
 -- the lines of the bytes so far are painted
 abbrev pub invariant-loop-index : goal.invariant-loop-index
-invariant-loop-index l = PaintedDown l.initial.bands.items l.bands.items (row_dot l.source) (row_dot l.tile) l.fn.mode l.bytes l.column (8 * l.from) (8 * l.index)
+invariant-loop-index l = PaintedDown l.initial.bands.items l.bands.items (row_dot l.fn.stamps.source.now) (row_dot l.fn.stamps.tile.now) l.fn.stamps.mode l.fn.column.bytes l.fn.column.place (8 * l.from) (8 * l.index)

@@ -25,7 +25,7 @@ returns-then-run-eq0-clause-painted c =
     (subst (λ (s : BandedPage). HasNoDotOutside s.page) c.self.view_is (no_dot_outside _ _ _))
     (λ column n wide high.
     effect_at-column_mark c.args.x c.args.y (row c.args.source) (row c.args.pattern) c.args.mode column n
-    ∙ row_off_columns c.args.y c.args.x (row c.args.source) (row c.args.pattern) c.args.mode c.run_within-run.result.first c.run_within-run.result.skip c.run_within-run.result.count c.in-Some.column c.self.inside.height n column
+    ∙ row_off_columns c.args.y c.args.x (row c.args.source) (row c.args.pattern) c.args.mode c.run_within-run.result.first c.run_within-run.result.skip c.run_within-run.result.count c.in-Some.place c.self.inside.height n column
     (c.run_within-run.ensures.place ∙ ap (λ z. z +ℤ pos c.run_within-run.result.skip) (to_z-of_z w64 c.args.y c.ranges.y))
     c.run_within-run.ensures.first
     (c.in-Some.ensures.0 ∙ to_z-of_z w64 c.args.x c.ranges.x)
@@ -43,7 +43,7 @@ paint_down-requires-clause-there c = λ k from before.
     let high : line_of k c.run_within-run.result.first < c.args.self.now.page.height = subst (λ m. line_of k c.run_within-run.result.first < m) (sym (height-page_of_bands _ _ _) ∙ ap (λ (s : BandedPage). s.page.height) c.self.view_is) low in
     let some : is_there (band_at c.self.inside.bands.items k) ≡ true =
     ap (λ j. is_there (band_at c.self.inside.bands.items j)) (sym inside.2) ∙ band_ready c.self.inside.width c.self.inside.height c.self.inside.bands.items c.args.self.now (line_of k c.run_within-run.result.first) c.self.view_is (c.requires.ready (line_of k c.run_within-run.result.first) at.0 at.1 high) in
-    there_long c.self.inside.width c.self.inside.height c.self.inside.bands.items k c.self.invariant few some ∙ ap (λ n. 64 * n) (sym c.line_bytes-bytes.ensures)
+    there_long c.self.inside.width c.self.inside.height c.self.inside.bands.items k c.self.invariant few some ∙ ap (λ n. 64 * n) (sym c.line_bytes.ensures)
 
 laid : (w : ℕ) (bytes : ℕ) (old new : List (List ℕ)) (source tile : ℕ → Bool) (mode : Mode) (column first end : ℕ) → bytes ≡ bytes_per_line w → PaintedDown old new source tile mode bytes column first end → PaintedDown old new source tile mode (bytes_per_line w) column first end
 laid w bytes old new source tile mode column first end is down = subst (λ b. PaintedDown old new source tile mode b column first end) is down
@@ -51,18 +51,18 @@ laid w bytes old new source tile mode column first end is down = subst (λ b. Pa
 pub returns-clause-painted : goal.returns-clause-painted
 returns-clause-painted c =
     painted_bands c.self.inside.width c.self.inside.height c.self.inside.bands.items c.paint_down.new.bands.items c.args.x c.args.y (row c.args.source) (row c.args.pattern) c.args.mode
-    c.run_within-run.result.first c.run_within-run.result.skip c.run_within-run.result.count c.in-Some.column
+    c.run_within-run.result.first c.run_within-run.result.skip c.run_within-run.result.count c.in-Some.place
     (c.run_within-run.ensures.place ∙ ap (λ z. z +ℤ pos c.run_within-run.result.skip) (to_z-of_z w64 c.args.y c.ranges.y))
     c.run_within-run.ensures.first
     (c.in-Some.ensures.0 ∙ to_z-of_z w64 c.args.x c.ranges.x)
     c.run_within-run.ensures.count
-    (laid c.self.inside.width _ _ _ _ _ c.args.mode _ _ _ c.line_bytes-bytes.ensures c.paint_down.ensures)
+    (laid c.self.inside.width _ _ _ _ _ c.args.mode _ _ _ c.line_bytes.ensures c.paint_down.ensures)
     ∙ ap (λ (s : BandedPage). painted s.page (column_mark c.args.x c.args.y (row c.args.source) (row c.args.pattern) c.args.mode)) c.self.view_is
 
 pub invariant_of-self : goal.invariant_of-self
 invariant_of-self c =
     down_has c.self.inside.width c.self.inside.height c.self.inside.bands.items c.paint_down.new.bands.items _ _ c.args.mode _ _ _ c.in-Some.ensures.1 c.self.invariant
-    (laid c.self.inside.width _ _ _ _ _ c.args.mode _ _ _ c.line_bytes-bytes.ensures c.paint_down.ensures)
+    (laid c.self.inside.width _ _ _ _ _ c.args.mode _ _ _ c.line_bytes.ensures c.paint_down.ensures)
 
 pub returns-clause-ready : goal.returns-clause-ready
 returns-clause-ready c =

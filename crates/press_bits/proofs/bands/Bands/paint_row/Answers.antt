@@ -1,4 +1,4 @@
-use Rattle.std.proofs.Common.{◌≡◌, ℕ, ◌+◌, ◌-◌, ◌*◌, ◌/◌, ◌%◌, ◌<◌, ◌≤◌, ◌&&◌, List, [], true, length, sym, ap, ◌∙◌, subst, arith, rules, pos, ◌+ℤ◌, w64}
+use Rattle.std.proofs.Common.{◌≡◌, ℕ, ◌+◌, ◌-◌, ◌*◌, ◌/◌, ◌%◌, ◌<◌, ◌&&◌, List, [], true, length, sym, ap, ◌∙◌, subst, arith, rules, pos, ◌+ℤ◌, w64}
 use Rattle.std.specs.Prelude.{nat_le, nat_lt}
 use Rattle.std.proofs.lemmas.List.{get_or_default}
 use Rattle.std.proofs.lemmas.Int.{to_z-of_z}
@@ -8,7 +8,7 @@ use Rattle.press_bits.specs.DotRows.{mixed_dot}
 use Rattle.press_bits.specs.Lines.{bytes_per_line}
 use Rattle.press_bits.proofs.MarkLemmas.{unmarked, row_off_line, row_off_columns}
 use Rattle.press_bits.specs.Bands.{BandedPage, is_there, band_at}
-use Rattle.press_bits.proofs.BandLemmas.{width-page_of_bands, height-page_of_bands, no_dot_outside, painted_band, painted_has, put_flags, band_ready, at_line, there_long, in_band}
+use Rattle.press_bits.proofs.BandLemmas.{width-page_of_bands, height-page_of_bands, no_dot_outside, painted_band, painted_has, put_flags, band_ready, at_line, there_long, in_bytes}
 use Rattle.press_bits.proofs.bands.Bands.paint_row.Goals as goal
 
 pub returns-in_default-clause-painted : goal.returns-in_default-clause-painted
@@ -46,8 +46,7 @@ paint-requires-clause-within c =
     let some : is_there (band_at c.self.inside.bands.items (c.in-Some.line / 64)) ≡ true = band_ready c.self.inside.width c.self.inside.height c.self.inside.bands.items c.args.self.now c.in-Some.line c.self.view_is (c.requires.ready c.in-Some.line at.0 at.1 high) in
     let long : length c.index_mut.result.now ≡ 64 * bytes_per_line c.self.inside.width = ap length band ∙ there_long c.self.inside.width c.self.inside.height c.self.inside.bands.items (c.in-Some.line / 64) c.self.invariant there some in
     let full : 0 < c.run_within-run.result.count = omega arith in
-    subst (λ n. 8 * (c.in-Some.line % 64 * c.line_bytes.result) + c.run_within-run.result.first + c.run_within-run.result.count ≤ 8 * n) (sym long)
-    (subst (λ b. 8 * (c.in-Some.line % 64 * c.line_bytes.result) + c.run_within-run.result.first + c.run_within-run.result.count ≤ 8 * (64 * b)) c.line_bytes.ensures (in_band c.self.inside.width c.line_bytes.result c.run_within-run.result.first c.run_within-run.result.count c.args.source.dots c.run_within-run.result.skip (c.in-Some.line % 64) c.line_bytes.ensures (omega arith) c.run_within-run.ensures.count full))
+    in_bytes c.self.inside.width c.line_bytes.result c.run_within-run.result.first c.run_within-run.result.count c.args.source.dots c.run_within-run.result.skip _ _ c.line_bytes.ensures long (omega arith) c.run_within-run.ensures.count full
 
 pub paint-requires-clause-small : goal.paint-requires-clause-small
 paint-requires-clause-small c =

@@ -1,0 +1,40 @@
+//! What is painted along a line of a page, or down a column.
+ghost use Rattle.std.specs.Prelude.{◌*◌, ◌^◌, ◌<◌, ◌≤◌};
+
+use crate::dot_row::DotRow;
+use crate::mode::Mode;
+
+/// The dots of a row that lie on a page, along one side of it: `count` of them from dot `skip` of the row on, which lies at
+/// place `first`.
+#[derive(Clone, Copy, Debug)]
+pub(crate) struct Run {
+    pub(crate) first: usize,
+    pub(crate) skip: usize,
+    pub(crate) count: usize,
+}
+
+/// A run of the dots of a source row that is painted through a row of a pattern.
+#[derive(Clone, Copy, Debug)]
+pub(crate) struct Stroke<'s, 'p> {
+    pub(crate) run: Run,
+    pub(crate) source: DotRow<'s>,
+    pub(crate) pattern: DotRow<'p>,
+    pub(crate) mode: Mode,
+}
+
+/// A column of dots, `place` dots from the left edge of lines that have `bytes` bytes each.
+#[derive(Clone, Copy, Debug)]
+pub(crate) struct Column {
+    pub(crate) bytes: usize,
+    pub(crate) place: usize,
+    ghost narrow: { bytes ≤ 2 ^ 16 },
+    ghost inside: { place < 8 * bytes },
+}
+
+/// Eight source dots that are painted through as many pattern dots.
+#[derive(Clone, Copy, Debug)]
+pub(crate) struct Stamp {
+    pub(crate) source: u8,
+    pub(crate) tile: u8,
+    pub(crate) mode: Mode,
+}
