@@ -3,7 +3,7 @@
 import json
 
 from asked.files import TICKET, named
-from asked.jobs import ticket
+from asked.jobs import nested, ticket
 
 
 def text_of(value):
@@ -140,12 +140,25 @@ FAULTY = [
     message(b'{"ID":"m","Type":null}', '{"ReturnCode":6,"Type":"","refID":"m"}'),
 ]
 
+# Texts of 127 and of 128 levels: an object with so many arrays in one another, alone, beside what a message needs, and in a ticket.
+DEEP = [
+    message(nested(126), '{"ReturnCode":7,"Type":"","refID":""}'),
+    message(nested(127), '{"ReturnCode":6,"Type":"","refID":""}'),
+    message(b'{"ID":"m","Type":"HoldQueue",' + nested(126)[1:], '{"ReturnCode":0,"Type":"HoldQueue","refID":"m"}'),
+    message(b'{"ID":"m","Type":"ResumeQueue",' + nested(127)[1:], '{"ReturnCode":6,"Type":"","refID":""}'),
+    queue("Held"),
+    message(b'{"ID":"m","Type":"SubmitQueueEntry","Ticket":' + nested(125) + b"}",
+            '{"Fault":602,"ReturnCode":6,"Type":"SubmitQueueEntry","refID":"m"}'),
+    message(b'{"ID":"m","Type":"SubmitQueueEntry","Ticket":' + nested(126) + b"}", '{"ReturnCode":6,"Type":"","refID":""}'),
+]
+
 SIX = {1: 50, 2: 60, 3: 50, 4: 0, 5: 100, 6: 60}
 FULL = [(number, "Waiting", 50) for number in range(1, 65)]
 
 SESSIONS += [
     session(submit(1), submit(2), *REFUSED),
     session(*FAULTY),
+    session(*DEEP),
     # submissions are refused in order: closed, full, priority
     session(*(submit(number) for number in range(1, 64)), refused(25, 101), ask("CloseQueue", 0), refused(23, 101),
             ask("OpenQueue", 0), submit(64), refused(24, 101), ask("CloseQueue", 0), refused(23, 101)),
