@@ -119,7 +119,7 @@ reset = Escape (code "E")
 
 a_resolution_stays :
     told (line "@PJL SET RESOLUTION=600" ∷ reset ∷ Uel ∷ form_feed ∷ line "@PJL RESET" ∷ form_feed ∷ line "@PJL DEFAULT RESOLUTION=600" ∷ form_feed
-        ∷ line "@PJL EOJ" ∷ form_feed ∷ line "@PJL INITIALIZE" ∷ form_feed ∷ [])
+    ∷ line "@PJL EOJ" ∷ form_feed ∷ line "@PJL INITIALIZE" ∷ form_feed ∷ [])
     ≡ front fine_letter ∷ front letter ∷ front letter ∷ front fine_letter ∷ front letter ∷ []
 unfolding run_each run_at
 a_resolution_stays = refl

@@ -39,10 +39,8 @@ impl RasterResolution {
     fn of_number(print: Resolution, number: i64) -> Option<Self>
         ensures { result ≡ resolution_of print number }
     {
-        RASTER_RESOLUTIONS
-            .iter()
-            .copied()
-            .find(|resolution| resolution.is(number) && resolution.is_whole_dots(print))
+        RASTER_RESOLUTIONS.iter().copied().find(|resolution| resolution.is(number)
+            && resolution.is_whole_dots(print))
     }
 
     /// Whether it is of so many dots per inch.

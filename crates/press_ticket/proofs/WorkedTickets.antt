@@ -73,7 +73,7 @@ no_resolution = refl
 -- it is the last of the keys: a truth value that is none comes before it
 pub after_collate :
     ticket_from (object (member (codes "Amount") (number (unsigned 2)) (member (codes "Collate") null (member (codes "JobID") (string (codes "J"))
-        (member (codes "NPage") (number (unsigned 3)) (member (codes "Resolution") null (last_members (codes "DigitalPrinting"))))))))
+    (member (codes "NPage") (number (unsigned 3)) (member (codes "Resolution") null (last_members (codes "DigitalPrinting"))))))))
     ≡ Err (NotProfile (codes "Collate"))
 after_collate = refl
 

@@ -133,10 +133,7 @@ pub fn sides(value: &Value) -> Option<Sides>
 fn resolution_of(number: i128) -> Option<Resolution>
     ensures { result ≡ resolution_of number }
 {
-    RESOLUTIONS
-        .iter()
-        .copied()
-        .find(|resolution| i128::from(resolution.dots_per_inch()) == number)
+    RESOLUTIONS.iter().copied().find(|resolution| i128::from(resolution.dots_per_inch()) == number)
 }
 
 /// A resolution, by its dots per inch.
