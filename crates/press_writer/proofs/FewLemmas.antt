@@ -68,7 +68,7 @@ rows-few method before white (row ∷ rows) =
 -- a page whose image fits
 page-few : (ticket : JobTicket) (image : Page) → Fits ticket image → length (page image) ≤ 196610
 page-few ticket image fits =
-    let low = (room-small ticket ticket.media ticket.sides).1 in
+    let low = (room-small ticket).1 in
     let count : length (rows_of_image image) ≡ image.height = length-map-range_with_len (line_bytes image) 0 image.height in
     let rows = rows-few Unencoded (white_row image) 0 (rows_of_image image) in
     omega (

@@ -1,9 +1,10 @@
 -- What is left of a job, and the next piece of it.
-use Rattle.std.proofs.Common.{◌≡◌, ◌≤◌, ◌<◌, ℕ, zero, suc, ◌+◌, ◌-◌, List, [], ◌∷◌, ◌++◌, length, map, drop, slice_get, Option, Some, None, IfSome, true, false, refl, sym, ap, ◌∙◌, subst, arith, rules, true≢false, append_assoc, append-nil, length-append}
+use Rattle.std.proofs.Common.{◌≡◌, ◌≤◌, ◌<◌, ℕ, zero, suc, ◌+◌, ◌-◌, List, [], ◌∷◌, ◌++◌, length, map, drop, codes, slice_get, Option, Some, None, IfSome, true, false, refl, sym, ap, ◌∙◌, subst, arith, rules, true≢false, append_assoc, append-nil, length-append}
 use Rattle.std.specs.List.{flat_map, range_with_len}
 use Rattle.std.proofs.lemmas.Grind.{flat_map-append}
 use Rattle.press_bits.specs.Page.{Page}
-use Rattle.press_cmd.specs.Token.{Token, bytes_of}
+use Rattle.press_cmd.specs.Token.{Token, bytes_of, escape_byte}
+use Rattle.press_page.specs.declared.media.Media.{Media}
 use Rattle.press_pbm.specs.Spelling.{line_bytes}
 use Rattle.press_rows.specs.Encoding.{best_method}
 use Rattle.press_rows.specs.declared.compression.Method.{Method}
@@ -12,7 +13,7 @@ use Rattle.press_writer.specs.declared.part.PageLeft.{PageLeft}
 use Rattle.press_writer.specs.declared.part.Part.{Part}
 use Rattle.press_writer.specs.declared.sequence.Sequence.TheVariants.{EndRaster}
 use Rattle.press_writer.specs.Inside.{AppendsSome}
-use Rattle.press_writer.specs.Job.{commands_of_part, FitsPart, form_feed_command, page}
+use Rattle.press_writer.specs.Job.{head_of, commands_of_part, FitsPart, form_feed_command, page}
 use Rattle.press_writer.specs.Left.{JobLeft, HasImages, GivesPiece, commands_left, rest_of_page, rest_of_begun}
 use Rattle.press_writer.specs.Picture.{is_white_row, method_change, sent, left_out, row_commands, raster_rows, row_before, rows_from, page_start, image_rows}
 use Rattle.press_writer.specs.Sequences.{command, written}
@@ -44,6 +45,13 @@ pub some_bytes : (commands : List Token) (last : Token) → 1 ≤ length (bytes_
 some_bytes commands last some =
     let bytes : written (commands ++ last ∷ []) ≡ written commands ++ bytes_of last = written-append commands (last ∷ []) ∙ ap (λ bs. written commands ++ bs) (append-nil (bytes_of last)) in
     omega (arith, ap length bytes, length-append (written commands) (bytes_of last), some)
+
+-- the head is a byte at least, since it begins with the universal exit
+pub head_some : (medium : Media) → 1 ≤ length (written (head_of medium))
+head_some medium = at_least_one (codes "%-12345X" ++ written (drop 1 (head_of medium)))
+  where
+    at_least_one : (bytes : List ℕ) → 1 ≤ length (escape_byte ∷ bytes)
+    at_least_one bytes = omega arith
 
 -- the first of some commands were appended
 pub appends_some : (commands front others : List Token) (before after : List ℕ) → commands ≡ front ++ others → 1 ≤ length (written front)
@@ -133,16 +141,16 @@ pub goes_on : (old : JobLeft) (images : List Page) (left : PageLeft) (begun : Op
     → AppendsSome (rest_of_begun images (Some left)) (rest_of_begun images begun) [] bytes → after ≡ before ++ bytes
     → GivesPiece old images true (with_begun begun old.parts old) before after
 goes_on old images left begun bytes before after was appends appended =
-    let behind = flat_map (commands_of_part old.media old.sides images) old.parts in
+    let behind = flat_map (commands_of_part old.medium images) old.parts in
     gives old (with_begun begun old.parts old) images (rest_of_begun images (Some left)) (rest_of_begun images begun) behind bytes before after
     (ap (λ page. rest_of_begun images page ++ behind) was) refl appends appended
 
 pub begins : (old : JobLeft) (images : List Page) (part : Part) (parts : List Part) (begun : Option PageLeft) (bytes before after : List ℕ)
     → old.begun ≡ None → old.parts ≡ part ∷ parts
-    → AppendsSome (commands_of_part old.media old.sides images part) (rest_of_begun images begun) [] bytes → after ≡ before ++ bytes
+    → AppendsSome (commands_of_part old.medium images part) (rest_of_begun images begun) [] bytes → after ≡ before ++ bytes
     → GivesPiece old images true (with_begun begun parts old) before after
 begins old images part parts begun bytes before after none is appends appended =
-    let f = commands_of_part old.media old.sides images in
+    let f = commands_of_part old.medium images in
     gives old (with_begun begun parts old) images (f part) (rest_of_begun images begun) (flat_map f parts) bytes before after
     (λ j. rest_of_begun images (none j) ++ flat_map f (is j)) refl appends appended
 

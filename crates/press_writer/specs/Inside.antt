@@ -9,7 +9,7 @@ use Rattle.press_writer.specs.Plan.{IsSmall, plan_parts}
 use Rattle.press_writer.specs.Sequences.{written}
 
 abbrev pub left_of : Inside → JobLeft
-left_of writer = record { media = writer.media; sides = writer.sides; begun = writer.begun; parts = drop writer.place (plan_parts writer.plan) }
+left_of writer = record { medium = writer.medium; begun = writer.begun; parts = drop writer.place (plan_parts writer.plan) }
 
 pub record IsSound (writer : Inside) : Type 0 where
   pub small : IsSmall writer.plan

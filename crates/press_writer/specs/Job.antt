@@ -2,22 +2,22 @@
 -- Language Technical Reference Manual).
 use Prim.Native.Char.{code}
 use Rattle.std.specs.Prelude.{ℕ, ◌<◌, ⊤, IfSome, ◌/◌, ◌%◌, ◌&&◌, ◌==◌, nat_lt, Bool, true, false, if◌then◌else◌, List, [], ◌∷◌}
-use Rattle.std.specs.Prelude.{◌++◌, length, map, replicate, Option, Some, None}
+use Rattle.std.specs.Prelude.{◌++◌, length, map, replicate, Option, Some, None, codes, decimal}
 use Rattle.std.specs.List.{flat_map}
+use Rattle.press_units.specs.Position.{dots_per_inch}
+use Rattle.press_units.specs.declared.position.Resolution.{Resolution}
 use Rattle.press_bits.specs.Page.{Page}
-use Rattle.press_cmd.specs.Token.{Token, Escape, Control, Uel}
-use Rattle.press_page.specs.Media.{size_number, orientation_number, sides_number}
+use Rattle.press_cmd.specs.Token.{Token, Escape, Control, Uel, PjlLine}
+use Rattle.press_page.specs.Media.{size_number, orientation_number, sides_number, printed_sides}
 use Rattle.press_page.specs.Settings.{most_copies}
-use Rattle.press_page.specs.declared.media.Orientation.TheVariants.{Portrait}
-use Rattle.press_ticket.specs.declared.media.Media.{Media}
-use Rattle.press_ticket.specs.declared.media.Sides.{Sides}
+use Rattle.press_page.specs.declared.media.Media.{Media}
 use Rattle.press_ticket.specs.Ticket.{JobTicket}
 use Rattle.press_writer.specs.declared.part.Part.{Part}
 use Rattle.press_writer.specs.declared.part.Part.TheVariants.{Head, Front, Back, Tail}
 use Rattle.press_writer.specs.declared.plan.PrintRun.{PrintRun}
 use Rattle.press_writer.specs.declared.sequence.Sequence.TheVariants.{PageSize, Orientation, SimplexDuplex, TopMargin, Copies, SideSelection, RasterResolution}
 use Rattle.press_writer.specs.declared.sheet.SheetPages.{SheetPages}
-use Rattle.press_writer.specs.Medium.{page_size, wanted_sides}
+use Rattle.press_writer.specs.Medium.{medium}
 use Rattle.press_writer.specs.Picture.{picture}
 use Rattle.press_writer.specs.Sequences.{command, written}
 use Rattle.press_writer.specs.Sheets.{set_of}
@@ -34,16 +34,23 @@ printer_reset = Escape (code "E")
 abbrev pub form_feed_command : Token
 form_feed_command = Control (code "\u{c}")
 
--- Before the first page: the universal exit, a reset, the medium in portrait, no margin at the top, and the raster resolution.
-abbrev pub head_of : Media → Sides → List Token
-head_of media sides =
-    Uel ∷ printer_reset ∷ command PageSize (size_number (page_size media))
-    ∷ command Orientation (orientation_number Portrait)
-    ∷ command SimplexDuplex (sides_number (wanted_sides sides)) ∷ command TopMargin 0
-    ∷ command RasterResolution 300 ∷ []
+-- the line of the job language that sets the resolution of pages
+abbrev pub set_resolution : Resolution → Token
+set_resolution resolution =
+    PjlLine (codes "@PJL SET RESOLUTION=" ++ (decimal (dots_per_inch resolution) ++ codes "\n"))
+
+-- Before the first page: the universal exit, the resolution, a reset, the medium, no margin at the top, and the raster resolution,
+-- which is that of the pages. The resolution is set also where it is the factory's, since a job before this one may have set
+-- another.
+abbrev pub head_of : Media → List Token
+head_of medium =
+    Uel ∷ set_resolution medium.resolution ∷ printer_reset ∷ command PageSize (size_number medium.size)
+    ∷ command Orientation (orientation_number medium.orientation)
+    ∷ command SimplexDuplex (sides_number (printed_sides medium)) ∷ command TopMargin 0
+    ∷ command RasterResolution (dots_per_inch medium.resolution) ∷ []
 
 abbrev pub head : JobTicket → List Token
-head ticket = head_of ticket.media ticket.sides
+head ticket = head_of (medium ticket)
 
 -- behind the last page
 abbrev pub tail : List Token
@@ -58,15 +65,15 @@ abbrev pub back_of : List Page → Option ℕ → List Token
 back_of images (Some number) = page (image_of images number)
 back_of images None = command SideSelection front_side ∷ []
 
--- The commands of a part, by the medium and the sides of the job; and by its ticket.
-abbrev pub commands_of_part : Media → Sides → List Page → Part → List Token
-commands_of_part media sides images Head = head_of media sides
-commands_of_part media sides images (Front number copies) = command Copies copies ∷ page (image_of images number)
-commands_of_part media sides images (Back number) = back_of images number
-commands_of_part media sides images Tail = tail
+-- The commands of a part, by the medium of the job; and by its ticket.
+abbrev pub commands_of_part : Media → List Page → Part → List Token
+commands_of_part medium images Head = head_of medium
+commands_of_part medium images (Front number copies) = command Copies copies ∷ page (image_of images number)
+commands_of_part medium images (Back number) = back_of images number
+commands_of_part medium images Tail = tail
 
 abbrev pub part_commands : JobTicket → List Page → Part → List Token
-part_commands ticket images = commands_of_part ticket.media ticket.sides images
+part_commands ticket images = commands_of_part (medium ticket) images
 
 -- there are images of so many pages, and of the part's among them
 abbrev pub FitsPart : (count : ℕ) → Part → Type 0

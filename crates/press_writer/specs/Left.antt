@@ -3,13 +3,13 @@ use Rattle.std.specs.Prelude.{◌≡◌, ◌≤◌, ◌<◌, ℕ, List, [], ◌�
 use Rattle.std.specs.List.{flat_map}
 use Rattle.press_bits.specs.Page.{Page}
 use Rattle.press_cmd.specs.Token.{Token}
-use Rattle.press_ticket.specs.declared.media.Media.{Media}
-use Rattle.press_ticket.specs.declared.media.Sides.{Sides}
+use Rattle.press_page.specs.declared.media.Media.{Media}
 use Rattle.press_ticket.specs.Ticket.{JobTicket}
 use Rattle.press_writer.specs.declared.part.PageLeft.{PageLeft}
 use Rattle.press_writer.specs.declared.part.Part.{Part}
 use Rattle.press_writer.specs.declared.sequence.Sequence.TheVariants.{EndRaster}
 use Rattle.press_writer.specs.Job.{form_feed_command, commands_of_part, parts, FitsPart}
+use Rattle.press_writer.specs.Medium.{medium}
 use Rattle.press_writer.specs.Picture.{raster_rows, row_before, rows_from}
 use Rattle.press_writer.specs.Sequences.{command, written}
 use Rattle.press_writer.specs.Wanted.{image_of}
@@ -20,14 +20,13 @@ most_job_commands = 4000000000000
 
 -- On what the job prints; what is left of the page that is begun, if one is; and the parts that are not begun.
 pub record JobLeft : Type 0 where
-  pub media : Media
-  pub sides : Sides
+  pub medium : Media
   pub begun : Option PageLeft
   pub parts : List Part
 
 -- the whole job of a ticket
 abbrev pub whole_job : JobTicket → JobLeft
-whole_job ticket = record { media = ticket.media; sides = ticket.sides; begun = None; parts = parts ticket }
+whole_job ticket = record { medium = medium ticket; begun = None; parts = parts ticket }
 
 -- what is left of a page: the rows of its image from a line on, and its end
 abbrev pub rest_of_page : (image : Page) → PageLeft → List Token
@@ -42,7 +41,7 @@ rest_of_begun images (Some left) = rest_of_page (image_of images left.page) left
 -- The commands that are left, with the images of the ticket's pages; and their bytes.
 abbrev pub commands_left : JobLeft → List Page → List Token
 commands_left left images =
-    rest_of_begun images left.begun ++ flat_map (commands_of_part left.media left.sides images) left.parts
+    rest_of_begun images left.begun ++ flat_map (commands_of_part left.medium images) left.parts
 
 abbrev pub bytes_left : JobLeft → List Page → List ℕ
 bytes_left left images = written (commands_left left images)

@@ -14,14 +14,16 @@ ghost use Rattle.press_writer.specs.Wanted.{image_of};
 use crate::checking::check;
 use crate::commands::push_command;
 use crate::fault::WriterError;
+use crate::media::medium;
 use crate::part::{PageLeft, Part};
 use crate::picture::{push_next_row, push_start};
 use crate::plan::Plan;
 use crate::sequence::Sequence;
 use crate::writing::{push_head, push_tail};
 use press_bits::Bitmap;
+use press_page::Media;
 use press_rows::Method;
-use press_ticket::{Media, Sides, Ticket};
+use press_ticket::Ticket;
 use std::alloc::{AllocError, Global};
 use std::marker::Model;
 
@@ -32,8 +34,7 @@ use std::marker::Model;
 #[derive(Drop)]
 pub struct JobWriter {
     alloc: Global,
-    media: Media,
-    sides: Sides,
+    medium: Media,
     plan: Plan,
     /// The page that is begun.
     begun: Option<PageLeft>,
@@ -77,19 +78,18 @@ fn begin_page(
 /// Begins a part of the job, all of it where it has no page.
 fn begin_part(
     out: &mut Vec<u8>,
-    media: Media,
-    sides: Sides,
+    medium: Media,
     images: &[Bitmap],
     part: Part,
 ) -> Result<Option<PageLeft>, AllocError>
     requires { FitsPart (length images.now) part }
-    ensures appends { IfOk result (λ begun. AppendsSome (commands_of_part media sides images.now part)
+    ensures appends { IfOk result (λ begun. AppendsSome (commands_of_part medium images.now part)
         (rest_of_begun images.now begun) out.old.items out.new.items) }
     ensures fits { IfOk result (λ begun. IfSome begun (λ left. left.page < length images.now)) }
 {
     match part {
         Part::Head => {
-            push_head(out, media, sides)?;
+            push_head(out, medium)?;
             Ok(None)
         }
         Part::Front(number, copies) => {
@@ -147,8 +147,7 @@ impl JobWriter {
         let plan = Plan::of(alloc, ticket)?;
         Ok(JobWriter {
             alloc,
-            media: ticket.media(),
-            sides: ticket.sides(),
+            medium: medium(ticket),
             plan,
             begun: None,
             place: 0,
@@ -179,7 +178,7 @@ impl JobWriter {
             return Ok(false);
         }
         let part = self.plan.part_at(self.place);
-        let begun = begin_part(&mut bytes, self.media, self.sides, images, part)?;
+        let begun = begin_part(&mut bytes, self.medium, images, part)?;
         out.extend_from_slice(&bytes)?;
         self.begun = begun;
         self.place += 1;

@@ -2,10 +2,11 @@
 
 ghost use Rattle.std.specs.Prelude.{◌≡◌, ◌++◌, ◌⊎◌, [], None, Err, length, OnOk, OnErr, IfSome, IsSome, IfErr};
 ghost use Rattle.std.specs.Io.KnownBytes.{Appends};
+ghost use Rattle.press_cmd.specs.Token.{bytes_of};
 ghost use Rattle.press_pbm.specs.Spelling.{AppendsFront, Writes};
 ghost use Rattle.press_writer.specs.declared.fault.WriterError.TheVariants.{WriteFault, NoMemory};
 ghost use Rattle.press_writer.specs.Fitting.{refusal};
-ghost use Rattle.press_writer.specs.Job.{head_of, tail, job_bytes};
+ghost use Rattle.press_writer.specs.Job.{set_resolution, head_of, tail, job_bytes};
 ghost use Rattle.press_writer.specs.Left.{HasImages, bytes_left};
 ghost use Rattle.press_writer.specs.Printing.{PrintsTheTicket};
 ghost use Rattle.press_writer.specs.Sequences.{written};
@@ -13,13 +14,14 @@ ghost use Rattle.press_writer.specs.Sequences.{written};
 use crate::commands::push_commands;
 use crate::fault::WriterError;
 use crate::job_writer::JobWriter;
-use crate::media::{page_size, printed_sides};
 use crate::sequence::Sequence;
+use itoa::Buffer;
 use press_bits::Bitmap;
 use press_cmd::{ESCAPE, UEL};
-use press_page::{Numbered, Orientation};
+use press_page::{Media, Numbered};
 use press_pbm::write_whole;
-use press_ticket::{Media, Sides, Ticket};
+use press_ticket::Ticket;
+use press_units::Resolution;
 use std::alloc::{AllocError, Global};
 use std::io::Write;
 
@@ -29,18 +31,34 @@ const RESET: [u8; 2] = [ESCAPE, b'E'];
 /// How many bytes of a job are held before they are written.
 const WRITE_SIZE: usize = 65_536;
 
+/// Appends the line that sets the resolution of pages.
+fn push_resolution(out: &mut Vec<u8>, resolution: Resolution) -> Result<(), AllocError>
+    ensures { OnOk result (out.new.items
+        ≡ out.old.items ++ bytes_of (set_resolution resolution)) }
+{
+    let mut number = Buffer::new();
+    out.extend_from_slice(b"@PJL SET RESOLUTION=")?;
+    out.extend_from_slice(number.format(resolution.dots_per_inch()).as_bytes())?;
+    out.push(b'\n')?;
+    Ok(())
+}
+
 /// Appends what stands before the first page.
-pub(crate) fn push_head(out: &mut Vec<u8>, media: Media, sides: Sides) -> Result<(), AllocError>
-    ensures { OnOk result (out.new.items ≡ out.old.items ++ written (head_of media sides)) }
+pub(crate) fn push_head(out: &mut Vec<u8>, medium: Media) -> Result<(), AllocError>
+    ensures { OnOk result (out.new.items ≡ out.old.items ++ written (head_of medium)) }
 {
     out.extend_from_slice(&UEL)?;
+    push_resolution(out, medium.resolution)?;
     out.extend_from_slice(&RESET)?;
     let settings = [
-        (Sequence::PageSize, page_size(media).number()),
-        (Sequence::Orientation, Orientation::Portrait.number()),
-        (Sequence::SimplexDuplex, printed_sides(sides).number()),
+        (Sequence::PageSize, medium.size.number()),
+        (Sequence::Orientation, medium.orientation.number()),
+        (Sequence::SimplexDuplex, medium.printed_sides().number()),
         (Sequence::TopMargin, 0),
-        (Sequence::RasterResolution, 300),
+        (
+            Sequence::RasterResolution,
+            u32::from(medium.resolution.dots_per_inch()),
+        ),
     ];
     push_commands(out, &settings)
 }

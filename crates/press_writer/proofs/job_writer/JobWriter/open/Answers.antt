@@ -13,7 +13,7 @@ pub returns-clause-bytes : goal.returns-clause-bytes
 returns-clause-bytes c =
     let ticket = c.args.ticket.now in
     let images = c.args.images.now in
-    λ j. written (flat_map (commands_of_part (c.media.ensures j) (c.sides.ensures j) images) (plan-parts ticket c.in_ok-plan.plan c.in_ok-plan.ensures.plan j))
+    λ j. written (flat_map (commands_of_part (c.medium.ensures j) images) (plan-parts ticket c.in_ok-plan.plan c.in_ok-plan.ensures.plan j))
 
 pub returns-clause-images : goal.returns-clause-images
 returns-clause-images c = record {
