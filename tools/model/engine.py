@@ -33,7 +33,7 @@ class Item(NamedTuple):
 
 
 class Engine:
-    def __init__(self, rows=table.ALL_ROWS, viewed=False):
+    def __init__(self, rows=table.BUILT_ROWS, viewed=False):
         self.rows = rows
         self.viewed = viewed
         self.state = State()

@@ -4,9 +4,7 @@ from functools import lru_cache
 
 from . import pages, rows
 from .patterns import SOLID_BLACK, USER, WHITE
-from .values import DOT, POSITIONS_PER_INCH, dot
-
-ENGINE_RESOLUTION = 300
+from .values import POSITIONS_PER_INCH, dot, dot_positions
 
 
 def ceiling(dividend, divisor):
@@ -42,8 +40,15 @@ def current_pattern(state):
 
 def frame_dot(state):
     """The cursor's frame dot."""
-    column = pages.offset(state.size, state.orientation) + dot(state.x)
-    return column, dot(state.y + state.top_margin)
+    return column_of(state, state.x), line_of(state)
+
+
+def column_of(state, x):
+    return pages.offset(state.size, state.orientation) + dot(x, state.resolution)
+
+
+def line_of(state):
+    return dot(state.y + state.top_margin, state.resolution)
 
 
 def fill(engine, pattern):
@@ -54,8 +59,8 @@ def fill(engine, pattern):
         return
     page = engine.page_to_mark()
     column, line = frame_dot(state)
-    across = ceiling(state.rectangle_width, DOT)
-    down = ceiling(state.rectangle_height, DOT)
+    across = ceiling(state.rectangle_width, dot_positions(state.resolution))
+    down = ceiling(state.rectangle_height, dot_positions(state.resolution))
     _, frame_height = pages.frame(state.size, state.orientation)
     columns = ((1 << across) - 1) << column
     for each in range(line, min(line + down, frame_height)):
@@ -97,14 +102,14 @@ def skip_rows(state, count):
 
 
 def paint_row(state, page, row):
-    side = ENGINE_RESOLUTION // state.raster_resolution
+    side = state.resolution // state.raster_resolution
     width = row_width(state)
-    column = pages.offset(state.size, state.orientation) + dot(state.raster_left)
+    column = column_of(state, state.raster_left)
     bits = "".join(format(byte, "08b") for byte in row)[:width]
     wide = "".join(bit * side for bit in bits)
     source = int(wide[::-1] or "0", 2) << column
     covered = ((1 << width * side) - 1) << column
-    line = dot(state.y + state.top_margin)
+    line = line_of(state)
     pattern = current_pattern(state)
     for each in range(line, line + side):
         paint_line(state, page, each, covered, source, pattern)

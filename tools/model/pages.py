@@ -7,17 +7,26 @@ orientation only, since a change of orientation closes a marked page first.
 
 from typing import NamedTuple, Optional
 
-from .values import DOT
+from .values import FACTORY_RESOLUTION, dot_positions
 
 PORTRAIT, LANDSCAPE, REVERSE_PORTRAIT, REVERSE_LANDSCAPE = 0, 1, 2, 3
 
 
 class Size(NamedTuple):
+    """A size of paper in dots of a resolution."""
     name: str
     width: int
     height: int
     portrait_offset: int
     landscape_offset: int
+    resolution: int = FACTORY_RESOLUTION
+
+    def at(self, resolution):
+        """The same paper in dots of a resolution that the factory's divides."""
+        assert self.resolution == FACTORY_RESOLUTION
+        times = resolution // self.resolution
+        return Size(self.name, self.width * times, self.height * times,
+                    self.portrait_offset * times, self.landscape_offset * times, resolution)
 
 
 SIZES = {
@@ -51,7 +60,8 @@ def offset(size, orientation):
 def logical_page(size, orientation):
     """Width and length of the logical page in positions."""
     width, height = frame(size, orientation)
-    return (width - 2 * offset(size, orientation)) * DOT, height * DOT
+    positions = dot_positions(size.resolution)
+    return (width - 2 * offset(size, orientation)) * positions, height * positions
 
 
 def to_physical(size, orientation, column, line):

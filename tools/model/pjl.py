@@ -16,7 +16,7 @@ LISTED = {
     b"ORIENTATION": [b"PORTRAIT", b"LANDSCAPE"],
     b"DUPLEX": [b"OFF", b"ON"],
     b"BINDING": [b"LONGEDGE", b"SHORTEDGE"],
-    b"RESOLUTION": [b"300"],
+    b"RESOLUTION": [b"300", b"600"],
 }
 GREATEST_COPIES = 999
 IDENTITY = b'"DIGITAL PRESS"'
@@ -67,6 +67,13 @@ def language_of_line(line):
     if pair is None or pair[0] != b"LANGUAGE" or not pair[1]:
         return None
     return pair[1]
+
+
+def asks_for_600(line):
+    """Whether a line sets the resolution, or its default, to 600."""
+    read = read_line(line)
+    return (read is not None and read.word in (b"SET", b"DEFAULT")
+            and assignment(read.rest) == (b"RESOLUTION", b"600"))
 
 
 def listed_value(name, value):

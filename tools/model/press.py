@@ -2,7 +2,7 @@
 
 import json
 
-from . import json_text, runs, ticket, writer
+from . import json_text, runs, table, ticket, writer
 from .engine import Deliver
 from .job_queue import ABORTED, COMPLETED, Queue, Refused
 
@@ -72,9 +72,9 @@ class Context:
         self.items = None  # of the trace of its job, once begun
         self.place = 0
 
-    def begin(self, job_of):
+    def begin(self, job_of, rows):
         if self.items is None:
-            self.items = runs.trace(job_of(self), viewed=False)
+            self.items = runs.trace(job_of(self), rows, viewed=False)
 
 
 def plain_job(context):
@@ -145,14 +145,15 @@ def check_parameters(message, kind, message_id):
 
 class Press:
     """Without suspension the message that asks for it is of an unknown type. The job of an entry may be any that prints its
-    ticket: how many steps it has depends on it."""
+    ticket: how many steps it has depends on it. `upto` is the last group of what the press knows."""
 
-    def __init__(self, suspends=True, job_of=plain_job):
+    def __init__(self, suspends=True, job_of=plain_job, upto=table.BUILT):
         self.queue = Queue()
         self.paused = False
         self.contexts = {}
         self.suspends = suspends
         self.job_of = job_of
+        self.upto = upto
 
     def message(self, text, images=()):
         try:
@@ -188,7 +189,7 @@ class Press:
         return self.do_to_entry(kind, message)
 
     def submit(self, message, images):
-        read = ticket.ticket_of(message["Ticket"])
+        read = ticket.ticket_of(message["Ticket"], self.upto)
         ticket.check(read, images)
         number = self.queue.submit(message.get("Priority", DEFAULT_PRIORITY))
         self.contexts[number] = Context(message["Ticket"], read, images)
@@ -240,7 +241,7 @@ class Press:
         if entry is None:
             return None, 0
         context = self.contexts[entry.number]
-        context.begin(self.job_of)
+        context.begin(self.job_of, table.rows_up_to(self.upto))
         steps = min(most, len(context.items) - context.place)
         for item in context.items[context.place:context.place + steps]:
             self.hand_out(entry, context, item, sink)

@@ -15,7 +15,7 @@ from model import pages, pbm, runs, table  # noqa: E402
 def parser():
     words = argparse.ArgumentParser(description=__doc__)
     words.add_argument("file", nargs="?", default="-", help="the stream; - is standard input")
-    words.add_argument("--upto", choices=table.GROUPS, default=table.GROUPS[-1],
+    words.add_argument("--upto", choices=table.GROUPS, default=table.BUILT,
                        help="the last group of table rows that exists")
     words.add_argument("--state", action="store_true", help="prints the fields at the end, too")
     words.add_argument("--trace", action="store_true", help="prints a line for each table step")

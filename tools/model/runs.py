@@ -2,10 +2,10 @@
 
 from .commands import Uel, closed
 from .engine import Deliver, Engine, Reply
-from .table import ALL_ROWS
+from .table import BUILT_ROWS
 
 
-def trace(stream, rows=ALL_ROWS, viewed=True):
+def trace(stream, rows=BUILT_ROWS, viewed=True):
     """The items of a stream at its end, after item 0: the universal exit is added."""
     engine = Engine(rows, viewed)
     items = []
@@ -24,7 +24,7 @@ class Outcome:
             output.reply for output in engine.outputs if isinstance(output, Reply))
 
 
-def run_commands(commands, rows=ALL_ROWS):
+def run_commands(commands, rows=BUILT_ROWS):
     engine = Engine(rows)
     for command in commands:
         for _ in engine.run(command):
@@ -32,7 +32,7 @@ def run_commands(commands, rows=ALL_ROWS):
     return Outcome(engine)
 
 
-def run_stream(stream, rows=ALL_ROWS):
+def run_stream(stream, rows=BUILT_ROWS):
     """A stream with its end."""
     return run_commands(closed(stream) + [Uel()], rows)
 
@@ -46,7 +46,7 @@ class Counted(Outcome):
         self.deepest = deepest
 
 
-def count_rows(stream, rows=ALL_ROWS):
+def count_rows(stream, rows=BUILT_ROWS):
     engine = Engine(rows)
     deepest = 0
     for command in closed(stream) + [Uel()]:
@@ -58,7 +58,7 @@ def count_rows(stream, rows=ALL_ROWS):
 class Debugger:
     """Stops on a trace. A breakpoint is a test on an item and on the number of sheets delivered by then."""
 
-    def __init__(self, stream, rows=ALL_ROWS):
+    def __init__(self, stream, rows=BUILT_ROWS):
         self.items = trace(stream, rows)
         self.place = 0
         self.breaks = {}

@@ -6,7 +6,7 @@ is no image, which ends the program.
 
 import json
 
-from . import ticket
+from . import table, ticket
 from .pages import SIZES
 
 MIXED, LONG, FULL, FAULTY = "mixed", "long", "full", "faulty"
@@ -66,11 +66,12 @@ def object_of(members, separators=(",", ":")):
 
 class Maker:
     """Makes a session of so many events, at whose end queue and device are asked for; `kind` says which. `files` are by name,
-    and None for a folder."""
+    and None for a folder. `upto` is the last group of what the press knows."""
 
-    def __init__(self, maker, events):
+    def __init__(self, maker, events, upto=table.BUILT):
         self.maker = maker
         self.events = events
+        self.upto = upto
         self.files = {}
         self.lines = []
         self.submitted = 0
@@ -261,6 +262,8 @@ class Maker:
             members["Sides"] = self.pick(ticket.SIDES)
         if self.chance(0.5):
             members["Collate"] = self.pick([True, False])
+        if table.includes(self.upto, "resolution") and self.chance(0.5):
+            members["Resolution"] = self.pick([300, 600, 600])
         return members
 
     def submission_text(self, members, others):
@@ -288,7 +291,7 @@ class Maker:
             images.pop()
         if pick == 6:
             place = self.maker.randrange(len(images))
-            images[place] = self.large_image(members.get("Media", "Letter"))
+            images[place] = self.large_image(members.get("Media", "Letter"), members.get("Resolution", 300))
         if pick == 7 or self.chance(0.2):
             others = [("Priority", self.pick(BAD_WHOLES + NO_WHOLES))]
         text = self.submission_text(members, others)
@@ -297,8 +300,10 @@ class Maker:
         return self.message(text, images)
 
     def spoil(self, members):
-        change = self.maker.randrange(8)
-        if change == 0:
+        change = self.maker.randrange(9 if table.includes(self.upto, "resolution") else 8)
+        if change == 8:
+            members["Resolution"] = self.pick([0, 150, 450, 1200, "600", None, True, b"600.0", b"6e2", b"-600", [600]])
+        elif change == 0:
             del members[self.pick(list(members))]
         elif change == 1:
             members[self.pick(["Copies", "amount", "", "~", "\u00e9", "Resolution"])] = 1
@@ -338,9 +343,9 @@ class Maker:
         header = self.maker.choices([b"P4\n%d %d\n", b"P4#\r%d# 9 9\n %d\t", b"P4 0%d\n\n#\n#\n00%d "], [8, 1, 1])[0] % (width, height)
         return header + b"".join(rows) + (b"more" if self.chance(0.1) else b"")
 
-    def large_image(self, media):
+    def large_image(self, media, resolution):
         """As wide or as tall as the logical page, or a dot more, or both."""
-        size = SIZES.get(media, SIZES["Letter"])
+        size = SIZES.get(media, SIZES["Letter"]).at(resolution)
         width = size.width - 2 * size.portrait_offset + self.pick([0, 1, 1])
         height = size.height + self.pick([0, 1, 1])
         width, height = self.pick([(width, 1), (width, 1), (1, height), (1, height), (width, height)])

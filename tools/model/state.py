@@ -23,7 +23,7 @@ KEPT = [
 KEPT_ON_EQUAL_PAGE = ["left_margin", "right_margin", "top_margin", "text_length"]
 
 VIEWED = KEPT + KEPT_ON_EQUAL_PAGE + [
-    "orientation", "duplex", "binding", "stack", "overlay", "hpgl",
+    "resolution", "orientation", "duplex", "binding", "stack", "overlay", "hpgl",
     "raster_on", "raster_left", "row_count", "marked", "defining", "total", "since_job",
 ]
 
@@ -83,7 +83,9 @@ class State:
         self.macro_id = 0
 
     def set_page_fields(self):
-        self.size = SIZES_BY_NAME[self.pjl.current[b"PAPER"]]
+        """The size is in dots of the resolution, which the job language alone changes."""
+        self.resolution = int(self.pjl.current[b"RESOLUTION"])
+        self.size = SIZES_BY_NAME[self.pjl.current[b"PAPER"]].at(self.resolution)
         self.orientation = ORIENTATIONS[self.pjl.current[b"ORIENTATION"]]
         self.duplex = self.pjl.current[b"DUPLEX"] == b"ON"
         self.binding = self.pjl.current[b"BINDING"].decode()

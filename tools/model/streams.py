@@ -41,6 +41,7 @@ COMMANDS = {
     ] + [(b"*c", b"P", "six")] * 4 + [(b"*c", b"W", "pattern")] * 3,
     "macros": [(b"&f", b"Y", "id")] * 3 + [(b"&f", b"X", "macro")] * 6,
     "jobs": [],
+    "resolution": [],
 }
 VALUES = {
     "zero": [b"0", b"", b"0", b"-0", b"+.9"],
@@ -79,6 +80,8 @@ PJL_PAIRS = [
     (b"RESOLUTION", [b"300", b"0300", b"450"]),
     (b"FOO", [b"1"]),
 ]
+# From the group of the resolution on.
+RESOLUTION_PAIRS = [(b"RESOLUTION", [b"600", b"600", b"600", b"300", b"0600", b"601", b"600.0", b"1200"])] * 5
 
 
 class Maker:
@@ -89,10 +92,13 @@ class Maker:
         self.in_body = False  # of a macro: hardly ever an exit, which would end the definition
         self.commands = {group: COMMANDS[group] for group in groups if COMMANDS[group]}
         self.unbuilt = [command for group in GROUPS if group not in groups for command in COMMANDS[group]]
+        self.pjl_pairs = PJL_PAIRS + (RESOLUTION_PAIRS if "resolution" in groups else [])
 
     def stream(self):
         """The pieces of a stream."""
         pieces = []
+        if "resolution" in self.groups and self.chance(0.6):
+            pieces.append(UEL + b"@PJL SET RESOLUTION=600\n")
         if self.random.random() < 0.4:
             pieces += self.prologue()
         most = 30 if self.chance(0.1) else 11
@@ -125,8 +131,10 @@ class Maker:
                        (2, self.call_over_top_margins)]
         if "jobs" in self.groups:
             makers += [(8, self.exit_and_lines)]
+        if "resolution" in self.groups:
+            makers += [(5, self.other_resolution)]
         if self.in_body and not self.chance(0.02):
-            makers = [(weight, call) for weight, call in makers if call != self.exit_and_lines]
+            makers = [(weight, call) for weight, call in makers if call not in (self.exit_and_lines, self.other_resolution)]
         weights, calls = zip(*makers)
         return self.random.choices(calls, weights)[0]()
 
@@ -262,7 +270,7 @@ class Maker:
         return b"@PJL INQUIRE COPIES".ljust(length) + b"\n"
 
     def rest_of_line(self, word):
-        name, values = self.random.choice(PJL_PAIRS)
+        name, values = self.random.choice(self.pjl_pairs)
         if word in (b"SET", b"DEFAULT"):
             value = self.mixed(self.random.choice(values))
             equals = b"=" if self.chance(0.95) else b""
@@ -279,6 +287,30 @@ class Maker:
         if word == b"ENTER":
             return self.random.choice([b" LANGUAGE", b" LANGUAGE = ", b" PCL"])
         return self.random.choice([b"", b"", b" ", b" NAME=\"x\"", b"=1"])
+
+    def other_resolution(self):
+        """Marks, or a page that waits for its back, before the resolution changes, or not; and what shows it behind."""
+        before = self.random.choice([b"", self.box(), self.raster(), ESC + b"&l1S" + self.box() + b"\x0c"])
+        lines = [b"SET RESOLUTION=600", b"SET RESOLUTION=600", b"SET RESOLUTION=600", b"SET RESOLUTION=300",
+                 b"DEFAULT RESOLUTION=600", b"DEFAULT RESOLUTION=600\n@PJL JOB", b"DEFAULT RESOLUTION=300\n@PJL RESET",
+                 b"INITIALIZE", b"SET RESOLUTION=1200"]
+        change = UEL + b"@PJL " + self.random.choice(lines) + b"\n"
+        reset = self.random.choice([b"", ESC + b"E", UEL, ESC + b"&l%dO" % self.random.randrange(4),
+                                    ESC + b"&l" + self.value("size") + b"A"])
+        behind = self.random.choice([self.box, self.fine_box, self.fine_raster, self.fine_raster, self.raster, self.patterned])()
+        return before + change + reset + behind + self.random.choice([b"", self.shown_cursor()])
+
+    def fine_box(self):
+        """A rectangle whose place and sides are of any number of decipoints."""
+        place = ESC + b"&a%dh%dV" % (self.random.randint(0, 5000), self.random.randint(-300, 6000))
+        return place + ESC + b"*c%dh%dv0P" % (self.random.randint(0, 99), self.random.randint(0, 99))
+
+    def fine_raster(self):
+        """Rows at each resolution that there is, legal or not, from any decipoint."""
+        place = ESC + b"&a%dh%dV" % (self.random.randint(0, 5900), self.random.randint(-300, 7500))
+        start = ESC + b"*t%dR" % self.random.choice([75, 100, 150, 200, 200, 300, 600, 600]) + ESC + b"*r1A"
+        rows = b"".join(ESC + b"*b%dW" % len(data) + data for data in (self.row_data(), self.row_data()))
+        return place + start + rows + self.random.choice([b"", ESC + b"*b3Y" + ESC + b"*b1W\xa5", ESC + b"*rC"])
 
     def white(self, needed=False):
         return self.random.choice([b" ", b" ", b"  ", b"\t"] if needed else [b"", b"", b" ", b"\t"])

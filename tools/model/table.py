@@ -4,7 +4,8 @@ An effect is a function of engine and command. Where it can close a page or star
 the engine runs step by step; else it gives None.
 
 Rows came into the press in groups, named in GROUPS. `rows_up_to` gives the names of the rows of a group and of
-those before it, so that the model can stand for a press that lacks the later ones.
+those before it, so that the model can stand for a press that lacks the later ones. BUILT is the last group that the
+program has: where nothing else is asked for, the model stands for that press.
 """
 
 from typing import Callable, NamedTuple
@@ -22,7 +23,10 @@ GREATEST_VMI = 336 * 10000
 STACK_PLACES = 20
 LINES_PER_INCH = [1, 2, 3, 4, 6, 8, 12, 16, 24, 48]
 PAGE_SIZES = {1: "Executive", 2: "Letter", 3: "Legal", 6: "Ledger", 26: "A4", 27: "A3"}
-GROUPS = ["boxes", "pages", "raster", "patterns", "macros", "jobs"]
+RASTER_RESOLUTIONS = {300: (75, 100, 150, 300), 600: (75, 100, 150, 200, 300, 600)}  # by that of the engine
+GROUPS = ["boxes", "pages", "raster", "patterns", "macros", "jobs", "resolution"]
+BUILT = "jobs"
+WITH_TICKETS = GROUPS[GROUPS.index("jobs"):]
 
 
 class Row(NamedTuple):
@@ -240,7 +244,7 @@ def page_size(engine, command):
         return
     yield from engine.close_if_marked()
     engine.deliver_pending_front()
-    engine.state.size = pages.SIZES[PAGE_SIZES[number(command)]]
+    engine.state.size = pages.SIZES[PAGE_SIZES[number(command)]].at(engine.state.resolution)
     new_logical_page(engine.state)
 
 
@@ -303,8 +307,9 @@ def copies(engine, command):
 # Raster graphics
 
 def raster_resolution(engine, command):
-    if number(command) in (75, 100, 150, 300) and not engine.state.raster_on:
-        engine.state.raster_resolution = number(command)
+    state = engine.state
+    if number(command) in RASTER_RESOLUTIONS[state.resolution] and not state.raster_on:
+        state.raster_resolution = number(command)
 
 
 def source_width(engine, command):
@@ -517,16 +522,23 @@ FILL_BLACK = Row("*cP 0", "boxes", fill_black)
 FILL_PATTERN = Row("*cP 1-5", "patterns", fill_pattern)
 UEL = Row("UEL", "boxes", leave)
 PJL_LINE = Row("PJL", "jobs", pjl_line)
+PJL_600 = Row("PJL RESOLUTION=600", "resolution", pjl_line)
 
 EVERY_ROW = [*CONTROLS.values(), *ESCAPES.values(), *PARAMS.values(),
-             FILL_BLACK, FILL_PATTERN, UEL, PJL_LINE]
-ALL_ROWS = frozenset(row.name for row in EVERY_ROW)
+             FILL_BLACK, FILL_PATTERN, UEL, PJL_LINE, PJL_600]
+
+
+def includes(upto, group):
+    """Whether a press that has the groups up to one has another one."""
+    return GROUPS.index(group) <= GROUPS.index(upto)
 
 
 def rows_up_to(group):
     """The names of the rows of a group and of those before it."""
-    groups = GROUPS[:GROUPS.index(group) + 1]
-    return frozenset(row.name for row in EVERY_ROW if row.group in groups)
+    return frozenset(row.name for row in EVERY_ROW if includes(group, row.group))
+
+
+BUILT_ROWS = rows_up_to(BUILT)
 
 
 def row_of(command):
@@ -538,7 +550,7 @@ def row_of(command):
     if isinstance(command, Uel):
         return UEL
     if isinstance(command, PjlLine):
-        return PJL_LINE
+        return PJL_600 if pjl.asks_for_600(command.line) else PJL_LINE
     if isinstance(command, Param):
         group = "" if command.group is None else chr(command.group)
         key = chr(command.character) + group + chr(command.end)

@@ -9,7 +9,7 @@ if __package__ in (None, ""):
     sys.path[0] = str(Path(__file__).resolve().parent.parent)
 
 from model import (  # noqa: E402
-    asm, commands, debug_lines, job_queue, pages, patterns, pbm, press, rows, runs, ticket, values, writer)
+    asm, commands, debug_lines, job_queue, pages, patterns, pbm, press, rows, runs, table, ticket, values, writer)
 from model.commands import (  # noqa: E402
     Broken, Control, Param, PjlLine, Text, Uel, closed, same_commands, split)
 from model.press_lines import Lines  # noqa: E402
@@ -38,8 +38,8 @@ def stream(text):
     return spelled
 
 
-def run(text):
-    return runs.run_stream(stream(text) if isinstance(text, str) else text)
+def run(text, upto=table.BUILT):
+    return runs.run_stream(stream(text) if isinstance(text, str) else text, table.rows_up_to(upto))
 
 
 def dots(columns, lines):
@@ -50,9 +50,9 @@ def span(first, last):
     return range(first, last + 1)
 
 
-def fronts(text):
+def fronts(text, upto=table.BUILT):
     """The black dots of each sheet's front."""
-    outcome = run(text)
+    outcome = run(text, upto)
     assert outcome.replies == b""
     assert all(sheet.back is None for sheet in outcome.sheets)
     return [sheet.front.black_dots() for sheet in outcome.sheets]
@@ -266,6 +266,101 @@ def test_placed_rows_are_the_placed_dots():
         assert found == sheet.front.black_dots() and len(found) == sheet.front.count_black() > 100
 
 
+# 600 dots per inch
+
+AT_600 = UEL + b"@PJL SET RESOLUTION=600\n"
+
+
+def fronts_at_600(text):
+    return fronts(AT_600 + stream(text), "resolution")
+
+
+def test_box_at_600():
+    text = AT_600 + stream("ESC E ESC*p0x0Y ESC*c3a2b0P ESC E")
+    assert fronts(text, "resolution") == [dots(span(150, 155), span(300, 303))]
+    outcome = run(text, "resolution")
+    assert pages.listing(outcome.sheets, b"") == b"sheet 1 front 5100x6600 black 24\n"
+    asked = text + UEL + b"@PJL INQUIRE RESOLUTION\n@PJL DINQUIRE RESOLUTION\n"
+    answers = b"@PJL INQUIRE RESOLUTION\r\n%d\r\n\x0c@PJL DINQUIRE RESOLUTION\r\n300\r\n\x0c"
+    assert run(asked, "resolution").replies == answers % 600
+    # A press that lacks it passes the line over.
+    assert run(asked, "jobs").replies == answers % 300
+    assert fronts(text, "jobs") == [dots(span(75, 77), span(150, 151))]
+
+
+def test_rows_of_raster_at_600():
+    row = "ESC*t200R ESC*r1A ESC*b1W [80] FF"
+    assert fronts_at_600(row) == [dots(span(150, 152), span(375, 377))]
+    assert fronts(row, "resolution") == [dots(span(75, 78), span(187, 190))]
+    assert fronts(row.replace("200", "600"), "resolution") == [dots(span(75, 78), span(187, 190))]
+    # Two rows of one dot each, and a skipped one between them; x is 10 decipoints, 8 dots and 4 positions, y 0.
+    text = "ESC&a10h0V ESC*t600R ESC*r1A ESC*b1W [80] ESC*b1Y ESC*b1W [80] FF"
+    assert fronts_at_600(text) == [{(158, 300), (158, 302)}]
+    for resolution, side in [(75, 8), (100, 6), (150, 4), (300, 2)]:
+        text = "ESC*p0x0Y ESC*t%dR ESC*r1A ESC*b1W [80] ESC*b1W [40] FF" % resolution
+        first, second = span(300, 299 + side), span(300 + side, 299 + 2 * side)
+        expected = dots(span(150, 149 + side), first) | dots(span(150 + side, 149 + 2 * side), second)
+        assert fronts_at_600(text) == [expected], resolution
+    # A row of no width of its own reaches to the end of the logical page, 4800 raster dots from its left.
+    full = b"\x1b*p0x0Y\x1b*t600R\x1b*r1A\x1b*b700W" + b"\xff" * 700 + FF
+    assert fronts(AT_600 + full, "resolution") == [dots(span(150, 4949), [300])]
+
+
+def test_places_at_600():
+    # A4: 4960 by 7014 dots, offsets 142 and 118. One decipoint, 10 positions, is the first dot; 12 positions are the second.
+    assert fronts_at_600("ESC&l26A ESC&a1h0V ESC*c1h1v0P FF") == [{(142, 300)}]
+    assert fronts_at_600("ESC&l26A ESC&a1.2h0V ESC*c1.3h1.2v0P FF") == [dots([143, 144], [300])]
+    # Frame dots 120 and 121, 300 to 302 of Letter on its side: physical x is the line, y 6599 less the column.
+    assert fronts_at_600("ESC&l1O ESC*p0x0Y ESC*c1a1.5b0P FF") == [dots(span(300, 302), [6478, 6479])]
+    assert fronts_at_600("ESC&l2O ESC*p0x0Y ESC*c1a1.5b0P FF") == [dots([4948, 4949], span(6297, 6299))]
+    assert fronts_at_600("ESC&l3O ESC*p0x0Y ESC*c1a1.5b0P FF") == [dots(span(4797, 4799), [120, 121])]
+    # The corner of the logical page: W and L are the same numbers of positions.
+    assert fronts_at_600("ESC*p9999x9999Y ESC*c1a1b0P FF") == [set()]
+    assert fronts_at_600("ESC*p2399.5x3149.5Y ESC*c9a9b0P FF") == [dots(span(4949, 4966), [6599])]
+    # Tiles stay in dots: lines 300 and 301 are the fifth and the sixth of the tile, columns from 150 on the seventh.
+    shaded = {(column, 300) for column in range(150, 158, 2)} | {(column, 301) for column in range(151, 158, 2)}
+    assert fronts_at_600("ESC*c50G ESC*p0x0Y ESC*c4a1b2P FF") == [shaded]
+
+
+def test_resolution_stays_until_a_line_changes_it():
+    def sizes(spelled):
+        return [[(side.width(), side.height()) for _, side in sheet.sides()] for sheet in run(spelled, "resolution").sheets]
+
+    at_600, sides = (5100, 6600), stream("ESC E") + UEL
+    assert sizes(AT_600 + sides + FF + b"\x1b&l26A" + FF) == [[at_600], [(4960, 7014)]]
+    assert sizes(AT_600 + FF + UEL + b"@PJL INITIALIZE\n" + FF) == [[at_600], [LETTER]]
+    assert sizes(UEL + b"@PJL DEFAULT RESOLUTION=600\n" + FF + UEL + b"@PJL RESET\n" + FF) == [[LETTER], [at_600]]
+    assert sizes(AT_600 + FF + UEL + b"@PJL SET RESOLUTION=450\n" + FF) == [[at_600], [at_600]]
+    # A front that waits for its back goes out alone, and a marked page closes, as they are.
+    assert sizes(b"\x1b&l1S" + FF + AT_600 + b"\x1b&l1S\x1b&a2G" + FF) == [[LETTER], [at_600, at_600]]
+    assert sizes(b"\x1b*c1a1b0P" + AT_600 + FF) == [[LETTER], [at_600]]
+    # A permanent macro that asks for 600 raster dots per inch: legal at 600 alone, and forgotten by the reset.
+    macro = stream("ESC&f1y0X ESC*t600R ESC&f1X ESC&f10X ESC&f2X")
+    fine = stream("ESC*p0x0Y ESC*r1A ESC*b1W [80] FF")
+    coarse = UEL + b"@PJL SET RESOLUTION=300\n" + stream("ESC&f1y2X") + fine
+    assert fronts(AT_600 + macro + fine + coarse, "resolution") == [{(150, 300)}, dots(span(75, 78), span(150, 153))]
+    state = runs.run_commands(closed(AT_600), table.rows_up_to("resolution")).engine.state
+    assert (state.resolution, state.logical_width(), state.logical_length()) == (600, 57600, 79200)
+    assert (state.text_length, state.right_margin) == (72000, 57600)
+
+
+def test_pages_at_600_are_doubled():
+    """Where all places are whole dots at 300 and no tile shows, each dot is four."""
+    for text in ["ESC E ESC*p0x0Y ESC*c3a2b0P ESC E", "ESC*p10x20Y ESC*c3a2b0P FF", "ESC*p0x0Y ESC*t300R ESC*r0A ESC*b1m2W [02 F0] FF",
+                 "ESC*p0x0Y ESC*t300R ESC*r0A ESC*b3m2W [00 FF] ESC*b0W ESC*b0m0W ESC*b3m0W ESC*rC FF",
+                 "ESC*p0x0Y ESC*c16a1b0P ESC*t300R ESC*r8S ESC*v1N ESC*r1A ESC*b0W ESC*rC FF", NESTED,
+                 "ESC*p0x0Y ESC&f2y0X ESC*p0Y ESC*c4a1b0P FF ESC&f1X ESC&f4X FF FF", "ESC*p7x9Y ESC*t75R ESC*r1A ESC*b1W [A5] FF",
+                 "ESC&l3O ESC*p-5x9Y ESC*t100R ESC*r1A ESC*b1W [A5] ESC*b2Y ESC*b1W [FF] FF", "ESC&l1O ESC*p0x0Y ESC*c3a2b0P FF"]:
+        doubled = [{(2 * x + right, 2 * y + down) for x, y in front for right in (0, 1) for down in (0, 1)} for front in fronts(text)]
+        assert fronts_at_600(text) == doubled and any(doubled), text
+
+
+def test_earlier_streams_stay():
+    for spelled in worked_streams():
+        older, newer = (run(spelled, upto) for upto in ("jobs", table.GROUPS[-1]))
+        assert pages.listing(older.sheets, older.replies) == pages.listing(newer.sheets, newer.replies)
+
+
 # Every shape of the tiles
 
 def tile_text(tile):
@@ -409,7 +504,7 @@ def ticket_bytes(**changes):
 
 
 def job_sheets(read, images):
-    outcome = runs.run_stream(press.writer.job_of(read, images))
+    outcome = runs.run_stream(press.writer.job_of(read, images), table.rows_up_to("resolution"))
     assert outcome.replies == b""
     return [(sheet.front.black_dots(), sheet.back and sheet.back.black_dots()) for sheet in outcome.sheets]
 
@@ -426,6 +521,31 @@ def test_wanted_sheets():
         assert job_sheets(read, PAGES) == ticket.wanted(read, PAGES)
     read = ticket.read_ticket(ticket_bytes())
     assert job_sheets(read, [IMAGE] * 3) == [({(75, 0)}, {(75, 0)}), ({(75, 0)}, None)] * 2
+
+
+def test_tickets_at_600():
+    read = ticket.read_ticket(ticket_bytes(Resolution=600), "resolution")
+    assert job_sheets(read, [IMAGE] * 3) == [({(150, 0)}, {(150, 0)}), ({(150, 0)}, None)] * 2
+    outcome = runs.run_stream(press.writer.job_of(read, [IMAGE] * 3), table.rows_up_to("resolution"))
+    assert pages.listing(outcome.sheets[:1], b"") == b"sheet 1 front 5100x6600 black 1\nsheet 1 back 5100x6600 black 1\n"
+    assert ticket.wanted(read, [IMAGE] * 3) == job_sheets(read, [IMAGE] * 3)
+    ticket.check(read, [IMAGE, (2401, ["1" * 2401]), IMAGE])
+    ticket.check(read, [IMAGE, (4800, ["1"] * 6600), IMAGE])
+    refused(612, ticket.check, read, [IMAGE, (4801, ["1"] * 6601), IMAGE])
+    refused(613, ticket.check, read, [IMAGE, (1, ["1"] * 6601), IMAGE])
+    for resolution in [450, 0, 600.0, "600", True, [600]]:
+        fault = refused(602, ticket.read_ticket, ticket_bytes(Resolution=resolution, Amount=0), "resolution")
+        assert fault.key == "Resolution"
+    assert refused(602, ticket.read_ticket, ticket_bytes(Resolution=450, Collate=1), "resolution").key == "Collate"
+    for changes in [{}, {"Resolution": 300}]:
+        assert ticket.read_ticket(ticket_bytes(**changes), "resolution") == ticket.read_ticket(ticket_bytes())
+    assert refused(602, ticket.read_ticket, ticket_bytes(Resolution=300), "jobs").key == "Resolution"
+    for media, width in [("A4", 2 * (2480 - 142)), ("Ledger", 6300), ("A3", 2 * (3507 - 142))]:
+        read = ticket.read_ticket(ticket_bytes(Resolution=600, Media=media, NPage=1, Amount=1), "resolution")
+        edge = [(width, ["0" * (width - 1) + "1"])]
+        ticket.check(read, edge)
+        assert job_sheets(read, edge) == ticket.wanted(read, edge)
+        refused(612, ticket.check, read, [(width + 1, ["1"])])
 
 
 def test_refused_tickets():

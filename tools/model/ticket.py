@@ -2,14 +2,16 @@
 
 from typing import NamedTuple
 
-from . import json_text
+from . import json_text, table
 from .pages import SIZES
+from .values import FACTORY_RESOLUTION
 
 NOT_JSON, NOT_PROFILE, WRONG_PROCESS, BAD_RANGE, BAD_AMOUNT = 601, 602, 603, 604, 605
 PAGE_MISSING, TOO_WIDE, TOO_TALL = 611, 612, 613
 
-KEYS = ["Version", "Type", "JobID", "NPage", "Amount", "RunList", "Media", "Sides", "Collate"]
-REQUIRED = KEYS[:5]
+REQUIRED = ["Version", "Type", "JobID", "NPage", "Amount"]
+OPTIONAL = {"RunList": "jobs", "Media": "jobs", "Sides": "jobs", "Collate": "jobs", "Resolution": "resolution"}  # by group
+RESOLUTIONS = (300, 600)
 SIDES = ["OneSidedFront", "TwoSidedHeadToHead", "TwoSidedHeadToFoot"]
 MOST_PAGES = 999
 MOST_AMOUNT = 9999
@@ -23,6 +25,11 @@ class Refused(Exception):
         self.key = key
 
 
+def keys_up_to(upto):
+    """The keys of tickets for a press that has the groups up to one, in the order in which they are judged."""
+    return REQUIRED + [key for key, group in OPTIONAL.items() if table.includes(upto, group)]
+
+
 class Ticket(NamedTuple):
     job_id: str
     pages: list  # of the set, counted from 0, in order
@@ -31,17 +38,27 @@ class Ticket(NamedTuple):
     media: str
     sides: str
     collate: bool
+    resolution: int
 
     def two_sided(self):
         return self.sides != "OneSidedFront"
 
+    def size(self):
+        """The medium in dots of the resolution."""
+        return SIZES[self.media].at(self.resolution)
 
-def read_ticket(text):
+    def room(self):
+        """Width and height of the logical page in dots."""
+        size = self.size()
+        return size.width - 2 * size.portrait_offset, size.height
+
+
+def read_ticket(text, upto=table.BUILT):
     try:
         value = json_text.read(text)
     except json_text.NotJson:
         raise Refused(NOT_JSON) from None
-    return ticket_of(value)
+    return ticket_of(value, upto)
 
 
 def is_pair(value):
@@ -67,16 +84,18 @@ ADMITTED = {
     "Media": lambda value: json_text.is_text(value) and value in SIZES,
     "Sides": lambda value: value in SIDES,
     "Collate": lambda value: isinstance(value, bool),
+    "Resolution": lambda value: json_text.is_whole(value) and value in RESOLUTIONS,
 }
 
 
-def ticket_of(value):
+def ticket_of(value, upto=table.BUILT):
     if not isinstance(value, dict):
         raise Refused(NOT_JSON)
-    unknown = [key for key in value if key not in KEYS]
+    keys = keys_up_to(upto)
+    unknown = [key for key in value if key not in keys]
     if unknown:
         raise Refused(NOT_PROFILE, min(unknown, key=str.encode))
-    for key in KEYS:
+    for key in keys:
         if (key in REQUIRED and key not in value) or (key in value and not ADMITTED[key](value[key])):
             raise Refused(NOT_PROFILE, key)
     if value["Type"] != "DigitalPrinting":
@@ -87,7 +106,7 @@ def ticket_of(value):
     if not 1 <= value["Amount"] <= MOST_AMOUNT:
         raise Refused(BAD_AMOUNT)
     return Ticket(value["JobID"], pages, value["NPage"], value["Amount"], value.get("Media", "Letter"),
-                  value.get("Sides", SIDES[0]), value.get("Collate", True))
+                  value.get("Sides", SIDES[0]), value.get("Collate", True), value.get("Resolution", FACTORY_RESOLUTION))
 
 
 def set_of_pages(pairs, page_count):
@@ -113,13 +132,13 @@ def page_index(number, page_count):
 
 def check(ticket, images):
     """Images are pairs of width and rows, as P4 files are read."""
-    size = SIZES[ticket.media]
     if len(images) < ticket.page_count:
         raise Refused(PAGE_MISSING)
     chosen = [images[page] for page in ticket.pages]
-    if any(width > size.width - 2 * size.portrait_offset for width, _ in chosen):
+    most_across, most_down = ticket.room()
+    if any(width > most_across for width, _ in chosen):
         raise Refused(TOO_WIDE)
-    if any(len(rows) > size.height for _, rows in chosen):
+    if any(len(rows) > most_down for _, rows in chosen):
         raise Refused(TOO_TALL)
 
 
@@ -143,6 +162,6 @@ def wanted(ticket, images):
 
 
 def side_dots(ticket, image):
-    offset = SIZES[ticket.media].portrait_offset
+    offset = ticket.size().portrait_offset
     _, rows = image
     return {(offset + x, y) for y, row in enumerate(rows) for x, bit in enumerate(row) if bit == "1"}

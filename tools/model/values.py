@@ -1,8 +1,8 @@
 """Value fields, positions and dots.
 
 A value field is an optional sign, digits, and an optional point with digits; each part may be empty. Its value
-is kept in ten-thousandths, with the flag that a sign stood. A position is a whole number of 1/7200 inch, a dot is
-1/300 inch.
+is kept in ten-thousandths, with the flag that a sign stood. A position is a whole number of 1/7200 inch; how many of
+them a dot has depends on the resolution, in dots per inch.
 """
 
 import re
@@ -18,7 +18,7 @@ POSITIONS_PER_INCH = 7200
 DECIPOINT = 10
 HMI_UNIT = 60
 VMI_UNIT = 150
-DOT = 24
+FACTORY_RESOLUTION = 300
 
 # The units of measure: divisors of 7200 from 96 to 7200.
 UNITS_OF_MEASURE = [unit for unit in range(96, 7201) if 7200 % unit == 0]
@@ -58,5 +58,10 @@ def to_position(value, unit):
     return truncated(value.tenthousandths * unit, 10000)
 
 
-def dot(position):
-    return position // DOT
+def dot_positions(resolution):
+    """How many positions a dot has."""
+    return POSITIONS_PER_INCH // resolution
+
+
+def dot(position, resolution):
+    return position // dot_positions(resolution)

@@ -13,9 +13,9 @@ SIDES_NUMBERS = {"OneSidedFront": 0, "TwoSidedHeadToHead": 1, "TwoSidedHeadToFoo
 
 def job_of(ticket, images):
     assert ticket.media in SIZES
-    job = UNIVERSAL_EXIT + b"\x1bE"
+    job = UNIVERSAL_EXIT + b"@PJL SET RESOLUTION=%d\n" % ticket.resolution + b"\x1bE"
     job += b"\x1b&l%da0o%dS" % (PAGE_SIZE_NUMBERS[ticket.media], SIDES_NUMBERS[ticket.sides])
-    job += b"\x1b*t300R"
+    job += b"\x1b*t%dR" % ticket.resolution
     for front, back in wanted_page_sheets(ticket):
         job += side_of(images[front])
         if back is not None:

@@ -6,6 +6,8 @@ or something else than was meant. What is said first has to have each of the tex
 
 from typing import NamedTuple
 
+from model import table
+
 TICKET = b'{"Amount":1,"JobID":"J","NPage":1,"Type":"DigitalPrinting","Version":"1.5"}'
 DOT = b"P4 1 1\n\x80"
 UEL = b"\x1b%-12345X"
@@ -151,4 +153,15 @@ DEBUGGERS = [
     debugged(b"go 1\nclear 3\n", "line 2 is answered fault 502", "no breakpoint stands"),
     debugged(b"break uel\n" * 33, "line 33 is answered fault 501", "clear 0"),
 ]
-MISTAKES = [*WORDS, *FILES, *TEXTS, *TICKETS, *IMAGES, *STREAMS, *SESSIONS, *DEBUGGERS]
+# What only a program can be asked that has these groups.
+NEWER = {
+    "resolution": [
+        written(ticket(b"{", b'{"Resolution":450,'), "Resolution that is 450", "300 or 600", number=602),
+        Mistake("write t.json job.prn a.pbm", 612, ("first image a.pbm is 2,401 dots wide", "room for 2,400", "or for 600 dots per inch"),
+                {"t.json": TICKET, "a.pbm": b"P4 2401 1\n" + bytes(301)}),
+        Mistake("write t.json job.prn a.pbm", 613, ("first image a.pbm is 6,601 dots tall", "Letter at 600 dots per inch has room for 6,600"),
+                {"t.json": ticket(b"{", b'{"Resolution":600,'), "a.pbm": b"P4 1 6601\n" + bytes(6601)}),
+    ],
+}
+MISTAKES = [*WORDS, *FILES, *TEXTS, *TICKETS, *IMAGES, *STREAMS, *SESSIONS, *DEBUGGERS,
+            *(mistake for group, some in NEWER.items() if table.includes(table.BUILT, group) for mistake in some)]

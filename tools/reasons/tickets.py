@@ -2,8 +2,9 @@
 
 import difflib
 
-from model import ticket
+from model import table, ticket
 from model.pages import SIZES
+from model.values import FACTORY_RESOLUTION
 
 from . import json_faults
 from .finding import Found, counted, ordinal
@@ -18,7 +19,9 @@ WANTED = {
     "Media": "one of " + ", ".join(SIZES),
     "Sides": "one of " + ", ".join(ticket.SIDES),
     "Collate": "true or false",
+    "Resolution": "300 or 600",
 }
+KEYS = ticket.keys_up_to(table.BUILT)
 
 
 def ticket_in(shown, data):
@@ -47,9 +50,9 @@ def judged(refused, shown, value):
 
 
 def judged_key(key, shown, value):
-    if key not in ticket.KEYS:
-        near = difflib.get_close_matches(key, ticket.KEYS, 1, 0.5)
-        hint = f"Did you mean {near[0]}?" if near else "The keys are " + ", ".join(ticket.KEYS)
+    if key not in KEYS:
+        near = difflib.get_close_matches(key, KEYS, 1, 0.5)
+        hint = f"Did you mean {near[0]}?" if near else "The keys are " + ", ".join(KEYS)
         return Found(ticket.NOT_PROFILE, f"{shown} has the unknown key {key}", hint)
     if key not in value:
         return Found(ticket.NOT_PROFILE, f"{shown} has no key {key}", f"Add it: {WANTED[key]}")
@@ -75,8 +78,7 @@ def judged_pages(number, shown, value):
 
 def check_images(shown, asked, images, names):
     """Fails where the images do not fit the ticket."""
-    size = SIZES[asked.media]
-    room = size.width - 2 * size.portrait_offset, size.height
+    room = asked.room()
     try:
         ticket.check(asked, images)
     except ticket.Refused as refused:
@@ -87,4 +89,18 @@ def check_images(shown, asked, images, names):
         page = next(page for page in asked.pages if (images[page][0] > room[0] if wide else len(images[page][1]) > room[1]))
         dots = images[page][0] if wide else len(images[page][1])
         raise Found(refused.number, f"{ordinal(page)} image {names[page]} is {dots:,} dots {'wide' if wide else 'tall'}, and "
-                    f"{asked.media} has room for {room[0 if wide else 1]:,}", "Scale or cut it, or ask for another Media") from None
+                    f"{medium_of(asked)} has room for {room[0 if wide else 1]:,}", advice_for(asked, images, page)) from None
+
+
+def medium_of(asked):
+    return asked.media + ("" if asked.resolution == FACTORY_RESOLUTION else f" at {asked.resolution} dots per inch")
+
+
+def advice_for(asked, images, page):
+    """Another resolution is named where the image fits at it."""
+    width, rows = images[page]
+    for resolution in ticket.RESOLUTIONS if "Resolution" in KEYS else ():
+        room = asked._replace(resolution=resolution).room()
+        if resolution > asked.resolution and width <= room[0] and len(rows) <= room[1]:
+            return f"Scale or cut it, ask for another Media, or for {resolution} dots per inch: \"Resolution\": {resolution}"
+    return "Scale or cut it, or ask for another Media"

@@ -43,6 +43,7 @@ class Happening(NamedTuple):
     place: tuple             # x and y behind it, in 1/7200 inch
     step: int
     depth: int
+    resolution: int          # behind it, in dots per inch
 
 
 def placed_commands(stream):
@@ -76,8 +77,8 @@ class WatchedPage(pages.Bitmap):
 class WatchedEngine(engine.Engine):
     """An engine that notes the boxes of marks, and the pages in the order in which they close."""
 
-    def __init__(self):
-        super().__init__()
+    def __init__(self, rows):
+        super().__init__(rows)
         self.boxes = {}    # of the command that runs, by the number of the page
         self.closed = []
 
@@ -115,8 +116,8 @@ class WatchedEngine(engine.Engine):
 class Run:
     """The happenings of a stream, its sheets, and which page of these each closed page is."""
 
-    def __init__(self, stream):
-        self.engine = WatchedEngine()
+    def __init__(self, stream, rows=table.BUILT_ROWS):
+        self.engine = WatchedEngine(rows)
         self.fields = self.engine.state.view()
         self.sheet_count = 0
         self.sheets = []      # the distinct ones, with their copies
@@ -136,7 +137,8 @@ class Run:
         return Happening(
             placed, row and row.name, how, recorded_in if how == "recorded" else None, self.changes(),
             tuple(running.physical_boxes()), len(running.closed) - open_page, self.numbered(outputs), replies,
-            running.taken - before - 1, len(running.closed), self.cursor_dot(), (state.x, state.y), running.taken, depth)
+            running.taken - before - 1, len(running.closed), self.cursor_dot(), (state.x, state.y), running.taken, depth,
+            state.resolution)
 
     def how(self, command, row):
         state = self.engine.state

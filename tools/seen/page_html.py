@@ -11,7 +11,7 @@ from model.asm import line_of_command
 from . import happenings, png, remarks
 
 TEMPLATE = Path(__file__).with_name("show.html")
-FACTOR = 4
+SQUARES_PER_INCH = 75   # of a picture
 MOST_PICTURES = 500
 LONGEST_LINE = 120
 IGNORED, SENDS, REPLIES = 1, 2, 4
@@ -27,7 +27,7 @@ def shortened(line):
 
 
 def picture(side):
-    data = png.png(list(png.grey_rows(side.width, side.lines, FACTOR)))
+    data = png.png(list(png.grey_rows(side.width, side.lines, side.resolution // SQUARES_PER_INCH)))
     return "data:image/png;base64," + base64.b64encode(data).decode()
 
 

@@ -19,7 +19,7 @@ FIELDS = {
     "source_height": "raster height", "rectangle_width": "rectangle width", "rectangle_height": "rectangle height",
     "pattern_id": "pattern ID", "current_pattern": "current pattern", "source_opaque": "source opaque",
     "pattern_opaque": "pattern opaque", "macro_id": "macro ID", "left_margin": "left margin", "right_margin": "right margin",
-    "top_margin": "top margin", "text_length": "text length", "orientation": "orientation", "duplex": "duplex",
+    "top_margin": "top margin", "text_length": "text length", "resolution": "resolution of the page", "orientation": "orientation", "duplex": "duplex",
     "binding": "binding", "stack": "positions pushed", "overlay": "overlay", "hpgl": "HP-GL/2", "raster_on": "raster graphics",
     "row_count": "raster rows", "defining": "open macro definition", "pjl_status": "status after each page",
 }

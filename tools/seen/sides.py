@@ -14,6 +14,7 @@ class Side(NamedTuple):
     width: int
     lines: list
     black: int
+    resolution: int   # in dots per inch
 
 
 def sides_of(run, stream, chosen=program.PROGRAM):
@@ -28,7 +29,8 @@ def sides_of(run, stream, chosen=program.PROGRAM):
 
 
 def modelled(sides):
-    return [Side(number, name, copies, *png.lines_of_side(side), side.count_black()) for side, number, name, copies in sides]
+    return [Side(number, name, copies, *png.lines_of_side(side), side.count_black(), side.size.resolution)
+            for side, number, name, copies in sides]
 
 
 def printed(sides, stream, chosen):
@@ -42,7 +44,7 @@ def printed(sides, stream, chosen):
         black = sum(line.count(1) for line in lines)
         if (width, len(lines), black) != (side.width(), side.height(), side.count_black()):
             raise ValueError(f"sheet {number} {name}: the program and the model differ; tools/compare says how")
-        made.append(Side(number, name, copies, width, lines, black))
+        made.append(Side(number, name, copies, width, lines, black, side.size.resolution))
     return made
 
 
