@@ -84,11 +84,24 @@ def row_width(state):
     return room * state.raster_resolution // POSITIONS_PER_INCH
 
 
-def transfer_row(engine, data):
+def transfer(engine, data):
+    """The rows of a transfer by the current method."""
+    state = engine.state
+    if state.method != rows.ADAPTIVE:
+        transfer_row(engine, state.method, data)
+        return
+    for block in rows.blocks(data):
+        if block.rows == 0:
+            state.seed = bytes(len(state.seed))
+        for _ in range(block.rows):
+            transfer_row(engine, block.method, block.data)
+
+
+def transfer_row(engine, method, data):
     state = engine.state
     if state.source_height is not None and state.row_count >= state.source_height:
         return
-    row = rows.decode(state.method, data, state.seed)
+    row = rows.decode(method, data, state.seed)
     page = engine.page_to_mark()
     paint_row(state, page, row)
     state.seed = row
@@ -103,13 +116,15 @@ def skip_rows(state, count):
 
 def paint_row(state, page, row):
     side = state.resolution // state.raster_resolution
+    line = line_of(state)
+    if line >= pages.frame(page.size, page.orientation)[1]:
+        return
     width = row_width(state)
     column = column_of(state, state.raster_left)
     bits = "".join(format(byte, "08b") for byte in row)[:width]
     wide = "".join(bit * side for bit in bits)
     source = int(wide[::-1] or "0", 2) << column
     covered = ((1 << width * side) - 1) << column
-    line = line_of(state)
     pattern = current_pattern(state)
     for each in range(line, line + side):
         paint_line(state, page, each, covered, source, pattern)

@@ -1,4 +1,34 @@
-"""Raster rows: what a row's data stand for, given the row before it (the seed) and the width in bytes."""
+"""Raster rows: what a row's data stand for, given the row before it (the seed) and the width in bytes; and the blocks of
+adaptive data, which stand for rows."""
+
+from typing import NamedTuple
+
+ADAPTIVE = 5
+PLAIN_ROW, DELTA_ROW = 0, 3
+EMPTY_ROWS, SEED_ROWS = 4, 5
+HEADER_BYTES = 3
+
+
+class Block(NamedTuple):
+    """So many rows, each of this data by this method; where there are none the seed becomes zero."""
+    rows: int
+    method: int
+    data: bytes
+
+
+def blocks(data):
+    """The blocks of adaptive data, up to a cut header or an unknown command. A cut row has the bytes that are there."""
+    place = 0
+    while place + HEADER_BYTES <= len(data) and data[place] <= SEED_ROWS:
+        command, count = data[place], data[place + 1] * 256 + data[place + 2]
+        place += HEADER_BYTES
+        if command == EMPTY_ROWS:
+            yield Block(count, PLAIN_ROW, b"")
+        elif command == SEED_ROWS:
+            yield Block(count, DELTA_ROW, b"")
+        else:
+            yield Block(1, command, data[place:place + count])
+            place += count
 
 
 def decode(method, data, seed):

@@ -42,6 +42,7 @@ COMMANDS = {
     "macros": [(b"&f", b"Y", "id")] * 3 + [(b"&f", b"X", "macro")] * 6,
     "jobs": [],
     "resolution": [],
+    "adaptive": [],
 }
 VALUES = {
     "zero": [b"0", b"", b"0", b"-0", b"+.9"],
@@ -133,6 +134,8 @@ class Maker:
             makers += [(8, self.exit_and_lines)]
         if "resolution" in self.groups:
             makers += [(5, self.other_resolution)]
+        if "adaptive" in self.groups:
+            makers += [(14, self.adaptive)]
         if self.in_body and not self.chance(0.02):
             makers = [(weight, call) for weight, call in makers if call not in (self.exit_and_lines, self.other_resolution)]
         weights, calls = zip(*makers)
@@ -449,6 +452,47 @@ class Maker:
         if self.chance(0.7):
             parts.append(ESC + self.random.choice([b"*rC", b"*rB"]))
         return b"".join(parts)
+
+    def adaptive(self):
+        """Rows by blocks, by few bytes that may be any, and by other methods among them; the last ones show the seed."""
+        parts = [ESC + b"*t" + self.value("resolution") + b"R"] if self.chance(0.7) else []
+        if self.chance(0.4):
+            parts.append(ESC + b"*r" + self.value("width") + b"S")
+        if self.chance(0.4):
+            parts.append(ESC + b"*r%dT" % self.random.choice([1, 2, 3, 5, 8, 40, 65535]))
+        if self.chance(0.8):
+            parts.append(ESC + b"*r" + self.value("four") + b"A")
+        parts.append(ESC + b"*b" + self.random.choice([b"5", b"5", b"5", b"5.9", b"05", b"+5"]) + b"M")
+        if self.chance(0.15):
+            parts += [self.random.choice([ESC + b"*b0W", ESC + b"*b1W\x06"]), self.started()]
+        for _ in range(self.random.randint(1, 4)):
+            data = self.blocks() if self.chance(0.9) else self.row_data()
+            parts.append(ESC + b"*b%dW" % len(data) + data)
+            if self.chance(0.2):
+                parts.append(self.random.choice([ESC + b"*b2Y", ESC + b"*b3m0W" + ESC + b"*b5M", ESC + b"*b0m1W\xc3" + ESC + b"*b5M",
+                                                 ESC + b"*b4M", ESC + b"*p+3X", ESC + b"*v1N", ESC + b"*t300R"]))
+        shown = ESC + b"*b3m0W"
+        return b"".join(parts) + self.random.choice([shown, shown, b""]) + self.random.choice([b"", ESC + b"*rC", self.shown_cursor()])
+
+    def started(self):
+        """What has no effect once raster graphics is on, and a row that shows it."""
+        change = self.random.choice([b"*t300R", b"*t75R", b"*t150R", b"*r8S", b"*r1T", b"*r1A"])
+        return ESC + change + ESC + b"*b0m3W\xff\x0f\xa5" + self.random.choice([ESC + b"*b5M", b""])
+
+    def blocks(self):
+        """Blocks of few rows, now and then of many; the last one may be cut, and an unknown command may stand before the end."""
+        return b"".join(self.block() for _ in range(self.random.randint(0, 6))) + self.random.choice([b"", b"", b"", b"\x00", b"\x05\x00"])
+
+    def block(self):
+        command = self.random.choice([0, 1, 2, 3, 3, 4, 5, 5])
+        if command >= 4:
+            count = self.random.choice([0, 0, 1, 1, 2, 3, 7, 300, 65535] if self.chance(0.1) else [0, 0, 1, 1, 2, 3])
+            return bytes([command]) + count.to_bytes(2, "big")
+        if self.chance(0.05):
+            command = self.random.choice([6, 7, 31, 128, 255])
+        data = b"" if self.chance(0.15) else self.row_data()
+        count = len(data) + (self.random.choice([1, 2, 9, 60000]) if self.chance(0.06) else 0)
+        return bytes([command]) + count.to_bytes(2, "big") + data
 
     def pattern_data(self):
         height, width = self.random.randint(1, 9), self.random.randint(1, 20)

@@ -10,7 +10,7 @@ program has: where nothing else is asked for, the model stands for that press.
 
 from typing import Callable, NamedTuple
 
-from . import macros, marks, pages, pjl
+from . import macros, marks, pages, pjl, rows
 from .commands import Control, Escape, Param, PjlLine, Uel
 from .patterns import BLACK, HATCH, SHADING, USER, WHITE, BadHeader, ShortData
 from .values import (
@@ -24,7 +24,7 @@ STACK_PLACES = 20
 LINES_PER_INCH = [1, 2, 3, 4, 6, 8, 12, 16, 24, 48]
 PAGE_SIZES = {1: "Executive", 2: "Letter", 3: "Legal", 6: "Ledger", 26: "A4", 27: "A3"}
 RASTER_RESOLUTIONS = {300: (75, 100, 150, 300), 600: (75, 100, 150, 200, 300, 600)}  # by that of the engine
-GROUPS = ["boxes", "pages", "raster", "patterns", "macros", "jobs", "resolution"]
+GROUPS = ["boxes", "pages", "raster", "patterns", "macros", "jobs", "resolution", "adaptive"]
 BUILT = "jobs"
 WITH_TICKETS = GROUPS[GROUPS.index("jobs"):]
 
@@ -342,6 +342,10 @@ def raster_method(engine, command):
         engine.state.method = number(command)
 
 
+def adaptive_method(engine, _command):
+    engine.state.method = rows.ADAPTIVE
+
+
 def skip_rows(engine, command):
     state = engine.state
     if state.raster_on and number(command) >= 1:
@@ -353,7 +357,7 @@ def raster_row(engine, command):
     state = engine.state
     if not state.raster_on:
         marks.start_raster(state, 0)
-    marks.transfer_row(engine, command.data)
+    marks.transfer(engine, command.data)
 
 
 # Rectangles and patterns
@@ -520,12 +524,13 @@ PARAMS = {
 PARAMS = {key: Row(key, group, effect) for key, (group, effect) in PARAMS.items()}
 FILL_BLACK = Row("*cP 0", "boxes", fill_black)
 FILL_PATTERN = Row("*cP 1-5", "patterns", fill_pattern)
+ADAPTIVE_METHOD = Row("*bM 5", "adaptive", adaptive_method)
 UEL = Row("UEL", "boxes", leave)
 PJL_LINE = Row("PJL", "jobs", pjl_line)
 PJL_600 = Row("PJL RESOLUTION=600", "resolution", pjl_line)
 
 EVERY_ROW = [*CONTROLS.values(), *ESCAPES.values(), *PARAMS.values(),
-             FILL_BLACK, FILL_PATTERN, UEL, PJL_LINE, PJL_600]
+             FILL_BLACK, FILL_PATTERN, ADAPTIVE_METHOD, UEL, PJL_LINE, PJL_600]
 
 
 def includes(upto, group):
@@ -556,5 +561,7 @@ def row_of(command):
         key = chr(command.character) + group + chr(command.end)
         if key == "*cP":
             return FILL_BLACK if number(command) == 0 else FILL_PATTERN
+        if key == "*bM" and number(command) == rows.ADAPTIVE:
+            return ADAPTIVE_METHOD
         return PARAMS.get(key)
     return None

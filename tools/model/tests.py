@@ -1,6 +1,7 @@
 #!/usr/bin/env python3
 """Worked examples with their values. Run as a script; each test is a function named for what it shows."""
 
+import random
 import sys
 import tempfile
 from pathlib import Path
@@ -9,7 +10,7 @@ if __package__ in (None, ""):
     sys.path[0] = str(Path(__file__).resolve().parent.parent)
 
 from model import (  # noqa: E402
-    asm, commands, debug_lines, job_queue, pages, patterns, pbm, press, rows, runs, table, ticket, values, writer)
+    asm, commands, debug_lines, job_queue, other_blocks, pages, patterns, pbm, press, rows, runs, table, ticket, values, writer)
 from model.commands import (  # noqa: E402
     Broken, Control, Param, PjlLine, Text, Uel, closed, same_commands, split)
 from model.press_lines import Lines  # noqa: E402
@@ -359,6 +360,128 @@ def test_earlier_streams_stay():
     for spelled in worked_streams():
         older, newer = (run(spelled, upto) for upto in ("jobs", table.GROUPS[-1]))
         assert pages.listing(older.sheets, older.replies) == pages.listing(newer.sheets, newer.replies)
+
+
+# Adaptive rows
+
+def adaptive(data, start="ESC*t300R ESC*r0A", end="FF"):
+    """A stream of one transfer of adaptive data, which begins at column 75 and line 187."""
+    data = bytes.fromhex(data)
+    return stream(start) + b"\x1b*b5m%dW" % len(data) + data + stream(end)
+
+
+def adaptive_rows(data, **around):
+    """The bytes of the lines from 187 on, and how many rows there were."""
+    text = adaptive(data, end="", **around)
+    state = runs.run_commands(closed(text), table.rows_up_to("adaptive")).engine.state
+    laid = [(state.page.lines.get(187 + line, 0) if state.page else 0) >> 75 for line in range(state.row_count)]
+    return [bytes(sum(0x80 >> bit for bit in range(8) if columns >> 8 * place + bit & 1) for place in range(2)).hex()
+            for columns in laid]
+
+
+def test_adaptive_rows():
+    text = adaptive("00 00 01 FF 05 00 02 04 00 01 03 00 02 00 81")
+    assert fronts(text, "adaptive") == [dots(span(75, 82), span(187, 189)) | {(75, 191), (82, 191)}]
+    # A press that lacks the method stays at the one that it has.
+    assert fronts(text, "resolution") == fronts(text.replace(b"5m", b"0m"), "adaptive")
+    assert final_state(text, "resolution").method == 0
+
+
+def test_blocks_of_each_kind():
+    for data, laid in [
+            ("00 00 02 F0 0F  00 00 01 80", ["f00f", "8000"]),
+            ("01 00 04 00 F0 00 0F", ["f00f"]),
+            ("02 00 02 FF 3C", ["3c3c"]),
+            ("00 00 02 FF FF  03 00 02 01 00", ["ffff", "ff00"]),
+            ("00 00 02 A5 5A  05 00 02  04 00 02", ["a55a"] * 3 + ["0000"] * 2),
+            # Cut: the bytes that are there; none are a row of no data.
+            ("00 00 04 F0 0F", ["f00f"]), ("01 00 09 00 F0 00", ["f000"]), ("00 00 05", ["0000"]),
+            ("00 00 02 A5 5A  03 00 05", ["a55a", "a55a"]), ("00 00 02 A5 5A  02 FF FF", ["a55a", "0000"]),
+            # A count of 0: a row of no data, or none, and then the seed is zero.
+            ("00 00 02 A5 5A  00 00 00", ["a55a", "0000"]), ("00 00 02 A5 5A  03 00 00", ["a55a", "a55a"]),
+            ("00 00 02 A5 5A  05 00 00  03 00 00", ["a55a", "0000"]), ("00 00 02 A5 5A  04 00 00  05 00 01", ["a55a", "0000"]),
+            ("00 00 02 A5 5A  05 00 00", ["a55a"]), ("05 00 00", []), ("04 00 00", []),
+            # A cut header, and what begins with another command.
+            ("00 00 02 A5 5A  05 00", ["a55a"]), ("05", []), ("00 00", []), ("00 00 01 80 06", ["8000"]),
+            ("00 00 01 80  06 00 00  00 00 01 80", ["8000"]), ("FF 00 01 80", []), ("06 00 02 A5 5A", []), ("", [])]:
+        assert adaptive_rows(data) == laid, (data, adaptive_rows(data))
+
+
+def test_seed_of_blocks():
+    begun, after = "ESC*t300R ESC*r16S ESC*r0A", "00 00 02 A5 5A"
+    for data, seed in [(after, "a55a"), (after + "04 00 01", "0000"), (after + "04 00 00", "0000"), (after + "05 00 00", "0000"),
+                       (after + "05 00 02", "a55a"), (after + "05 00 00 06 00 00", "0000"), (after + "06 05 00 00", "a55a"),
+                       (after + "05 00", "a55a"), (after + "00 00 00", "0000")]:
+        state = final_state(adaptive(data, begun, ""), "adaptive")
+        assert state.seed.hex() == seed, data
+    # The seed goes on over a change of method and into the next transfer.
+    assert fronts(adaptive("00 00 01 81", end="ESC*b3m0W ESC*b5m3W [05 00 01] ESC*b0W FF"), "adaptive") == [dots([75, 82], span(187, 189))]
+    # `*b1Y` sets it to zero, and goes on by a row.
+    assert fronts(adaptive("00 00 01 81", end="ESC*b1Y ESC*b3W [05 00 01] ESC*b4W [00 00 01 80] FF"), "adaptive") == [{(75, 187), (82, 187), (75, 190)}]
+
+
+def test_blocks_past_the_source_height():
+    two_rows = "ESC*t300R ESC*r16S ESC*r2T ESC*r0A"
+    for data, seed in [("00 00 02 A5 5A  05 00 09", "a55a"), ("00 00 01 FF  00 00 01 F0  00 00 01 0F", "f000"),
+                       ("00 00 01 FF  04 00 01  05 00 01  00 00 01 F0", "0000"), ("00 00 02 A5 5A  05 00 01  04 00 07", "a55a"),
+                       ("00 00 02 A5 5A  05 00 09  04 00 00", "0000"), ("00 00 02 A5 5A  05 00 09  05 00 00", "0000"),
+                       ("00 00 02 A5 5A  05 00 09  00 00 02 05 00 05 00 00", "0000")]:
+        state = final_state(adaptive(data, two_rows, ""), "adaptive")
+        assert (state.seed.hex(), state.row_count, state.y) == (seed, 2, 900 + 48), data
+    skipped = final_state(adaptive("00 00 01 FF", two_rows + "ESC*b2Y", ""), "adaptive")
+    assert (skipped.seed, skipped.row_count, skipped.page, skipped.marked) == (bytes(2), 2, None, False)
+    assert final_state(adaptive("05 FF FF 04 00 05", end=""), "adaptive").row_count == 65535
+    most = final_state(adaptive("05 FF FF 00 00 01 FF", "ESC*t300R ESC*r8S ESC*r65535T ESC*r0A", ""), "adaptive")
+    assert (most.row_count, most.seed, most.y) == (65535, bytes(1), 75600)
+
+
+def test_transfer_without_rows():
+    # It still turns raster graphics on, so that the resolution stays; and marks nothing.
+    assert fronts("ESC*t300R ESC*b5m0W ESC*t75R ESC*b0m1W [80] FF", "adaptive") == [{(75, 187)}]
+    assert fronts("ESC*t300R ESC*b5m2W [00 00] ESC*t75R ESC*b0m1W [80] FF", "adaptive") == [{(75, 187)}]
+    assert fronts("ESC*b5m0W ESC*b3W [05 00 00] ESC E", "adaptive") == []
+    assert fronts("ESC*b5m3W [04 00 01] ESC E", "adaptive") == [set()]
+    state = final_state("ESC*p100X ESC*b5m0W", "adaptive")
+    assert (state.raster_on, state.x, state.y, state.row_count, state.marked) == (True, 0, 900, 0, False)
+    # Each row is a mark of its own: an opaque source whitens, also by empty rows.
+    text = "ESC*p0x0Y ESC*c16a4b0P ESC*p0Y ESC*t300R ESC*r8S ESC*v1N ESC*r1A ESC*b5m10W [00 00 01 F0 05 00 01 04 00 01] FF"
+    box = dots(span(75, 90), span(150, 153)) - dots(span(79, 82), [150, 151]) - dots(span(75, 82), [152])
+    assert fronts(text, "adaptive") == [box]
+    assert len(runs.trace(stream(text), table.rows_up_to("adaptive"))) == 14
+
+
+def random_blocks(source):
+    """Blocks, most of them whole, or any bytes; many of them small numbers, so that they mean something."""
+    if source.random() < 0.3:
+        return bytes(source.choice([0, 0, 0, 1, 2, 3, 4, 5, 5, 31, 63, 128, 200, 255, source.randrange(256)])
+                     for _ in range(source.randint(0, 40)))
+    data = b""
+    for _ in range(source.randint(0, 7)):
+        body = bytes(source.choice([0, 1, 2, 31, 32, 95, 128, 129, 254, 255, source.randrange(256)]) for _ in range(source.randint(0, 9)))
+        command = source.choice([0, 1, 2, 2, 3, 3, 3, 4, 5])
+        count = source.choice([0, 1, 1, 2, 3]) if command > 3 else len(body)
+        data += bytes([command, 0, count]) + (body if command < 4 else b"")
+    return data[:len(data) - source.choice([0, 0, 0, 0, 1, 2, 3, 5])]
+
+
+def test_blocks_by_a_second_decoder():
+    source = random.Random(5)
+    for number in range(1000):
+        width, height = source.randint(1, 9), source.choice([None, None, 1, 2, 5, 9])
+        first = bytes(source.choice([0, 255, source.randrange(256)]) for _ in range(width))
+        data = random_blocks(source)
+        other = other_blocks.Transfer(first, height and height - 1).feed(data)
+        if len(other.laid) > 3000 and number % 30:
+            continue
+        text = b"\x1b*p0x0Y\x1b*t300R\x1b*r%dS" % (8 * width) + (b"\x1b*r%dT" % height if height else b"")
+        text += b"\x1b*r0A\x1b*b0m%dW" % width + first + b"\x1b*b5m%dW" % len(data) + data
+        state = final_state(text, "adaptive")
+        laid = [first, *other.laid]
+        assert state.seed == bytes(other.seed) and state.row_count == min(65535, len(laid)), data.hex()
+        assert state.y == min(75600, 24 * len(laid))
+        lines = {150 + number: sum(1 << 75 + 8 * place + bit for place, byte in enumerate(row) for bit in range(8) if byte << bit & 128)
+                 for number, row in enumerate(laid[:LETTER[1] - 150])}
+        assert state.page.lines == {line: columns for line, columns in lines.items() if columns}, data.hex()
 
 
 # Every shape of the tiles
@@ -803,8 +926,13 @@ def test_failed_reply_after_two_sheets():
 
 # Readings that no example above reaches
 
+def final_state(text, upto):
+    spelled = stream(text) if isinstance(text, str) else text
+    return runs.run_commands(closed(spelled), table.rows_up_to(upto)).engine.state
+
+
 def final(text, name):
-    return runs.run_commands(closed(stream(text))).engine.state.view()[name]
+    return final_state(text, table.BUILT).view()[name]
 
 
 def test_fields_after_commands():
