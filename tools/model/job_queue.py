@@ -107,11 +107,13 @@ class Queue:
         self.entries = [entry for entry in self.entries if entry.status == RUNNING]
 
     def begin(self):
-        """The first waiting entry runs; None where none waits or the queue is held."""
+        """The first waiting entry runs, and where no more may be in flight the first that has begun already; None where there
+        is none or the queue is held."""
         if self.held:
             return None
+        full = self.in_flight() >= MOST_IN_FLIGHT
         for entry in self.entries:
-            if entry.status == WAITING:
+            if entry.status == WAITING and (entry.begun or not full):
                 entry.status = RUNNING
                 entry.begun = True
                 return entry

@@ -4,10 +4,12 @@ import json
 
 from . import json_text, runs, table, ticket, writer
 from .engine import Deliver
-from .job_queue import ABORTED, COMPLETED, Queue, Refused
+from .job_queue import ABORTED, COMPLETED, RUNNING, Queue, Refused
 
 OK, UNKNOWN_TYPE, BAD_MESSAGE, MISSING = 0, 5, 6, 7
 SINK_FAULT = 301
+BAD_ENGINES, NO_ENGINE = 701, 702
+MOST_ENGINES = 4
 DEFAULT_PRIORITY = 50
 
 # The parameters of each type, in their order; those after the bar may be absent.
@@ -40,6 +42,14 @@ ADMITTED = {
 
 class SinkFault(Exception):
     number = SINK_FAULT
+
+
+class BadEngines(Exception):
+    number = BAD_ENGINES
+
+
+class NoEngine(Exception):
+    number = NO_ENGINE
 
 
 class Sink:
@@ -147,7 +157,10 @@ class Press:
     """Without suspension the message that asks for it is of an unknown type. The job of an entry may be any that prints its
     ticket: how many steps it has depends on it. `upto` is the last group of what the press knows."""
 
-    def __init__(self, suspends=True, job_of=plain_job, upto=table.BUILT):
+    def __init__(self, suspends=True, job_of=plain_job, upto=table.BUILT, engines=1):
+        if not 1 <= engines <= MOST_ENGINES:
+            raise BadEngines()
+        self.engines = [None] * engines  # the number of the entry that each runs
         self.queue = Queue()
         self.paused = False
         self.contexts = {}
@@ -166,6 +179,7 @@ class Press:
                 raise Answer(BAD_MESSAGE, kind, message_id, refused.number) from None
         except Answer as answer:
             return compact(answer.fields)
+        self.free_engines()
         return compact({"ReturnCode": OK, "Type": kind, "refID": message_id, **added})
 
     def do(self, kind, message, images):
@@ -175,7 +189,7 @@ class Press:
         if kind == "QueueStatus":
             return {"Queue": self.queue_status()}
         if kind == "Status":
-            return {"Device": self.status()}
+            return self.statuses()
         if kind in ("HoldQueue", "ResumeQueue"):
             self.queue.held = kind == "HoldQueue"
             return {}
@@ -221,25 +235,39 @@ class Press:
                     "Status": entry.status} for entry in self.queue.entries]
         return {"Entries": entries, "Status": self.queue.status()}
 
-    def status(self):
-        running = self.queue.running()
-        status = "Stopped" if self.paused else "Running" if running else "Idle"
-        if running is None:
+    def statuses(self):
+        every = [self.status(engine) for engine in range(len(self.engines))]
+        return {"Device": every[0]} | ({"Engines": every} if len(every) > 1 else {})
+
+    def status(self, engine=0):
+        number = self.engines[engine]
+        status = "Stopped" if self.paused else "Idle" if number is None else "Running"
+        if number is None:
             return {"QueueEntryID": "", "Sheets": 0, "Status": status}
-        return {"QueueEntryID": entry_name(running.number),
-                "Sheets": self.contexts[running.number].delivered, "Status": status}
+        return {"QueueEntryID": entry_name(number), "Sheets": self.contexts[number].delivered, "Status": status}
+
+    def free_engines(self):
+        """An engine whose entry no longer runs has none; when the entry runs again, it may be on another engine."""
+        running = [entry.number for entry in self.queue.entries if entry.status == RUNNING]
+        self.engines = [number if number in running else None for number in self.engines]
 
     def delivered(self, number):
         context = self.contexts.get(number)
         return None if context is None else context.delivered
 
     def turn(self, most, sink):
+        return self.turn_on(0, most, sink)
+
+    def turn_on(self, engine, most, sink):
         """The entry's number (or None) and the steps taken; a fault of the sink goes on to the caller."""
+        if engine >= len(self.engines):
+            raise NoEngine()
         if most == 0 or self.paused:
             return None, 0
-        entry = self.queue.running() or self.queue.begin()
+        entry = self.entry_of(engine) or self.queue.begin()
         if entry is None:
             return None, 0
+        self.engines[engine] = entry.number
         context = self.contexts[entry.number]
         context.begin(self.job_of, table.rows_up_to(self.upto))
         steps = min(most, len(context.items) - context.place)
@@ -247,8 +275,16 @@ class Press:
             self.hand_out(entry, context, item, sink)
         context.place += steps
         if context.place == len(context.items):
-            self.queue.finish(entry, COMPLETED)
+            self.finish(entry, COMPLETED)
         return entry.number, steps
+
+    def entry_of(self, engine):
+        """The entry that an engine runs, or None."""
+        return next((entry for entry in self.queue.entries if entry.number == self.engines[engine]), None)
+
+    def finish(self, entry, status):
+        self.queue.finish(entry, status)
+        self.free_engines()
 
     def hand_out(self, entry, context, item, sink):
         for output in item.outputs:
@@ -256,7 +292,7 @@ class Press:
             try:
                 sink.deliver(entry.number, output.sheet)
             except SinkFault:
-                self.queue.finish(entry, ABORTED)
+                self.finish(entry, ABORTED)
                 raise
             context.delivered += 1
 
@@ -267,6 +303,6 @@ class Press:
         self.paused = False
 
     def abort_running(self):
-        entry = self.queue.running()
-        if entry is not None:
-            self.queue.finish(entry, ABORTED)
+        for entry in self.queue.entries:
+            if entry.status == RUNNING:
+                self.finish(entry, ABORTED)

@@ -1,12 +1,13 @@
 """The lines of the program's press: one event each, and the listing of what was delivered at the end.
 
-A file that cannot be opened or read, or an image that is no P4 file, ends it: status 1, and nothing more is printed.
+A file that cannot be opened or read, an image that is no P4 file, or an engine that there is not, ends it: status 1, and nothing
+more is printed.
 """
 
 from pathlib import Path
 
-from . import pbm
-from .press import Sink, entry_name
+from . import pbm, table
+from .press import BadEngines, NoEngine, Press, Sink, entry_name
 
 READ_FAULT, IMAGE_READ_FAULT = 304, 114
 GREATEST_NUMBER = 2 ** 64 - 1
@@ -52,6 +53,16 @@ def lines_of(script):
     return lines[:-1] if lines[-1] == b"" else lines
 
 
+def played(words, script, folder=".", made=Press, **others):
+    """Status, standard output and standard error of the program with these words behind `press`: none, or `--engines` and a number.
+    And what carried out the lines, or None."""
+    try:
+        lines = Lines(made(engines=int(words[1]) if words else 1, **others), folder)
+    except BadEngines as fault:
+        return (1, b"", b"fault %d\n" % fault.number), None
+    return lines.run(script), lines
+
+
 def shown_turn(entry, steps):
     return "turn %s %d" % ("-" if entry is None else entry_name(entry), steps)
 
@@ -68,14 +79,18 @@ class Lines:
         words = line.split(b" ")
         if words[0] == b"message" and len(words) > 1:
             return self.message(*words[1:])
-        if words[0] == b"turn" and len(words) == 2:
-            most = number_of(words[1])
-            return WHAT if most is None else shown_turn(*self.press.turn(most, self.sink))
+        if words[0] == b"turn" and len(words) in self.lengths_of_turns():
+            most, engine = number_of(words[1]), number_of(words[2]) if len(words) == 3 else 0
+            return WHAT if None in (most, engine) else shown_turn(*self.press.turn_on(engine, most, self.sink))
         operators = {b"pause": self.press.pause, b"continue": self.press.carry_on, b"abort": self.press.abort_running}
         if line not in operators:
             return WHAT
         operators[line]()
         return "ok"
+
+    def lengths_of_turns(self):
+        """How many words the line of a turn has."""
+        return (2, 3) if table.includes(self.press.upto, "engines") else (2,)
 
     def message(self, name, *image_names):
         """Files are read in the order of the words, before the message is judged."""
@@ -102,6 +117,6 @@ class Lines:
         for line in lines_of(script):
             try:
                 printed += self.answer(line) + "\n"
-            except FileFault as fault:
+            except (FileFault, NoEngine) as fault:
                 return 1, printed.encode(), b"fault %d\n" % fault.number
         return 0, (printed + self.listing()).encode(), b""

@@ -1,16 +1,18 @@
 """Random sessions of the press: files of messages and images, and a script of lines.
 
 Most sessions are of any events; some end their jobs by long turns, some fill the queue first, and in some a file is missing or
-is no image, which ends the program.
+is no image, which ends the program. With several engines some begin, suspend and resume as many entries as may be in flight.
 """
 
 import json
 
-from . import table, ticket
+from . import job_queue, table, ticket
 from .pages import SIZES
 
-MIXED, LONG, FULL, FAULTY = "mixed", "long", "full", "faulty"
+MIXED, LONG, FULL, FAULTY, FLIGHT = "mixed", "long", "full", "faulty", "flight"
 ENTRIES_OF_A_FULL_QUEUE = 64
+ENTRIES_TO_BEGIN = 12
+GREATEST_NUMBER = 2 ** 64 - 1
 
 ENTRY_TYPES = ["HoldQueueEntry", "ResumeQueueEntry", "SuspendQueueEntry", "AbortQueueEntry", "RemoveQueueEntry",
                "SetQueueEntryPriority", "SetQueueEntryPosition"]
@@ -52,6 +54,11 @@ NO_EVENTS = [
     b" pause", b"pause now", b"continue\r", b"abort 1", b"message", b"messages m", b"what?", b"status", b"step", b"go 1", b"\xff\xfe",
     b"\x00", b"; pause", b"x" * 3000,
 ]
+# No events of a press with engines either.
+NO_TURNS_OF_ENGINES = [
+    b"turn 1 x", b"turn 1 -1", b"turn 1 +0", b"turn 1 0.0", b"turn 1 0 ", b"turn 1  0", b"turn  1 0", b"turn 1 0 0", b"turn x 0", b"turn -1 0",
+    b"turn 1 18446744073709551616", b"turn 18446744073709551616 0", b"turn 1 \xd9\xa1", b"turn 1 Q1", b"turn 1 0\r", b"engines 2", b"pause 0",
+]
 
 
 def spelled(value):
@@ -77,11 +84,25 @@ class Maker:
         self.submitted = 0
         self.held = ["Q1"]  # entries that were to be held
         self.end = b""
-        self.kind = maker.choices([MIXED, LONG, FULL, FAULTY], [70, 14, 6, 10])[0]
+        self.with_engines = table.includes(upto, "engines")
+        kinds = [MIXED, LONG, FULL, FAULTY] + ([FLIGHT] if self.with_engines else [])
+        self.kind = maker.choices(kinds, [70, 14, 6, 10, 30][:len(kinds)])[0]
+        self.words = self.engine_words() if self.with_engines else []
+        self.engines = int(self.words[1]) if self.words else 1
+        self.flight = Flight(self.engines)
+
+    def engine_words(self):
+        """What stands behind `press`."""
+        if self.kind == FAULTY and self.chance(0.15):
+            return ["--engines", self.pick(["0", "5", "00", "6", "255", "256", "4294967297", "18446744073709551615"])]
+        number = self.pick([1, 2, 2, 2, 3, 3, 4, 4])
+        return [] if number == 1 and self.chance(0.5) else ["--engines", self.pick(["", "", "", "0"]) + str(number)]
 
     def session(self):
         if self.kind == FULL:
             self.fill_queue()
+        if self.kind == FLIGHT:
+            self.submit_many()
         place = self.maker.randrange(self.events) if self.kind == FAULTY else None
         for number in range(self.events):
             self.lines.append(self.faulty_line() if number == place else self.event())
@@ -115,6 +136,8 @@ class Maker:
     # Events
 
     def event(self):
+        if self.kind == FLIGHT and self.chance(0.93):
+            return self.flight_event()
         makers = [self.legal_submission, self.broken_submission, self.entry_command, self.plain_message, self.flush,
                   self.broken_message, self.turn, self.operator, self.no_event]
         weights = [18, 7, 22, 12, 0.6, 9, 22, 6, 4]
@@ -125,16 +148,47 @@ class Maker:
     def turn(self):
         many = str(self.pick(MANY_STEPS))
         words = ["0", "1", "3", "003", many]
-        return b"turn " + self.maker.choices(words, [2, 4, 4, 1, 30 if self.kind == LONG else 8])[0].encode()
+        line = b"turn " + self.maker.choices(words, [2, 4, 4, 1, 30 if self.kind == LONG else 8])[0].encode()
+        return line + (self.engine() if self.with_engines else b"")
+
+    def engine(self):
+        """An engine that there is, or none for the first one."""
+        if self.chance(0.2):
+            return b""
+        return b" " + self.pick([b"", b"", b"", b"0"]) + b"%d" % self.maker.randrange(max(1, min(self.engines, 4)))
+
+    def submit_many(self):
+        text, image = self.submission_text(self.plain_members() | {"Amount": 2}, []), [self.image()]
+        for _ in range(ENTRIES_TO_BEGIN):
+            self.lines.append(self.message(text, image))
+            self.submitted += 1
+            self.flight.submit()
+
+    def flight_event(self):
+        """Short turns, so that no job ends soon, and entries that are likely to be running or suspended."""
+        pick = self.maker.random()
+        if pick < 0.4:
+            return b"turn %d %d" % (self.maker.choices([1, 2, 4], [12, 2, 1])[0], self.flight.turn(self.maker))
+        if pick < 0.9:
+            kind = self.maker.choices(list(Flight.MESSAGES), [30, 12, 2, 6])[0]
+            members = [("QueueEntryID", spelled("Q%d" % self.flight.message(self.maker, kind)))]
+            return self.message(self.text_of(kind, members + ([("Position", "0")] if kind == "SetQueueEntryPosition" else [])))
+        return self.message(self.text_of(self.pick(["QueueStatus", "Status"]), []))
 
     def operator(self):
         return self.maker.choices([b"pause", b"continue", b"abort"], [2, 4, 2])[0]
 
     def no_event(self):
+        if self.with_engines and self.chance(0.4):
+            return self.pick(NO_TURNS_OF_ENGINES)
         return self.pick(NO_EVENTS)
 
     def faulty_line(self):
-        """A message with a file that is missing, cannot be read, or is no image; or with several of these."""
+        """A message with a file that is missing, cannot be read, or is no image; or with several of these. Or an engine that there
+        is not."""
+        if self.with_engines and self.chance(0.4):
+            number = self.pick([self.engines, self.engines, 4, 255, 256, GREATEST_NUMBER])
+            return b"turn %s %d" % (self.pick([b"0", b"1", b"1000000"]), number)
         text = self.file("m", self.submission_text(self.members(), []))
         missing, folder = "none", self.file("d", None)
         wrong = [self.file("i", broken) for broken in BROKEN_IMAGES]
@@ -350,6 +404,40 @@ class Maker:
         height = size.height + self.pick([0, 1, 1])
         width, height = self.pick([(width, 1), (width, 1), (1, height), (1, height), (width, height)])
         return b"P4\n%d %d\n" % (width, height) + bytes((width + 7) // 8 * height)
+
+
+class Flight:
+    """A guess at which entries run, as if no job ended: it only makes it likely that a message fits."""
+
+    MESSAGES = {"SuspendQueueEntry": job_queue.RUNNING, "ResumeQueueEntry": job_queue.SUSPENDED, "AbortQueueEntry": job_queue.RUNNING,
+                "SetQueueEntryPosition": job_queue.WAITING}
+
+    def __init__(self, engines):
+        self.queue = job_queue.Queue()
+        self.engines = [None] * max(1, min(engines, 4))
+
+    def submit(self):
+        self.queue.submit(50)
+
+    def turn(self, maker):
+        """The engine that it names, most of the time one without an entry."""
+        idle = [number for number, entry in enumerate(self.engines) if entry is None or entry.status != job_queue.RUNNING]
+        engine = maker.choice(idle) if idle and maker.random() < 0.7 else maker.randrange(len(self.engines))
+        if engine in idle:
+            self.engines[engine] = self.queue.begin()
+        return engine
+
+    def message(self, maker, kind):
+        """The number of the entry that it names, most of the time one of the status that it takes."""
+        some = [entry.number for entry in self.queue.entries if entry.status == self.MESSAGES[kind]]
+        number = maker.choice(some) if some and maker.random() < 0.9 else maker.randint(1, ENTRIES_TO_BEGIN)
+        calls = {"SuspendQueueEntry": self.queue.suspend, "ResumeQueueEntry": self.queue.resume, "AbortQueueEntry": self.queue.abort,
+                 "SetQueueEntryPosition": lambda moved: self.queue.set_position(moved, 0)}
+        try:
+            calls[kind](number)
+        except job_queue.Refused:
+            pass
+        return number
 
 
 BROKEN_IMAGES = [b"P5\n1 1\n\xff", b"P4 0 1 ", b"P4 16385 1\n", b"P4\n3 1\n", b"", b"P4\n9 2\n\xff\xff\xff", b"P4\n1 x\n", b"P4#"]

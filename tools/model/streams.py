@@ -43,6 +43,7 @@ COMMANDS = {
     "jobs": [],
     "resolution": [],
     "adaptive": [],
+    "engines": [],
 }
 VALUES = {
     "zero": [b"0", b"", b"0", b"-0", b"+.9"],

@@ -5,7 +5,7 @@ the engine runs step by step; else it gives None.
 
 Rows came into the press in groups, named in GROUPS. `rows_up_to` gives the names of the rows of a group and of
 those before it, so that the model can stand for a press that lacks the later ones. BUILT is the last group that the
-program has: where nothing else is asked for, the model stands for that press.
+program has: where nothing else is asked for, the model stands for that press. A group may have no rows.
 """
 
 from typing import Callable, NamedTuple
@@ -24,7 +24,7 @@ STACK_PLACES = 20
 LINES_PER_INCH = [1, 2, 3, 4, 6, 8, 12, 16, 24, 48]
 PAGE_SIZES = {1: "Executive", 2: "Letter", 3: "Legal", 6: "Ledger", 26: "A4", 27: "A3"}
 RASTER_RESOLUTIONS = {300: (75, 100, 150, 300), 600: (75, 100, 150, 200, 300, 600)}  # by that of the engine
-GROUPS = ["boxes", "pages", "raster", "patterns", "macros", "jobs", "resolution", "adaptive"]
+GROUPS = ["boxes", "pages", "raster", "patterns", "macros", "jobs", "resolution", "adaptive", "engines"]
 BUILT = "jobs"
 WITH_TICKETS = GROUPS[GROUPS.index("jobs"):]
 

@@ -13,7 +13,7 @@ from model import (  # noqa: E402
     asm, commands, debug_lines, job_queue, other_blocks, pages, patterns, pbm, press, rows, runs, table, ticket, values, writer)
 from model.commands import (  # noqa: E402
     Broken, Control, Param, PjlLine, Text, Uel, closed, same_commands, split)
-from model.press_lines import Lines  # noqa: E402
+from model.press_lines import played  # noqa: E402
 
 UEL = b"\x1b%-12345X"
 FF = b"\x0c"
@@ -59,9 +59,9 @@ def fronts(text, upto=table.BUILT):
     return [sheet.front.black_dots() for sheet in outcome.sheets]
 
 
-def refused(number, call, *arguments):
+def refused(number, call, *arguments, **named):
     try:
-        call(*arguments)
+        call(*arguments, **named)
     except Exception as fault:  # each module has its own refusals
         assert getattr(fault, "number", None) == number, (number, fault)
         return fault
@@ -872,6 +872,126 @@ def test_eight_in_flight():
         assert at.message(suspend) == answer(0 if number < 8 else 27, "SuspendQueueEntry")
 
 
+def press_of(engines, *counts):
+    """A press with so many engines, and entries of so many pages, two-sided; page n has n dots in its first row."""
+    at = press.Press(engines=engines)
+    for count in counts:
+        images = [(page, ["1" * page]) for page in span(1, count)]
+        assert code(at.message(submission(count, changes={"Sides": "TwoSidedHeadToHead"}), images)) == 0
+    return at
+
+
+def black_counts(sink, number):
+    return [(sheet.front.count_black(), sheet.back and sheet.back.count_black()) for sheet in sink.sheets_of(number)]
+
+
+def statuses(at):
+    queue = press.json.loads(at.message(message("QueueStatus")))["Queue"]
+    return {entry["QueueEntryID"]: entry["Status"] for entry in queue["Entries"]}
+
+
+def test_entries_side_by_side():
+    for turn in span(1, 20):
+        at, sink = press_of(2, 2, 3), press.Sink()
+        assert at.turn_on(0, turn, sink) == (1, turn) and at.turn_on(1, turn, sink) == (2, turn)
+        assert set(statuses(at).values()) == {"Running"}
+        while set(statuses(at).values()) != {"Completed"}:
+            for engine in (0, 1):
+                number, steps = at.turn_on(engine, turn, sink)
+                assert (number, 1 <= steps <= turn) in [(engine + 1, True), (None, False)] and (number or steps == 0)
+        assert black_counts(sink, 1) == [(1, 2)] and black_counts(sink, 2) == [(1, 2), (3, None)]
+        assert at.turn_on(0, turn, sink) == at.turn_on(1, turn, sink) == (None, 0)
+
+
+def test_engines_with_eight_in_flight():
+    at, sink = press_of(2, *[1] * 9), press.Sink()
+    for number in span(1, 7):
+        assert at.turn_on(0, 1, sink) == (number, 1)
+        assert code(at.message(message("SuspendQueueEntry", QueueEntryID="Q%d" % number))) == 0
+    assert at.turn_on(0, 1, sink) == (8, 1)
+    assert at.turn_on(1, 1, sink) == (None, 0)
+    assert at.message(message("SuspendQueueEntry", QueueEntryID="Q8")) == answer(27, "SuspendQueueEntry")
+    # The ninth stands before it in the list, and has not begun.
+    assert code(at.message(message("SetQueueEntryPosition", QueueEntryID="Q9", Position=0))) == 0
+    assert code(at.message(message("ResumeQueueEntry", QueueEntryID="Q3"))) == 0
+    assert at.turn_on(1, 1, sink) == (3, 1)
+    assert (statuses(at)["Q3"], statuses(at)["Q9"]) == ("Running", "Waiting")
+    assert at.turn_on(1, 10 ** 6, sink)[0] == 3 and black_counts(sink, 3) == [(1, None)]
+    assert at.turn_on(1, 1, sink) == (9, 1)
+    for count in (0, 5, 2 ** 64 - 1):
+        refused(701, press.Press, engines=count)
+    for call in [(2, 1), (2, 0), (2 ** 64 - 1, 1)]:
+        refused(702, at.turn_on, *call, sink)
+    at.pause()
+    refused(702, at.turn_on, 2, 1, sink)
+    refused(702, press.Press().turn_on, 1, 1, sink)
+
+
+def shown_engines(at):
+    return at.message(message("Status")).removesuffix(b',"ReturnCode":0,"Type":"Status","refID":"m1"}')
+
+
+def test_states_of_engines():
+    idle, device = b'{"QueueEntryID":"","Sheets":0,"Status":"Idle"}', b'{"QueueEntryID":"Q%d","Sheets":%d,"Status":"%s"}'
+    at, sink = press_of(3, 2, 2, 2), press.Sink()
+    assert shown_engines(at) == b'{"Device":%s,"Engines":[%s,%s,%s]' % (idle, idle, idle, idle)
+    assert at.turn_on(2, 1, sink) == (1, 1)
+    running = device % (1, 0, b"Running")
+    assert shown_engines(at) == b'{"Device":%s,"Engines":[%s,%s,%s]' % (idle, idle, idle, running)
+    assert at.turn(1, sink) == (2, 1)
+    at.pause()
+    stopped = [device % (2, 0, b"Stopped"), idle.replace(b"Idle", b"Stopped"), device % (1, 0, b"Stopped")]
+    assert shown_engines(at) == b'{"Device":%s,"Engines":[%s,%s,%s]' % (stopped[0], *stopped)
+    assert [at.turn_on(engine, 9, sink) for engine in (0, 1, 2)] == [(None, 0)] * 3
+    at.carry_on()
+    # What is suspended goes on with any engine.
+    assert code(at.message(message("SuspendQueueEntry", QueueEntryID="Q1"))) == 0
+    assert code(at.message(message("ResumeQueueEntry", QueueEntryID="Q1"))) == 0
+    assert at.turn_on(1, 2, sink) == (1, 2) and at.turn_on(2, 1, sink) == (3, 1)
+    assert at.engines == [2, 1, 3]
+    # A held queue lets go on what runs, and begins nothing.
+    at.message(message("HoldQueue"))
+    assert at.turn_on(1, 10 ** 6, sink)[0] == 1 and black_counts(sink, 1) == [(1, 2)]
+    assert at.turn_on(1, 1, sink) == (None, 0)
+    at.abort_running()
+    assert statuses(at) == {"Q1": "Completed", "Q2": "Aborted", "Q3": "Aborted"} and at.engines == [None] * 3
+    assert shown_engines(press.Press()) == b'{"Device":%s' % idle
+    # A failed delivery aborts the entry of its engine alone.
+    at, sink = press_of(2, 2, 2), press.Sink(failing=[0])
+    at.turn_on(0, 1, sink), at.turn_on(1, 1, sink)
+    refused(301, at.turn_on, 1, 10 ** 6, sink)
+    assert statuses(at) == {"Q1": "Running", "Q2": "Aborted"} and at.turn_on(1, 1, sink) == (None, 0)
+    assert at.turn_on(0, 10 ** 6, sink)[0] == 1 and black_counts(sink, 1) == [(1, 2)] and sink.sheets_of(2) == []
+
+
+def test_lines_of_engines():
+    files = {"single": submission(), "dot": pbm.bytes_of_rows(["1"])}
+    script = b"message single dot\nmessage single dot\nturn 1 1\nturn 1\nturn 1000 1\nturn 0 0\nturn 1000 0\n"
+    accepted = b'{"QueueEntryID":"Q%d","ReturnCode":0,"Type":"SubmitQueueEntry","refID":"m1"}\n'
+    steps = len(runs.trace(writer.job_of(ticket.ticket_of(press.json.loads(files["single"])["Ticket"]), [IMAGE]), viewed=False))
+    printed = accepted % 1 + accepted % 2 + b"turn Q1 1\nturn Q2 1\nturn Q1 %d\nturn - 0\nturn Q2 %d\n" % (steps - 1, steps - 1)
+    listed = b"".join(b"Q%d sheet 1 front 2550x3300 black 1\n" % number for number in (1, 2))
+    with tempfile.TemporaryDirectory() as place:
+        for name, content in files.items():
+            (Path(place) / name).write_bytes(content)
+
+        def ended(words, lines, upto="engines"):
+            return played(words.split(), lines, place, upto=upto)[0]
+
+        assert ended("--engines 2", script) == (0, printed + listed, b"")
+        for words, lines, told in [
+                ("--engines 2", b"pause\nturn 0 2\npause\n", (1, b"ok\n", b"fault 702\n")), ("", b"turn 1 1", (1, b"", b"fault 702\n")),
+                ("--engines 2", b"turn 1 18446744073709551615", (1, b"", b"fault 702\n")), ("--engines 4", b"turn 1 3", (0, b"turn - 0\n", b"")),
+                ("--engines 1", b"turn 1 0\nturn 007 00", (0, b"turn - 0\nturn - 0\n", b"")), ("--engines 04", b"turn 1 003", (0, b"turn - 0\n", b"")),
+                ("--engines 5", b"pause", (1, b"", b"fault 701\n")), ("--engines 0", b"pause", (1, b"", b"fault 701\n"))]:
+            assert ended(words, lines) == told, (words, lines)
+        for line in [b"turn 1 x", b"turn 1 -1", b"turn 1 ", b"turn 1 0 ", b"turn 1  0", b"turn  0", b"turn 1 0 0", b"turn x 0",
+                     b"turn 1 18446744073709551616", b"turn 18446744073709551616 9"]:
+            assert ended("--engines 2", line) == (0, b"what?\n", b""), line
+        # A press without engines has no such turn.
+        assert ended("", b"turn 1 0\nturn 1 1", "adaptive") == (0, b"what?\n" * 2, b"")
+
+
 def refused_code(number, call, *arguments):
     try:
         call(*arguments)
@@ -889,7 +1009,7 @@ def session(script, files):
                 (Path(place) / name).mkdir()
             else:
                 (Path(place) / name).write_bytes(content)
-        return Lines(press.Press(), place).run(script)
+        return played([], script, place, upto="jobs")[0]
 
 
 def test_lines_of_the_press():

@@ -162,6 +162,15 @@ NEWER = {
         Mistake("write t.json job.prn a.pbm", 613, ("first image a.pbm is 6,601 dots tall", "Letter at 600 dots per inch has room for 6,600"),
                 {"t.json": ticket(b"{", b'{"Resolution":600,'), "a.pbm": b"P4 1 6601\n" + bytes(6601)}),
     ],
+    "engines": [
+        Mistake("press --engines 5", 701, ("--engines asks for 5 engines", "1 to 4 engines")),
+        Mistake("press --engines 0", 701, ("--engines asks for 0 engines",)),
+        Mistake("press --engines two", 2, ("--engines asks for two", "press press [--engines N]")),
+        Mistake("press --engines", 2, ("--engines asks for nothing",)),
+        Mistake("press --engines 2", 702, ("line 2 names engine 2, and the press has 2 engines", "counted from 0"), given=b"pause\nturn 0 2\n"),
+        played(b"turn 5 1\n", "line 1 names engine 1, and the press has 1 engine", number=702),
+        played(b"turn 5 x\n", "line 1 is none of a session", "turn N [ENGINE]"),
+    ],
 }
 MISTAKES = [*WORDS, *FILES, *TEXTS, *TICKETS, *IMAGES, *STREAMS, *SESSIONS, *DEBUGGERS,
             *(mistake for group, some in NEWER.items() if table.includes(table.BUILT, group) for mistake in some)]

@@ -2,10 +2,11 @@
 
 import os
 
+from model.press import BAD_ENGINES, MOST_ENGINES
 from seen import program
 
 from . import debugging, files, images, sessions, streams, texts, tickets, words
-from .finding import Finding, Found
+from .finding import Finding, Found, counted
 
 NOT_MADE, NOT_ASSEMBLED, NOT_WRITTEN = 301, 115, 614
 BAD_TEMPLATE = 121
@@ -79,8 +80,10 @@ def judge_debug(request, chosen):
     yield from debugging.findings(files.read_input("-", "IN"), name, stream, chosen)
 
 
-def judge_press(_request, chosen):
-    yield from sessions.findings(files.read_input("-", "IN"), chosen)
+def judge_press(request, chosen):
+    if not 1 <= request.engines <= MOST_ENGINES:
+        raise Found(BAD_ENGINES, f"--engines asks for {counted(request.engines, 'engine')}", f"A press has 1 to {MOST_ENGINES} engines")
+    yield from sessions.findings(files.read_input("-", "IN"), request.engines, chosen)
 
 
 JUDGES = {"print": judge_print, "asm": judge_asm, "disasm": judge_disasm, "debug": judge_debug,

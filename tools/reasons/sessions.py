@@ -2,14 +2,16 @@
 
 import json
 
-from model import press_lines
-from model.press import PARAMETERS, Press
+from model import press_lines, table
+from model.press import NO_ENGINE, PARAMETERS
 from seen import program
 
 from . import files, images, json_faults, tickets
-from .finding import Finding, Found
+from .finding import Finding, Found, counted
 
-LINES = "A line is message FILE IMG.., turn N, pause, continue or abort, with one space between words"
+ENGINES = table.includes(table.BUILT, "engines")
+LINES = (f"A line is message FILE IMG.., turn N{' [ENGINE]' if ENGINES else ''}, pause, continue or abort, "
+         "with one space between words")
 STATUSES = {
     "HoldQueueEntry": "Waiting", "ResumeQueueEntry": "Held or Suspended", "SuspendQueueEntry": "Running",
     "AbortQueueEntry": "Waiting, Held, Running or Suspended", "RemoveQueueEntry": "Waiting, Held, Completed or Aborted",
@@ -25,9 +27,9 @@ CODES = {
 }
 
 
-def findings(script, chosen=program.PROGRAM):
-    """The findings on the lines of a session, in order; the last one may end it."""
-    answers = answers_of(script, chosen)
+def findings(script, engines, chosen=program.PROGRAM):
+    """The findings on the lines of a session on so many engines, in order; the last one may end it."""
+    answers = answers_of(script, engines, chosen)
     for number, line in enumerate(press_lines.lines_of(script), 1):
         shown = f"line {number}"
         words = line.split(b" ")
@@ -37,6 +39,11 @@ def findings(script, chosen=program.PROGRAM):
             except Found as found:
                 yield found.finding
                 return
+        missing = missing_engine(words, engines)
+        if missing is not None:
+            yield Finding(NO_ENGINE, f"{shown} names engine {missing}, and the press has {counted(engines, 'engine')}",
+                          "Engines are counted from 0; --engines N asks for more of them")
+            return
         answer = next(answers, b"")
         if answer == b"what?":
             yield Finding(None, f"{shown} is none of a session: {line.decode(errors='replace')[:60]!r}", advice_for(line))
@@ -44,11 +51,19 @@ def findings(script, chosen=program.PROGRAM):
             yield from refusals(f"{shown}, {words[1].decode(errors='replace')}", answer, *asked)
 
 
-def answers_of(script, chosen):
+def missing_engine(words, engines):
+    """The engine that a turn names and that there is not, or None."""
+    numbers = [press_lines.number_of(word) for word in words[1:]]
+    turn = ENGINES and words[0] == b"turn" and len(numbers) == 2 and None not in numbers
+    return numbers[1] if turn and numbers[1] >= engines else None
+
+
+def answers_of(script, engines, chosen):
     """The answers of the program where it stands, else of the model."""
+    words = ["--engines", str(engines)] if engines > 1 else []
     if program.stands(chosen):
-        return iter(program.ask(["press"], script, chosen).stdout.split(b"\n"))
-    _, printed, _ = press_lines.Lines(Press()).run(script)
+        return iter(program.ask(["press", *words], script, chosen).stdout.split(b"\n"))
+    (_, printed, _), _ = press_lines.played(words, script)
     return iter(printed.split(b"\n"))
 
 

@@ -3,6 +3,9 @@
 import difflib
 from typing import NamedTuple
 
+from model import table
+from model.press_lines import number_of
+
 from .finding import REFUSED_WORDS, Found
 
 # The words that each subcommand takes, those that may be missing in brackets, and any number more after `..`.
@@ -14,6 +17,7 @@ USAGES = {
     "write": ["TICKET", "OUT", "[IMG..]"],
     "press": [],
 }
+OPTIONS = {"print": "--list"} | ({"press": "--engines N"} if table.includes(table.BUILT, "engines") else {})
 HELP = ("-h", "--help", "help")
 
 
@@ -21,10 +25,11 @@ class Request(NamedTuple):
     what: str
     names: list
     listed: bool = False
+    engines: int = 1
 
 
 def usage(what):
-    words = " ".join(["press", what, *(["[--list]"] if what == "print" else []), *USAGES[what]])
+    words = " ".join(["press", what, *([f"[{OPTIONS[what]}]"] if what in OPTIONS else []), *USAGES[what]])
     return f"Write: {words}"
 
 
@@ -51,8 +56,23 @@ def request_of(words):
     return request_of_rest(what, words[1:])
 
 
+def engines_of(rest):
+    """The number of engines that the words ask for, and the words without it."""
+    for place, word in enumerate(rest):
+        if word == "--":
+            break
+        if word == "--engines" or word.startswith("--engines="):
+            spelled, behind = (word[len("--engines="):], place + 1) if "=" in word else (" ".join(rest[place + 1:place + 2]), place + 2)
+            number = number_of(spelled.encode())
+            if number is None:
+                refuse(f"--engines asks for {spelled or 'nothing'}, and not for a number", usage("press"))
+            return number, rest[:place] + rest[behind:]
+    return 1, rest
+
+
 def request_of_rest(what, rest):
     names, listed, options = [], False, True
+    engines, rest = engines_of(rest) if what == "press" and what in OPTIONS else (1, rest)
     for word in rest:
         if options and word == "--":
             options = False
@@ -66,7 +86,7 @@ def request_of_rest(what, rest):
         else:
             names.append(word)
     check_count(what, names, listed)
-    return Request(what, names, listed)
+    return Request(what, names, listed, engines)
 
 
 def check_count(what, names, listed):
