@@ -1,6 +1,6 @@
 /* A press of a few commands, as a good programmer writes it in an evening, with no proof: scans, decodes, widens by a table, paints
    by words, counts. It reads standard input and prints the listing of `press print --list`. It knows Letter, the four orientations,
-   the cursor in dots, raster rows by methods 0 to 3 at 75 to 300 dots per inch, solid, shaded and user patterns of at most 16 dots and
+   the cursor in dots, raster rows by methods 0 to 3 at 75 to DPI dots per inch (DPI / 4 at least), solid, shaded and user patterns of at most 16 dots and
    lines, cross-hatches, fills and form feeds; every other command is passed over. Pages are kept in the frame, since turning them
    changes no count. */
 #include <stdint.h>
@@ -8,7 +8,10 @@
 #include <stdlib.h>
 #include <string.h>
 
-enum { LONG = 3300, BYTES = LONG / 8 + 32, TOP = 3600, DOT = 24 };
+#ifndef DPI
+#define DPI 300
+#endif
+enum { LONG = 11 * DPI, SHORT = 17 * DPI / 2, BYTES = LONG / 8 + 32, TOP = 3600, DOT = 7200 / DPI };
 static uint8_t page[LONG][BYTES], line_of[16][BYTES];
 static int marked, sheets, orientation;
 static long x, y = 900, left, rows, source_width = -1, source_height = -1;
@@ -19,9 +22,9 @@ static int user_width[256], user_height[256];
 static uint32_t wide[5][256];
 
 static int turned(void) { return orientation & 1; }
-static int frame_width(void) { return turned() ? 3300 : 2550; }
-static int frame_height(void) { return turned() ? 2550 : 3300; }
-static int offset(void) { return turned() ? 60 : 75; }
+static int frame_width(void) { return turned() ? LONG : SHORT; }
+static int frame_height(void) { return turned() ? SHORT : LONG; }
+static int offset(void) { return (turned() ? 60 : 75) * (DPI / 300); }
 static long logical_width(void) { return (frame_width() - 2L * offset()) * DOT; }
 static long clamp(long n, long least, long most) { return n < least ? least : n > most ? most : n; }
 static void place(long to_x, long to_y) {
@@ -105,7 +108,7 @@ static void close_page(void) {
     if (marked)
         for (int line = 0; line < frame_height(); line++)
             for (int at = 0; at < BYTES / 8 * 8; at += 8) black += __builtin_popcountll(load(page[line] + at));
-    printf("sheet %d front 2550x3300 black %ld\n", ++sheets, black);
+    printf("sheet %d front %dx%d black %ld\n", ++sheets, SHORT, LONG, black);
     if (marked) memset(page, 0, sizeof page);
     marked = 0;
 }
@@ -160,7 +163,7 @@ static void transfer(const uint8_t *data, long count) {
     static uint8_t row[8192 + 64], dots[4 * 8192 + 128];
     if (!raster_on) start(0);
     if (source_height >= 0 && rows >= source_height) return;
-    int size = 300 / resolution;
+    int size = DPI / resolution;
     long width = row_width(), bytes = (width + 7) / 8, column = offset() + left / DOT, line = (y + TOP) / DOT;
     decode(row, bytes, data, count);
     memcpy(seed, row, bytes);
@@ -208,7 +211,7 @@ static void command(int group, int family, long value, int signed_value, int let
     case '&' << 16 | 'l' << 8 | 'O': if (value >= 0 && value <= 3) { if (marked) close_page(); orientation = value; raster_off(); place(0, 900); } break;
     case '*' << 16 | 'p' << 8 | 'X': raster_off(); place(signed_value ? x + value * step : value * step, y); break;
     case '*' << 16 | 'p' << 8 | 'Y': raster_off(); place(x, signed_value ? y + value * step : value * step); break;
-    case '*' << 16 | 't' << 8 | 'R': if (!raster_on && (value == 75 || value == 100 || value == 150 || value == 300)) resolution = value; break;
+    case '*' << 16 | 't' << 8 | 'R': if (!raster_on && (value == 75 || value == 100 || value == 150 || value == 300 || (DPI == 600 && (value == 200 || value == 600)))) resolution = value; break;
     case '*' << 16 | 'r' << 8 | 'S': if (!raster_on && value >= 1) source_width = value; break;
     case '*' << 16 | 'r' << 8 | 'T': if (!raster_on && value >= 1) source_height = value; break;
     case '*' << 16 | 'r' << 8 | 'A': if (!raster_on && value >= 0 && value <= 3) start(value & 1 ? x : 0); break;
