@@ -1,5 +1,5 @@
 -- What a job answers.
-use Rattle.std.specs.Prelude.{◌≡◌, ◌≢◌, ◌≤◌, ◌+◌, ℕ, List, [], ◌∷◌, ◌++◌, Option, Some, None, IsSome, Result, Ok, Err, true, false, ◌⊎◌, ⊤, length}
+use Rattle.std.specs.Prelude.{◌≡◌, ◌≢◌, ◌<◌, ◌≤◌, ◌+◌, ℕ, List, [], ◌∷◌, ◌++◌, Option, Some, None, IsSome, Result, Ok, Err, true, false, ◌⊎◌, ⊤, length}
 use Rattle.std.specs.Io.KnownBytes.{Consumes, IsAtEnd}
 use Rattle.press_cmd.specs.Token.{Token, Uel}
 use Rattle.press_cmd.specs.declared.variant.Kind.{Kind}
@@ -111,8 +111,8 @@ IsGoing job (Err errors.ReplyFault) = ⊥
 IsGoing job (Err errors.ReadFault) = ⊥
 IsGoing job (Err errors.NoMemory) = ⊥
 
--- a refusal that comes before anything is read
-abbrev pub IsEarly : Result (Unit {0}) JobError → Type 0
+-- a refusal that comes before anything is read or done
+abbrev pub IsEarly : {X : Type 0} → Result X JobError → Type 0
 IsEarly (Err errors.Failed) = ⊤
 IsEarly (Err errors.AfterEnd) = ⊤
 IsEarly _ = ⊥
@@ -198,6 +198,21 @@ Finishes old tag (Err error) new before after = Faults old [] tag error new befo
 abbrev pub fault_of : {X : Type 0} → Result X JobError → Option JobError
 fault_of (Ok _) = None
 fault_of (Err error) = Some error
+
+-- The sheet sink's count of faults, by the error that was answered: it rose at 301, and else is as it was.
+abbrev pub SheetFaults : Option JobError → (before after : ℕ) → Type 0
+SheetFaults (Some errors.SinkFault) before after = before < after
+SheetFaults error before after = after ≡ before
+
+-- the reply sink's: it rose at 302
+abbrev pub ReplyFaults : Option JobError → (before after : ℕ) → Type 0
+ReplyFaults (Some errors.ReplyFault) before after = before < after
+ReplyFaults error before after = after ≡ before
+
+-- the counts of faults of both sinks
+pub record CountsFaults (error : Option JobError) (before after : Told) : Type 0 where
+  pub sheets : SheetFaults error before.sheets.faults after.sheets.faults
+  pub replies : ReplyFaults error before.replies.faults after.replies.faults
 
 -- These bytes were read of a reader and handed to a job, by what the reader had and what it has left: all that it had, where
 -- there was no error.

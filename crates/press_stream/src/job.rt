@@ -3,7 +3,7 @@
 use crate::carrying::{carry_inner, take};
 use crate::fault::JobError;
 use crate::phase::Phase;
-use crate::reading::{MOST_READS, PIECE, Piece, ReadCount, read_piece};
+use crate::reading::{PIECE, ReadCount, read_next};
 use crate::step::Step;
 use press_engine::{Engine, View};
 use press_scan::Scanner;
@@ -43,14 +43,14 @@ impl Model for Job {
 }
 
 impl Job {
-    ghost use Rattle.std.specs.Prelude.{◌≡◌, ◌≢◌, ◌<◌, ◌≤◌, ◌↔◌, ℕ, List, [], length, take, false, None, IfOk, IfSome, IsTrue, IsSome, IsErrOf};
+    ghost use Rattle.std.specs.Prelude.{◌≡◌, ◌≢◌, ◌<◌, ◌≤◌, ◌↔◌, ℕ, List, [], length, take, false, None, IfOk, IfErr, OnErr, IfSome, IsTrue, IsSome, IsErrOf};
     ghost use Rattle.press_sink.specs.Told.{both, CanCount};
     ghost use Rattle.press_engine.specs.Engine.{view_of};
     ghost use Rattle.press_engine.specs.Machine.{Run};
     ghost use Rattle.press_engine.specs.Stack.{IsReady};
     ghost use Rattle.press_stream.specs.Left.{LeftWith};
     ghost use Rattle.press_stream.specs.State.{opened, with_piece, input_ended, IsHungry, IsOver, IsAfterEnd};
-    ghost use Rattle.press_stream.specs.Answers.{Pushes, IsGoing, IsEarly, Takes, WantsMemory, RunsOut, Drains, ComesToWant, Feeds, Finishes, RunsReader};
+    ghost use Rattle.press_stream.specs.Answers.{Pushes, IsGoing, IsEarly, Takes, WantsMemory, RunsOut, Drains, ComesToWant, Feeds, Finishes, RunsReader, CountsFaults, fault_of};
     ghost use Rattle.press_stream.specs.Pieces.{most_reads, no_reads, HasFault};
 
     /// A job at the beginning of a stream, with an engine after power on.
@@ -76,7 +76,11 @@ impl Job {
     ///
     /// `Failed` (303); `AfterEnd` (305): the end of input was given, and nothing changes. After `NoMemory` the job has failed.
     pub fn push(&mut self, piece: &[u8]) -> Result<(), JobError>
-        ensures { Pushes self.old piece.now result self.new }
+        ensures pushes { Pushes self.old piece.now result self.new }
+        ensures failed { IsErrOf result JobError.Failed ↔ (self.old.machine ≡ None) }
+        ensures unchanged { IsEarly result → self.new ≡ self.old }
+        ensures lost { IfErr result
+            (λ error. error ≢ JobError.AfterEnd → self.new.machine ≡ None) }
     {
         self.check_going()?;
         if self.scanner.feed(piece).is_err() {
@@ -114,6 +118,14 @@ impl Job {
             (both (S.told sheets.old) (P.told replies.old))
             (both (S.told sheets.new) (P.told replies.new)) }
         ensures memory { IsErrOf result JobError.NoMemory → WantsMemory self.old }
+        ensures failed { IsErrOf result JobError.Failed ↔ (self.old.machine ≡ None) }
+        ensures unchanged { IsEarly result → (self.new ≡ self.old)
+            × (both (S.told sheets.new) (P.told replies.new)
+            ≡ both (S.told sheets.old) (P.told replies.old)) }
+        ensures lost { OnErr result (self.new.machine ≡ None) }
+        ensures counts { CountsFaults (fault_of result)
+            (both (S.told sheets.old) (P.told replies.old))
+            (both (S.told sheets.new) (P.told replies.new)) }
     {
         if !self.is_idle() {
             return self.step_inside(tag, sheets, replies);
@@ -209,6 +221,15 @@ impl Job {
             (both (S.told sheets.old) (P.told replies.old))
             (both (S.told sheets.new) (P.told replies.new)) }
         ensures refused { IsAfterEnd self.old → IsErrOf result JobError.AfterEnd }
+        ensures failed { IsErrOf result JobError.Failed ↔ (self.old.machine ≡ None) }
+        ensures unchanged { IsEarly result → (self.new ≡ self.old)
+            × (both (S.told sheets.new) (P.told replies.new)
+            ≡ both (S.told sheets.old) (P.told replies.old)) }
+        ensures lost { IfErr result
+            (λ error. error ≢ JobError.AfterEnd → self.new.machine ≡ None) }
+        ensures counts { CountsFaults (fault_of result)
+            (both (S.told sheets.old) (P.told replies.old))
+            (both (S.told sheets.new) (P.told replies.new)) }
     {
         self.check_going()?;
         self.drain(tag, sheets, replies)?;
@@ -266,6 +287,14 @@ impl Job {
         ensures memory { IsErrOf result JobError.NoMemory
             → ComesToWant (input_ended self.old) tag
             (both (S.told sheets.old) (P.told replies.old)) }
+        ensures failed { IsErrOf result JobError.Failed ↔ (self.old.machine ≡ None) }
+        ensures unchanged { IsEarly result → (self.new ≡ self.old)
+            × (both (S.told sheets.new) (P.told replies.new)
+            ≡ both (S.told sheets.old) (P.told replies.old)) }
+        ensures lost { OnErr result (self.new.machine ≡ None) }
+        ensures counts { CountsFaults (fault_of result)
+            (both (S.told sheets.old) (P.told replies.old))
+            (both (S.told sheets.new) (P.told replies.new)) }
     {
         if matches!(self.phase, Phase::Failed) {
             return Err(JobError::Failed);
@@ -295,6 +324,16 @@ impl Job {
             (both (S.told sheets.old) (P.told replies.old))
             (both (S.told sheets.new) (P.told replies.new)) }
         ensures unread { IsEarly result → reader.new ≡ reader.old }
+        ensures refused { IsAfterEnd self.old → IsErrOf result JobError.AfterEnd }
+        ensures failed { IsErrOf result JobError.Failed ↔ (self.old.machine ≡ None) }
+        ensures unchanged { IsEarly result → (self.new ≡ self.old)
+            × (both (S.told sheets.new) (P.told replies.new)
+            ≡ both (S.told sheets.old) (P.told replies.old)) }
+        ensures lost { IfErr result
+            (λ error. error ≢ JobError.AfterEnd → self.new.machine ≡ None) }
+        ensures counts { CountsFaults (fault_of result)
+            (both (S.told sheets.old) (P.told replies.old))
+            (both (S.told sheets.new) (P.told replies.new)) }
     {
         self.check_going()?;
         let mut count = ReadCount::none();
@@ -378,15 +417,15 @@ impl Job {
     {
         self.drain(tag, sheets, replies)?;
         let mut piece = [0; PIECE];
-        while count.reads < MOST_READS {
-            match read_piece(reader, &mut piece, count) {
-                Piece::Bytes(0) => return self.finish(tag, sheets, replies),
-                Piece::Bytes(length) => self.feed(&piece[..length], tag, sheets, replies)?,
-                Piece::Interrupted => {}
-                Piece::Failed => return Err(self.read_fault()),
+        loop {
+            let Ok(length) = read_next(reader, &mut piece, count) else {
+                return Err(self.read_fault());
+            };
+            if length == 0 {
+                return self.finish(tag, sheets, replies);
             }
+            self.feed(&piece[..length], tag, sheets, replies)?;
         }
-        Err(self.read_fault())
     }
 
     /// The job has failed, since a read failed or there were too many.

@@ -1,0 +1,18 @@
+use Rattle.std.proofs.Common.{◌≡◌, ◌≤◌, ◌-◌, max, length}
+use Rattle.std.specs.Io.KnownBytes.{Keeps}
+use Rattle.press_stream.specs.Pieces.{most_reads}
+use Rattle.press_stream.proofs.reading.read_next.Given as goal
+
+-- nothing was read so far
+abbrev pub invariant-loop-count : goal.invariant-loop-count
+invariant-loop-count g l =
+    record {
+      kept : Keeps (g.R.Read.remaining l.initial.reader) (g.R.Read.remaining l.reader);
+      long : length l.piece ≡ length l.initial.piece;
+      more : l.initial.count.reads ≤ l.count.reads;
+      few : l.count.reads ≤ max l.initial.count.reads most_reads;
+      ended : l.count.ended ≡ l.initial.count.ended;
+    }
+
+abbrev pub decreases-loop-count : goal.decreases-loop-count
+decreases-loop-count g l = most_reads - l.count.reads
