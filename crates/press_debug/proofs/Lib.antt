@@ -1,6 +1,7 @@
 pub mod Tables
 pub mod Taking
 pub mod Faults
+pub mod Refusals
 pub mod Over
 pub mod Going
 pub mod PlaceLaws

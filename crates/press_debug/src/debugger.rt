@@ -40,7 +40,7 @@ pub struct Debugger<F> {
 }
 
 impl<F: Fn(&View<'_>) -> bool + Drop> Debugger<F> {
-    ghost use Rattle.std.specs.Prelude.{◌≤◌, length, slice_get};
+    ghost use Rattle.std.specs.Prelude.{◌≤◌, ◌↔◌, length, slice_get, None};
     ghost use Rattle.std.specs.Fn.{FnReturnsAt};
     ghost use Rattle.press_debug.specs.Breaks.{most_breaks, no_breaks, Sets, Clears};
     ghost use Rattle.press_debug.specs.Steps.{at_start, most_recent};
@@ -68,6 +68,10 @@ impl<F: Fn(&View<'_>) -> bool + Drop> Debugger<F> {
         ensures steps { StopsInto self.old.stepper result self.new.stepper }
         ensures breaks { self.new.breaks ≡ self.old.breaks }
         ensures watch { self.new.watch ≡ self.old.watch }
+        ensures failed { self.old.stepper.job.machine ≡ None → result ≡ Stop.Failed }
+        ensures unchanged { self.old.stepper.job.machine ≡ None
+            → self.new.stepper ≡ self.old.stepper }
+        ensures lost { (result ≡ Stop.Failed) ↔ (self.new.stepper.job.machine ≡ None) }
     {
         match self.stepper.take() {
             Taken::Steps => Stop::Stepped,
@@ -81,6 +85,10 @@ impl<F: Fn(&View<'_>) -> bool + Drop> Debugger<F> {
         ensures steps { StopsOver self.old.stepper result self.new.stepper }
         ensures breaks { self.new.breaks ≡ self.old.breaks }
         ensures watch { self.new.watch ≡ self.old.watch }
+        ensures failed { self.old.stepper.job.machine ≡ None → result ≡ Stop.Failed }
+        ensures unchanged { self.old.stepper.job.machine ≡ None
+            → self.new.stepper ≡ self.old.stepper }
+        ensures lost { (result ≡ Stop.Failed) ↔ (self.new.stepper.job.machine ≡ None) }
     {
         match self.stepper.over() {
             Taken::Steps => Stop::Stepped,
@@ -96,6 +104,10 @@ impl<F: Fn(&View<'_>) -> bool + Drop> Debugger<F> {
             self.old.stepper max result self.new.stepper }
         ensures breaks { self.new.breaks ≡ self.old.breaks }
         ensures watch { self.new.watch ≡ self.old.watch }
+        ensures failed { self.old.stepper.job.machine ≡ None → result ≡ Stop.Failed }
+        ensures unchanged { self.old.stepper.job.machine ≡ None
+            → self.new.stepper ≡ self.old.stepper }
+        ensures lost { (result ≡ Stop.Failed) ↔ (self.new.stepper.job.machine ≡ None) }
     {
         if self.stepper.has_failed() {
             return Stop::Failed;

@@ -54,7 +54,7 @@ impl Model for Stepper {
 
 impl Stepper {
     ghost use Rattle.std.specs.Prelude.{◌≤◌, length, slice_get, IsTrue, IsFalse, IsSome, None, ◌↔◌, []};
-    ghost use Rattle.press_debug.specs.declared.stepper.Taken.TheVariants.{Steps, Nothing};
+    ghost use Rattle.press_debug.specs.declared.stepper.Taken.TheVariants.{Steps, Nothing, Fault};
     ghost use Rattle.press_debug.specs.Steps.{at_start, Advances, TakesOne, TakesOver, IsOutside, IsDeeper, IsBack, Remains, most_recent};
 
     /// A stream of these bytes, of which no step was taken.
@@ -80,6 +80,8 @@ impl Stepper {
         ensures takes { TakesOne self.old result self.new }
         ensures none { result ≡ Nothing → Advances self.old [] self.new }
         ensures outside { result ≡ Nothing → IsOutside self.new.job }
+        ensures failed { self.old.job.machine ≡ None → self.new ≡ self.old }
+        ensures lost { (result ≡ Fault) ↔ (self.new.job.machine ≡ None) }
     {
         what_is_left();
         match self.job.step(0, &mut NoSheets, &mut NoReplies) {
@@ -98,7 +100,9 @@ impl Stepper {
 
     /// Takes steps to the first state of no greater depth.
     pub fn over(&mut self) -> Taken
-        ensures { TakesOver self.old result self.new }
+        ensures takes { TakesOver self.old result self.new }
+        ensures failed { self.old.job.machine ≡ None → self.new ≡ self.old }
+        ensures lost { (result ≡ Fault) ↔ (self.new.job.machine ≡ None) }
     {
         let depth = self.depth();
         let mut taken = self.take();

@@ -2,6 +2,7 @@ use Rattle.std.proofs.Common.{Err, refl, ap, subst}
 use Rattle.press_stream.specs.declared.fault.JobError.{JobError}
 use Rattle.press_debug.specs.Steps.{Standing, MayFail}
 use Rattle.press_debug.proofs.Faults.{no_machine, may_fail}
+use Rattle.press_debug.proofs.Refusals.{unchanged-fault}
 use Rattle.press_debug.proofs.Taking.{IsSound-ran, IsSound-fault, takes_one, takes_none, outside_none}
 use Rattle.press_debug.proofs.stepper.Stepper.take.Goals as goal
 
@@ -35,3 +36,7 @@ returns-in-Err-clause-takes c =
     let job = c.self.inside.job in
     let may = may_fail job 0 c.in-Err.field-0 c.step.new.self _ _ refl (λ is. c.in-Err.ensures.memory (ap (λ (error : JobError). Err error) is)) c.in-Err.ensures.takes in
     (no_machine job 0 c.in-Err.field-0 c.step.new.self _ _ c.in-Err.ensures.takes, subst (λ (standing : Standing). MayFail standing.job) c.self.view_is may)
+
+pub returns-in-Err-clause-failed : goal.returns-in-Err-clause-failed
+returns-in-Err-clause-failed c =
+    unchanged-fault c.self.inside.job c.step.new.self c.self.inside.recent.items c.args.self.now 0 c.in-Err.field-0 _ _ c.self.view_is c.in-Err.ensures.takes
