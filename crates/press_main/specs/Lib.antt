@@ -6,7 +6,6 @@ pub mod EntrySheets
 pub mod EventLines
 pub mod Files
 pub mod Folders
-pub mod Inputs
 pub mod Jobs
 pub mod LineReading
 pub mod Lines

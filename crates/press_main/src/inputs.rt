@@ -1,10 +1,8 @@
 //! Inputs that are read whole.
-ghost use Rattle.std.specs.Prelude.{◌≡◌, ◌<◌, ◌≤◌, ◌⊎◌, true, length, IfOk, OnOk, OnErr};
-ghost use Rattle.press_stream.specs.Pieces.{most_reads};
+ghost use Rattle.std.specs.Prelude.{IfOk};
 ghost use Rattle.press_main.specs.Assembly.{ReadWhole};
-ghost use Rattle.press_main.specs.Inputs.{GivesNext};
 
-use press_stream::{MOST_READS, PIECE, Piece, READ_FAULT, ReadCount, read_piece};
+use press_stream::{PIECE, READ_FAULT, ReadCount, ReadFailed, read_next};
 use press_units::NO_MEMORY;
 use std::alloc::{AllocError, Global};
 use std::io::Read;
@@ -20,6 +18,17 @@ pub enum InputError {
     NoMemory,
 }
 
+impl From<ReadFailed> for InputError {
+    ghost use Rattle.std.specs.Prelude.{◌≡◌};
+    ghost use Rattle.press_main.specs.declared.inputs.InputError.TheVariants.{ReadFault};
+
+    ghost from_gives = { λ _ error. error ≡ ReadFault };
+
+    fn from(_fault: ReadFailed) -> InputError {
+        InputError::ReadFault
+    }
+}
+
 impl From<AllocError> for InputError {
     ghost use Rattle.std.specs.Prelude.{◌≡◌};
     ghost use Rattle.press_main.specs.declared.inputs.InputError.TheVariants.{NoMemory};
@@ -29,33 +38,6 @@ impl From<AllocError> for InputError {
     fn from(_error: AllocError) -> InputError {
         InputError::NoMemory
     }
-}
-
-/// Reads the next piece of an input, at its end none, and counts the reads; one that was interrupted is made again.
-///
-/// # Errors
-///
-/// `ReadFault` (304) where a read failed, or there were more than 4,294,967,295; nothing was read then.
-pub fn read_next<R: Read>(
-    reader: &mut R,
-    piece: &mut [u8],
-    count: &mut ReadCount,
-) -> Result<usize, InputError>
-    requires room { 0 < length piece.old }
-    ensures piece { GivesNext result (R.remaining reader.old) (R.remaining reader.new) piece.new }
-    ensures room { length piece.new ≡ length piece.old }
-    ensures counted { OnOk result (count.old.reads < count.new.reads) }
-    ensures bound { OnOk result (count.new.reads ≤ most_reads) }
-    ensures fault { OnErr result ((count.new.failed ≡ true) ⊎ (most_reads ≤ count.new.reads)) }
-{
-    while count.reads < MOST_READS {
-        match read_piece(reader, piece, count) {
-            Piece::Bytes(length) => return Ok(length),
-            Piece::Interrupted => {}
-            Piece::Failed => return Err(InputError::ReadFault),
-        }
-    }
-    Err(InputError::ReadFault)
 }
 
 /// All that a reader has.

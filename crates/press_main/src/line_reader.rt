@@ -2,9 +2,9 @@
 ghost use Rattle.std.specs.Prelude.{◌≡◌, ◌≤◌, length, position};
 ghost use Rattle.press_asm.specs.Text.{is_feed};
 
-use crate::inputs::{InputError, read_next};
+use crate::inputs::InputError;
 use press_cmd::LINE_FEED;
-use press_stream::{PIECE, ReadCount};
+use press_stream::{PIECE, ReadCount, read_next};
 use std::alloc::{AllocError, Global};
 use std::io::Read;
 
