@@ -13,9 +13,10 @@ WHITE = b"\x1b*p0Y\x1b*r1S\x1b*r0A\x1b*r0C\x0c"
 FULL = b"\x1b*p0Y\x1b*r2400S\x1b*r0A\x1b*b1M\x1b*b4W\xff\xff\x2b\xff\x1b*b3M" + b"\x1b*b0W" * 3299 + b"\x1b*r0C\x0c"
 
 
-def job(*sheets, medium=2, sides=0):
-    """The job of these sheets, one copy of each, with the numbers of medium and sides. A sheet is its front and perhaps its back."""
-    start = b"\x1bE\x1b&l%dA\x1b&l0O\x1b&l%dS\x1b&l0E\x1b*t300R" % (medium, sides)
+def job(*sheets, medium=2, sides=0, resolution=300):
+    """The job of these sheets, one copy of each, with the numbers of medium, sides and resolution. A sheet is its front and perhaps its
+    back."""
+    start = b"@PJL SET RESOLUTION=%d\n\x1bE\x1b&l%dA\x1b&l0O\x1b&l%dS\x1b&l0E\x1b*t%dR" % (resolution, medium, sides, resolution)
     pages = [b"\x1b&l1X" + b"".join(sheet) + (b"\x1b&a1G" if len(sheet) == 1 else b"") for sheet in sheets]
     return EXIT + start + b"".join(pages) + b"\x1bE" + EXIT
 
@@ -59,6 +60,7 @@ MEMBERS = {
     "Media": '"Letter"',
     "Sides": '"TwoSidedHeadToHead"',
     "Collate": "true",
+    "Resolution": "300",
 }
 
 
@@ -104,6 +106,8 @@ CHANGED = [
     ("Collate", ['true,"Zoom":1,"Bleed":2'], "fault 602 key Bleed"),
     ("Collate", ['true,"amount":1,"Zoom":1'], "fault 602 key Zoom"),
     ("Collate", ['0,"Collate":false'], TAKEN),
+    ("Resolution", ['450', '0', '1200', '-300', 'null', '"600"', '600.0', '6e2', '300,"Resolution":200'], "fault 602 key Resolution"),
+    ("Resolution", ['', '600', '450,"Resolution":600'], TAKEN),
 ]
 
 # Texts that are no ticket, or tickets with several changes, and what is told first.
@@ -125,7 +129,9 @@ FIRST = [
     (ticket(RunList="null", Media="null"), "fault 602 key RunList"),
     (ticket(Media="null", Sides="null"), "fault 602 key Media"),
     (ticket(Sides="null", Collate="null"), "fault 602 key Sides"),
+    (ticket(Collate="null", Resolution="null"), "fault 602 key Collate"),
     (ticket(Type='"Folding"', Collate="0"), "fault 602 key Collate"),
+    (ticket(Type='"Folding"', Resolution="0"), "fault 602 key Resolution"),
     (ticket(Type='"Folding"', NPage="0"), "fault 603"),
     (ticket(NPage="0", Amount="0"), "fault 604"),
     (ticket(RunList="[[9,9]]", Amount="0"), "fault 604"),
@@ -145,6 +151,8 @@ PRINTED = [
     ({"Media": '"A4"', "Sides": '"TwoSidedHeadToFoot"'}, job([DOT, LINES], [WHITE], medium=26, sides=2)),
     ({"Sides": '"OneSidedFront"'}, job([DOT], [LINES], [WHITE])),
     ({"Sides": ""}, job([DOT], [LINES], [WHITE])),
+    ({"Sides": "", "Resolution": ""}, job([DOT], [LINES], [WHITE])),
+    ({"Resolution": "600"}, job([DOT, LINES], [WHITE], sides=1, resolution=600)),
     ({"Sides": "", "RunList": ""}, job([DOT], [LINES], [WHITE])),
     ({"Sides": "", "RunList": "[[-1,-1]]"}, job([WHITE])),
     ({"Sides": "", "RunList": "[[0,2]]"}, job([DOT], [LINES], [WHITE])),
@@ -166,6 +174,17 @@ SIZES = [
     ("Letter", "", [(2400, 3300), (1, 1), (1, 1)], "fault 614"),
     ("Letter", "[[2,2],[0,0]]", [(1, 1), (2401, 3301), (1, 1), (9999, 1)], "fault 614"),
 ]
+
+# The same at 600 dots per inch, where the logical page has twice as many dots each way.
+FINE_SIZES = [
+    ("Letter", [(2401, 1), (1, 3301), (4800, 6600)], "fault 614"),
+    ("Letter", [(1, 1), (1, 6601), (4801, 1)], "fault 612"),
+    ("Letter", [(1, 1), (1, 6601), (1, 1)], "fault 613"),
+    ("A4", [(4676, 7014), (1, 1), (1, 1)], "fault 614"),
+    ("A4", [(4677, 1), (1, 1), (1, 1)], "fault 612"),
+    ("A4", [(1, 1), (1, 1), (1, 7015)], "fault 613"),
+]
+
 
 def with_header(length):
     """An image whose header has so many bytes, by a long comment."""
@@ -237,6 +256,8 @@ ROWS += [("write {} no/such", 1, f"{told}\n", text) for text, told in FIRST]
 ROWS += [("write {} /dev/stdout dot lines white", 0, wanted, ticket(**changes)) for changes, wanted in PRINTED]
 ROWS += [("write {} no/such " + " ".join(blank(*size) for size in sizes), 1, f"{told}\n",
           ticket(Media=json.dumps(medium), RunList=pages)) for medium, pages, sizes, told in SIZES]
+ROWS += [("write {} no/such " + " ".join(blank(*size) for size in sizes), 1, f"{told}\n",
+          ticket(Media=json.dumps(medium), Resolution="600")) for medium, sizes, told in FINE_SIZES]
 ROWS += [(f"write {{}} no/such {named(image)}", 1, f"{told}\n", TICKET) for image, told in IMAGES]
 ROWS += [("write {} /dev/stdout full", 0, job([FULL]), TICKET)]
 ROWS += [(f"write {names}", 1, told, b"") for names, told in FILES_IN_ORDER]

@@ -60,5 +60,5 @@ BROKEN_LINES = [
 ]
 
 ROWS = [("press", 0, answer, lines) for lines, answer in LINES]
-ROWS += [("press", 1, f"{SUBMITTED}turn Q1 14\n{fault}", b"message submit dot\nturn 14\n" + line + b"\npause\n")
+ROWS += [("press", 1, f"{SUBMITTED}turn Q1 15\n{fault}", b"message submit dot\nturn 15\n" + line + b"\npause\n")
          for line, fault in BROKEN_LINES]

@@ -101,6 +101,24 @@ BOXES = [
     ("^&f2y0X^&u600D^*p10x0Y^*c4a2b0P^&f1x4X~", [(80, 150, 2, 1)]),
 ]
 
+# The same at 600 dots per inch: a unit of 1/300 inch has two dots, and tiles stay in dots.
+FINE = "^%-12345X@PJL SET RESOLUTION=600|"
+FINE_BOXES = [
+    ("^E^*p0x0Y^*c3a2b0P^E", [(150, 300, 6, 4)]),
+    ("^*t200R^*r1A^*b1W[80]~", [(150, 375, 3, 3)]),
+    ("^&l1O^*p0x0Y^*c3a2b0P~", [(300, 6474, 4, 6)]),
+    ("^&l2O^*p0x0Y^*c3a2b0P~", [(4944, 6296, 6, 4)]),
+    ("^&l3O^*p0x0Y^*c3a2b0P~", [(4796, 120, 4, 6)]),
+    ("^*p2400x3149Y^*c100a100b0P~", [(4950, 6598, 150, 2)]),
+    ("^&u600D^*p1x1Y^*c1a1b0P~", [(151, 301, 1, 1)]),
+    ("^*c50G^*p0x0Y^*c2a1b2P~", [(150, 300, 1, 1), (152, 300, 1, 1), (151, 301, 1, 1), (153, 301, 1, 1)]),
+    ("^*t600R^*r0A^*b1m2W[02F0]~", [(150, 375, 4, 1), (158, 375, 4, 1), (166, 375, 4, 1)]),
+    ("^&l3O^*t600R^*r0A^*b1W[C0]~", [(4724, 120, 1, 2)]),
+    ("^*t300R^*r0A^*b3m2W[00FF]^*b1Y^*b0W^*rC~", [(150, 375, 16, 2)]),
+    ("^*p0x0Y^&f1y0X^*c1a1b0P^*p+2X^&f3x1x3X~", [(150, 300, 2, 2), (154, 300, 2, 2)]),
+    ("^&f2y0X^*c4a1b0P~^&f1x4X~~", [(150, 375, 8, 2)]),
+]
+
 # A user-defined pattern of three by two dots: black, black, white; black, white, white.
 USER = "^*c9G^*c10W[0000010000020003C080]^*v4T"
 
@@ -144,18 +162,20 @@ MODES = [
 
 # A resolution, and how many dots wide and high a black dot of a row is; every other dot of its pattern is black.
 WIDE_DOTS = [(75, 4), (100, 3), (150, 2), (300, 1)]
+FINE_DOTS = [(75, 8), (100, 6), (150, 4), (200, 3), (300, 2), (600, 1)]
 
 WIDTH, HEIGHT = 2550, 3300
 
 
-def page(boxes):
-    """The file of a side of Letter whose dots in these boxes are black."""
-    rows = [bytearray((WIDTH + 7) // 8) for _ in range(HEIGHT)]
+def page(boxes, scale=1):
+    """The file of a side of Letter whose dots in these boxes are black; at so many times 300 dots per inch."""
+    side, lines = scale * WIDTH, scale * HEIGHT
+    rows = [bytearray((side + 7) // 8) for _ in range(lines)]
     for left, top, width, height in boxes:
         for line in range(top, top + height):
             for column in range(left, left + width):
                 rows[line][column // 8] |= 0x80 >> column % 8
-    return b"P4\n%d %d\n" % (WIDTH, HEIGHT) + b"".join(rows)
+    return b"P4\n%d %d\n" % (side, lines) + b"".join(rows)
 
 
 def listing(sheets):
@@ -173,6 +193,13 @@ ROWS += [("print - page-%d.pbm", 0, [page([(75 + place, 150, 1, 1) for place in 
 ROWS += [("print - page-%d.pbm", 0,
           [page([(x, y, 1, 1) for x in range(75, 75 + side) for y in range(187, 187 + side) if x % 2 == y % 2])],
           stream_of(f"^*c50G^*v2T^*t{resolution}R^*r8S^*r0A^*b1W[80]~")) for resolution, side in WIDE_DOTS]
+ROWS += [("print - page-%d.pbm", 0, [page(boxes, scale=2), ...], stream_of(FINE + stream)) for stream, boxes in FINE_BOXES]
+ROWS += [("print - page-%d.pbm", 0,
+          [page([(x, y, 1, 1) for x in range(150, 150 + side) for y in range(375, 375 + side) if x % 2 == y % 2], scale=2)],
+          stream_of(f"{FINE}^*c50G^*v2T^*t{resolution}R^*r8S^*r0A^*b1W[80]~")) for resolution, side in FINE_DOTS]
+# a page with a mark, and a front that waits, go out at the resolution that held
+ROWS += [("print - page-%d.pbm", 0, [page([(75, 187, 3, 2)]), page([], scale=2)], stream_of(f"^*c3a2b0P{FINE}~"))]
+ROWS += [("print - page-%d.pbm", 0, [page([(75, 187, 3, 2)]), page([], scale=2)], stream_of(f"^&l1S^*c3a2b0P~{FINE}~"))]
 # in duplex: a front with a box, a white back, and a white front alone
 ROWS += [("print - page-%d.pbm", 0, [page([(75, 150, 3, 2)]), page([]), page([])], stream_of("^&l1S^*p0x0Y^*c3a2b0P~~~"))]
 

@@ -77,7 +77,7 @@ WAYS = [
     ("Held", [entry("HoldQueueEntry", 1, 0)], []),
     ("Running", [turn(1, "Q1", 1)], []),
     ("Suspended", [turn(1, "Q1", 1), entry("SuspendQueueEntry", 1, 0)], []),
-    ("Completed", [turn(ALL, "Q1", 18)], [SHEET]),
+    ("Completed", [turn(ALL, "Q1", 19)], [SHEET]),
     ("Aborted", [entry("AbortQueueEntry", 1, 0)], []),
 ]
 
@@ -175,7 +175,7 @@ SESSIONS += [
             entry("SetQueueEntryPosition", 3, 0, Position=0), waiting([3, 2, 6, 4, 1, 5], SIX | {5: 50, 4: 60}),
             entry("SetQueueEntryPosition", 2, 0, Position=5), waiting([3, 6, 4, 1, 5, 2], SIX | {5: 50, 4: 60})),
     # a new entry stands before one of lower priority, although that has ended
-    session(submit(1), turn(ALL, "Q1", 18), submit(2, 40), entry("AbortQueueEntry", 2, 0), submit(3, 30), submit(4, 60), submit(5),
+    session(submit(1), turn(ALL, "Q1", 19), submit(2, 40), entry("AbortQueueEntry", 2, 0), submit(3, 30), submit(4, 60), submit(5),
             queue("Waiting", (4, "Waiting", 60), (1, "Completed", 50), (5, "Waiting", 50), (2, "Aborted", 40), (3, "Waiting", 30)),
             entry("SetQueueEntryPosition", 3, 26, Position=5), entry("SetQueueEntryPosition", 4, 0, Position=4),
             queue("Waiting", (1, "Completed", 50), (5, "Waiting", 50), (2, "Aborted", 40), (3, "Waiting", 30), (4, "Waiting", 60)),
@@ -194,8 +194,8 @@ SESSIONS += [
     session(submit(1), ask("HoldQueue", 0), turn(1, "-", 0), ask("ResumeQueue", 0), turn(1, "Q1", 1), ask("HoldQueue", 0),
             turn(2, "Q1", 2), device("Running", "Q1")),
     # what is suspended goes on where it stood, behind what ran meanwhile; a flush takes it off the list
-    session(submit(1), turn(13, "Q1", 13), entry("SuspendQueueEntry", 1, 0), entry("SuspendQueueEntry", 1, 22), turn(1, "-", 0),
-            device("Idle"), submit(2), turn(ALL, "Q2", 18), entry("ResumeQueueEntry", 1, 0), turn(1, "Q1", 1),
+    session(submit(1), turn(14, "Q1", 14), entry("SuspendQueueEntry", 1, 0), entry("SuspendQueueEntry", 1, 22), turn(1, "-", 0),
+            device("Idle"), submit(2), turn(ALL, "Q2", 19), entry("ResumeQueueEntry", 1, 0), turn(1, "Q1", 1),
             device("Running", "Q1", 1), entry("SuspendQueueEntry", 1, 0), ask("HoldQueue", 0), entry("ResumeQueueEntry", 1, 0), turn(1, "-", 0),
             ask("ResumeQueue", 0), turn(ALL, "Q1", 4), submit(3), turn(1, "Q3", 1), entry("SuspendQueueEntry", 3, 0), ask("FlushQueue", 0),
             queue("Waiting"), sheets=["Q2 sheet 1 front 2550x3300 black 1", SHEET]),
@@ -206,23 +206,23 @@ SESSIONS += [
             queue("Running", *((number, "Suspended", 50) for number in range(1, 8)), (8, "Running", 50)),
             entry("AbortQueueEntry", 3, 0), entry("SuspendQueueEntry", 8, 0)),
     # a paused device is stopped, and what runs is aborted at once
-    session(submit(1), turn(14, "Q1", 14), operator("pause"), device("Stopped", "Q1", 1), turn(1, "-", 0), operator("abort"),
+    session(submit(1), turn(15, "Q1", 15), operator("pause"), device("Stopped", "Q1", 1), turn(1, "-", 0), operator("abort"),
             device("Stopped"), operator("continue"), device("Idle"), queue("Waiting", (1, "Aborted", 50)), sheets=[SHEET]),
     # the entry of higher priority is printed first, and the one that is aborted behind its first sheet prints no more
-    session(submit(1), turn(13, "Q1", 13), submit(2, 51, ticket(NPage="2", Sides=""), ["bar", "dot"]), turn(1, "Q1", 1), turn(9, "Q1", 4),
-            submit(3), turn(14, "Q2", 14), operator("abort"), turn(9, "Q3", 9), turn(100, "Q3", 9), turn(1, "-", 0),
+    session(submit(1), turn(14, "Q1", 14), submit(2, 51, ticket(NPage="2", Sides=""), ["bar", "dot"]), turn(1, "Q1", 1), turn(9, "Q1", 4),
+            submit(3), turn(15, "Q2", 15), operator("abort"), turn(9, "Q3", 9), turn(100, "Q3", 10), turn(1, "-", 0),
             sheets=[SHEET, "Q2 sheet 1 front 2550x3300 black 3", "Q3 sheet 1 front 2550x3300 black 1"]),
 ]
 
-# Changes of a ticket of three pages on both sides, how many commands its job has (10 around the sheets; 6, 9 and 6 for the pages; 1
+# Changes of a ticket of three pages on both sides, how many commands its job has (11 around the sheets; 6, 9 and 6 for the pages; 1
 # for a sheet, and 1 more where it has no back), and the black dots of each side that it prints with images of 1, 16 and 3 of them.
 SETS = [
-    ({"Sides": ""}, 37, [(1,), (16,), (3,)]),
-    ({"Amount": "2"}, 58, [(1, 16), (3,), (1, 16), (3,)]),
-    ({"Amount": "2", "Collate": "false"}, 34, [(1, 16), (1, 16), (3,), (3,)]),
-    ({"Amount": "2", "RunList": "[[-1,-1]]"}, 18, [(3,), (3,)]),
-    ({"RunList": "[[-1,0],[1,1]]", "Sides": '"TwoSidedHeadToFoot"'}, 42, [(3, 16), (1, 16)]),
-    ({"Amount": "2", "Collate": "false", "Sides": ""}, 37, [(1,), (1,), (16,), (16,), (3,), (3,)]),
+    ({"Sides": ""}, 38, [(1,), (16,), (3,)]),
+    ({"Amount": "2"}, 59, [(1, 16), (3,), (1, 16), (3,)]),
+    ({"Amount": "2", "Collate": "false"}, 35, [(1, 16), (1, 16), (3,), (3,)]),
+    ({"Amount": "2", "RunList": "[[-1,-1]]"}, 19, [(3,), (3,)]),
+    ({"RunList": "[[-1,0],[1,1]]", "Sides": '"TwoSidedHeadToFoot"'}, 43, [(3, 16), (1, 16)]),
+    ({"Amount": "2", "Collate": "false", "Sides": ""}, 38, [(1,), (1,), (16,), (16,), (3,), (3,)]),
 ]
 SESSIONS += [session(submit(1, text=ticket(**changes), images=("dot", "lines", "bar")), turn(ALL, "Q1", commands),
                      sheets=[f"Q1 sheet {number} {side} 2550x3300 black {black}" for number, sides in enumerate(sheets, 1)

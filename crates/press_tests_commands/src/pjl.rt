@@ -50,12 +50,13 @@ fn take(
 #[test]
 fn the_engine_reads_the_current_values(rt: HostRuntime) -> Result<(), Fail> {
     let mut env = PjlEnv::power_on();
-    let lines: [&[u8]; 5] = [
+    let lines: [&[u8]; 6] = [
         b"@PJL SET COPIES=3\n",
         b"@PJL SET PAPER=A3\n",
         b"@PJL SET ORIENTATION=LANDSCAPE\n",
         b"@PJL SET DUPLEX=ON\n",
         b"@PJL SET BINDING=SHORTEDGE\n",
+        b"@PJL SET RESOLUTION=600\n",
     ];
     for line in &lines {
         take(&rt, &mut env, *line, Resets)?;
@@ -66,7 +67,7 @@ fn the_engine_reads_the_current_values(rt: HostRuntime) -> Result<(), Fail> {
         orientation: Orientation::Landscape,
         duplex: true,
         binding: Binding::ShortEdge,
-        resolution: Resolution::Dpi300,
+        resolution: Resolution::Dpi600,
     };
     assert!(rt; env.current == wanted);
     assert!(rt; env.default == Defaults::factory());
@@ -76,6 +77,7 @@ fn the_engine_reads_the_current_values(rt: HostRuntime) -> Result<(), Fail> {
         page.media.size == PageSize::A3 && page.media.orientation == Orientation::Landscape
     );
     assert!(rt; page.media.duplex && page.media.binding == Binding::ShortEdge);
+    assert_eq!(rt; page.media.resolution, Resolution::Dpi600);
     Ok(())
 }
 

@@ -100,8 +100,8 @@ fn with_a_break(rt: &impl Abort, alloc: Global, before: u64, steps: u64) -> Resu
 #[test]
 fn a_suspended_entry_goes_on_where_it_stood(rt: HostRuntime) -> Result<(), Fail> {
     let steps = steps_of_a_pair(rt.alloc())?;
-    // Ten around the sheets, six for each page, and one for a sheet.
-    assert_eq!(rt; steps, 23);
+    // Eleven around the sheets, six for each page, and one for a sheet.
+    assert_eq!(rt; steps, 24);
     for before in 1..steps {
         with_a_break(&rt, rt.alloc(), before, steps)?;
     }

@@ -47,7 +47,8 @@ fn a_failed_write_is_told(rt: HostRuntime) -> Result<(), Fail> {
 }
 
 /// What stands before the first page of a job on both sides of Letter.
-const HEAD: &[u8] = b"\x1B%-12345X\x1BE\x1B&l2A\x1B&l0O\x1B&l1S\x1B&l0E\x1B*t300R";
+const HEAD: &[u8] =
+    b"\x1B%-12345X@PJL SET RESOLUTION=300\n\x1BE\x1B&l2A\x1B&l0O\x1B&l1S\x1B&l0E\x1B*t300R";
 
 #[test]
 fn a_job_comes_in_pieces(rt: HostRuntime) -> Result<(), Fail> {
@@ -97,25 +98,40 @@ fn faults_of_streams_are_told_by_their_numbers(rt: HostRuntime) -> Result<(), Fa
     Ok(())
 }
 
-/// Whether a side is that of an image of one dot on Letter, whose logical page begins 75 dots from the left edge.
-fn has_its_dot(side: &Bitmap) -> bool {
-    (side.width(), side.height()) == (2550, 3300) && side.count_black() == 1 && side.get(75, 0)
+/// The same at 600 dots per inch.
+const FINE_TICKET: &[u8] = br#"{"Amount":2,"JobID":"J","NPage":3,"Resolution":600,
+"Sides":"TwoSidedHeadToHead","Type":"DigitalPrinting","Version":"1.5"}"#;
+
+/// A side of Letter: its width and height, and where its logical page begins.
+type Side = (u32, u32, u32);
+
+/// Whether a side is that of an image of one dot.
+fn has_its_dot(side: &Bitmap, (width, height, offset): Side) -> bool {
+    (side.width(), side.height()) == (width, height)
+        && side.count_black() == 1
+        && side.get(offset, 0)
 }
 
 /// A sheet with three pages in two sets has a back where its number, from 0, is even.
-fn expect_dots(rt: &impl Abort, number: usize, sheet: &Sheet) {
-    assert!(rt; has_its_dot(&sheet.front));
-    let back = sheet.back.as_ref().map(has_its_dot);
+fn expect_dots(rt: &impl Abort, number: usize, sheet: &Sheet, side: Side) {
+    assert!(rt; has_its_dot(&sheet.front, side));
+    let back = sheet.back.as_ref().map(|back| has_its_dot(back, side));
     assert_eq!(rt; back, if number % 2 == 0 { Some(true) } else { None });
 }
 
 #[test]
 fn dots_lie_at_the_corner_of_the_logical_page(rt: HostRuntime) -> Result<(), Fail> {
-    let printed = print_ticket(rt.alloc(), TICKET, &dots(rt.alloc())?, 1)?;
-    assert!(rt; printed.replies.bytes().is_empty());
-    assert_eq!(rt; printed.sheets.deliveries().len(), 4);
-    for (number, delivery) in printed.sheets.deliveries().iter().enumerate() {
-        expect_dots(&rt, number, &delivery.sheet);
+    let tickets: [(&[u8], Side); 2] = [
+        (TICKET, (2550, 3300, 75)),
+        (FINE_TICKET, (5100, 6600, 150)),
+    ];
+    for (ticket, side) in tickets {
+        let printed = print_ticket(rt.alloc(), ticket, &dots(rt.alloc())?, 1)?;
+        assert!(rt; printed.replies.bytes().is_empty());
+        assert_eq!(rt; printed.sheets.deliveries().len(), 4);
+        for (number, delivery) in printed.sheets.deliveries().iter().enumerate() {
+            expect_dots(&rt, number, &delivery.sheet, side);
+        }
     }
     Ok(())
 }

@@ -10,7 +10,8 @@ const TICKET: &[u8] =
     br#"{"Amount":1,"JobID":"J","NPage":1,"Type":"DigitalPrinting","Version":"1.5"}"#;
 
 /// The job of the ticket, and a black dot.
-const ONE_DOT: &[u8] = b"\x1b%-12345X\x1bE\x1b&l2A\x1b&l0O\x1b&l0S\x1b&l0E\x1b*t300R\
+const ONE_DOT: &[u8] =
+    b"\x1b%-12345X@PJL SET RESOLUTION=300\n\x1bE\x1b&l2A\x1b&l0O\x1b&l0S\x1b&l0E\x1b*t300R\
     \x1b&l1X\x1b*p0Y\x1b*r1S\x1b*r0A\x1b*b1W\x80\x1b*r0C\x0c\x1b&a1G\x1bE\x1b%-12345X";
 
 /// Inputs that all have the same bytes, and tell them.

@@ -37,13 +37,13 @@ const SUBMIT_PAIR: &[u8] = br#"{"ID":"b","Type":"SubmitQueueEntry","Priority":51
 /// A session with two entries. The second is printed first, and stopped behind its first sheet.
 const SESSION: &str = "\
 message submit dot
-turn 13
+turn 14
 message submit-pair bar dot
 turn 1
 turn 9
 abort
 message submit dot
-turn 14
+turn 15
 abort
 pause
 turn 1
@@ -54,19 +54,19 @@ turn 1";
 
 const ANSWERS: &str = "\
 {\"QueueEntryID\":\"Q1\",\"ReturnCode\":0,\"Type\":\"SubmitQueueEntry\",\"refID\":\"a\"}
-turn Q1 13
+turn Q1 14
 {\"QueueEntryID\":\"Q2\",\"ReturnCode\":0,\"Type\":\"SubmitQueueEntry\",\"refID\":\"b\"}
 turn Q1 1
 turn Q1 4
 ok
 {\"QueueEntryID\":\"Q3\",\"ReturnCode\":0,\"Type\":\"SubmitQueueEntry\",\"refID\":\"a\"}
-turn Q2 14
+turn Q2 15
 ok
 ok
 turn - 0
 ok
 turn Q3 9
-turn Q3 9
+turn Q3 10
 turn - 0
 Q1 sheet 1 front 2550x3300 black 1
 Q2 sheet 1 front 2550x3300 black 3

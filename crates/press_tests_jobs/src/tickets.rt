@@ -1,13 +1,14 @@
 //! Job tickets: what one shows, and the library's names and texts.
 use press_ticket::{Key, Media, PageRange, Sides, Ticket, TicketError, read_ticket, ticket_of};
+use press_units::Resolution;
 use serde_json::Value;
 use std::process::Abort;
 use std::test::Fail;
 
-/// Three pages, twice.
+/// Three pages, twice, at 600 dots per inch.
 const TICKET: &[u8] =
-    br#"{"Amount":2,"JobID":"J","NPage":3,"RunList":[[0,-1],[1,0]],"Sides":"TwoSidedHeadToHead",
-"Type":"DigitalPrinting","Version":"1.5"}"#;
+    br#"{"Amount":2,"JobID":"J","NPage":3,"Resolution":600,"RunList":[[0,-1],[1,0]],
+"Sides":"TwoSidedHeadToHead","Type":"DigitalPrinting","Version":"1.5"}"#;
 
 /// Each value of the ticket.
 fn expect_values(rt: &impl Abort, ticket: &Ticket) {
@@ -23,6 +24,7 @@ fn expect_values(rt: &impl Abort, ticket: &Ticket) {
         (Media::Letter, Sides::TwoSidedHeadToHead)
     );
     assert!(rt; ticket.is_collated());
+    assert_eq!(rt; ticket.resolution(), Resolution::Dpi600);
 }
 
 #[test]

@@ -87,13 +87,13 @@ fn taken_before(sheets: u64) -> (u64, u64) {
 }
 
 /// Where the sink fails once, after so many sheets, the entry that is printed then is aborted, and the other is printed whole.
-/// Each takes sixteen commands, none for a white row, and the exit that is added.
+/// Each takes seventeen commands, none for a white row, and the exit that is added.
 fn expect_a_fault_after(rt: &(impl Abort + AllocGlobal), sheets: u64) -> Result<(), Fail> {
     let mut press = press_of_two(rt.alloc())?;
     let mut sink = FuseSink::new(ListSink::new(rt.alloc()), sheets);
     let (first, second) = taken_before(sheets);
-    expect_turn(rt, &mut press, &mut sink, first < 3, (Some(1), 17));
-    expect_turn(rt, &mut press, &mut sink, second < 3, (Some(2), 17));
+    expect_turn(rt, &mut press, &mut sink, first < 3, (Some(1), 18));
+    expect_turn(rt, &mut press, &mut sink, second < 3, (Some(2), 18));
     expect_turn(rt, &mut press, &mut sink, false, (None, 0));
     assert_eq!(rt; press.delivered(1), Some(first));
     assert_eq!(rt; press.delivered(2), Some(second));

@@ -18,7 +18,6 @@ fn on_line(line: u16) -> RowPlace {
     let environment = PageEnv::reset_from(&Defaults::factory());
     RowPlace {
         environment,
-        resolution: Resolution::Dpi300,
         y: 24 * i64::from(line) - i64::from(environment.margins.top),
     }
 }
@@ -31,7 +30,7 @@ fn value(rt: &impl Abort, field: &[u8]) -> Value {
 /// Settings by the values of the resolution, the source width and the method.
 fn settings(rt: &impl Abort, resolution: &[u8], width: &[u8], method: &[u8]) -> RasterSettings {
     let mut settings = RasterSettings::initial();
-    settings.set_resolution(value(rt, resolution));
+    settings.set_resolution(Resolution::Dpi300, value(rt, resolution));
     settings.set_source_width(value(rt, width));
     settings.set_method(value(rt, method));
     settings
@@ -178,7 +177,7 @@ fn a_row_without_a_source_width_ends_at_the_edge_of_the_logical_page(
     assert_eq!(rt; settings.resolution, RasterResolution::Dpi75);
     assert_eq!(rt; settings.resolution.row_height(), 96);
     assert_eq!(rt; settings.method, Method::Unencoded);
-    settings.set_resolution(value(&rt, b"300"));
+    settings.set_resolution(Resolution::Dpi300, value(&rt, b"300"));
     for (left, count) in cases {
         assert_eq!(rt; black_dots(&rt, left, settings)?, count);
     }

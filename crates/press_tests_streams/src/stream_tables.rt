@@ -32,10 +32,10 @@ pub enum Shows {
 pub const TABLES: [(Shows, usize, &str); 9] = [
     (Shows::Position, 84, MOVES),
     (Shows::Stack, 4, STACK),
-    (Shows::Margins, 74, MARGINS),
+    (Shows::Margins, 75, MARGINS),
     (Shows::Copies, 18, COPIES),
     (Shows::Closes, 55, CLOSES),
-    (Shows::Raster, 44, RASTER),
+    (Shows::Raster, 49, RASTER),
     (Shows::Drawing, 30, DRAWING),
     (Shows::Macros, 23, DEFINITIONS),
     (Shows::Runs, 28, RUNS),
@@ -136,6 +136,7 @@ const STACK: &str = "\
 const MARGINS: &str = "\
 ^&a10L 7200 57600 3600 72000 7200 900
  0 57600 3600 72000 0 900
+^%-12345X@PJL\tSET\tRESOLUTION=600| 0 57600 3600 72000 0 900
 ^&a79.9L 57528 57600 3600 72000 57528 900
 ^&a80L 0 57600 3600 72000 0 900
 ^&a-1L 0 57600 3600 72000 0 900
@@ -328,6 +329,11 @@ const RASTER: &str = "\
 ^*t300R^*r1A^*b1W[80] 0 1 0 924
 ^*r1A^*t300R^*b1W[80] 0 1 0 996
 ^*t200R^*b1W[80] 0 1 0 996
+^*t600R^*b1W[80] 0 1 0 996
+^%-12345X@PJL\tSET\tRESOLUTION=600|^*b1W[80] 0 1 0 996
+^%-12345X@PJL\tSET\tRESOLUTION=600|^*t200R^*b1W[80] 0 1 0 936
+^%-12345X@PJL\tSET\tRESOLUTION=600|^*t600R^*b1W[80] 0 1 0 912
+^%-12345X@PJL\tSET\tRESOLUTION=600|^*t600R^%-12345X@PJL\tRESET|^*b1W[80] 0 1 0 996
 ^*r2T^*r1A^*b1W[80]^*b1W[80]^*b1W[80] 0 2 0 1092
 ^*r1T^*r1A^*b1W[80]^*b1Y 0 2 0 1092
 ^*r1A^*c1a1b0P 0 0 0 900";
