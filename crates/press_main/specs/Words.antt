@@ -37,26 +37,26 @@ abbrev pub needed_rule : Text → Rule
 needed_rule id = record (new_rule id) { required = true }
 
 abbrev pub print_app : App
-print_app = with_rule (with_rule (with_rule (new_app (codes "print")) list_rule) (needed_rule (codes "in"))) (new_rule (codes "out"))
+print_app = with_rule (with_rule (with_rule (new_app (codes "print")) list_rule) (needed_rule (codes "IN"))) (new_rule (codes "OUT"))
 
 -- The words of `asm`: the input and the output.
 abbrev pub asm_app : App
-asm_app = with_rule (with_rule (new_app (codes "asm")) (needed_rule (codes "in"))) (needed_rule (codes "out"))
+asm_app = with_rule (with_rule (new_app (codes "asm")) (needed_rule (codes "IN"))) (needed_rule (codes "OUT"))
 
 -- The word of `disasm`: the input.
 abbrev pub disasm_app : App
-disasm_app = with_rule (new_app (codes "disasm")) (needed_rule (codes "in"))
+disasm_app = with_rule (new_app (codes "disasm")) (needed_rule (codes "IN"))
 
 -- The word of `debug`: the input.
 abbrev pub debug_app : App
-debug_app = with_rule (new_app (codes "debug")) (needed_rule (codes "in"))
+debug_app = with_rule (new_app (codes "debug")) (needed_rule (codes "IN"))
 
 -- The words of `write`: the ticket, the output, and any number of images.
 abbrev pub images_rule : Rule
-images_rule = record (new_rule (codes "images")) { action = Some Append }
+images_rule = record (new_rule (codes "IMG")) { action = Some Append }
 
 abbrev pub write_app : App
-write_app = with_rule (with_rule (with_rule (new_app (codes "write")) (needed_rule (codes "ticket"))) (needed_rule (codes "out"))) images_rule
+write_app = with_rule (with_rule (with_rule (new_app (codes "write")) (needed_rule (codes "TICKET"))) (needed_rule (codes "OUT"))) images_rule
 
 -- `press` has no words.
 abbrev pub session_app : App
@@ -78,35 +78,35 @@ source_of name = if bytes_eq name (codes "-") then Standard else FileNamed name
 
 -- with the flag a listing, whatever the template; without it there has to be a template
 abbrev pub made_of : List Row → Option Made
-made_of rows = if is_set (codes "list") rows then Some Listed else option_map FilesBy (first_of (codes "out") rows)
+made_of rows = if is_set (codes "list") rows then Some Listed else option_map FilesBy (first_of (codes "OUT") rows)
 
 -- the images that `write` names, in the order of the words
 abbrev pub images_of : List Row → List Text
-images_of rows = unwrap_or (all_of (codes "images") rows) []
+images_of rows = unwrap_or (all_of (codes "IMG") rows) []
 
 -- what the values of the words of `write` ask for: the ticket is a file, whatever its name
 abbrev pub job_asked : List Row → Option Asked
 job_asked rows =
-    option_and_then (λ ticket. option_map (λ name. record { source = FileNamed ticket; made = JobTo name (images_of rows) }) (first_of (codes "out") rows)) (first_of (codes "ticket") rows)
+    option_and_then (λ ticket. option_map (λ name. record { source = FileNamed ticket; made = JobTo name (images_of rows) }) (first_of (codes "OUT") rows)) (first_of (codes "TICKET") rows)
 
 -- what the values of the words of `print`, of `asm` and of `disasm` ask for
 abbrev pub print_asked : List Row → Option Asked
 print_asked rows =
-    option_and_then (λ name. option_map (λ made. record { source = source_of name; made = made }) (made_of rows)) (first_of (codes "in") rows)
+    option_and_then (λ name. option_map (λ made. record { source = source_of name; made = made }) (made_of rows)) (first_of (codes "IN") rows)
 
 abbrev pub asm_asked : List Row → Option Asked
 asm_asked rows =
-    option_and_then (λ name. option_map (λ made. record { source = source_of name; made = StreamTo made }) (first_of (codes "out") rows)) (first_of (codes "in") rows)
+    option_and_then (λ name. option_map (λ made. record { source = source_of name; made = StreamTo made }) (first_of (codes "OUT") rows)) (first_of (codes "IN") rows)
 
 abbrev pub disasm_asked : List Row → Option Asked
-disasm_asked rows = option_map (λ name. record { source = source_of name; made = AsText }) (first_of (codes "in") rows)
+disasm_asked rows = option_map (λ name. record { source = source_of name; made = AsText }) (first_of (codes "IN") rows)
 
 -- what `debug` asks for: the lines stand on standard input, so the stream stands in a file
 abbrev pub debug_of : Text → Option Asked
 debug_of name = if bytes_eq name (codes "-") then None else Some (record { source = Standard; made = DebuggedOf name })
 
 abbrev pub debug_asked : List Row → Option Asked
-debug_asked rows = option_and_then debug_of (first_of (codes "in") rows)
+debug_asked rows = option_and_then debug_of (first_of (codes "IN") rows)
 
 -- what `press` asks for: the events stand on standard input
 abbrev pub session_asked : Asked

@@ -14,25 +14,36 @@ use std::fmt;
 
 /// An example of each subcommand, and each fault with what to do, for help.
 const AFTER_HELP: &str = "Examples:
+  press < page.pcl
   press print page.pcl page-%d.pbm
-  press asm page.asm page.pcl
-  press disasm page.pcl
+  press disasm page.pcl > page.asm
+  press asm page.asm changed.pcl
   press debug page.pcl < lines.txt
   press write ticket.json job.prn page-1.pbm page-2.pbm
   press press < events.txt
 
-Faults, of which one line stands on standard error, and what to do:
-  fault 111, 112, 113   an image is no P4 file, has a bad size, or is cut: make it again
-  fault 114             an image cannot be read: look at the file
+A fault is told in one line on standard error. What each means, and what to do:
+  fault 111, 113        an image is no P4 file (raw PBM), or its end is missing: make it again
+  fault 112             an image has a side of 0 or above 16,384 dots: scale or cut it
+  fault 114             an image was opened and cannot be read, as a folder: look at the file
   fault 115, 301, 614   a file cannot be made or written: look at its folder and the disk
-  fault 121             %d does not stand once in the names of the sides: write page-%d.pbm
+  fault 121             %d does not stand exactly once in OUT: name it as page-%d.pbm
   fault 302, output     standard output cannot be written: look who reads it
-  fault 304             an input cannot be opened or read: look at its name
-  fault 401, 402, 403   a line of the text has no form, no value, or data that does not fit
-  fault 601 to 605      the ticket is refused: look at the key that is told, or at its pages
-  fault 611, 612, 613   an image is missing, too wide or too tall: name one for each page, or scale it
-  fault memory          memory ran out: give it more, or print a smaller stream
-docs/FAULTS.md says more of each, docs/ASSEMBLY.md of texts, docs/TICKETS.md of tickets.";
+  fault 304             an input, also an image, cannot be opened or read: look at its name
+  fault 401, 402, 403   a line of the text has an unknown form, a bad value, or data that does not fit:
+                        correct the line that is told, by docs/ASSEMBLY.md
+  fault 601 to 605      the ticket is refused (602 names the key): correct it by docs/TICKETS.md
+  fault 611, 612, 613   images are too few, too wide or too tall: name one for each page, or scale it
+  fault memory          memory ran out: give the program more, or print a smaller stream
+docs/FAULTS.md says more of each. See also docs/ASSEMBLY.md, DEBUGGER.md, TICKETS.md and QUEUE.md.";
+
+/// The lines of a debugger, for help.
+const DEBUGGER_HELP: &str =
+    "Lines: step, over, go N, break KIND, clear N, recent. docs/DEBUGGER.md explains them.";
+
+/// The lines of a session, for help.
+const SESSION_HELP: &str = "Lines: message FILE [IMG...], turn N, pause, continue, abort. \
+    docs/QUEUE.md explains them.";
 
 /// Where an input is read.
 #[derive(Debug, Drop)]
@@ -117,7 +128,8 @@ impl fmt::Display for Refusal {
             Refusal::Words(error) => write!(f, "{error}"),
             Refusal::NoName => writeln!(
                 f,
-                "usage: press print IN OUT, press print --list IN, or press debug FILE"
+                "usage: press print IN OUT, press print --list IN, or press debug IN, \
+                where IN is a file and not -"
             ),
         }
     }
@@ -144,11 +156,12 @@ fn needed_word<'a>(alloc: Global, id: &'a str, help: &'a str) -> Arg<'a>
 
 /// The word for the template.
 fn template_word<'a>(alloc: Global) -> Arg<'a>
-    ensures rule { rule_of result ≡ new_rule (codes "out") }
+    ensures rule { rule_of result ≡ new_rule (codes "OUT") }
     ensures local { result.global ≡ false }
 {
-    Arg::new(alloc, "out").help(
-        "The names of the files of the sides, with %d for the number of the side, from 1",
+    Arg::new(alloc, "OUT").help(
+        "Needed without --list. %d stands for 1, 2, 3 and so on, over the sides of all sheets: \
+         page-%d.pbm",
     )
 }
 
@@ -158,11 +171,11 @@ fn print_command<'a>(alloc: Global) -> Result<Command<'a>, AllocError>
     ensures local { IfOk result (λ command. (out-Command command).has_globals ≡ false) }
 {
     Command::new(alloc, "print")
-        .about("Prints a stream to files, or lists its sheets")
+        .about("Prints a stream to a P4 file (raw PBM) for each side, or lists its sheets")
         .arg(list_flag(alloc))?
         .arg(needed_word(
             alloc,
-            "in",
+            "IN",
             "The file of the stream of PJL and PCL 5, or - for standard input",
         ))?
         .arg(template_word(alloc))
@@ -174,15 +187,15 @@ fn asm_command<'a>(alloc: Global) -> Result<Command<'a>, AllocError>
     ensures local { IfOk result (λ command. (out-Command command).has_globals ≡ false) }
 {
     Command::new(alloc, "asm")
-        .about("Makes a stream of assembly text")
+        .about("Makes a print stream from assembly text, a line for each command")
         .arg(needed_word(
             alloc,
-            "in",
+            "IN",
             "The file of the assembly text, or - for standard input",
         ))?
         .arg(needed_word(
             alloc,
-            "out",
+            "OUT",
             "The file of the stream, which is made or replaced",
         ))
 }
@@ -193,10 +206,10 @@ fn disasm_command<'a>(alloc: Global) -> Result<Command<'a>, AllocError>
     ensures local { IfOk result (λ command. (out-Command command).has_globals ≡ false) }
 {
     Command::new(alloc, "disasm")
-        .about("Writes a stream as assembly text to standard output")
+        .about("Writes a stream as assembly text, a line for each command, to standard output")
         .arg(needed_word(
             alloc,
-            "in",
+            "IN",
             "The file of the stream, or - for standard input",
         ))
 }
@@ -207,8 +220,13 @@ fn debug_command<'a>(alloc: Global) -> Result<Command<'a>, AllocError>
     ensures local { IfOk result (λ command. (out-Command command).has_globals ≡ false) }
 {
     Command::new(alloc, "debug")
-        .about("Steps through a stream by the lines on standard input")
-        .arg(needed_word(alloc, "in", "The file of the stream"))
+        .about("Steps through a stream, as the lines on standard input ask")
+        .after_help(DEBUGGER_HELP)
+        .arg(needed_word(
+            alloc,
+            "IN",
+            "The file of the stream; - is refused, since standard input has the lines",
+        ))
 }
 
 /// The words for the images.
@@ -216,8 +234,8 @@ fn images_word<'a>(alloc: Global) -> Arg<'a>
     ensures rule { rule_of result ≡ images_rule }
     ensures local { result.global ≡ false }
 {
-    Arg::new(alloc, "images").action(ArgAction::Append).help(
-        "The P4 files of the pages, from the first one, one for each page",
+    Arg::new(alloc, "IMG").action(ArgAction::Append).help(
+        "A P4 file (raw PBM) for each page of the ticket, in order; at least one",
     )
 }
 
@@ -227,11 +245,15 @@ fn write_command<'a>(alloc: Global) -> Result<Command<'a>, AllocError>
     ensures local { IfOk result (λ command. (out-Command command).has_globals ≡ false) }
 {
     Command::new(alloc, "write")
-        .about("Writes the job of a ticket and the images of its pages")
-        .arg(needed_word(alloc, "ticket", "The file of the ticket, JSON"))?
+        .about("Makes a print stream from a job ticket and the images of its pages")
         .arg(needed_word(
             alloc,
-            "out",
+            "TICKET",
+            "The file of the job ticket, in JSON",
+        ))?
+        .arg(needed_word(
+            alloc,
+            "OUT",
             "The file of the stream, which is made or replaced",
         ))?
         .arg(images_word(alloc))
@@ -242,9 +264,9 @@ fn press_command<'a>(alloc: Global) -> Command<'a>
     ensures app { app_of result ≡ session_app }
     ensures local { (out-Command result).has_globals ≡ false }
 {
-    Command::new(alloc, "press").about(
-        "Runs a press by the lines of events on standard input, and lists its sheets",
-    )
+    Command::new(alloc, "press")
+        .about("Plays a session with a press that has a queue, by the lines on standard input")
+        .after_help(SESSION_HELP)
 }
 
 /// The command line that is taken.
@@ -252,7 +274,10 @@ fn command<'a>(alloc: Global) -> Result<Command<'a>, AllocError>
     ensures { IfOk result (λ command. app_of command ≡ press_app) }
 {
     Command::new(alloc, "press")
-        .about("A digital press: it prints PJL and PCL 5")
+        .about(
+            "A digital press: it prints PJL and PCL 5 as bitmaps. Without a command it lists the \
+             sheets of the stream on standard input",
+        )
         .after_help(AFTER_HELP)
         .subcommand(print_command(alloc)?)?
         .subcommand(asm_command(alloc)?)?
@@ -299,7 +324,7 @@ fn output_of<'a>(matches: &ArgMatches<'a>) -> Option<Output<'a>>
     if has_flag(matches, "list") {
         return Some(Output::Listing);
     }
-    let template = matches.get_str("out")?;
+    let template = matches.get_str("OUT")?;
     Some(Output::Files(template))
 }
 
@@ -309,7 +334,7 @@ fn images_of<'a>(alloc: Global, matches: &ArgMatches<'a>) -> Result<Vec<&'a str>
     ensures { IfOk result (λ images.
         map (λ image. image.now) images.items ≡ images_of (rows_of (found_of matches.now))) }
 {
-    match matches.get_strs("images") {
+    match matches.get_strs("IMG") {
         Some(images) => images.to_vec(alloc),
         None => Ok(Vec::new(alloc)),
     }
@@ -325,10 +350,10 @@ fn job_request<'a>(
         ≡ job_asked (rows_of (found_of matches.now))) }
 {
     let images = images_of(alloc, matches)?;
-    let Some(ticket) = matches.get_str("ticket") else {
+    let Some(ticket) = matches.get_str("TICKET") else {
         return Ok(None);
     };
-    let Some(name) = matches.get_str("out") else {
+    let Some(name) = matches.get_str("OUT") else {
         return Ok(None);
     };
     Ok(Some(Request {
@@ -342,7 +367,7 @@ fn job_request<'a>(
 fn print_request<'a>(matches: &ArgMatches<'a>) -> Option<Request<'a>>
     ensures { option_map request_seen result ≡ print_asked (rows_of (found_of matches.now)) }
 {
-    let name = matches.get_str("in")?;
+    let name = matches.get_str("IN")?;
     let output = output_of(matches)?;
     Some(Request {
         input: input_named(name),
@@ -355,8 +380,8 @@ fn print_request<'a>(matches: &ArgMatches<'a>) -> Option<Request<'a>>
 fn asm_request<'a>(matches: &ArgMatches<'a>) -> Option<Request<'a>>
     ensures { option_map request_seen result ≡ asm_asked (rows_of (found_of matches.now)) }
 {
-    let name = matches.get_str("in")?;
-    let made = matches.get_str("out")?;
+    let name = matches.get_str("IN")?;
+    let made = matches.get_str("OUT")?;
     Some(Request {
         input: input_named(name),
         output: Output::Assembled(made),
@@ -368,7 +393,7 @@ fn asm_request<'a>(matches: &ArgMatches<'a>) -> Option<Request<'a>>
 fn disasm_request<'a>(matches: &ArgMatches<'a>) -> Option<Request<'a>>
     ensures { option_map request_seen result ≡ disasm_asked (rows_of (found_of matches.now)) }
 {
-    let name = matches.get_str("in")?;
+    let name = matches.get_str("IN")?;
     Some(Request {
         input: input_named(name),
         output: Output::Text,
@@ -380,7 +405,7 @@ fn disasm_request<'a>(matches: &ArgMatches<'a>) -> Option<Request<'a>>
 fn debug_request<'a>(matches: &ArgMatches<'a>) -> Option<Request<'a>>
     ensures { option_map request_seen result ≡ debug_asked (rows_of (found_of matches.now)) }
 {
-    let name = matches.get_str("in")?;
+    let name = matches.get_str("IN")?;
     if name == "-" {
         return None;
     }
