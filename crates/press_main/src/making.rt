@@ -102,7 +102,10 @@ fn make_ticket<T: Read, I: NamedInputs, O: NamedOutputs>(
 {
     let ticket = ticket_in(alloc, ticket)?;
     let images = images_named(alloc, inputs, names)?;
-    make_job(alloc, &ticket, &images, outputs, name).map_err(JobFileError::Writer)
+    match make_job(alloc, &ticket, &images, outputs, name) {
+        Ok(()) => Ok(()),
+        Err(error) => Err(JobFileError::Writer(error)),
+    }
 }
 
 /// Makes the output of this name of the job of a ticket with these images, once they are found to fit.
