@@ -8,7 +8,7 @@ use Rattle.std.proofs.lemmas.Bool.Decides.{nat_tests}
 use Rattle.std.proofs.lemmas.List.{length-replicate, length-take, length-drop, length-set, get_or-set_same, get_or-set_other}
 use Rattle.press_bits.specs.Page.{HasNoDotOutside, black_at, black_in_line, blank, is_page_size}
 use Rattle.press_bits.specs.DotRule.{dot_after}
-use Rattle.press_bits.specs.Mark.{Row, effect_at, painted, row_dot, repeated, row_mark}
+use Rattle.press_bits.specs.Mark.{IsWhite, Row, effect_at, painted, row_dot, repeated, row_mark}
 use Rattle.press_bits.specs.declared.mode.Mode.{Mode}
 use Rattle.press_bits.specs.DotRows.{mixed_dot}
 use Rattle.press_bits.specs.Lines.{bytes_per_line, IsPageLine}
@@ -18,7 +18,7 @@ use Rattle.std.proofs.Math.Nat.{zero-add}
 use Rattle.press_bits.proofs.CountLemmas.{count_padded, count-line}
 use Rattle.press_bits.proofs.PageLemmas.{blank_is, width-page_where, height-page_where, page_where-HasNoDotOutside, black_at-page_where, page_where_alike}
 use Rattle.press_bits.proofs.DotRowsLemmas.{row_dot-replicate_zero}
-use Rattle.press_bits.proofs.MarkLemmas.{painted_by_effects, row_lands, row_off_line, mixed_effect}
+use Rattle.press_bits.proofs.MarkLemmas.{painted_by_effects, row_lands, row_off_line, white_stays, mixed_effect}
 use Rattle.press_bits.proofs.MixLemmas.{mixed_when, not_mixed, line_before}
 use Rattle.press_bits.proofs.LineLemmas.{row_dot-slice, row_dot-past}
 use Rattle.press_bits.proofs.PaintLemmas.{position, fits_line, within_line, line_of_test}
@@ -377,3 +377,32 @@ ready_within old now y y' lines lines' same high from end ready n begun left ins
 
     before : (end end' z : ℤ) → int_le end' end ≡ true → int_lt z end' ≡ true → int_lt z end ≡ true
     before end end' z last left = grind (arith, ints)
+
+-- where the band of a line is not there, a row through white leaves the page as it was
+pub stays_white : (w h : ℕ) (bands : List (List ℕ)) (x y : ℤ) (source pattern : Row) (mode : Mode) (m : ℕ) → pos m ≡ y → is_there (band_at bands (m / 64)) ≡ false → IsWhite pattern →
+    page_of_bands w h bands ≡ painted (page_of_bands w h bands) (row_mark x y source pattern mode)
+stays_white w h bands x y source pattern mode m at_line gone white =
+    painted_by_effects (page_of_bands w h bands) (page_of_bands w h bands) (row_mark x y source pattern mode)
+    (no_dot_outside w h bands) refl refl
+    (λ column n wide high. dot column n (subst (λ k. column < k) (width-page_of_bands w h bands) wide) (subst (λ k. n < k) (height-page_of_bands w h bands) high))
+  where
+    no_bytes : (n : ℕ) → nat_lt 0 n ≡ false → n ≡ 0
+    no_bytes n test = grind (arith, nat_tests)
+
+    -- a dot of the line
+    white_dot : (column n : ℕ) → column < w → n < h → n ≡ m → black_at (page_of_bands w h bands) column n ≡ false
+    white_dot column n wide high here =
+        black_at-page_of_bands w h bands column n wide high
+        ∙ row_dot-past (band_at bands (n / 64)) (8 * (n % 64 * bytes_per_line w) + column) (omega (arith, no_bytes (length (band_at bands (n / 64))) (ap (λ k. is_there (band_at bands (k / 64))) here ∙ gone)))
+
+    dot : (column n : ℕ) → column < w → n < h →
+        black_at (page_of_bands w h bands) column n ≡ dot_after (effect_at (row_mark x y source pattern mode) column n) (black_at (page_of_bands w h bands) column n)
+    dot column n wide high =
+        elim (cases_eq n m) [
+          | inl here ↦
+              white_dot column n wide high here
+              ∙ sym (ap (dot_after (effect_at (row_mark x y source pattern mode) column n)) (white_dot column n wide high here) ∙ white_stays x y source pattern mode column n white)
+          | inr there ↦
+              sym (ap (λ e. dot_after e (black_at (page_of_bands w h bands) column n))
+              (row_off_line x y source pattern mode column n (λ e. there (ap unsigned_abs (e ∙ sym at_line)))))
+        ]

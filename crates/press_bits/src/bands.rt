@@ -1,9 +1,9 @@
 //! Pages of dots that stand in bands of sixty-four lines. A band that is not there is white.
 #![tactic(auto)]
 
-ghost use Rattle.std.specs.Prelude.{◌≡◌, ℕ, ◌<◌, ◌≤◌, ◌+◌, ◌*◌, ◌≢◌, ◌↔◌, [], replicate, length, take, drop, pos, true, false, vec_len, MatchOption, IfOk, IsTrue, OnOk, OnErr};
+ghost use Rattle.std.specs.Prelude.{◌≡◌, ℕ, ◌<◌, ◌≤◌, ◌+◌, ◌*◌, ◌≢◌, ◌↔◌, ◌⊎◌, [], replicate, length, take, drop, pos, true, false, vec_len, MatchOption, IfOk, IsTrue, OnOk, OnErr};
 ghost use Rattle.press_bits.specs.Page.{HasNoDotOutside, black_at, black_in_line, blank, count_black, is_page_size};
-ghost use Rattle.press_bits.specs.Mark.{painted, row, row_mark, column_mark};
+ghost use Rattle.press_bits.specs.Mark.{IsWhite, painted, row, row_mark, column_mark};
 ghost use Rattle.press_bits.specs.Lines.{bytes_per_line, IsPageLine};
 ghost use Rattle.press_bits.specs.Bands.{AreReady, StaysReady, band_at, band_lines, is_there};
 
@@ -262,13 +262,13 @@ impl Bands {
 
     /// Paints a row of source dots through a row of a pattern: source dot 0 at column `x` of line `y`, and the others to its
     /// right. The pattern's dot 0 lies at column 0 of the page, and the pattern is repeated over the line. Dots outside the
-    /// page are dropped. Takes no memory.
+    /// page are dropped. Takes no memory: a line that is not ready is white, and stays so through white.
     ///
     /// Source: PCL 5 Printer Language Technical Reference Manual, The PCL Print Model, and Raster Graphics (the order of the
     /// dots).
     pub fn paint_row(&mut self, x: i64, y: i64, source: DotRow<'_>, pattern: DotRow<'_>, mode: Mode)
         requires some { 1 ≤ pattern.dots }
-        requires ready { AreReady self.old y 1 }
+        requires ready { IsWhite (row pattern) ⊎ AreReady self.old y 1 }
         ensures painted { self.new.page
             ≡ painted self.old.page (row_mark x y (row source.entry) (row pattern.entry) mode) }
         ensures ready { self.new.ready ≡ self.old.ready }
@@ -278,6 +278,9 @@ impl Bands {
         };
         let run = run_within(x, source.dots, self.width);
         if run.count == 0 {
+            return;
+        }
+        if !self.bands[line / BAND].is_there() {
             return;
         }
         let start = line % BAND * line_bytes(self.width);
