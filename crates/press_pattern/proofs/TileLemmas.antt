@@ -1,5 +1,5 @@
 -- The lines and dots of tiles.
-use Rattle.std.proofs.Common.{◌≡◌, ℕ, ◌+◌, ◌-◌, ◌*◌, ◌/◌, ◌%◌, ◌^◌, ◌<◌, ◌≤◌, Bool, ◌&&◌, List, [], ◌∷◌, ◌++◌, map, length, take, drop, get_or, sym, ap, ◌∙◌, arith, refl}
+use Rattle.std.proofs.Common.{◌≡◌, ℕ, ◌+◌, ◌-◌, ◌*◌, ◌/◌, ◌%◌, ◌^◌, ◌<◌, ◌≤◌, Bool, false, ◌&&◌, List, [], ◌∷◌, ◌++◌, map, length, take, drop, get_or, sym, ap, ◌∙◌, arith, refl}
 use Rattle.std.specs.Prelude.{nat_lt, nat_eq, bit_and}
 use Rattle.std.specs.List.{range_with_len}
 use Rattle.std.proofs.Math.Nat.{mod-mod, mod-lt, mul-le-mul_right}
@@ -10,7 +10,8 @@ use Rattle.std.proofs.lemmas.List.FromFn.{get_or-map-range_with_len, map-range_w
 use Rattle.press_bits.specs.Mark.{row_dot, byte_dot}
 use Rattle.press_bits.specs.Lines.{bytes_per_line}
 use Rattle.press_bits.proofs.MixLemmas.{nat_lt-and}
-use Rattle.press_pattern.specs.Tiling.{Tiling, tile_row, tile_dot, tiling_where, byte_where, dots_from, transposed, HasLines}
+use Rattle.press_bits.proofs.LineLemmas.{row_dot-slice}
+use Rattle.press_pattern.specs.Tiling.{Tiling, IsWhiteTile, tile_row, tile_dot, tiling_where, byte_where, dots_from, transposed, HasLines}
 use Rattle.press_pattern.proofs.ByteLemmas.{byte_dot-byte_where}
 
 -- the line that a slice of the rows is
@@ -32,6 +33,13 @@ unfolding tile_dot row_dot byte_dot
 tile_dot-read t x y w row is_row is_w =
     ap (λ b. nat_eq b 1) (shr_and_one _ _)
     ∙ (λ i. row_dot (is_row i) (x % is_w i))
+
+-- a tile of whose lines no bit is set
+pub white_tile : (t : Tiling) → 1 ≤ t.width → ((i : ℕ) → row_dot t.rows i ≡ false) → IsWhiteTile t
+unfolding tile_row tile_dot
+white_tile t some white a b =
+    row_dot-slice t.rows (b % t.height * bytes_per_line t.width) (b % t.height * bytes_per_line t.width + bytes_per_line t.width - b % t.height * bytes_per_line t.width) (a % t.width) (omega (arith, mod-lt a some))
+    ∙ white (8 * (b % t.height * bytes_per_line t.width) + a % t.width)
 
 -- byte k of line y of the tile of a rule
 get_or-tile_row : (w h : ℕ) (rule : ℕ → ℕ → Bool) (b k : ℕ) → 1 ≤ h → k < bytes_per_line w

@@ -1,5 +1,5 @@
 -- Tiles: what a pattern repeats over the page (PCL 5 Printer Language Technical Reference Manual, "The PCL Print Model").
-use Rattle.std.specs.Prelude.{◌≡◌, ℕ, ◌+◌, ◌*◌, ◌/◌, ◌%◌, ◌≤◌, Bool, ◌&&◌, nat_lt, if◌then◌else◌, List, map, length, slice_range, refl}
+use Rattle.std.specs.Prelude.{◌≡◌, ℕ, ◌+◌, ◌*◌, ◌/◌, ◌%◌, ◌≤◌, Bool, false, ◌&&◌, nat_lt, if◌then◌else◌, List, map, length, slice_range, refl}
 use Rattle.std.specs.List.{fold, range_with_len}
 use Rattle.std.specs.Coded.{Coded, code_by, coded×, coded_ℕ, coded_list}
 use Rattle.press_bits.specs.Mark.{row_dot}
@@ -29,6 +29,10 @@ tile_row tile b =
 -- The pattern dot of the frame dot at column a of line b, black where true: the tile's at (a mod width, b mod height).
 unfoldable pub tile_dot : Tiling → ℕ → ℕ → Bool
 tile_dot tile a b = row_dot (tile_row tile b) (a % tile.width)
+
+-- A tile without a black dot.
+abbrev pub IsWhiteTile : Tiling → Type 0
+IsWhiteTile tile = (a b : ℕ) → tile_dot tile a b ≡ false
 
 -- The byte of eight dots that are black where the rule says so, dot 0 the most significant bit.
 unfoldable pub byte_where : (ℕ → Bool) → ℕ

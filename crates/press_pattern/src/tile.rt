@@ -1,9 +1,10 @@
 //! Tiles, lent and owned, and a tile turned by a quarter.
 
-ghost use Rattle.std.specs.Prelude.{◌≡◌, ℕ, ◌+◌, ◌*◌, ◌/◌, ◌^◌, ◌<◌, ◌≤◌, Bool, length, take, IfOk};
+ghost use Rattle.std.specs.Prelude.{◌≡◌, ℕ, ◌+◌, ◌*◌, ◌/◌, ◌^◌, ◌<◌, ◌≤◌, Bool, length, take, IfOk, IsTrue};
 ghost use Rattle.press_bits.specs.Lines.{bytes_per_line};
-ghost use Rattle.press_pattern.specs.Tiling.{tile_row, tile_dot, byte_where, dots_from, transposed};
+ghost use Rattle.press_pattern.specs.Tiling.{IsWhiteTile, tile_row, tile_dot, byte_where, dots_from, transposed};
 
+use press_bits::DotRow;
 use std::alloc::{AllocError, Global};
 use std::marker::Model;
 
@@ -101,6 +102,14 @@ impl<'a> Tile<'a> {
     {
         let column = (x % u32::from(self.width)) as usize;
         (self.row(y)[column / 8] >> (7 - column % 8)) & 1 == 1
+    }
+
+    /// Whether no bit of the lines is set: then the tile has no black dot.
+    pub fn is_white(&self) -> bool
+        ensures { IsTrue result → IsWhiteTile self.now }
+    {
+        let bits = self.rows;
+        DotRow { bits, dots: 0 }.is_white()
     }
 
     /// The byte of eight dots of a column, from line `first` on; white below the last line.
