@@ -1,8 +1,9 @@
 //! Areas of the page that are painted line by line through a tile.
 
-ghost use Rattle.std.specs.Prelude.{◌≡◌, ◌<◌, ◌≤◌, ◌+◌, ◌*◌, min, pos, replicate, OnOk, OnErr};
-ghost use Rattle.press_bits.specs.Mark.{painted, row, row_mark};
+ghost use Rattle.std.specs.Prelude.{◌≡◌, ◌<◌, ◌≤◌, ◌+◌, ◌*◌, ◌⊎◌, min, pos, replicate, OnOk, OnErr};
+ghost use Rattle.press_bits.specs.Mark.{IsWhite, painted, row, row_mark};
 ghost use Rattle.press_bits.specs.Bands.{AreReady};
+ghost use Rattle.press_pattern.specs.Tiling.{IsWhiteTile};
 ghost use Rattle.press_fill.specs.Area.{area_mark};
 
 use crate::area::Area;
@@ -24,7 +25,7 @@ fn cut_length(from: u32, length: u32, edge: u32) -> u32
 fn paint_line(page: &mut Bands, x: u32, y: u32, columns: u32, pattern: DotRow<'_>, mode: Mode)
     requires narrow { columns ≤ 8 * WIDEST_ROW }
     requires some { 1 ≤ pattern.dots }
-    requires ready { AreReady page.old (pos y) 1 }
+    requires ready { IsWhite (row pattern) ⊎ AreReady page.old (pos y) 1 }
     ensures painted { page.new.page ≡ painted page.old.page (row_mark (pos x) (pos y)
         (record { bits = replicate WIDEST_ROW 255; dots = columns }) (row pattern.entry) mode) }
     ensures ready { page.new.ready ≡ page.old.ready }
@@ -36,9 +37,11 @@ fn paint_line(page: &mut Bands, x: u32, y: u32, columns: u32, pattern: DotRow<'_
     page.paint_row(i64::from(x), i64::from(y), source, pattern, mode);
 }
 
-/// Paints an area of the page, whose lines are ready, through a tile that lies on it. Dots outside the page are dropped.
+/// Paints an area of the page, whose lines are ready, or white and stay so, through a tile that lies on it. Dots outside the
+/// page are dropped.
 fn paint_area(page: &mut Bands, area: Area, tile: &Tile<'_>, mode: Mode)
-    requires ready { AreReady page.old (pos area.down.start) area.down.length }
+    requires ready { IsWhiteTile tile.now
+        ⊎ AreReady page.old (pos area.down.start) area.down.length }
     ensures { page.new.page ≡ painted page.old.page (area_mark area tile.now mode) }
 {
     let (x, y) = (area.across.start, area.down.start);
@@ -53,11 +56,16 @@ fn paint_area(page: &mut Bands, area: Area, tile: &Tile<'_>, mode: Mode)
     }
 }
 
-/// Makes the lines of an area of the page ready.
-fn ready_area(page: &mut Bands, area: Area) -> Result<(), AllocError>
+/// Makes the lines of an area of the page ready that is painted through a tile. Through a white one, what is white stays so, and
+/// no line is made.
+fn ready_area(page: &mut Bands, area: Area, tile: &Tile<'_>) -> Result<(), AllocError>
     ensures dots { page.new.page ≡ page.old.page }
-    ensures ready { OnOk result (AreReady page.new (pos area.down.start) area.down.length) }
+    ensures ready { OnOk result (IsWhiteTile tile.now
+        ⊎ AreReady page.new (pos area.down.start) area.down.length) }
 {
+    if tile.is_white() {
+        return Ok(());
+    }
     page.ready(i64::from(area.down.start), area.down.length as usize)
 }
 
@@ -77,7 +85,7 @@ pub(crate) fn fill_area(
     ensures unchanged { OnErr result (page.new ≡ page.old) }
 {
     let bands = page.bands();
-    ready_area(bands, area)?;
+    ready_area(bands, area, tile)?;
     paint_area(bands, area, tile, mode);
     Ok(())
 }

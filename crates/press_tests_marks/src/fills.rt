@@ -132,3 +132,24 @@ fn a_fill_of_no_lines_changes_nothing(rt: HostRuntime) -> Result<(), Fail> {
     expect_line(&rt, &page, 1, 0xF0);
     Ok(())
 }
+
+#[test]
+fn a_white_fill_makes_no_band(rt: HostRuntime) -> Result<(), Fail> {
+    let patterns = Patterns::new(rt.alloc());
+    let environment = environment(Orientation::Landscape);
+    let mut page = Bitmap::blank(rt.alloc(), 8, 70)?;
+    for (kind, ready) in [(Kind::White, false), (Kind::Black, true)] {
+        let pattern = Pattern { kind, id: 0 };
+        fill(
+            &mut page,
+            &environment,
+            &patterns,
+            WHOLE_PAGE,
+            pattern,
+            PATTERN_OPAQUE,
+        )?;
+        assert_eq!(rt; page.bands().are_ready(62, 8), ready);
+    }
+    assert_eq!(rt; page.count_black(), 16);
+    Ok(())
+}

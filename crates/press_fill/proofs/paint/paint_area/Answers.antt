@@ -1,9 +1,9 @@
-use Rattle.std.proofs.Common.{◌≡◌, ◌∙◌, ◌<◌, ℕ, ◌+◌, replicate, min, pos, true, ap, sym, refl, arith}
+use Rattle.std.proofs.Common.{◌≡◌, ◌∙◌, ◌<◌, ℕ, ◌+◌, replicate, min, pos, true, inl, inr, ap, sym, refl, arith}
 use Rattle.std.specs.Prelude.{◌+ℤ◌, int_le}
 use Rattle.std.proofs.lemmas.Int.{ints}
 use Rattle.press_bits.specs.Page.{Page}
 use Rattle.press_bits.proofs.BandLemmas.{ready_within}
-use Rattle.press_bits.specs.Mark.{Row, painted, row_mark, box_mark}
+use Rattle.press_bits.specs.Mark.{Row, repeated, painted, row_mark, box_mark}
 use Rattle.press_bits.proofs.MarkLemmas.{height-painted, painted_box_none, painted_box_row, painted_box_cut, IsAllBlack-replicate}
 use Rattle.press_pattern.specs.Tiling.{Tiling, tile_dot, tile_row}
 use Rattle.press_fill.proofs.FillLemmas.{repeated-tile_row}
@@ -15,10 +15,19 @@ loop-line-init c =
 
 pub paint_line-requires-clause-ready : goal.paint_line-requires-clause-ready
 paint_line-requires-clause-ready c =
-    ready_within c.args.page.now c.loop-line.page (pos c.args.area.down.start) (pos (c.args.area.down.start + c.loop-line.line)) c.args.area.down.length 1 c.loop-line.invariant.1
-    (ap (λ (p : Page). p.height) c.loop-line.invariant.0 ∙ height-painted c.args.page.now.page _)
-    (from c.args.area.down.start c.loop-line.line) (before c.args.area.down.start c.loop-line.line c.args.area.down.length (omega arith)) c.requires.ready
+    elim c.requires.ready [
+      | inl white ↦ inl (λ i.
+          (λ k. repeated (record { bits = c.row.ensures.row k; dots = width k }) i)
+          ∙ repeated-tile_row c.args.tile.now i (c.args.area.down.start + c.loop-line.line)
+          ∙ white i (c.args.area.down.start + c.loop-line.line))
+      | inr ready ↦ inr (ready_within c.args.page.now c.loop-line.page (pos c.args.area.down.start) (pos (c.args.area.down.start + c.loop-line.line)) c.args.area.down.length 1 c.loop-line.invariant.1
+          (ap (λ (p : Page). p.height) c.loop-line.invariant.0 ∙ height-painted c.args.page.now.page _)
+          (from c.args.area.down.start c.loop-line.line) (before c.args.area.down.start c.loop-line.line c.args.area.down.length (omega arith)) ready)
+    ]
   where
+    width : c.from.result ≡ c.args.tile.now.width
+    width = omega arith
+
     from : (y line : ℕ) → int_le (pos y) (pos (y + line)) ≡ true
     from y line = grind (arith, ints)
 

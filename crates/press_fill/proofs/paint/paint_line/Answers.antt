@@ -1,4 +1,4 @@
-use Rattle.std.proofs.Common.{◌≡◌, ◌∙◌, ◌<◌, ℤ, pos, ap, sym, subst, to_z, of_z, w64, replicate, arith}
+use Rattle.std.proofs.Common.{◌≡◌, ◌∙◌, ◌<◌, ℤ, pos, inl, inr, ap, sym, subst, to_z, of_z, w64, replicate, arith}
 use Rattle.std.proofs.lemmas.Int.{to_z_pos}
 use Rattle.press_bits.specs.Bands.{AreReady}
 use Rattle.press_bits.specs.Mark.{painted, row, row_mark}
@@ -17,4 +17,7 @@ pub paint_row-requires-clause-ready : goal.paint_row-requires-clause-ready
 paint_row-requires-clause-ready c =
     let small : c.args.y < 9223372036854775808 = omega arith in
     let line : to_z w64 (of_z w64 c.from-2.result) ≡ pos c.args.y = ap (λ (z : ℤ). to_z w64 (of_z w64 z)) c.from-2.ensures ∙ to_z_pos w64 c.args.y small in
-    subst (λ (z : ℤ). AreReady c.args.page.now z 1) (sym line) c.requires.ready
+    elim c.requires.ready [
+      | inl white ↦ inl white
+      | inr ready ↦ inr (subst (λ (z : ℤ). AreReady c.args.page.now z 1) (sym line) ready)
+    ]
