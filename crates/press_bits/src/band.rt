@@ -74,14 +74,14 @@ impl Band {
     }
 
     /// Paints a run of source dots, through a pattern, into the line that begins at a byte.
-    pub(crate) fn paint(&mut self, line: usize, stroke: Stroke<'_, '_>)
-        requires some { 0 < stroke.run.count }
-        requires within { 8 * line + stroke.run.first + stroke.run.count ≤ 8 * length self.old }
+    pub(crate) fn paint(&mut self, line: usize, stroke: &Stroke<'_, '_>)
+        requires some { 0 < stroke.now.run.count }
+        requires within { 8 * line + stroke.now.run.first + stroke.now.run.count ≤ 8 * length self.old }
         requires small { length self.old < 2 ^ 40 }
-        requires enough { stroke.run.skip + stroke.run.count ≤ stroke.source.dots }
-        requires pattern { 1 ≤ stroke.pattern.dots }
+        requires enough { stroke.now.run.skip + stroke.now.run.count ≤ stroke.now.source.dots }
+        requires pattern { 1 ≤ stroke.now.pattern.dots }
         ensures long { length self.new ≡ length self.old }
-        ensures dots { IsPaintedAlong self.old self.new line stroke.entry }
+        ensures dots { IsPaintedAlong self.old self.new line stroke.now }
     {
         paint_across(&mut self.bytes, line, stroke);
     }

@@ -290,7 +290,7 @@ impl Bands {
             pattern,
             mode,
         };
-        self.bands[line / BAND].paint(start, stroke);
+        self.bands[line / BAND].paint(start, &stroke);
     }
 
     /// Paints a column of source dots through a column of a pattern: source dot 0 at column `x` of line `y`, and the others
@@ -329,6 +329,6 @@ impl Bands {
             pattern,
             mode,
         };
-        paint_down(&mut self.bands, column, stroke);
+        paint_down(&mut self.bands, column, &stroke);
     }
 }

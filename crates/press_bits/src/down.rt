@@ -71,20 +71,20 @@ fn changed_dots(black: &[u8; WIDEST_ROW], kept: &[u8; WIDEST_ROW]) -> [u8; WIDES
 
 /// Paints a run of source dots, through a pattern, down a column of bands. What they do is found in two rows first: the dots
 /// that become black of white ones, and those that stay black.
-pub(crate) fn paint_down(bands: &mut Vec<Band>, column: Column, stroke: Stroke<'_, '_>)
-    requires some { 0 < stroke.run.count }
-    requires small { stroke.run.first + stroke.run.count ≤ 8 * WIDEST_ROW }
-    requires within { stroke.run.first + stroke.run.count ≤ 64 * vec_len bands.old }
-    requires there { (k : ℕ) → stroke.run.first / 64 ≤ k
-        → 64 * k < stroke.run.first + stroke.run.count
+pub(crate) fn paint_down(bands: &mut Vec<Band>, column: Column, stroke: &Stroke<'_, '_>)
+    requires some { 0 < stroke.now.run.count }
+    requires small { stroke.now.run.first + stroke.now.run.count ≤ 8 * WIDEST_ROW }
+    requires within { stroke.now.run.first + stroke.now.run.count ≤ 64 * vec_len bands.old }
+    requires there { (k : ℕ) → stroke.now.run.first / 64 ≤ k
+        → 64 * k < stroke.now.run.first + stroke.now.run.count
         → length (band_at bands.old.items k) ≡ 64 * column.bytes }
-    requires enough { stroke.run.skip + stroke.run.count ≤ stroke.source.dots }
-    requires pattern { 1 ≤ stroke.pattern.dots }
+    requires enough { stroke.now.run.skip + stroke.now.run.count ≤ stroke.now.source.dots }
+    requires pattern { 1 ≤ stroke.now.pattern.dots }
     ensures { PaintedDown bands.old.items bands.new.items
-        (λ n. row_dot stroke.entry.source.bits.now
-        (stroke.entry.run.skip + (n - stroke.entry.run.first)))
-        (repeated (row stroke.entry.pattern)) stroke.entry.mode column.bytes column.place
-        stroke.entry.run.first (stroke.entry.run.first + stroke.entry.run.count) }
+        (λ n. row_dot stroke.now.source.bits.now
+        (stroke.now.run.skip + (n - stroke.now.run.first)))
+        (repeated (row stroke.now.pattern)) stroke.now.mode column.bytes column.place
+        stroke.now.run.first (stroke.now.run.first + stroke.now.run.count) }
 {
     let run = stroke.run;
     let from = run.first / 8;

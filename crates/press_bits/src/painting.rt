@@ -132,20 +132,21 @@ fn eightfold(pattern: DotRow<'_>) -> [u8; 7]
 }
 
 /// Paints a run of source dots, through a pattern of at least eight dots, into the line that begins at byte `line`.
-fn paint_wide(rows: &mut [u8], line: usize, stroke: Stroke<'_, '_>)
-    requires some { 0 < stroke.run.count }
-    requires within { 8 * line + stroke.run.first + stroke.run.count ≤ 8 * length rows.old }
+fn paint_wide(rows: &mut [u8], line: usize, stroke: &Stroke<'_, '_>)
+    requires some { 0 < stroke.now.run.count }
+    requires within { 8 * line + stroke.now.run.first + stroke.now.run.count ≤ 8 * length rows.old }
     requires small { length rows.old < 2 ^ 40 }
-    requires enough { stroke.run.skip + stroke.run.count ≤ stroke.source.dots }
-    requires wide { 8 ≤ stroke.pattern.dots }
-    ensures { IsPaintedAlong rows.old rows.new line stroke.entry }
+    requires enough { stroke.now.run.skip + stroke.now.run.count ≤ stroke.now.source.dots }
+    requires wide { 8 ≤ stroke.now.pattern.dots }
+    ensures { IsPaintedAlong rows.old rows.new line stroke.now }
 {
     let Stroke {
         run,
         source,
         pattern,
         mode,
-    } = stroke;
+        ..
+    } = *stroke;
     let at = 8 * line + run.first;
     let end = at + run.count;
     let mut phase = (8 * (run.first / 8)) % pattern.dots;
@@ -159,13 +160,13 @@ fn paint_wide(rows: &mut [u8], line: usize, stroke: Stroke<'_, '_>)
 }
 
 /// Paints a run of source dots, through a pattern, into the line that begins at byte `line`.
-pub(crate) fn paint_across(rows: &mut [u8], line: usize, stroke: Stroke<'_, '_>)
-    requires some { 0 < stroke.run.count }
-    requires within { 8 * line + stroke.run.first + stroke.run.count ≤ 8 * length rows.old }
+pub(crate) fn paint_across(rows: &mut [u8], line: usize, stroke: &Stroke<'_, '_>)
+    requires some { 0 < stroke.now.run.count }
+    requires within { 8 * line + stroke.now.run.first + stroke.now.run.count ≤ 8 * length rows.old }
     requires small { length rows.old < 2 ^ 40 }
-    requires enough { stroke.run.skip + stroke.run.count ≤ stroke.source.dots }
-    requires pattern { 1 ≤ stroke.pattern.dots }
-    ensures { IsPaintedAlong rows.old rows.new line stroke.entry }
+    requires enough { stroke.now.run.skip + stroke.now.run.count ≤ stroke.now.source.dots }
+    requires pattern { 1 ≤ stroke.now.pattern.dots }
+    ensures { IsPaintedAlong rows.old rows.new line stroke.now }
 {
     if stroke.pattern.dots >= 8 {
         paint_unrolled(rows, line, stroke);
@@ -175,7 +176,7 @@ pub(crate) fn paint_across(rows: &mut [u8], line: usize, stroke: Stroke<'_, '_>)
             source,
             mode,
             ..
-        } = stroke;
+        } = *stroke;
         let bytes = eightfold(stroke.pattern);
         let pattern = DotRow {
             bits: &bytes,
@@ -187,19 +188,19 @@ pub(crate) fn paint_across(rows: &mut [u8], line: usize, stroke: Stroke<'_, '_>)
             pattern,
             mode,
         };
-        paint_unrolled(rows, line, unrolled);
+        paint_unrolled(rows, line, &unrolled);
     }
 }
 
 /// Paints a run of source dots, through a pattern of at least eight dots, into the line that begins at byte `line`: by lanes
 /// where the run is long and the pattern narrow.
-fn paint_unrolled(rows: &mut [u8], line: usize, stroke: Stroke<'_, '_>)
-    requires some { 0 < stroke.run.count }
-    requires within { 8 * line + stroke.run.first + stroke.run.count ≤ 8 * length rows.old }
+fn paint_unrolled(rows: &mut [u8], line: usize, stroke: &Stroke<'_, '_>)
+    requires some { 0 < stroke.now.run.count }
+    requires within { 8 * line + stroke.now.run.first + stroke.now.run.count ≤ 8 * length rows.old }
     requires small { length rows.old < 2 ^ 40 }
-    requires enough { stroke.run.skip + stroke.run.count ≤ stroke.source.dots }
-    requires wide { 8 ≤ stroke.pattern.dots }
-    ensures { IsPaintedAlong rows.old rows.new line stroke.entry }
+    requires enough { stroke.now.run.skip + stroke.now.run.count ≤ stroke.now.source.dots }
+    requires wide { 8 ≤ stroke.now.pattern.dots }
+    ensures { IsPaintedAlong rows.old rows.new line stroke.now }
 {
     if stroke.pattern.dots <= WIDEST_TILE && stroke.run.count >= SHORTEST_RUN {
         paint_by_lanes(rows, line, stroke);

@@ -20,6 +20,7 @@ pub(crate) struct Stroke<'s, 'p> {
     pub(crate) source: DotRow<'s>,
     pub(crate) pattern: DotRow<'p>,
     pub(crate) mode: Mode,
+    ghost small: { source.dots < 2 ^ 64 },
 }
 
 /// A column of dots, `place` dots from the left edge of lines that have `bytes` bytes each.
