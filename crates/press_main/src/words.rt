@@ -246,11 +246,7 @@ fn write_command<'a>(alloc: Global) -> Result<Command<'a>, AllocError>
 {
     Command::new(alloc, "write")
         .about("Makes a print stream from a job ticket and the images of its pages")
-        .arg(needed_word(
-            alloc,
-            "TICKET",
-            "The file of the job ticket, in JSON",
-        ))?
+        .arg(needed_word(alloc, "TICKET", "The file of the job ticket, in JSON"))?
         .arg(needed_word(
             alloc,
             "OUT",
