@@ -22,11 +22,10 @@ fn number(answer: &Result<(), JobError>) -> u32 {
     }
 }
 
-/// What came of a stream: the numbers of its answers, how many sheets, the notes of each front and back, and the replies.
+/// What came of a stream: the numbers of its answers, the notes of each front and back, and the replies.
 #[derive(Drop)]
 struct Outcome {
     numbers: Vec<u32>,
-    sheets: usize,
     sides: Vec<u32>,
     replies: Vec<u8>,
 }
@@ -57,7 +56,6 @@ impl Outcome {
     fn of(alloc: Global, sheets: &ListSink, replies: &ListReplies) -> Result<Self, Fail> {
         Ok(Outcome {
             numbers: Vec::new(alloc),
-            sheets: sheets.deliveries().len(),
             sides: notes(alloc, sheets)?,
             replies: Vec::from_slice(alloc, replies.bytes())?,
         })
@@ -105,18 +103,8 @@ fn run(alloc: Global, stream: &[u8], fuses: &Fuses) -> Result<Outcome, Fail> {
 /// A stream, the notes of its sides, and its replies.
 type Row = (&'static [u8], &'static [u32], &'static [u8]);
 
-/// Five sheets, each with its reply: a page in three copies, and one in two.
-const COPIES: &[u8] =
-    b"\x1B%-12345X@PJL USTATUS PAGE=ON\n@PJL SET COPIES=3\n@PJL ENTER LANGUAGE=PCL\n\x0C\x1B&l2X\x0C";
-
-/// Its replies, and how many bytes each has.
-const REPLIES: &[u8] =
-    b"@PJL USTATUS PAGE\r\n1\r\n\x0C@PJL USTATUS PAGE\r\n2\r\n\x0C@PJL USTATUS PAGE\r\n3\r\n\x0C@PJL USTATUS PAGE\r\n4\r\n\x0C@PJL USTATUS PAGE\r\n5\r\n\x0C";
-
-const REPLY: usize = 23;
-
 /// Streams of PCL.
-const PAGES: [Row; 12] = [
+const PAGES: [Row; 11] = [
     (b"", &[], b""),
     (b"\x1BE\x0C\x1BE", &[2_550_000], b""),
     (b"\x1BE\x1B*p0x0Y\x1B*c3a2b0P\x1BE", &[2_550_100], b""),
@@ -126,7 +114,6 @@ const PAGES: [Row; 12] = [
         b"",
     ),
     (b"\x1B&l1S\x0C\x1B&l2X\x0C", &[2_550_000; 4], b""),
-    (b"\x1B&l3X\x0C", &[2_550_000; 3], b""),
     (b"\x1B&l1S\x0C\x1BE", &[2_550_000], b""),
     (b"\x1B*p10\x0D\x0C", &[2_550_000], b""),
     (b"\x1B*p10x20\x0D", &[], b""),
@@ -186,8 +173,7 @@ const MARKS: [Row; 7] = [
 ];
 
 /// Streams with lines of the job language.
-const JOBS: [Row; 7] = [
-    (COPIES, &[2_550_000; 5], REPLIES),
+const JOBS: [Row; 6] = [
     (
         b"\x1B%-12345X@PJL SET COPIES=3\r\n@PJL INQUIRE COPIES\r\n@PJL DINQUIRE COPIES\r\n",
         &[],
@@ -310,6 +296,16 @@ fn a_long_piece_goes_through_the_buffer(rt: HostRuntime) -> Result<(), Fail> {
     Ok(())
 }
 
+/// Five sheets, each with its reply: a page in three copies, and one in two.
+const COPIES: &[u8] =
+    b"\x1B%-12345X@PJL USTATUS PAGE=ON\n@PJL SET COPIES=3\n@PJL ENTER LANGUAGE=PCL\n\x0C\x1B&l2X\x0C";
+
+/// Its replies, and how many bytes each has.
+const REPLIES: &[u8] =
+    b"@PJL USTATUS PAGE\r\n1\r\n\x0C@PJL USTATUS PAGE\r\n2\r\n\x0C@PJL USTATUS PAGE\r\n3\r\n\x0C@PJL USTATUS PAGE\r\n4\r\n\x0C@PJL USTATUS PAGE\r\n5\r\n\x0C";
+
+const REPLY: usize = 23;
+
 /// Whether a run is answered so, takes so many sheets and this front of the replies, and then has failed.
 fn stops(
     alloc: Global,
@@ -324,6 +320,41 @@ fn stops(
             && outcome.sides.len() == sheets
             && outcome.replies.as_slice() == REPLIES.get(..replied).unwrap_or(b"none"),
     )
+}
+
+#[test]
+fn sheets_and_replies_alternate(rt: HostRuntime) -> Result<(), Fail> {
+    let whole = run(rt.alloc(), COPIES, &SOUND)?;
+    assert_eq!(rt; whole.numbers.as_slice(), [1, 305].as_slice());
+    assert_eq!(rt; whole.sides.len(), 5);
+    assert_eq!(rt; whole.replies.as_slice(), REPLIES);
+    Ok(())
+}
+
+#[test]
+fn a_sink_may_fail_at_each_call(rt: HostRuntime) -> Result<(), Fail> {
+    for before in 0..5 {
+        let no_sheet = Fuses {
+            sheets: before as u64,
+            ..SOUND
+        };
+        assert!(rt; stops(rt.alloc(), &no_sheet, 301, before, REPLY * before)?);
+        let part_of_a_reply = Fuses {
+            replies: before as u64,
+            front: 9,
+            ..SOUND
+        };
+        assert!(rt;
+            stops(
+                rt.alloc(),
+                &part_of_a_reply,
+                302,
+                before + 1,
+                REPLY * before + 9
+            )?
+        );
+    }
+    Ok(())
 }
 
 #[test]
@@ -342,116 +373,6 @@ fn a_reader_may_fail_at_each_call(rt: HostRuntime) -> Result<(), Fail> {
             ..SOUND
         };
         assert!(rt; stops(rt.alloc(), &fuses, 304, sheets, REPLY * sheets)?);
-    }
-    Ok(())
-}
-
-/// A device that fails at one of its calls.
-#[derive(Clone, Copy)]
-enum Device {
-    Reader,
-    Sheets,
-    Replies,
-}
-
-/// How many bytes of a reply are taken where it fails.
-const TAKEN: usize = 5;
-
-impl Device {
-    /// The fuses of which this device's blows after so many calls.
-    fn failing_after(self, calls: u64) -> Fuses {
-        match self {
-            Device::Reader => Fuses {
-                reads: calls,
-                ..SOUND
-            },
-            Device::Sheets => Fuses {
-                sheets: calls,
-                ..SOUND
-            },
-            Device::Replies => Fuses {
-                replies: calls,
-                front: TAKEN,
-                ..SOUND
-            },
-        }
-    }
-
-    /// The number of its fault.
-    fn fault(self) -> u32 {
-        match self {
-            Device::Reader => 304,
-            Device::Sheets => 301,
-            Device::Replies => 302,
-        }
-    }
-
-    /// How often a stream calls it that ends so.
-    fn calls_of(self, stream: &[u8], outcome: &Outcome) -> usize {
-        match self {
-            Device::Reader => stream.len().saturating_add(1),
-            Device::Sheets => outcome.sheets,
-            Device::Replies => whole_replies(&outcome.replies),
-        }
-    }
-}
-
-/// How many replies stand in bytes; each ends with a form feed.
-fn whole_replies(bytes: &[u8]) -> usize {
-    bytes.iter().filter(|byte| **byte == 0x0C).count()
-}
-
-/// How many bytes stand behind the last whole reply.
-fn part_of_a_reply(bytes: &[u8]) -> usize {
-    bytes
-        .iter()
-        .rev()
-        .position(|byte| *byte == 0x0C)
-        .unwrap_or(bytes.len())
-}
-
-impl Outcome {
-    /// Whether a front of these notes and replies came of the stream: all of what stood before the call of a sink that failed.
-    fn is_front(&self, sides: &[u32], replies: &[u8], failed: Device, calls: usize) -> bool {
-        let all_before = match failed {
-            Device::Reader => true,
-            Device::Sheets => self.sheets == calls,
-            Device::Replies => {
-                whole_replies(&self.replies) == calls && part_of_a_reply(&self.replies) == TAKEN
-            }
-        };
-        all_before && sides.starts_with(&self.sides) && replies.starts_with(&self.replies)
-    }
-}
-
-/// Fails a device of a stream at each of its calls in turn: what went out is a front of what the row says, and the job does
-/// nothing more.
-fn fail_each_call(
-    rt: &(impl Abort + AllocGlobal),
-    (stream, sides, replies): &Row,
-    device: Device,
-) -> Result<(), Fail> {
-    for calls in 0..stream.len() + 2 {
-        let outcome = run(rt.alloc(), stream, &device.failing_after(calls as u64))?;
-        if outcome.numbers.as_slice() == [1, 305].as_slice() {
-            assert!(rt; outcome.is(sides, replies));
-            assert_eq!(rt; calls, device.calls_of(stream, &outcome));
-            return Ok(());
-        }
-        assert_eq!(rt; outcome.numbers.as_slice(), [device.fault(), 303].as_slice());
-        assert!(rt; outcome.is_front(sides, replies, device, calls), "{calls}");
-    }
-    Err(Fail::from("too many calls"))
-}
-
-#[test]
-fn each_device_may_fail_at_each_call(rt: HostRuntime) -> Result<(), Fail> {
-    for rows in [PAGES.as_slice(), MARKS.as_slice(), JOBS.as_slice()] {
-        for row in rows {
-            for device in [Device::Reader, Device::Sheets, Device::Replies] {
-                fail_each_call(&rt, row, device)?;
-            }
-        }
     }
     Ok(())
 }
