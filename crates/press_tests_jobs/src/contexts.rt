@@ -54,11 +54,26 @@ fn turn(press: &mut Press, most: u64, sheets: &mut ListSink) -> Result<Turn, Fai
     Ok(press.turn(most, sheets).ok().ok_or("a fault")?)
 }
 
-/// The steps of a job of two pages.
-fn steps_of_a_pair(alloc: Global) -> Result<u64, Fail> {
+/// A press with the entry of two pages.
+fn press_of_a_pair(alloc: Global) -> Result<Press, Fail> {
     let mut press = Press::new(alloc);
     press.message(SUBMIT_PAIR, &images(alloc)?)?;
-    Ok(turn(&mut press, u64::MAX, &mut ListSink::new(alloc))?.steps)
+    Ok(press)
+}
+
+/// The sheets of all steps of that entry.
+fn sheets_of_a_pair(alloc: Global) -> Result<ListSink, Fail> {
+    let mut press = press_of_a_pair(alloc)?;
+    let mut sheets = ListSink::new(alloc);
+    turn(&mut press, u64::MAX, &mut sheets)?;
+    Ok(sheets)
+}
+
+/// How many they are.
+fn steps_of_a_pair(alloc: Global) -> Result<u64, Fail> {
+    let mut press = press_of_a_pair(alloc)?;
+    let turn = turn(&mut press, u64::MAX, &mut ListSink::new(alloc))?;
+    Ok(turn.steps)
 }
 
 /// How many dots are black on the front of a sheet and on its back.
@@ -76,25 +91,82 @@ fn delivered(alloc: Global, sheets: &ListSink) -> Result<Vec<(u64, (u32, Option<
     Ok(found)
 }
 
-/// An entry takes so many steps and is suspended, another runs whole, and the first is resumed and runs to its end.
-fn with_a_break(rt: &impl Abort, alloc: Global, before: u64, steps: u64) -> Result<(), Fail> {
-    let mut press = Press::new(alloc);
-    let mut sheets = ListSink::new(alloc);
-    press.message(SUBMIT_PAIR, &images(alloc)?)?;
-    assert_eq!(rt; turn(&mut press, before, &mut sheets)?.steps, before);
-    assert_eq!(rt; answer(alloc, &mut press, "SuspendQueueEntry", 1)?, 0);
-    assert_eq!(rt; answer(alloc, &mut press, "SuspendQueueEntry", 1)?, 22);
+/// The first entry takes so many steps and is suspended, once.
+fn suspend_after(
+    rt: &impl Abort,
+    alloc: Global,
+    press: &mut Press,
+    sheets: &mut ListSink,
+    before: u64,
+) -> Result<(), Fail> {
+    assert_eq!(rt; turn(press, before, sheets)?.steps, before);
+    assert_eq!(rt; answer(alloc, press, "SuspendQueueEntry", 1)?, 0);
+    assert_eq!(rt; answer(alloc, press, "SuspendQueueEntry", 1)?, 22);
+    Ok(())
+}
+
+/// The entry of one page is submitted.
+fn submit_a_page(alloc: Global, press: &mut Press) -> Result<(), Fail> {
     press.message(SUBMIT_PAGE, &[bar(alloc, 1)?])?;
-    assert_eq!(rt; turn(&mut press, u64::MAX, &mut sheets)?.entry, Some(2));
-    assert_eq!(rt; turn(&mut press, u64::MAX, &mut sheets)?.entry, None);
-    assert_eq!(rt; answer(alloc, &mut press, "ResumeQueueEntry", 1)?, 0);
-    let rest = turn(&mut press, u64::MAX, &mut sheets)?;
-    assert_eq!(rt; (rest.entry, rest.steps), (Some(1), steps.saturating_sub(before)));
-    let mut found = delivered(alloc, &sheets)?;
+    Ok(())
+}
+
+/// Another entry runs whole, and then none is left that waits.
+fn print_another(
+    rt: &impl Abort,
+    alloc: Global,
+    press: &mut Press,
+    sheets: &mut ListSink,
+) -> Result<(), Fail> {
+    submit_a_page(alloc, press)?;
+    assert_eq!(rt; turn(press, u64::MAX, sheets)?.entry, Some(2));
+    assert_eq!(rt; turn(press, u64::MAX, sheets)?.entry, None);
+    Ok(())
+}
+
+/// The first entry is resumed, and takes the rest of its steps.
+fn go_on(
+    rt: &impl Abort,
+    alloc: Global,
+    press: &mut Press,
+    sheets: &mut ListSink,
+    rest: u64,
+) -> Result<(), Fail> {
+    assert_eq!(rt; answer(alloc, press, "ResumeQueueEntry", 1)?, 0);
+    let turn = turn(press, u64::MAX, sheets)?;
+    assert_eq!(rt; (turn.entry, turn.steps), (Some(1), rest));
+    Ok(())
+}
+
+/// Whether the sheet of each entry came once: two dots and three behind them, and one.
+fn came_once(alloc: Global, sheets: &ListSink) -> Result<bool, Fail> {
+    let mut found = delivered(alloc, sheets)?;
     found.sort()?;
     let wanted = [(1, (2, Some(3))), (2, (1, None))];
-    assert_eq!(rt; found.as_slice(), wanted.as_slice());
+    Ok(found.as_slice() == wanted.as_slice())
+}
+
+/// An entry takes so many steps and is suspended, another runs whole, and the first is resumed and runs to its end.
+fn interrupt(
+    rt: &impl Abort,
+    alloc: Global,
+    press: &mut Press,
+    sheets: &mut ListSink,
+    before: u64,
+    steps: u64,
+) -> Result<(), Fail> {
+    suspend_after(rt, alloc, press, sheets, before)?;
+    print_another(rt, alloc, press, sheets)?;
+    go_on(rt, alloc, press, sheets, steps.saturating_sub(before))?;
+    assert!(rt; came_once(alloc, sheets)?);
     Ok(())
+}
+
+/// The same, of a press at its beginning.
+fn with_a_break(rt: &impl Abort, alloc: Global, before: u64, steps: u64) -> Result<(), Fail> {
+    let mut press = press_of_a_pair(alloc)?;
+    let mut sheets = ListSink::new(alloc);
+    interrupt(rt, alloc, &mut press, &mut sheets, before, steps)
 }
 
 #[test]
@@ -108,19 +180,41 @@ fn a_suspended_entry_goes_on_where_it_stood(rt: HostRuntime) -> Result<(), Fail>
     Ok(())
 }
 
+/// An entry is submitted, takes one step, and is suspended, unless seven are.
+fn suspend_next(
+    rt: &impl Abort,
+    alloc: Global,
+    press: &mut Press,
+    sheets: &mut ListSink,
+    entry: u64,
+) -> Result<(), Fail> {
+    submit_a_page(alloc, press)?;
+    assert_eq!(rt; turn(press, 1, sheets)?.entry, Some(entry));
+    let code = answer(alloc, press, "SuspendQueueEntry", entry)?;
+    assert_eq!(rt; code, if entry < 8 { 0 } else { 27 });
+    Ok(())
+}
+
+/// Eight entries come one after another; when one of the seven that are suspended is aborted, the eighth can be suspended.
+fn suspend_eight(
+    rt: &impl Abort,
+    alloc: Global,
+    press: &mut Press,
+    sheets: &mut ListSink,
+) -> Result<(), Fail> {
+    for entry in 1..9 {
+        suspend_next(rt, alloc, press, sheets, entry)?;
+    }
+    assert_eq!(rt; answer(alloc, press, "AbortQueueEntry", 3)?, 0);
+    assert_eq!(rt; answer(alloc, press, "SuspendQueueEntry", 8)?, 0);
+    Ok(())
+}
+
 #[test]
 fn seven_are_suspended_and_the_eighth_runs_on(rt: HostRuntime) -> Result<(), Fail> {
     let mut press = Press::new(rt.alloc());
     let mut sheets = ListSink::new(rt.alloc());
-    for entry in 1..9 {
-        press.message(SUBMIT_PAGE, &[bar(rt.alloc(), 1)?])?;
-        assert_eq!(rt; turn(&mut press, 1, &mut sheets)?.entry, Some(entry));
-        let code = answer(rt.alloc(), &mut press, "SuspendQueueEntry", entry)?;
-        assert_eq!(rt; code, if entry < 8 { 0 } else { 27 });
-    }
-    assert_eq!(rt; answer(rt.alloc(), &mut press, "AbortQueueEntry", 3)?, 0);
-    assert_eq!(rt; answer(rt.alloc(), &mut press, "SuspendQueueEntry", 8)?, 0);
-    Ok(())
+    suspend_eight(&rt, rt.alloc(), &mut press, &mut sheets)
 }
 
 /// The ticket of the submission of two pages.
@@ -142,11 +236,7 @@ fn sheets_of_the_job(alloc: Global) -> Result<ListSink, Fail> {
 
 #[test]
 fn a_job_by_pieces_prints_as_the_whole_job(rt: HostRuntime) -> Result<(), Fail> {
-    let mut press = Press::new(rt.alloc());
-    let mut sheets = ListSink::new(rt.alloc());
-    press.message(SUBMIT_PAIR, &images(rt.alloc())?)?;
-    turn(&mut press, u64::MAX, &mut sheets)?;
-    let found = delivered(rt.alloc(), &sheets)?;
+    let found = delivered(rt.alloc(), &sheets_of_a_pair(rt.alloc())?)?;
     let whole = delivered(rt.alloc(), &sheets_of_the_job(rt.alloc())?)?;
     assert_eq!(rt; found.as_slice(), whole.as_slice());
     assert_eq!(rt; found.as_slice(), [(1, (2, Some(3)))].as_slice());
