@@ -6,5 +6,7 @@ pub mod DeltaRow
 pub mod DeltaRowEncoding
 pub mod Methods
 pub mod Row
+pub mod Blocks
+pub mod BlocksInside
 pub mod Encoding
 pub mod LeastLengths
