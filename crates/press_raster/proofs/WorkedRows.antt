@@ -7,6 +7,7 @@ use Rattle.press_bits.specs.Mark.{row_dot, byte_dot}
 use Rattle.press_page.specs.Environment.{factory, reset_environment}
 use Rattle.press_rows.specs.DeltaRow.{deltas, replacements, laid_over}
 use Rattle.press_rows.specs.Row.{raster_row}
+use Rattle.press_rows.specs.declared.compression.Method.TheVariants.{Unencoded, DeltaRow}
 use Rattle.press_raster.specs.Graphics.{RasterGraphics, started, moved_down}
 use Rattle.press_raster.specs.Mark.{strip_source}
 use Rattle.press_raster.specs.Settings.{initial, raster_resolutions, resolution_of, row_height, set_resolution, set_source_width, set_source_height, set_method, dot_size}
@@ -29,7 +30,7 @@ abbrev on : RasterGraphics
 on = record { left = 0; rows = 0; seed = [] }
 
 -- a row of eight dots, of which the first is black
-row_of_data_80 : row_of_data home eight_wide (0x80 ∷ []) on ≡ record { bits = 0x80 ∷ []; dots = 8 }
+row_of_data_80 : row_of_data home eight_wide Unencoded (0x80 ∷ []) on ≡ record { bits = 0x80 ∷ []; dots = 8 }
 unfolding raster_row
 row_of_data_80 = refl
 
@@ -106,24 +107,24 @@ sixteen_wide = set_source_width (tenthousandths_of (codes "16")) initial
 abbrev by_delta_rows : RasterSettings
 by_delta_rows = set_method (tenthousandths_of (codes "3")) sixteen_wide
 
-delta_after_plain : transferred home by_delta_rows (1 ∷ 0xAA ∷ []) (transferred home sixteen_wide (0xF0 ∷ 0x0F ∷ []) (started 7 None))
+delta_after_plain : transferred home by_delta_rows DeltaRow (1 ∷ 0xAA ∷ []) (transferred home sixteen_wide Unencoded (0xF0 ∷ 0x0F ∷ []) (started 7 None))
     ≡ Some (record { left = 7; rows = 2; seed = 0xF0 ∷ 0xAA ∷ [] })
 unfolding raster_row deltas replacements laid_over
 delta_after_plain = refl
 
 -- ESC*b1Y between them: the seed is white
-delta_after_skip : transferred home by_delta_rows (1 ∷ 0xAA ∷ []) (moved_down 1 (transferred home sixteen_wide (0xF0 ∷ 0x0F ∷ []) (started 7 None)))
+delta_after_skip : transferred home by_delta_rows DeltaRow (1 ∷ 0xAA ∷ []) (moved_down 1 (transferred home sixteen_wide Unencoded (0xF0 ∷ 0x0F ∷ []) (started 7 None)))
     ≡ Some (record { left = 7; rows = 3; seed = 0x00 ∷ 0xAA ∷ [] })
 unfolding raster_row deltas replacements laid_over
 delta_after_skip = refl
 
 -- no data of method 3 repeats the row, and of method 0 it is white
-repeated_row : transferred home by_delta_rows [] (transferred home sixteen_wide (0xF0 ∷ 0x0F ∷ []) (started 7 None))
+repeated_row : transferred home by_delta_rows DeltaRow [] (transferred home sixteen_wide Unencoded (0xF0 ∷ 0x0F ∷ []) (started 7 None))
     ≡ Some (record { left = 7; rows = 2; seed = 0xF0 ∷ 0x0F ∷ [] })
 unfolding raster_row deltas replacements laid_over
 repeated_row = refl
 
-white_row : transferred home sixteen_wide [] (transferred home sixteen_wide (0xF0 ∷ 0x0F ∷ []) (started 7 None))
+white_row : transferred home sixteen_wide Unencoded [] (transferred home sixteen_wide Unencoded (0xF0 ∷ 0x0F ∷ []) (started 7 None))
     ≡ Some (record { left = 7; rows = 2; seed = 0x00 ∷ 0x00 ∷ [] })
 unfolding raster_row
 white_row = refl
@@ -132,7 +133,7 @@ white_row = refl
 abbrev one_high : RasterSettings
 one_high = set_source_height (tenthousandths_of (codes "1")) sixteen_wide
 
-past_the_height : transferred home one_high (0xFF ∷ []) (transferred home one_high (0xF0 ∷ 0x0F ∷ []) (started 7 None))
+past_the_height : transferred home one_high Unencoded (0xFF ∷ []) (transferred home one_high Unencoded (0xF0 ∷ 0x0F ∷ []) (started 7 None))
     ≡ Some (record { left = 7; rows = 1; seed = 0xF0 ∷ 0x0F ∷ [] })
 unfolding raster_row
 past_the_height = refl

@@ -1,10 +1,12 @@
 -- Raster graphics, off or on (PCL 5 Printer Language Technical Reference Manual, Raster Graphics: Start Raster Graphics,
 -- Raster Y Offset, End Raster Graphics and Set Compression Method commands).
-use Rattle.std.specs.Prelude.{ℕ, ◌+◌, Bool, true, false, nat_lt, min, List, [], Option, Some, None, option_map, refl}
+use Rattle.std.specs.Prelude.{ℕ, ◌+◌, ◌&&◌, Bool, true, false, if◌then◌else◌, nat_lt, min, List, [], length, replicate, Option, Some, None, option_map, is_some, is_none, refl}
+use Rattle.std.specs.List.{list_any}
 use Rattle.std.specs.Coded.{Coded, code_by, coded×, coded_ℕ, coded_list, coded_option}
 use Rattle.press_units.specs.Value.{greatest}
 use Rattle.press_raster.specs.declared.raster.RasterPosition.{RasterPosition}
 use Rattle.press_raster.specs.declared.settings.RasterSettings.{RasterSettings}
+use Rattle.press_raster.specs.Settings.{items_of}
 
 -- Raster graphics that is on: where its rows begin, in positions from the left edge of the logical page; how many rows
 -- there were; and the seed row, the row before the next one, which is white behind its last byte.
@@ -54,3 +56,16 @@ is_below_height (Some height) rows = nat_lt rows height
 abbrev pub takes_row : RasterSettings → Option RasterGraphics → Bool
 takes_row settings None = false
 takes_row settings (Some on) = is_below_height settings.source_height on.rows
+
+-- Whether a transfer has a row that has effect.
+abbrev pub takes_rows : RasterSettings → List ℕ → Option RasterGraphics → Bool
+takes_rows settings «data» graphics = takes_row settings graphics && list_any is_some (items_of settings.coding «data»)
+
+-- raster graphics with a white seed row, as wide as it was
+abbrev pub whitened : Option RasterGraphics → Option RasterGraphics
+whitened graphics = option_map (λ (on : RasterGraphics). record on { seed = replicate (length on.seed) 0 }) graphics
+
+-- Raster graphics after data of which no row has effect: the seed row is white where an item says so.
+abbrev pub passed : RasterSettings → List ℕ → Option RasterGraphics → Option RasterGraphics
+passed settings «data» graphics =
+    if list_any is_none (items_of settings.coding «data») then whitened graphics else graphics

@@ -3,5 +3,8 @@ pub mod Settings
 pub mod Graphics
 pub mod Mark
 pub mod Transfer
+pub mod Rows
 pub mod Along
+pub mod Across
+pub mod Drawing
 pub mod Reading

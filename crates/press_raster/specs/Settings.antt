@@ -1,6 +1,6 @@
 -- What raster graphics is set to (PCL 5 Printer Language Technical Reference Manual, Raster Graphics: Raster Graphics
 -- Resolution, Raster Width, Raster Height and Set Compression Method commands).
-use Rattle.std.specs.Prelude.{ℕ, ◌/◌, ◌%◌, ◌==◌, ◌&&◌, Bool, ℤ, pos, negsuc, nat_lt, if◌then◌else◌, List, [], ◌∷◌, Option, Some, None}
+use Rattle.std.specs.Prelude.{ℕ, ◌/◌, ◌%◌, ◌==◌, ◌&&◌, Bool, ℤ, pos, negsuc, nat_lt, if◌then◌else◌, List, [], ◌∷◌, Option, Some, None, option_map}
 use Rattle.std.specs.List.{find}
 use Rattle.std.specs.Ordering.{int_eq}
 use Rattle.press_units.specs.Measure.{positions_per_inch}
@@ -8,8 +8,11 @@ use Rattle.press_units.specs.Position as engine
 use Rattle.press_units.specs.Value.{whole_part}
 use Rattle.press_units.specs.declared.position.Resolution.{Resolution}
 use Rattle.press_page.specs.Environment.{changed_by}
+use Rattle.press_rows.specs.Blocks.{Item, items}
 use Rattle.press_rows.specs.Methods.{method_of}
 use Rattle.press_rows.specs.declared.compression.Method.TheVariants.{Unencoded}
+use Rattle.press_raster.specs.declared.settings.RowCoding.{RowCoding}
+use Rattle.press_raster.specs.declared.settings.RowCoding.TheVariants.{By, Adaptive}
 use Rattle.press_raster.specs.declared.settings.RasterResolution.{RasterResolution}
 use Rattle.press_raster.specs.declared.settings.RasterResolution.TheVariants.{Dpi75, Dpi100, Dpi150, Dpi200, Dpi300, Dpi600}
 use Rattle.press_raster.specs.declared.settings.RasterSettings.{RasterSettings}
@@ -40,7 +43,7 @@ dot_size resolution print = engine.dots_per_inch print / raster_dots_per_inch re
 
 -- the settings after a reset
 abbrev pub initial : RasterSettings
-initial = record { resolution = Dpi75; method = Unencoded; source_width = None; source_height = None }
+initial = record { resolution = Dpi75; coding = By Unencoded; source_width = None; source_height = None }
 
 -- ESC*t#R, Raster Graphics Resolution: of so many dots per inch, if one is a whole number of dots of the page
 abbrev pub resolution_of : Resolution → ℤ → Option RasterResolution
@@ -67,7 +70,17 @@ abbrev pub set_source_height : ℤ → RasterSettings → RasterSettings
 set_source_height value =
     changed_by (side_of (whole_part value)) (λ height settings. record settings { source_height = Some height })
 
+-- how the data of a transfer stands for rows, by the number of a method: 0 to 3 for one row by that method, 5 for rows by
+-- adaptive compression
+abbrev pub coding_of : ℤ → Option RowCoding
+coding_of number = if int_eq number (pos 5) then Some Adaptive else option_map By (method_of number)
+
 -- ESC*b#M, Set Compression Method
 abbrev pub set_method : ℤ → RasterSettings → RasterSettings
 set_method value =
-    changed_by (method_of (whole_part value)) (λ method settings. record settings { method = method })
+    changed_by (coding_of (whole_part value)) (λ coding settings. record settings { coding = coding })
+
+-- what the data of a transfer stands for: one row by the method, or what adaptive data does
+abbrev pub items_of : RowCoding → List ℕ → List Item
+items_of (By method) «data» = Some (method, «data») ∷ []
+items_of Adaptive «data» = items 0 «data»

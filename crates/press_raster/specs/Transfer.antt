@@ -1,4 +1,4 @@
--- The transfer of a raster row (PCL 5 Printer Language Technical Reference Manual, Raster Graphics: "Transfer Raster Data by
+-- A raster row (PCL 5 Printer Language Technical Reference Manual, Raster Graphics: "Transfer Raster Data by
 -- Row" and Raster Width; how wide a row is without a source width is this profile's).
 use Rattle.std.specs.Prelude.{ℕ, ◌+◌, ◌-◌, ◌*◌, ◌/◌, min, if◌then◌else◌, List, Option, Some, None, option_map}
 use Rattle.press_units.specs.Measure.{positions_per_inch}
@@ -10,6 +10,7 @@ use Rattle.press_page.specs.Place.{cursor_dot}
 use Rattle.press_page.specs.declared.place.Dot.{Dot}
 use Rattle.press_pattern.specs.declared.ink.Ink.{Ink}
 use Rattle.press_rows.specs.Row.{raster_row}
+use Rattle.press_rows.specs.declared.compression.Method.{Method}
 use Rattle.press_raster.specs.Graphics.{RasterGraphics, most_rows, is_below_height}
 use Rattle.press_raster.specs.Mark.{raster_mark}
 use Rattle.press_raster.specs.Settings.{raster_dots_per_inch, dot_size}
@@ -27,11 +28,11 @@ abbrev pub row_dots : RowPlace → RasterSettings → (left : ℕ) → ℕ
 row_dots place settings left =
     dots_of_row settings.source_width settings.resolution (logical_width place.environment.media) left
 
--- The row that the data of a transfer stands for, after the seed row.
-abbrev pub row_of_data : RowPlace → RasterSettings → List ℕ → RasterGraphics → Row
-row_of_data place settings «data» on =
+-- The row that data stands for by a method, after the seed row.
+abbrev pub row_of_data : RowPlace → RasterSettings → Method → List ℕ → RasterGraphics → Row
+row_of_data place settings method «data» on =
     let dots = row_dots place settings on.left in
-    record { bits = raster_row settings.method «data» on.seed (bytes_per_line dots); dots = dots }
+    record { bits = raster_row method «data» on.seed (bytes_per_line dots); dots = dots }
 
 -- The row's upper left dot in the frame: the cursor's, were it where rows begin.
 abbrev pub row_corner : RowPlace → (left : ℕ) → Dot
@@ -40,24 +41,24 @@ row_corner place left =
     (record { x = left; y = place.y })
 
 -- The mark of the row.
-abbrev pub transfer_mark : RowPlace → RasterSettings → Ink → List ℕ → RasterGraphics → Page → Mark
-transfer_mark place settings ink «data» on page =
+abbrev pub transfer_mark : RowPlace → RasterSettings → Ink → Method → List ℕ → RasterGraphics → Page → Mark
+transfer_mark place settings ink method «data» on page =
     raster_mark place.environment.media.orientation page (row_corner place on.left)
-    (dot_size settings.resolution place.environment.media.resolution) (row_of_data place settings «data» on) ink
+    (dot_size settings.resolution place.environment.media.resolution) (row_of_data place settings method «data» on) ink
 
--- The page after the transfer of a row: marked where the row has effect.
-abbrev pub page_with_row : RowPlace → RasterSettings → Ink → List ℕ → Option RasterGraphics → Page → Page
-page_with_row place settings ink «data» None page = page
-page_with_row place settings ink «data» (Some on) page =
+-- The page after a row: marked where the row has effect.
+abbrev pub page_with_row : RowPlace → RasterSettings → Ink → Method → List ℕ → Option RasterGraphics → Page → Page
+page_with_row place settings ink method «data» None page = page
+page_with_row place settings ink method «data» (Some on) page =
     if is_below_height settings.source_height on.rows
-    then painted page (transfer_mark place settings ink «data» on page) else page
+    then painted page (transfer_mark place settings ink method «data» on page) else page
 
 -- Raster graphics after a row that has effect: the row is the seed, and there is one more.
 abbrev pub after_row : Row → RasterGraphics → RasterGraphics
 after_row row on = record on { rows = min most_rows (on.rows + 1); seed = row.bits }
 
--- Raster graphics after the transfer of a row.
-abbrev pub transferred : RowPlace → RasterSettings → List ℕ → Option RasterGraphics → Option RasterGraphics
-transferred place settings «data» =
+-- Raster graphics after a row.
+abbrev pub transferred : RowPlace → RasterSettings → Method → List ℕ → Option RasterGraphics → Option RasterGraphics
+transferred place settings method «data» =
     option_map
-    (λ on. if is_below_height settings.source_height on.rows then after_row (row_of_data place settings «data» on) on else on)
+    (λ on. if is_below_height settings.source_height on.rows then after_row (row_of_data place settings method «data» on) on else on)

@@ -4,10 +4,11 @@
 mod along;
 mod backward;
 mod decoding;
+mod drawing;
 mod raster;
 mod reading;
 mod settings;
 mod strip;
 
 pub use raster::{Raster, RasterPosition, RowPlace};
-pub use settings::{RasterResolution, RasterSettings};
+pub use settings::{RasterResolution, RasterSettings, RowCoding};

@@ -1,22 +1,28 @@
-//! Raster graphics, and the transfer of its rows.
+//! Raster graphics, and the transfer of its rows (PCL 5 Printer Language Technical Reference Manual, Raster Graphics).
 
-ghost use Rattle.std.specs.Prelude.{◌≡◌, ◌<◌, ◌^◌, false, None, IfOk, IsOk, OnOk, OnErr, is_some, unsigned_abs};
-ghost use Rattle.press_raster.specs.Graphics.{raster_position, started, moved_down, is_below_height, takes_row};
+ghost use Rattle.std.specs.Prelude.{◌≡◌, ◌<◌, ◌^◌, false, true, None, Some, IfOk, IsOk, OnOk, OnErr, is_none, is_some, unsigned_abs};
+ghost use Rattle.std.specs.List.{list_any};
+ghost use Rattle.press_raster.specs.Graphics.{raster_position, started, moved_down, is_below_height, takes_row, takes_rows, passed};
+ghost use Rattle.press_raster.specs.Settings.{items_of};
+ghost use Rattle.press_raster.specs.Rows.{drawn, with_row, drawn_rows};
 ghost use Rattle.press_raster.specs.Transfer.{row_corner, page_with_row, transferred};
+ghost use Rattle.press_raster.specs.declared.settings.RowCoding.TheVariants.{Adaptive};
 
 use crate::decoding::decoded;
-use crate::settings::RasterSettings;
-use crate::strip::{bytes_for, paint_strip};
-use press_bits::{Bitmap, DotRow};
-use press_cursor::CursorPosition;
+use crate::drawing::{Drawing, RowSetup, count_rows};
+use crate::settings::{RasterSettings, RowCoding};
+use crate::strip::{Across, bytes_for, paint_strip};
+use press_bits::{Bands, Bitmap, DotRow};
+use press_cursor::{Cursor, CursorPosition};
 use press_page::{Dot, Media, PageEnv};
 use press_pattern::Ink;
-use press_units::GREATEST_VALUE;
+use press_rows::{Blocks, Method, Run};
+use press_units::{GREATEST_VALUE, Pos};
 use std::alloc::{AllocError, Global};
 use std::marker::Model;
 
 /// The most rows that are counted: the greatest value.
-const MOST_ROWS: u32 = GREATEST_VALUE;
+pub(crate) const MOST_ROWS: u32 = GREATEST_VALUE;
 
 /// Where raster graphics that is on stands.
 #[derive(Clone, Copy, Debug, PartialEq, Eq)]
@@ -37,7 +43,7 @@ pub struct RowPlace {
 
 impl RowPlace {
     /// The row's upper left dot in the frame, where rows begin at a distance from the left edge of the logical page.
-    fn corner(&self, left: u32) -> Dot
+    pub(crate) fn corner(&self, left: u32) -> Dot
         requires { unsigned_abs self.now.y < 2 ^ 33 }
         ensures { result ≡ row_corner self.now left }
     {
@@ -53,13 +59,64 @@ impl RowPlace {
 }
 
 /// Whether so many rows are fewer than the height of the source; no number is where it is unset.
-fn is_within(height: Option<u16>, rows: u32) -> bool
+pub(crate) fn is_within(height: Option<u16>, rows: u32) -> bool
     ensures { result ≡ is_below_height height rows }
 {
     match height {
         None => true,
         Some(height) => rows < u32::from(height),
     }
+}
+
+/// The data of a row, and its method.
+#[derive(Clone, Copy)]
+pub(crate) struct RowData<'a> {
+    pub(crate) method: Method,
+    pub(crate) bytes: &'a [u8],
+}
+
+/// Whether data stands for a row.
+fn has_row(coding: RowCoding, data: &[u8]) -> bool
+    ensures { result ≡ list_any is_some (items_of coding «data».now) }
+{
+    match coding {
+        RowCoding::By(_) => true,
+        RowCoding::Adaptive => blocks_have_row(Blocks::new(data)),
+    }
+}
+
+/// Whether there is a row in blocks.
+fn blocks_have_row(mut blocks: Blocks<'_>) -> bool
+    ensures { result ≡ list_any is_some blocks.entry }
+{
+    while let Some(run) = blocks.next_run() {
+        if let Run::Rows { .. } = run {
+            return true;
+        }
+    }
+    false
+}
+
+/// Whether data makes the seed row white in place of a row.
+fn has_white_seed(coding: RowCoding, data: &[u8]) -> bool
+    ensures { result ≡ list_any is_none (items_of coding «data».now) }
+{
+    match coding {
+        RowCoding::By(_) => false,
+        RowCoding::Adaptive => blocks_have_white_seed(Blocks::new(data)),
+    }
+}
+
+/// Whether there is a white seed row in blocks.
+fn blocks_have_white_seed(mut blocks: Blocks<'_>) -> bool
+    ensures { result ≡ list_any is_none blocks.entry }
+{
+    while let Some(run) = blocks.next_run() {
+        if let Run::WhiteSeed = run {
+            return true;
+        }
+    }
+    false
 }
 
 /// Raster graphics, off or on. Contracts see, where it is on, where its rows begin, how many there were, and the seed row.
@@ -119,10 +176,17 @@ impl Raster {
         self.position
     }
 
-    /// Whether the next row has effect: it is on, and its rows have not reached the source height.
+    /// Whether data has a row that has effect: it is on, its rows have not reached the source height, and the data has a row.
     ///
     /// Source: PCL 5 Printer Language Technical Reference Manual, Raster Graphics, Raster Height command.
-    pub fn takes_row(&self, settings: RasterSettings) -> bool
+    pub fn takes_rows(&self, settings: RasterSettings, data: &[u8]) -> bool
+        ensures { result ≡ takes_rows settings «data».now self.now }
+    {
+        self.takes_row(settings) && has_row(settings.coding, data)
+    }
+
+    /// Whether the next row has effect: it is on, and its rows have not reached the source height.
+    fn takes_row(&self, settings: RasterSettings) -> bool
         ensures { result ≡ takes_row settings self.now }
     {
         match self.position {
@@ -165,52 +229,160 @@ impl Raster {
         }
     }
 
-    /// `ESC * b # W`: transfers a row. Where raster graphics takes it, the row is painted with the ink, each of its dots as
-    /// many dots wide and high as the resolution says, and becomes the seed row; else nothing changes. Dots outside the page
-    /// are dropped.
+    /// Passes data of which no row has effect: the seed row is white where a block of empty or repeated rows asks for none.
+    pub fn pass(&mut self, settings: RasterSettings, data: &[u8])
+        ensures { self.new ≡ passed settings «data».now self.old }
+    {
+        if self.position.is_some() && has_white_seed(settings.coding, data) {
+            self.seed.fill(0);
+        }
+    }
+
+    /// `ESC * b # W`: transfers rows, by a method one. Each that raster graphics takes is painted with the ink, each of its dots
+    /// as many dots wide and high as the resolution says, and becomes the seed row, and the cursor moves down by it. Dots
+    /// outside the page are dropped.
     ///
     /// # Errors
     ///
-    /// Where memory ran out for a row that is taken; page and raster graphics are then as they were.
+    /// Where memory ran out for rows that are taken; page, raster graphics and cursor are then as they were.
     ///
     /// Source: PCL 5 Printer Language Technical Reference Manual, Raster Graphics, Transfer Raster Data by Row command.
     pub fn transfer(
         &mut self,
         page: &mut Bitmap,
-        place: &RowPlace,
+        environment: &PageEnv,
+        cursor: &mut Cursor,
         settings: RasterSettings,
         ink: &Ink<'_>,
         data: &[u8],
     ) -> Result<(), AllocError>
-        requires { unsigned_abs place.now.y < 2 ^ 33 }
-        ensures painted { OnOk result (page.new
-            ≡ page_with_row place.now settings ink.now «data».now self.old page.old) }
-        ensures seed { OnOk result (self.new ≡ transferred place.now settings «data».now self.old) }
-        // a row without effect takes no memory
-        ensures untaken { takes_row settings self.old ≡ false → IsOk result }
+        ensures rows { OnOk result (drawn self.new page.new cursor.new ≡ drawn_rows environment.now
+            settings ink.now «data».now (drawn self.old page.old cursor.old)) }
+        // what has no row with effect takes no memory
+        ensures untaken { takes_rows settings «data».now self.old ≡ false → IsOk result }
+        ensures same_page { OnErr result (page.new ≡ page.old) }
+        ensures same_raster { OnErr result (self.new ≡ self.old) }
+        ensures same_cursor { OnErr result (cursor.new ≡ cursor.old) }
+    {
+        if !self.takes_rows(settings, data) {
+            self.pass(settings, data);
+            return Ok(());
+        }
+        match settings.coding {
+            RowCoding::By(method) => {
+                let bytes = data;
+                let row = RowData { method, bytes };
+                self.transfer_row(page, environment, cursor, settings, ink, row)
+            }
+            RowCoding::Adaptive => self.transfer_blocks(
+                page.bands(),
+                environment,
+                cursor,
+                settings,
+                ink,
+                data,
+            ),
+        }
+    }
+
+    /// Transfers a row by a method.
+    fn transfer_row(
+        &mut self,
+        page: &mut Bitmap,
+        environment: &PageEnv,
+        cursor: &mut Cursor,
+        settings: RasterSettings,
+        ink: &Ink<'_>,
+        row: RowData<'_>,
+    ) -> Result<(), AllocError>
+        requires { takes_row settings self.old ≡ true }
+        ensures row { OnOk result (drawn self.new page.new cursor.new ≡ with_row environment.now
+            settings ink.now row.entry.method row.entry.bytes.now
+            (drawn self.old page.old cursor.old)) }
+        ensures same_page { OnErr result (page.new ≡ page.old) }
+        ensures same_raster { OnErr result (self.new ≡ self.old) }
+        ensures same_cursor { OnErr result (cursor.new ≡ cursor.old) }
+    {
+        let place = RowPlace {
+            environment: *environment,
+            y: cursor.y(),
+        };
+        self.paint_row(page, &place, settings, ink, row)?;
+        let height = i64::from(settings.resolution.row_height());
+        cursor.move_y(Pos(height), true, environment.logical_page());
+        Ok(())
+    }
+
+    /// Paints a row by a method, which is the seed row then.
+    fn paint_row(
+        &mut self,
+        page: &mut Bitmap,
+        place: &RowPlace,
+        settings: RasterSettings,
+        ink: &Ink<'_>,
+        row: RowData<'_>,
+    ) -> Result<(), AllocError>
+        requires near { unsigned_abs place.now.y < 2 ^ 33 }
+        requires taken { takes_row settings self.old ≡ true }
+        ensures painted { OnOk result (page.new ≡ page_with_row place.now settings ink.now
+            row.entry.method row.entry.bytes.now self.old page.old) }
+        ensures seed { OnOk result (self.new
+            ≡ transferred place.now settings row.entry.method row.entry.bytes.now self.old) }
         ensures same_page { OnErr result (page.new ≡ page.old) }
         ensures same_raster { OnErr result (self.new ≡ self.old) }
     {
         let Some(position) = self.position else {
             return Ok(());
         };
-        if !is_within(settings.source_height, position.rows) {
-            return Ok(());
-        }
         let media = place.media();
         let size = settings.resolution.dot_size(media.resolution);
         let corner = place.corner(position.left);
         let alloc = *self.seed.allocator();
         let dots = settings.dots_of_row(media.logical_width(), position.left);
-        let bits = decoded(alloc, settings.method, data, &self.seed, bytes_for(dots))?;
-        let row = DotRow { bits: &bits, dots };
+        let bits = decoded(alloc, row.method, row.bytes, &self.seed, bytes_for(dots))?;
+        let source = DotRow { bits: &bits, dots };
         let bands = page.bands();
-        paint_strip(bands, alloc, media.orientation, corner, size, row, ink)?;
+        let across = Across::new(bands, media.orientation, corner.x, size, dots);
+        paint_strip(bands, alloc, across, corner.y, source, ink)?;
         self.seed = bits;
         self.position = Some(RasterPosition {
             rows: position.rows.saturating_add(1).min(MOST_ROWS),
             ..position
         });
+        Ok(())
+    }
+
+    /// Transfers the rows of adaptive data.
+    fn transfer_blocks(
+        &mut self,
+        page: &mut Bands,
+        environment: &PageEnv,
+        cursor: &mut Cursor,
+        settings: RasterSettings,
+        ink: &Ink<'_>,
+        data: &[u8],
+    ) -> Result<(), AllocError>
+        requires taken { takes_rows settings «data».now self.old ≡ true }
+        requires adaptive { settings.coding ≡ Adaptive }
+        ensures rows { OnOk result (drawn self.new page.new.page cursor.new
+            ≡ drawn_rows environment.now settings ink.now «data».now
+            (drawn self.old page.old.page cursor.old)) }
+        ensures same_page { OnErr result (page.new.page ≡ page.old.page) }
+        ensures same_raster { OnErr result (self.new ≡ self.old) }
+        ensures same_cursor { OnErr result (cursor.new ≡ cursor.old) }
+    {
+        let Some(position) = self.position else {
+            return Ok(());
+        };
+        let alloc = *self.seed.allocator();
+        let setup = RowSetup::new(page, environment, settings, position.left);
+        let mut drawing = Drawing::new(alloc, position, &self.seed, &setup, ink)?;
+        let rows = count_rows(Blocks::new(data));
+        setup.ready(page, cursor, rows)?;
+        drawing.draw_blocks(page, cursor, &setup, ink, Blocks::new(data));
+        let (position, seed) = drawing.into_parts();
+        self.position = Some(position);
+        self.seed = seed;
         Ok(())
     }
 }

@@ -3,8 +3,8 @@
 
 ghost use Rattle.std.specs.Prelude.{◌≡◌, ◌<◌, ◌≤◌, ◌^◌, pos};
 ghost use Rattle.std.specs.Ordering.{int_eq};
-ghost use Rattle.press_raster.specs.Settings.{raster_dots_per_inch, row_height, is_whole_dots, dot_size, resolution_of, side_of, initial};
-ghost use Rattle.press_raster.specs.Settings.{set_resolution, set_source_width, set_source_height, set_method};
+ghost use Rattle.press_raster.specs.Settings.{raster_dots_per_inch, row_height, is_whole_dots, dot_size, resolution_of, side_of, coding_of};
+ghost use Rattle.press_raster.specs.Settings.{initial, set_resolution, set_source_width, set_source_height, set_method};
 ghost use Rattle.press_raster.specs.Transfer.{dots_of_row};
 ghost use Rattle.press_units.specs.Value.{whole_part};
 
@@ -89,6 +89,29 @@ impl RasterResolution {
     }
 }
 
+/// What the data of a transfer stands for, by "Set Compression Method" (`ESC * b # M`).
+///
+/// Source: PCL 5 Printer Language Technical Reference Manual, Raster Graphics, Set Compression Method command.
+#[derive(Clone, Copy, Debug, PartialEq, Eq)]
+pub enum RowCoding {
+    /// One row, by a method from 0 to 3.
+    By(Method),
+    /// Method 5, adaptive compression: blocks of rows, each by its own method.
+    Adaptive,
+}
+
+impl RowCoding {
+    /// What data stands for by a number: 0 to 3, or 5.
+    fn of_number(number: i64) -> Option<Self>
+        ensures { result ≡ coding_of number }
+    {
+        match number {
+            5 => Some(RowCoding::Adaptive),
+            _ => Method::of_number(number).map(RowCoding::By),
+        }
+    }
+}
+
 /// What raster graphics is set to: plain data, which a macro call restores. A setter takes the value of its command; a
 /// value that the command does not know changes nothing.
 ///
@@ -97,7 +120,7 @@ impl RasterResolution {
 #[derive(Clone, Copy, Debug, PartialEq, Eq)]
 pub struct RasterSettings {
     pub resolution: RasterResolution,
-    pub method: Method,
+    pub coding: RowCoding,
     /// How many dots wide a row is; without, a row ends at the right edge of the logical page.
     pub source_width: Option<u16>,
     /// After how many rows the next ones have no effect.
@@ -126,7 +149,7 @@ impl RasterSettings {
     {
         RasterSettings {
             resolution: RasterResolution::Dpi75,
-            method: Method::Unencoded,
+            coding: RowCoding::By(Method::Unencoded),
             source_width: None,
             source_height: None,
         }
@@ -166,14 +189,14 @@ impl RasterSettings {
         }
     }
 
-    /// `ESC * b # M`: the compression method of the rows, 0 to 3.
+    /// `ESC * b # M`: the compression method of the rows: 0 to 3, or 5, adaptive compression.
     ///
     /// Source: PCL 5 Printer Language Technical Reference Manual, Raster Graphics, Set Compression Method command.
     pub fn set_method(&mut self, value: Value)
         ensures { self.new ≡ set_method value.tenthousandths self.old }
     {
-        if let Some(method) = Method::of_number(value.whole()) {
-            self.method = method;
+        if let Some(coding) = RowCoding::of_number(value.whole()) {
+            self.coding = coding;
         }
     }
 

@@ -1,10 +1,12 @@
 //! Strips of the frame whose lines have the same dots.
 
-ghost use Rattle.std.specs.Prelude.{◌≡◌, ℕ, ◌+◌, ◌-◌, ◌*◌, ◌/◌, ◌≤◌, ◌<◌, ◌^◌, length, min, true, false, IfOk, OnOk, OnErr};
+ghost use Rattle.std.specs.Prelude.{◌≡◌, ℕ, ◌+◌, ◌-◌, ◌*◌, ◌/◌, ◌≤◌, ◌<◌, ◌^◌, ◌⊎◌, length, min, true, false, IfOk, OnOk, OnErr};
 ghost use Rattle.press_bits.specs.Lines.{bytes_per_line};
 ghost use Rattle.press_bits.specs.Mark.{painted, row, row_dot};
+ghost use Rattle.press_bits.specs.Page.{HasNoDotOutside};
 ghost use Rattle.press_page.specs.Media.{turned};
 ghost use Rattle.press_raster.specs.Reading.{backward_from, tile_line, read_dot};
+ghost use Rattle.press_raster.specs.Across.{AcrossReady, HasRoom, across_of, covered_columns, is_direct, page_frame, room_for};
 ghost use Rattle.press_raster.specs.Along.{is_backward, dots_along, StripReady};
 ghost use Rattle.press_raster.specs.Mark.{strip_mark, raster_mark};
 
@@ -17,6 +19,7 @@ use std::alloc::{AllocError, Global};
 
 /// How much of a length that begins at a place lies before an edge.
 fn cut_length(from: u32, length: usize, edge: u32) -> u32
+    ensures cut { result ≡ min length (edge - from) }
     ensures within { result ≤ length }
     ensures before { 0 < result → from + result ≤ edge }
     ensures most { result ≤ edge }
@@ -142,6 +145,7 @@ fn paint_lines(
     ensures painted { page.new.page ≡ painted page.old.page
         (strip_mark orientation page.old.page.width page.old.page.height corner.x corner.y (row source.entry).dots lines
         (dots_along (is_backward orientation) (row source.entry)) ink.now.tile ink.now.mode) }
+    ensures ready { page.new.ready ≡ page.old.ready }
 {
     let lines = cut_length(corner.y, lines, frame(page, orientation).height);
     for line in 0..lines {
@@ -158,26 +162,18 @@ fn paint_lines(
 }
 
 /// So many dots along a line of the frame, for each dot of a row `size` of them; the last one first where they run backwards.
-fn spread(
-    alloc: Global,
-    source: DotRow<'_>,
-    size: usize,
-    backward: bool,
-    columns: usize,
-) -> Result<Vec<u8>, AllocError>
+fn spread(source: DotRow<'_>, size: usize, backward: bool, columns: usize, bits: &mut [u8])
     requires size { 1 ≤ size }
     requires some { 1 ≤ columns }
-    requires small { columns < 2 ^ 32 }
     requires within { columns ≤ size * source.dots }
-    ensures long { IfOk result (λ bits. columns ≤ 8 * length bits.items) }
-    ensures dots { IfOk result (λ bits. (i : ℕ) → i < columns
-        → dots_along backward (record { bits = bits.items; dots = columns }) i
-        ≡ row_dot (row source.entry).bits (i / size)) }
+    requires long { columns ≤ 8 * length bits.old }
+    requires small { length bits.old < 2 ^ 32 }
+    ensures { (i : ℕ) → i < columns
+        → dots_along backward (record { bits = bits.new; dots = columns }) i
+        ≡ row_dot (row source.entry).bits (i / size) }
 {
     let last = backward.then_some(columns - 1);
-    let mut bits = white_bytes(alloc, bytes_for(columns))?;
-    Reading { size, last }.read(source, &mut bits);
-    Ok(bits)
+    Reading { size, last }.read(source, bits);
 }
 
 /// Makes the lines of the page ready that a strip of the frame crosses.
@@ -208,7 +204,179 @@ fn ready_strip(
     }
 }
 
-/// Paints a raster row from a corner of the frame on, each of its dots `size` dots wide and high. Dots outside the page are
+/// How rows of dots lie across the frame of a page.
+#[derive(Clone, Copy)]
+pub(crate) struct Across {
+    pub(crate) orientation: Orientation,
+    /// The column of the frame at which they begin.
+    pub(crate) left: u32,
+    /// How many columns of the frame they cover.
+    pub(crate) columns: u32,
+    /// How many dots of the page a dot of a row is wide and high.
+    pub(crate) size: u32,
+}
+
+impl Across {
+    /// How rows of so many dots lie across the frame of a page.
+    pub(crate) fn new(
+        page: &Bands,
+        orientation: Orientation,
+        left: u32,
+        size: u32,
+        dots: usize,
+    ) -> Self
+        requires most { size ≤ 8 }
+        requires dots { dots < 2 ^ 29 }
+        ensures across { result
+            ≡ across_of orientation page.now.page.width page.now.page.height left size dots }
+    {
+        let side = frame(page, orientation).width;
+        let columns = cut_length(left, size as usize * dots, side);
+        Across {
+            orientation,
+            left,
+            columns,
+            size,
+        }
+    }
+
+    /// Whether the dots of a row are painted as they stand: each once, from left to right.
+    fn is_direct(self) -> bool
+        ensures { result ≡ is_direct self }
+    {
+        self.size == 1 && !is_backward(self.orientation)
+    }
+
+    /// How many bytes of room so many dots take that are read before they are painted.
+    fn room_for(self, dots: usize) -> usize
+        requires { dots < 2 ^ 32 }
+        ensures { result ≡ room_for self dots }
+    {
+        if self.is_direct() { 0 } else { bytes_for(dots) }
+    }
+
+    /// Whether rows from a line of the frame on lie beside the page.
+    fn misses(self, page: &Bands, line: u32) -> bool
+        ensures missed { result ≡ true
+            → (self.columns ≡ 0) ⊎ ((page_frame self.orientation page.now.page).height ≤ line) }
+        ensures met { result ≡ false → 1 ≤ self.columns }
+        ensures inside { HasNoDotOutside page.now.page }
+    {
+        let height = frame(page, self.orientation).height;
+        self.columns == 0 || height <= line
+    }
+
+    /// Whether a row from a line of the frame on marks nothing: it lies beside the page, or is white and transparent.
+    fn marks_nothing(self, page: &Bands, line: u32, source: DotRow<'_>, ink: &Ink<'_>) -> bool
+        requires columns { self.columns ≡ covered_columns self.orientation page.now.page.width
+            page.now.page.height self.left self.size source.dots }
+        ensures unmarked { result ≡ true → page.now.page ≡ painted page.now.page
+            (raster_mark self.orientation page.now.page (record { x = self.left; y = line })
+            self.size (row source.entry) ink.now) }
+        ensures met { result ≡ false → 1 ≤ self.columns }
+    {
+        if self.misses(page, line) {
+            return true;
+        }
+        !ink.mode.source_opaque && source.is_white()
+    }
+
+    /// Makes the lines of the page ready that so many lines of the frame cross, from a line on.
+    pub(crate) fn ready(self, page: &mut Bands, line: u32, lines: u32) -> Result<(), AllocError>
+        requires within { self.columns ≤ (page_frame self.orientation page.old.page).width - self.left }
+        ensures dots { page.new.page ≡ page.old.page }
+        ensures ready { OnOk result (AcrossReady self page.new line lines) }
+    {
+        if self.columns == 0 {
+            return Ok(());
+        }
+        let corner = Dot {
+            x: self.left,
+            y: line,
+        };
+        ready_strip(page, self.orientation, corner, self.columns, lines)
+    }
+}
+
+/// Room for what is read of rows before it is painted: the dots along a line of the page, and those of a line of a tile.
+#[derive(Drop)]
+pub(crate) struct Scratch {
+    dots: Vec<u8>,
+    tile: Vec<u8>,
+}
+
+impl Scratch {
+    /// Room for rows that lie so across the frame.
+    ///
+    /// # Errors
+    ///
+    /// Where memory ran out.
+    pub(crate) fn new(alloc: Global, across: Across, ink: &Ink<'_>) -> Result<Self, AllocError>
+        ensures { IfOk result (λ scratch. HasRoom across ink.now scratch) }
+    {
+        let dots = across.room_for(across.columns as usize);
+        let tile = across.room_for(usize::from(ink.tile.width()));
+        Ok(Scratch {
+            dots: white_bytes(alloc, dots)?,
+            tile: white_bytes(alloc, tile)?,
+        })
+    }
+}
+
+/// Paints a raster row from a line of the frame on, each of its dots so many dots wide and high, and says whether it may
+/// mark the page. Dots outside the page are dropped. Takes no memory.
+pub(crate) fn paint_across(
+    page: &mut Bands,
+    across: Across,
+    line: u32,
+    source: DotRow<'_>,
+    ink: &Ink<'_>,
+    scratch: &mut Scratch,
+) -> bool
+    requires columns { across.columns ≡ covered_columns across.orientation
+        page.old.page.width page.old.page.height across.left across.size source.dots }
+    requires ready { AcrossReady across page.old line across.size }
+    requires room { HasRoom across ink.now scratch.old }
+    ensures painted { page.new.page ≡ painted page.old.page (raster_mark across.orientation
+        page.old.page (record { x = across.left; y = line }) across.size
+        (row source.entry) ink.now) }
+    ensures unmarked { result ≡ false → page.new.page ≡ page.old.page }
+    ensures ready { page.new.ready ≡ page.old.ready }
+    ensures room { HasRoom across ink.now scratch.new }
+{
+    if across.marks_nothing(page, line, source, ink) {
+        return false;
+    }
+    let dots = across.columns as usize;
+    let corner = Dot {
+        x: across.left,
+        y: line,
+    };
+    let orientation = across.orientation;
+    let size = across.size as usize;
+    if across.is_direct() {
+        let bits = source.bits;
+        let source = DotRow { bits, dots };
+        paint_lines(page, orientation, corner, size, source, ink, &mut []);
+        return true;
+    }
+    let backward = is_backward(orientation);
+    spread(source, size, backward, dots, &mut scratch.dots);
+    let bits = &scratch.dots;
+    let source = DotRow { bits, dots };
+    paint_lines(
+        page,
+        orientation,
+        corner,
+        size,
+        source,
+        ink,
+        &mut scratch.tile,
+    );
+    true
+}
+
+/// Paints a raster row from a line of the frame on, each of its dots so many dots wide and high. Dots outside the page are
 /// dropped. A row that marks nothing makes no line ready.
 ///
 /// # Errors
@@ -217,41 +385,24 @@ fn ready_strip(
 pub(crate) fn paint_strip(
     page: &mut Bands,
     alloc: Global,
-    orientation: Orientation,
-    corner: Dot,
-    size: u32,
+    across: Across,
+    line: u32,
     source: DotRow<'_>,
     ink: &Ink<'_>,
 ) -> Result<(), AllocError>
-    requires most { size ≤ 8 }
-    requires dots { source.dots < 2 ^ 29 }
+    requires columns { across.columns ≡ covered_columns across.orientation
+        page.old.page.width page.old.page.height across.left across.size source.dots }
+    requires most { across.size ≤ 8 }
     ensures painted { OnOk result (page.new.page ≡ painted page.old.page
-        (raster_mark orientation page.old.page corner size (row source.entry) ink.now)) }
+        (raster_mark across.orientation page.old.page (record { x = across.left; y = line })
+        across.size (row source.entry) ink.now)) }
     ensures unchanged { OnErr result (page.new.page ≡ page.old.page) }
 {
-    let side = frame(page, orientation).width;
-    let columns = cut_length(corner.x, size as usize * source.dots, side);
-    if columns == 0 {
+    if across.marks_nothing(page, line, source, ink) {
         return Ok(());
     }
-    if !ink.mode.source_opaque && source.is_white() {
-        return Ok(());
-    }
-    ready_strip(page, orientation, corner, columns, size)?;
-    let size = size as usize;
-    let dots = columns as usize;
-    let backward = is_backward(orientation);
-    if size == 1 && !backward {
-        let source = DotRow {
-            bits: source.bits,
-            dots,
-        };
-        paint_lines(page, orientation, corner, size, source, ink, &mut []);
-        return Ok(());
-    }
-    let bits = spread(alloc, source, size, backward, dots)?;
-    let mut room = white_bytes(alloc, bytes_for(usize::from(ink.tile.width())))?;
-    let source = DotRow { bits: &bits, dots };
-    paint_lines(page, orientation, corner, size, source, ink, &mut room);
+    across.ready(page, line, across.size)?;
+    let mut scratch = Scratch::new(alloc, across, ink)?;
+    paint_across(page, across, line, source, ink, &mut scratch);
     Ok(())
 }

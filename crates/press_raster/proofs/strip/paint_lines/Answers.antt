@@ -50,4 +50,5 @@ returns c =
           ∙ ap (λ (n : ℕ). painted page (strip_mark o page.width page.height c.args.corner.x c.args.corner.y c.args.source.dots n dots tile mode)) last
           ∙ painted_strip_cut o page c.args.corner.x c.args.corner.y c.args.source.dots lines c.args.source.dots c.args.lines dots tile mode refl
           (sym (ap (λ (e : Extent). min (c.args.corner.y + c.args.lines) e.height) (sym c.frame.ensures.frame) ∙ c.cut_length-lines.ensures.same_end ∙ ap (λ (e : Extent). min (c.args.corner.y + lines) e.height) c.frame.ensures.frame));
+      ready = c.loop-line.invariant.2;
     }

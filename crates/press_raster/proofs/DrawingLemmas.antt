@@ -1,0 +1,158 @@
+-- Rows that are drawn one below the other, and data of which no row has effect.
+use Rattle.std.proofs.Common.{◌≡◌, ◌∙◌, ◌+◌, ℕ, zero, suc, Bool, true, false, if◌then◌else◌, List, [], ◌∷◌, ◌++◌, length, replicate, Option, Some, None, refl, sym, ap, rules, arith}
+use Rattle.std.specs.Prelude.{◌&&◌, is_some, is_none, min, pos}
+use Rattle.std.specs.List.{list_any}
+use Rattle.std.proofs.lemmas.Bool.{true≢false}
+use Rattle.std.proofs.lemmas.List.{length-replicate, same_lists, places}
+use Rattle.std.proofs.lemmas.List.Sums.{fold-append}
+use Rattle.press_bits.specs.Bands.{BandedPage}
+use Rattle.press_bits.specs.Lines.{bytes_per_line}
+use Rattle.press_bits.specs.Mark.{Mark, painted}
+use Rattle.press_bits.specs.Page.{Page}
+use Rattle.press_bits.proofs.MarkLemmas.{width-painted, height-painted}
+use Rattle.press_cursor.specs.Cursor.{moved_y}
+use Rattle.press_cursor.specs.CursorState.{CursorState}
+use Rattle.press_page.specs.Environment.{logical_page_of}
+use Rattle.press_page.specs.declared.environment.PageEnv.{PageEnv}
+use Rattle.press_pattern.specs.declared.ink.Ink.{Ink}
+use Rattle.press_rows.specs.Blocks.{Item, count_rows}
+use Rattle.press_rows.specs.Row.{fitted, raster_row}
+use Rattle.press_rows.specs.declared.compression.Method.{Method}
+use Rattle.press_raster.specs.Drawing.{drawn_by, layout, setup_of}
+use Rattle.press_raster.specs.Graphics.{RasterGraphics, graphics, is_below_height, most_rows, takes_row, whitened}
+use Rattle.press_raster.specs.Mark.{raster_mark}
+use Rattle.press_raster.specs.Rows.{Drawn, drawn, with_item, with_items}
+use Rattle.press_raster.specs.Settings.{dot_size, row_height}
+use Rattle.press_raster.specs.Transfer.{row_corner, row_dots}
+use Rattle.press_raster.specs.declared.drawing.Drawing.{Drawing}
+use Rattle.press_raster.specs.declared.drawing.RowSetup.{RowSetup}
+use Rattle.press_raster.specs.declared.raster.RasterPosition.{RasterPosition}
+use Rattle.press_raster.specs.declared.raster.RowPlace.{RowPlace}
+use Rattle.press_raster.specs.declared.settings.RasterSettings.{RasterSettings}
+use Rattle.press_raster.proofs.DecodingLemmas.{raster_row-fitted}
+
+-- a white row, cut or filled up, is white
+pub fitted-white : (width n : ℕ) → replicate width 0 ≡ fitted width (replicate n 0)
+fitted-white width n = same_lists _ _ (search (rules, places)) (λ k d l. grind (arith, places))
+
+module _ (environment : PageEnv) (settings : RasterSettings) (ink : Ink) where
+  -- where a row lies at this cursor
+  abbrev pub place_at : CursorState → RowPlace
+  place_at cursor = record { environment = environment; y = cursor.y }
+
+  -- what is drawn with a row of these bits, which has effect
+  abbrev pub with_bits : RasterGraphics → Page → CursorState → List ℕ → Drawn
+  with_bits on page cursor bits =
+      drawn (Some (record { left = on.left; rows = min most_rows (on.rows + 1); seed = bits }))
+      (painted page (raster_mark environment.media.orientation page (row_corner (place_at cursor) on.left)
+      (dot_size settings.resolution environment.media.resolution)
+      (record { bits = bits; dots = row_dots (place_at cursor) settings on.left }) ink))
+      (moved_y (pos (row_height settings.resolution)) true (logical_page_of environment) cursor)
+
+  -- a row that has effect
+  pub with_item-taken : (on : RasterGraphics) (page : Page) (cursor : CursorState) (row : Method × List ℕ) → is_below_height settings.source_height on.rows ≡ true →
+      with_item environment settings ink (drawn (Some on) page cursor) (Some row)
+      ≡ with_bits on page cursor (raster_row row.0 row.1 on.seed (bytes_per_line (row_dots (place_at cursor) settings on.left)))
+  with_item-taken on page cursor row below = search (rules, below)
+
+  -- and one that has none
+  pub with_item-untaken : (d : Drawn) (row : Method × List ℕ) → takes_row settings d.graphics ≡ false → with_item environment settings ink d (Some row) ≡ d
+  with_item-untaken d row untaken = search (rules, untaken)
+
+  -- items behind others
+  pub with_items-append : (xs ys : List Item) (d : Drawn) →
+      with_items environment settings ink (xs ++ ys) d ≡ with_items environment settings ink ys (with_items environment settings ink xs d)
+  with_items-append xs ys d = fold-append (with_item environment settings ink) d xs ys
+
+  -- where an item changes nothing, neither does the same one again
+  pub with_items-settled : (n : ℕ) (item : Item) (d : Drawn) → with_item environment settings ink d item ≡ d →
+      with_items environment settings ink (replicate n item) d ≡ d
+  with_items-settled zero item d same = refl
+  with_items-settled (suc n) item d same = ap (with_items environment settings ink (replicate n item)) same ∙ with_items-settled n item d same
+
+  -- white once and twice
+  white_twice : (graphics : Option RasterGraphics) → whitened (whitened graphics) ≡ whitened graphics
+  white_twice None = refl
+  white_twice (Some on) = ap (λ n. Some (record on { seed = replicate n 0 })) (length-replicate (length on.seed) 0)
+
+  takes_row-whitened : (graphics : Option RasterGraphics) → takes_row settings (whitened graphics) ≡ takes_row settings graphics
+  takes_row-whitened None = refl
+  takes_row-whitened (Some on) = refl
+
+  -- what an item that has no effect leaves: the seed row is white, where an item says so
+  abbrev pub after_idle : Bool → Drawn → Drawn
+  after_idle white d = record d { graphics = if white then whitened d.graphics else d.graphics }
+
+  after_idle-white : (white : Bool) (d : Drawn) → after_idle white (record d { graphics = whitened d.graphics }) ≡ record d { graphics = whitened d.graphics }
+  after_idle-white true d = ap (λ g. record d { graphics = g }) (white_twice d.graphics)
+  after_idle-white false d = refl
+
+  not_both : (a : Bool) → (a && true) ≡ false → a ≡ false
+  not_both true is = is
+  not_both false is = refl
+
+  still : (a b : Bool) → a ≡ false → (a && b) ≡ false
+  still a b none = ap (λ t. t && b) none
+
+  -- data of which no row has effect
+  pub with_items-idle : (xs : List Item) (d : Drawn) → (takes_row settings d.graphics && list_any is_some xs) ≡ false →
+      with_items environment settings ink xs d ≡ after_idle (list_any is_none xs) d
+  with_items-idle [] d idle = refl
+  with_items-idle (None ∷ others) d idle =
+      with_items-idle others (record d { graphics = whitened d.graphics }) (ap (λ t. t && list_any is_some others) (takes_row-whitened d.graphics) ∙ idle)
+      ∙ after_idle-white (list_any is_none others) d
+  with_items-idle (Some row ∷ others) d idle =
+      let untaken : takes_row settings d.graphics ≡ false = not_both (takes_row settings d.graphics) idle in
+      ap (with_items environment settings ink others) (with_item-untaken d row untaken)
+      ∙ with_items-idle others d (still (takes_row settings d.graphics) (list_any is_some others) untaken)
+
+  -- the seed row counts as it is cut or filled up to the width of a row, where a row has effect
+  pub with_items-fitted : (xs : List Item) (on : RasterGraphics) (page : Page) (cursor : CursorState) (width : ℕ) →
+      width ≡ bytes_per_line (row_dots (place_at cursor) settings on.left) → is_below_height settings.source_height on.rows ≡ true → list_any is_some xs ≡ true →
+      with_items environment settings ink xs (drawn (Some (record on { seed = fitted width on.seed })) page cursor)
+      ≡ with_items environment settings ink xs (drawn (Some on) page cursor)
+  with_items-fitted [] on page cursor width wide below some = absurd (true≢false (sym some))
+  with_items-fitted (None ∷ others) on page cursor width wide below some =
+      let long : length (fitted width on.seed) ≡ width = search (rules, places) in
+      ap (λ bits. with_items environment settings ink others (drawn (Some (record on { seed = bits })) page cursor))
+      (ap (λ n. replicate n 0) long ∙ fitted-white width (length on.seed))
+      ∙ with_items-fitted others (record on { seed = replicate (length on.seed) 0 }) page cursor width wide below some
+  with_items-fitted (Some row ∷ others) on page cursor width wide below some =
+      ap (with_items environment settings ink others)
+      (with_item-taken (record on { seed = fitted width on.seed }) page cursor row below
+      ∙ ap (with_bits on page cursor)
+      (ap (raster_row row.0 row.1 (fitted width on.seed)) (sym wide) ∙ raster_row-fitted row.0 row.1 on.seed width ∙ ap (raster_row row.0 row.1 on.seed) wide)
+      ∙ sym (with_item-taken on page cursor row below))
+
+-- how many rows a run is, before others
+pub count_rows-run : (n : ℕ) (row : Method × List ℕ) (others : List Item) → count_rows (replicate n (Some row) ++ others) ≡ n + count_rows others
+count_rows-run zero row others =
+    let none : count_rows others ≡ 0 + count_rows others = omega arith in none
+count_rows-run (suc n) row others =
+    let more : suc (n + count_rows others) ≡ suc n + count_rows others = omega arith in
+    ap suc (count_rows-run n row others) ∙ more
+
+-- no row of a run makes the seed row white
+pub none_white-run : (n : ℕ) (row : Method × List ℕ) (others : List Item) → list_any is_none (replicate n (Some row) ++ others) ≡ list_any is_none others
+none_white-run zero row others = refl
+none_white-run (suc n) row others = none_white-run n row others
+
+-- painting leaves the layout of a page
+pub layout-painted : (page page' : BandedPage) (mark : Mark) → page'.page ≡ painted page.page mark → page'.ready ≡ page.ready → layout page' ≡ layout page
+layout-painted page page' mark painting ready =
+    let wide = ap (λ (p : Page). p.width) painting ∙ width-painted page.page mark in
+    let high = ap (λ (p : Page). p.height) painting ∙ height-painted page.page mark in
+    λ i. record { width = wide i; height = high i; ready = ready i }
+
+-- rows that are drawn from the seed row as it is cut or filled up, where one has effect
+pub drawn-fitted : (setup : RowSetup) (environment : PageEnv) (settings : RasterSettings) (ink : Ink) (width height : ℕ) (position : RasterPosition) (seed : List ℕ)
+    (drawing : Drawing) (page : BandedPage) (whole : Page) (cursor : CursorState) (xs : List Item) →
+    setup ≡ setup_of width height environment settings position.left →
+    drawing.position ≡ position → drawing.seed.items ≡ fitted (bytes_per_line setup.dots) seed → page.page ≡ whole →
+    takes_row settings (graphics (Some position) seed) ≡ true → list_any is_some xs ≡ true →
+    with_items setup.environment setup.settings ink xs (drawn_by drawing page cursor)
+    ≡ with_items environment settings ink xs (drawn (graphics (Some position) seed) whole cursor)
+drawn-fitted setup environment settings ink width height position seed drawing page whole cursor xs same place cut on_page taken some =
+    (λ i. with_items (same i).environment (same i).settings ink xs (drawn (graphics (Some (place i)) (cut i)) (on_page i) cursor))
+    ∙ with_items-fitted environment settings ink xs (record { left = position.left; rows = position.rows; seed = seed }) whole cursor (bytes_per_line setup.dots)
+    (ap (λ (s : RowSetup). bytes_per_line s.dots) same) taken some

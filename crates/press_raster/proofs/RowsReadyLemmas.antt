@@ -1,0 +1,198 @@
+-- The lines that are ready for rows one below the other.
+use Rattle.std.proofs.Common.{◌≡◌, ◌+◌, ◌-◌, ◌*◌, ◌/◌, ◌<◌, ◌≤◌, ◌⊎◌, ℕ, zero, suc, Bool, true, false, replicate, Some, None, refl, ap, subst, min, inl, inr, arith}
+use Rattle.std.specs.Prelude.{ℤ, pos, negsuc, ◌+ℤ◌, ◌-ℤ◌, int_le, int_lt, if◌then◌else◌}
+use Rattle.std.proofs.Math.Nat.{suc-mul, mul-le-mul_right, le-mul_of_pos_right}
+use Rattle.std.proofs.lemmas.Bool.{cases_lt}
+use Rattle.std.proofs.lemmas.Int.{ints}
+use Rattle.press_units.specs.Position.{positions_per_dot}
+use Rattle.press_units.specs.declared.position.Resolution.{Resolution}
+use Rattle.press_units.specs.declared.position.Resolution.TheVariants as print
+use Rattle.press_bits.specs.Bands.{BandedPage}
+use Rattle.press_bits.specs.Page.{longest_side}
+use Rattle.press_cursor.specs.Bounds.{nearest_y}
+use Rattle.press_cursor.specs.declared.logical_page.LogicalPage.{LogicalPage}
+use Rattle.press_page.specs.Environment.{logical_page_of}
+use Rattle.press_page.specs.Place.{below_edge}
+use Rattle.press_page.specs.declared.media.Orientation.{Orientation}
+use Rattle.press_page.specs.declared.media.Orientation.TheVariants.{Portrait, Landscape, ReversePortrait, ReverseLandscape}
+use Rattle.press_pattern.specs.declared.ink.Ink.{Ink}
+use Rattle.press_rows.specs.Blocks.{Item}
+use Rattle.press_raster.specs.Across.{AcrossReady}
+use Rattle.press_raster.specs.Along.{StripReady}
+use Rattle.press_raster.specs.Drawing.{Layout, RowsReady, laid_out, last_line, line_of, lines_of_row}
+use Rattle.press_raster.specs.Graphics.{takes_row}
+use Rattle.press_raster.specs.Rows.{Drawn, with_item, with_items, with_row}
+use Rattle.press_raster.specs.Settings.{dot_size, row_height}
+use Rattle.press_raster.specs.declared.drawing.RowSetup.{RowSetup}
+use Rattle.press_raster.specs.declared.settings.RasterResolution.{RasterResolution}
+use Rattle.press_raster.specs.declared.settings.RasterResolution.TheVariants.{Dpi75, Dpi100, Dpi150, Dpi200, Dpi300, Dpi600}
+
+-- ---- lines of a strip
+
+-- a line that lies from a line on, and before one, counted from the top of the page
+from_top : (a n : ℕ) → int_le (pos a) (pos n) ≡ true → a ≤ n
+from_top a n is = grind (arith, ints)
+
+before_top : (a b n : ℕ) → int_lt (pos n) (pos a +ℤ pos b) ≡ true → n < a + b
+before_top a b n is = grind (arith, ints)
+
+is_from_top : (a n : ℕ) → a ≤ n → int_le (pos a) (pos n) ≡ true
+is_from_top a n is = grind (arith, ints)
+
+is_before_top : (a b n : ℕ) → n < a + b → int_lt (pos n) (pos a +ℤ pos b) ≡ true
+is_before_top a b n is = grind (arith, ints)
+
+-- and from its foot
+from_foot : (h a b n : ℕ) → int_le ((pos h -ℤ pos b) -ℤ pos a) (pos n) ≡ true → h ≤ n + b + a
+from_foot h a b n is = grind (arith, ints)
+
+before_foot : (h a b n : ℕ) → int_lt (pos n) (((pos h -ℤ pos b) -ℤ pos a) +ℤ pos b) ≡ true → n + a < h
+before_foot h a b n is = grind (arith, ints)
+
+is_from_foot : (h a b n : ℕ) → h ≤ n + b + a → int_le ((pos h -ℤ pos b) -ℤ pos a) (pos n) ≡ true
+is_from_foot h a b n is = grind (arith, ints)
+
+is_before_foot : (h a b n : ℕ) → n + a < h → int_lt (pos n) (((pos h -ℤ pos b) -ℤ pos a) +ℤ pos b) ≡ true
+is_before_foot h a b n is = grind (arith, ints)
+
+-- a part of a strip, as far as the page goes
+pub strip_within : (o : Orientation) (page : BandedPage) (x first lines line size columns : ℕ) → first ≤ line → min page.page.height (line + size) ≤ first + lines →
+    StripReady o page x first columns lines → StripReady o page x line columns size
+strip_within Portrait page x first lines line size columns begins ends ready = λ n from to inside.
+    ready n (is_from_top first n (omega (arith, begins, from_top line n from)))
+    (is_before_top first lines n (omega (arith, ends, inside, before_top line size n to))) inside
+strip_within Landscape page x first lines line size columns begins ends ready = ready
+strip_within ReversePortrait page x first lines line size columns begins ends ready = λ n from to inside.
+    let h = page.page.height in
+    ready n (is_from_foot h first lines n (omega (arith, ends, from_foot h line size n from)))
+    (is_before_foot h first lines n (omega (arith, begins, before_foot h line size n to))) inside
+strip_within ReverseLandscape page x first lines line size columns begins ends ready = ready
+
+-- ---- heights of rows
+
+-- a dot of a row is no higher than the lines that a row takes, and a row takes a line at least
+pub size_fits : (rows : RasterResolution) (page : Resolution) →
+    (dot_size rows page ≤ (row_height rows + (positions_per_dot page - 1)) / positions_per_dot page) × (1 ≤ (row_height rows + (positions_per_dot page - 1)) / positions_per_dot page)
+size_fits Dpi75 print.Dpi300 = (omega arith, omega arith)
+size_fits Dpi75 print.Dpi600 = (omega arith, omega arith)
+size_fits Dpi100 print.Dpi300 = (omega arith, omega arith)
+size_fits Dpi100 print.Dpi600 = (omega arith, omega arith)
+size_fits Dpi150 print.Dpi300 = (omega arith, omega arith)
+size_fits Dpi150 print.Dpi600 = (omega arith, omega arith)
+size_fits Dpi200 print.Dpi300 = (omega arith, omega arith)
+size_fits Dpi200 print.Dpi600 = (omega arith, omega arith)
+size_fits Dpi300 print.Dpi300 = (omega arith, omega arith)
+size_fits Dpi300 print.Dpi600 = (omega arith, omega arith)
+size_fits Dpi600 print.Dpi300 = (omega arith, omega arith)
+size_fits Dpi600 print.Dpi600 = (omega arith, omega arith)
+
+-- positions that are so close lie on lines so close
+lines_apart : (page : Resolution) (h a b l : ℕ) → min a l ≤ b → b ≤ a + h →
+    (min (a / positions_per_dot page) (l / positions_per_dot page) ≤ b / positions_per_dot page)
+    × (b / positions_per_dot page ≤ a / positions_per_dot page + (h + (positions_per_dot page - 1)) / positions_per_dot page)
+lines_apart print.Dpi300 h a b l least most = (omega (arith, least, most), omega (arith, least, most))
+lines_apart print.Dpi600 h a b l least most = (omega (arith, least, most), omega (arith, least, most))
+
+-- ---- a move down
+
+-- how far below the edge a position lies
+below_edge_is : (z : ℤ) → ((int_le (pos 0) z ≡ true) × (z ≡ pos (below_edge z))) ⊎ ((int_lt z (pos 0) ≡ true) × (below_edge z ≡ 0))
+below_edge_is (pos n) = inl (grind (arith, ints), refl)
+below_edge_is (negsuc n) = inr (grind (arith, ints), refl)
+
+-- a move down goes no further than its distance, and up no further than to the lower edge of the logical page
+pub moved_edge : (y : ℤ) (h : ℕ) (page : LogicalPage) →
+    (min (below_edge (y +ℤ pos page.top_margin)) page.length ≤ below_edge (nearest_y (y +ℤ pos h) page +ℤ pos page.top_margin))
+    × (below_edge (nearest_y (y +ℤ pos h) page +ℤ pos page.top_margin) ≤ below_edge (y +ℤ pos page.top_margin) + h)
+moved_edge y h page =
+    let before = below_edge_is (y +ℤ pos page.top_margin) in
+    let after = below_edge_is (nearest_y (y +ℤ pos h) page +ℤ pos page.top_margin) in
+    (grind (arith, ints), grind (arith, ints))
+
+-- ---- rows one below the other
+
+-- one of them
+pub rows_ready-row : (setup : RowSetup) (page : Layout) (y : ℤ) → RowsReady setup page y 1 → setup.across.size ≤ lines_of_row setup →
+    AcrossReady setup.across (laid_out page) (line_of setup.environment y) setup.across.size
+rows_ready-row setup page y ready fits some =
+    strip_within setup.across.orientation (laid_out page) setup.across.left ready.first ready.lines (line_of setup.environment y) setup.across.size setup.across.columns
+    ready.begins (omega (arith, ready.ends, fits)) (ready.ready some)
+
+-- fewer of them
+pub rows_ready-fewer : (setup : RowSetup) (page : Layout) (y : ℤ) (m n : ℕ) → m ≤ n → RowsReady setup page y n → RowsReady setup page y m
+rows_ready-fewer setup page y m n fewer ready =
+    let less : m * lines_of_row setup ≤ n * lines_of_row setup = mul-le-mul_right (lines_of_row setup) fewer in
+    record {
+      first = ready.first;
+      lines = ready.lines;
+      ready = ready.ready;
+      begins = ready.begins;
+      begins_last = ready.begins_last;
+      ends = omega (arith, less, ready.ends);
+    }
+
+-- rows below the first
+pub rows_ready-moved : (setup : RowSetup) (page : Layout) (y : ℤ) (n : ℕ) → RowsReady setup page y (suc n) →
+    RowsReady setup page (nearest_y (y +ℤ pos (row_height setup.settings.resolution)) (logical_page_of setup.environment)) n
+rows_ready-moved setup page y n ready =
+    let h = row_height setup.settings.resolution in
+    let logical = logical_page_of setup.environment in
+    let top = setup.environment.margins.top in
+    let edge = moved_edge y h logical in
+    let apart = lines_apart setup.environment.media.resolution h (below_edge (y +ℤ pos top)) (below_edge (nearest_y (y +ℤ pos h) logical +ℤ pos top)) logical.length edge.0 edge.1 in
+    let more : suc n * lines_of_row setup ≡ n * lines_of_row setup + lines_of_row setup = suc-mul n (lines_of_row setup) in
+    record {
+      first = ready.first;
+      lines = ready.lines;
+      ready = ready.ready;
+      begins = omega (arith, ready.begins, ready.begins_last, apart.0);
+      begins_last = ready.begins_last;
+      ends = omega (arith, ready.ends, more, apart.1);
+    }
+
+-- rows behind an item
+pub rows_ready-next : (setup : RowSetup) (ink : Ink) (page : Layout) (d : Drawn) (item : Item) (n : ℕ) → RowsReady setup page d.cursor.y (suc n) →
+    RowsReady setup page (with_item setup.environment setup.settings ink d item).cursor.y n
+rows_ready-next setup ink page d None n ready = rows_ready-fewer setup page d.cursor.y n (suc n) (omega arith) ready
+rows_ready-next setup ink page d (Some row) n ready = behind (takes_row setup.settings d.graphics)
+  where
+    behind : (taken : Bool) → RowsReady setup page (if taken then with_row setup.environment setup.settings ink row.0 row.1 d else d).cursor.y n
+    behind true = rows_ready-moved setup page d.cursor.y n ready
+    behind false = rows_ready-fewer setup page d.cursor.y n (suc n) (omega arith) ready
+
+-- rows behind a run
+pub rows_ready-after : (setup : RowSetup) (ink : Ink) (page : Layout) (d : Drawn) (item : Item) (n m k : ℕ) → k ≡ n + m → RowsReady setup page d.cursor.y k →
+    RowsReady setup page (with_items setup.environment setup.settings ink (replicate n item) d).cursor.y m
+rows_ready-after setup ink page d item zero m k is ready =
+    let none : k ≡ m = omega (arith, is) in
+    subst (RowsReady setup page d.cursor.y) none ready
+rows_ready-after setup ink page d item (suc n) m k is ready =
+    let more : k ≡ suc (n + m) = omega (arith, is) in
+    rows_ready-after setup ink page (with_item setup.environment setup.settings ink d item) item n m (n + m) refl
+    (rows_ready-next setup ink page d item (n + m) (subst (RowsReady setup page d.cursor.y) more ready))
+
+-- the lines that are made ready: those of so many rows, or of as many as a page has lines
+pub rows_ready-made : (setup : RowSetup) (page : Layout) (y : ℤ) (rows count first lines : ℕ) → rows ≡ min longest_side count →
+    first ≡ min (line_of setup.environment y) (last_line setup.environment) →
+    page.height ≤ longest_side → lines ≡ min page.height ((line_of setup.environment y - first) + rows * lines_of_row setup) →
+    AcrossReady setup.across (laid_out page) first lines → RowsReady setup page y count
+rows_ready-made setup page y rows count first lines most from small long ready =
+    let s : ℕ = lines_of_row setup in
+    let some : 1 ≤ s = (size_fits setup.settings.resolution setup.environment.media.resolution).1 in
+    record {
+      first = first;
+      lines = lines;
+      ready = ready;
+      begins = omega (arith, from);
+      begins_last = omega (arith, from);
+      ends = elim (cases_lt longest_side count) [
+        | inl many ↦
+            let all : rows ≡ longest_side = omega (arith, most, many) in
+            let product : rows ≤ rows * s = le-mul_of_pos_right rows some in
+            omega (arith, from, small, long, product, all)
+        | inr few ↦
+            let same : rows ≡ count = omega (arith, most, few) in
+            let product : rows * s ≡ count * s = ap (λ n. n * s) same in
+            omega (arith, from, long, product)
+      ];
+    }

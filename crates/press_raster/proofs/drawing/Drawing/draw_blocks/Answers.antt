@@ -1,0 +1,40 @@
+use Rattle.std.proofs.Common.{◌≡◌, ◌∙◌, ◌+◌, ◌++◌, ◌≤◌, replicate, Some, ap, sym, subst, arith}
+use Rattle.press_rows.specs.Blocks.{Item, count_rows, items_of_run}
+use Rattle.press_raster.specs.Drawing.{IsSetUp, RowsReady, drawn_by, layout}
+use Rattle.press_raster.specs.Rows.{Drawn, with_items}
+use Rattle.press_raster.proofs.DrawingLemmas.{count_rows-run, with_items-append}
+use Rattle.press_raster.proofs.RowsReadyLemmas.{rows_ready-after, rows_ready-fewer}
+use Rattle.press_raster.proofs.drawing.Drawing.draw_blocks.Goals as goal
+
+pub draw_run-requires-clause-ready : goal.draw_run-requires-clause-ready
+draw_run-requires-clause-ready c =
+    let setup = c.args.setup.now in
+    let run = c.in-Rows in
+    let others = c.next_run.new.self in
+    let front : c.loop-run.blocks ≡ replicate run.count (Some (run.method, run.data.now)) ++ others = c.in-Some.ensures.front ∙ ap (λ run. items_of_run (Some run) ++ others) run.is in
+    let all : count_rows c.loop-run.blocks ≡ run.count + count_rows others = ap count_rows front ∙ count_rows-run run.count (run.method, run.data.now) others in
+    let some : run.count ≤ count_rows c.loop-run.blocks = omega (arith, all) in
+    subst (λ page. RowsReady setup page c.loop-run.cursor.y run.count) (sym c.loop-run.invariant.same_layout)
+    (rows_ready-fewer setup (layout c.args.page.now) c.loop-run.cursor.y run.count (count_rows c.loop-run.blocks) some c.loop-run.invariant.ready)
+
+pub loop-run-preserved : goal.loop-run-preserved
+loop-run-preserved c =
+    let setup = c.args.setup.now in
+    let ink = c.args.ink.now in
+    let run = c.in-Rows in
+    let item : Item = Some (run.method, run.data.now) in
+    let others = c.next_run.new.self in
+    let d : Drawn = drawn_by c.loop-run.self c.loop-run.page c.loop-run.cursor in
+    let front : c.loop-run.blocks ≡ replicate run.count item ++ others = c.in-Some.ensures.front ∙ ap (λ run. items_of_run (Some run) ++ others) run.is in
+    let all : count_rows c.loop-run.blocks ≡ run.count + count_rows others = ap count_rows front ∙ count_rows-run run.count (run.method, run.data.now) others in
+    record {
+      items =
+          ap (with_items setup.environment setup.settings ink others) c.draw_run.ensures.items
+          ∙ sym (with_items-append setup.environment setup.settings ink (replicate run.count item) others d)
+          ∙ ap (λ xs. with_items setup.environment setup.settings ink xs d) (sym front)
+          ∙ c.loop-run.invariant.items;
+      same_layout = c.draw_run.ensures.layout ∙ c.loop-run.invariant.same_layout;
+      setup = subst (λ page. IsSetUp setup ink page c.draw_run.new.self) c.loop-run.invariant.same_layout c.draw_run.ensures.setup;
+      ready = subst (λ (e : Drawn). RowsReady setup (layout c.args.page.now) e.cursor.y (count_rows others)) (sym c.draw_run.ensures.items)
+          (rows_ready-after setup ink (layout c.args.page.now) d item run.count (count_rows others) (count_rows c.loop-run.blocks) all c.loop-run.invariant.ready);
+    }

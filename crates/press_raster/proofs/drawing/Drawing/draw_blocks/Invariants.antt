@@ -1,0 +1,18 @@
+use Rattle.std.proofs.Common.{◌≡◌, length}
+use Rattle.press_rows.specs.Blocks.{count_rows}
+use Rattle.press_raster.specs.Drawing.{IsSetUp, RowsReady, drawn_by, layout}
+use Rattle.press_raster.specs.Rows.{with_items}
+use Rattle.press_raster.proofs.drawing.Drawing.draw_blocks.Given as goal
+
+-- the items that are left give what all of them give
+abbrev pub invariant-loop-run : goal.invariant-loop-run
+invariant-loop-run l = record {
+  items : with_items l.setup.environment l.setup.settings l.ink l.blocks (drawn_by l.self l.page l.cursor)
+      ≡ with_items l.setup.environment l.setup.settings l.ink l.fn.blocks (drawn_by l.fn.self l.fn.page l.fn.cursor);
+  same_layout : layout l.page ≡ layout l.fn.page;
+  setup : IsSetUp l.setup l.ink (layout l.fn.page) l.self;
+  ready : RowsReady l.setup (layout l.fn.page) l.cursor.y (count_rows l.blocks);
+}
+
+abbrev pub decreases-loop-run : goal.decreases-loop-run
+decreases-loop-run l = length l.blocks

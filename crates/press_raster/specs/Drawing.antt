@@ -1,0 +1,87 @@
+-- Rows of raster graphics that are drawn one below the other: what they have in common, and the lines that are ready for them
+-- (PCL 5 Printer Language Technical Reference Manual, Raster Graphics, Transfer Raster Data by Row command). No public clause
+-- of this crate cites these.
+use Rattle.std.specs.Prelude.{◌≡◌, ℕ, ◌+◌, ◌-◌, ◌*◌, ◌/◌, ◌≤◌, ℤ, pos, Bool, List, min, length, Some}
+use Rattle.std.specs.FinSet as set
+use Rattle.press_units.specs.Position.{positions_per_dot}
+use Rattle.press_bits.specs.Bands.{BandedPage}
+use Rattle.press_bits.specs.Lines.{bytes_per_line}
+use Rattle.press_cursor.specs.CursorState.{CursorState}
+use Rattle.press_page.specs.Media.{logical_width, logical_length}
+use Rattle.press_page.specs.declared.environment.PageEnv.{PageEnv}
+use Rattle.press_pattern.specs.declared.ink.Ink.{Ink}
+use Rattle.press_raster.specs.Across.{HasRoom, AcrossReady, across_of}
+use Rattle.press_raster.specs.Graphics.{graphics, most_rows}
+use Rattle.press_raster.specs.Rows.{Drawn, drawn}
+use Rattle.press_raster.specs.Settings.{dot_size, row_height}
+use Rattle.press_raster.specs.Transfer.{dots_of_row, row_corner}
+use Rattle.press_raster.specs.declared.drawing.Drawing.{Drawing}
+use Rattle.press_raster.specs.declared.drawing.RowSetup.{RowSetup}
+use Rattle.press_raster.specs.declared.raster.RasterPosition.{RasterPosition}
+use Rattle.press_raster.specs.declared.settings.RasterSettings.{RasterSettings}
+
+-- What the rows of a transfer have in common, on a page of this width and height.
+abbrev pub setup_of : (width height : ℕ) → PageEnv → RasterSettings → (left : ℕ) → RowSetup
+setup_of width height environment settings left =
+    let dots = dots_of_row settings.source_width settings.resolution (logical_width environment.media) left in record {
+      environment = environment;
+      settings = settings;
+      across = across_of environment.media.orientation width height
+          (row_corner (record { environment = environment; y = pos 0 }) left).x
+          (dot_size settings.resolution environment.media.resolution) dots;
+      dots = dots;
+    }
+
+-- width and height of a page, and which of its lines are ready
+pub record Layout : Type 0 where
+  pub width : ℕ
+  pub height : ℕ
+  pub ready : List Bool
+
+abbrev pub layout : BandedPage → Layout
+layout page = record { width = page.page.width; height = page.page.height; ready = page.ready }
+
+-- the white page that is laid out so
+abbrev pub laid_out : Layout → BandedPage
+laid_out page = record {
+  page = record { width = page.width; height = page.height; black = set.empty };
+  ready = page.ready;
+}
+
+-- What is drawn has room for the rows of a transfer, and its seed row is as wide as they are.
+pub record IsSetUp (setup : RowSetup) (ink : Ink) (page : Layout) (drawing : Drawing) : Type 0 where
+  pub same : setup ≡ setup_of page.width page.height setup.environment setup.settings drawing.position.left
+  pub seed : length drawing.seed.items ≡ bytes_per_line setup.dots
+  pub row : length drawing.row.items ≡ bytes_per_line setup.dots
+  pub room : HasRoom setup.across ink drawing.scratch
+
+-- raster graphics whose rows are drawn, the page and the cursor
+abbrev pub drawn_by : Drawing → BandedPage → CursorState → Drawn
+drawn_by drawing page cursor = drawn (graphics (Some drawing.position) drawing.seed.items) page.page cursor
+
+-- where raster graphics stands after a row
+abbrev pub one_row_on : RasterPosition → RasterPosition
+one_row_on position = record position { rows = min most_rows (position.rows + 1) }
+
+-- the line of the frame on which a row begins
+abbrev pub line_of : PageEnv → (y : ℤ) → ℕ
+line_of environment y = (row_corner (record { environment = environment; y = y }) 0).y
+
+-- the line of the frame at the lower edge of the logical page
+abbrev pub last_line : PageEnv → ℕ
+last_line environment = logical_length environment.media / positions_per_dot environment.media.resolution
+
+-- how many lines of the frame a row takes down the page, the last of them maybe not whole
+abbrev pub lines_of_row : RowSetup → ℕ
+lines_of_row setup =
+    let dot = positions_per_dot setup.environment.media.resolution in
+    (row_height setup.settings.resolution + (dot - 1)) / dot
+
+-- The lines that so many rows cross, the first of them at this y, are ready.
+pub record RowsReady (setup : RowSetup) (page : Layout) (y : ℤ) (rows : ℕ) : Type 0 where
+  pub first : ℕ
+  pub lines : ℕ
+  pub ready : AcrossReady setup.across (laid_out page) first lines
+  pub begins : first ≤ line_of setup.environment y
+  pub begins_last : first ≤ last_line setup.environment
+  pub ends : min page.height (line_of setup.environment y + rows * lines_of_row setup) ≤ first + lines

@@ -1,0 +1,307 @@
+//! Rows of raster graphics that are drawn one below the other (PCL 5 Printer Language Technical Reference Manual, Raster
+//! Graphics, Transfer Raster Data by Row and Set Compression Method commands).
+
+ghost use Rattle.std.specs.Prelude.{◌≡◌, ◌≤◌, ◌<◌, ◌-◌, ◌^◌, ℕ, false, true, length, min, pos, replicate, Some, IfOk, OnOk};
+ghost use Rattle.press_bits.specs.Lines.{bytes_per_line};
+ghost use Rattle.press_bits.specs.Page.{longest_side};
+ghost use Rattle.press_cursor.specs.Cursor.{moved_y};
+ghost use Rattle.press_page.specs.Environment.{logical_page_of};
+ghost use Rattle.press_rows.specs.Blocks.{count_rows};
+ghost use Rattle.press_rows.specs.Row.{fitted};
+ghost use Rattle.press_raster.specs.Across.{HasRoom, page_frame};
+ghost use Rattle.press_raster.specs.Drawing.{IsSetUp, RowsReady, drawn_by, last_line, layout, line_of, lines_of_row};
+ghost use Rattle.press_raster.specs.Drawing.{one_row_on, setup_of};
+ghost use Rattle.press_raster.specs.Rows.{with_item, with_items};
+ghost use Rattle.press_raster.specs.Settings.{row_height};
+
+use crate::raster::{MOST_ROWS, RasterPosition, RowData, RowPlace, is_within};
+use crate::settings::RasterSettings;
+use crate::strip::{Across, Scratch, bytes_for, paint_across};
+use press_bits::{Bands, DotRow, MAX_SIDE, white_bytes};
+use press_cursor::Cursor;
+use press_page::PageEnv;
+use press_pattern::Ink;
+use press_rows::{Blocks, Method, Run, decode};
+use press_units::Pos;
+use std::alloc::{AllocError, Global};
+
+/// What the rows of a transfer have in common.
+#[derive(Clone, Copy)]
+pub(crate) struct RowSetup {
+    environment: PageEnv,
+    settings: RasterSettings,
+    across: Across,
+    /// How many dots a row has.
+    dots: usize,
+}
+
+impl RowSetup {
+    /// What rows that begin at a distance from the left edge of the logical page have in common.
+    pub(crate) fn new(
+        page: &Bands,
+        environment: &PageEnv,
+        settings: RasterSettings,
+        left: u32,
+    ) -> Self
+        ensures setup { result
+            ≡ setup_of page.now.page.width page.now.page.height environment.now settings left }
+        ensures small { result.dots < 2 ^ 29 }
+    {
+        let media = environment.media;
+        let place = RowPlace {
+            environment: *environment,
+            y: 0,
+        };
+        let size = settings.resolution.dot_size(media.resolution);
+        let dots = settings.dots_of_row(media.logical_width(), left);
+        let column = place.corner(left).x;
+        RowSetup {
+            environment: *environment,
+            settings,
+            across: Across::new(page, media.orientation, column, size, dots),
+            dots,
+        }
+    }
+
+    /// The line of the frame on which a row begins at the cursor.
+    fn line(&self, cursor: &Cursor) -> u32
+        ensures { result ≡ line_of self.now.environment cursor.now.y }
+    {
+        let place = RowPlace {
+            environment: self.environment,
+            y: cursor.y(),
+        };
+        place.corner(0).y
+    }
+
+    /// The line of the frame at the lower edge of the logical page.
+    fn last_line(&self) -> u32
+        ensures { result ≡ last_line self.now.environment }
+    {
+        let dot = u32::from(self.environment.media.resolution.positions_per_dot());
+        self.environment.logical_page().length / dot
+    }
+
+    /// How many lines of the frame a row takes down the page.
+    fn lines_of_row(&self) -> usize
+        ensures lines { result ≡ lines_of_row self.now }
+        ensures most { result ≤ 8 }
+    {
+        let dot = usize::from(self.environment.media.resolution.positions_per_dot());
+        (usize::from(self.settings.resolution.row_height()) + (dot - 1)) / dot
+    }
+
+    /// Makes the lines ready that so many rows cross, the first of them at the cursor. More rows than a page has lines count as so
+    /// many.
+    ///
+    /// # Errors
+    ///
+    /// Where memory ran out; no dot changes.
+    pub(crate) fn ready(
+        &self,
+        page: &mut Bands,
+        cursor: &Cursor,
+        rows: usize,
+    ) -> Result<(), AllocError>
+        requires most { rows ≤ longest_side }
+        requires within { self.now.across.columns
+            ≤ (page_frame self.now.across.orientation page.old.page).width - self.now.across.left }
+        ensures dots { page.new.page ≡ page.old.page }
+        ensures ready { OnOk result ((count : ℕ) → rows ≡ min longest_side count
+            → RowsReady self.now (layout page.new) cursor.now.y count) }
+    {
+        let line = self.line(cursor);
+        let first = line.min(self.last_line());
+        let lines = (line - first) as usize + rows * self.lines_of_row();
+        let lines = lines.min(page.height() as usize) as u32;
+        self.across.ready(page, first, lines)
+    }
+
+    /// Moves the cursor a row down, and says whether it moved.
+    fn move_down(&self, cursor: &mut Cursor) -> bool
+        ensures down { cursor.new ≡ moved_y (pos (row_height self.now.settings.resolution)) true
+            (logical_page_of self.now.environment) cursor.old }
+        ensures same { result ≡ false → cursor.new ≡ cursor.old }
+    {
+        let before = cursor.y();
+        let height = i64::from(self.settings.resolution.row_height());
+        cursor.move_y(Pos(height), true, self.environment.logical_page());
+        cursor.y() != before
+    }
+}
+
+/// Raster graphics whose rows are drawn, and room for a row.
+#[derive(Drop)]
+pub(crate) struct Drawing {
+    position: RasterPosition,
+    seed: Vec<u8>,
+    row: Vec<u8>,
+    scratch: Scratch,
+}
+
+impl Drawing {
+    /// Raster graphics that stands so, with this seed row, and room for rows.
+    ///
+    /// # Errors
+    ///
+    /// Where memory ran out.
+    pub(crate) fn new(
+        alloc: Global,
+        position: RasterPosition,
+        seed: &[u8],
+        setup: &RowSetup,
+        ink: &Ink<'_>,
+    ) -> Result<Self, AllocError>
+        requires { setup.now.dots < 2 ^ 32 }
+        ensures position { IfOk result (λ drawing. drawing.position ≡ position) }
+        ensures seed { IfOk result (λ drawing. drawing.seed.items
+            ≡ fitted (bytes_per_line setup.now.dots) seed.now) }
+        ensures row { IfOk result (λ drawing. length drawing.row.items
+            ≡ bytes_per_line setup.now.dots) }
+        ensures room { IfOk result (λ drawing. HasRoom setup.now.across ink.now drawing.scratch) }
+    {
+        let width = bytes_for(setup.dots);
+        let row = white_bytes(alloc, width)?;
+        let mut before = white_bytes(alloc, width)?;
+        decode(Method::Unencoded, seed, &row, &mut before);
+        Ok(Drawing {
+            position,
+            seed: before,
+            row,
+            scratch: Scratch::new(alloc, setup.across, ink)?,
+        })
+    }
+
+    /// Where raster graphics stands, and its seed row.
+    pub(crate) fn into_parts(self) -> (RasterPosition, Vec<u8>)
+        ensures position { result.0 ≡ self.position }
+        ensures seed { result.1.items ≡ self.seed.items }
+    {
+        let Drawing { position, seed, .. } = self;
+        (position, seed)
+    }
+
+    /// The row that was decoded is the seed row now, and counts. Says whether that changes something.
+    fn take_row(&mut self) -> bool
+        requires { length self.old.seed.items ≡ length self.old.row.items }
+        ensures seed { self.new.seed.items ≡ self.old.row.items }
+        ensures position { self.new.position ≡ one_row_on self.old.position }
+        ensures row { length self.new.row.items ≡ length self.old.row.items }
+        ensures scratch { self.new.scratch ≡ self.old.scratch }
+        ensures same_position { result ≡ false → self.new.position ≡ self.old.position }
+        ensures same_seed { result ≡ false → self.new.seed.items ≡ self.old.seed.items }
+    {
+        let rows = self.position.rows.saturating_add(1).min(MOST_ROWS);
+        if rows == self.position.rows && self.row == self.seed {
+            return false;
+        }
+        self.position.rows = rows;
+        self.seed.copy_from_slice(&self.row);
+        true
+    }
+
+    /// Draws a row, if it has effect, and says whether the same row again may change something.
+    fn draw_row(
+        &mut self,
+        page: &mut Bands,
+        cursor: &mut Cursor,
+        setup: &RowSetup,
+        ink: &Ink<'_>,
+        row: RowData<'_>,
+    ) -> bool
+        requires setup { IsSetUp setup.now ink.now (layout page.old) self.old }
+        requires ready { RowsReady setup.now (layout page.old) cursor.old.y 1 }
+        ensures item { drawn_by self.new page.new cursor.new ≡ with_item setup.now.environment
+            setup.now.settings ink.now (drawn_by self.old page.old cursor.old)
+            (Some (row.entry.method, row.entry.bytes.now)) }
+        ensures same { result ≡ false
+            → drawn_by self.new page.new cursor.new ≡ drawn_by self.old page.old cursor.old }
+        ensures layout { layout page.new ≡ layout page.old }
+        ensures setup { IsSetUp setup.now ink.now (layout page.old) self.new }
+    {
+        if !is_within(setup.settings.source_height, self.position.rows) {
+            return false;
+        }
+        decode(row.method, row.bytes, &self.seed, &mut self.row);
+        let bits = &self.row;
+        let dots = setup.dots;
+        let source = DotRow { bits, dots };
+        let line = setup.line(cursor);
+        let painted = paint_across(page, setup.across, line, source, ink, &mut self.scratch);
+        let moved = setup.move_down(cursor);
+        let taken = self.take_row();
+        painted || moved || taken
+    }
+
+    /// Draws so many rows with the same data. Where a row changes nothing more, neither does one behind it.
+    fn draw_run(
+        &mut self,
+        page: &mut Bands,
+        cursor: &mut Cursor,
+        setup: &RowSetup,
+        ink: &Ink<'_>,
+        row: RowData<'_>,
+        count: usize,
+    )
+        requires setup { IsSetUp setup.now ink.now (layout page.old) self.old }
+        requires ready { RowsReady setup.now (layout page.old) cursor.old.y count }
+        ensures items { drawn_by self.new page.new cursor.new ≡ with_items setup.now.environment
+            setup.now.settings ink.now
+            (replicate count (Some (row.entry.method, row.entry.bytes.now)))
+            (drawn_by self.old page.old cursor.old) }
+        ensures layout { layout page.new ≡ layout page.old }
+        ensures setup { IsSetUp setup.now ink.now (layout page.old) self.new }
+    {
+        for drawn in 0..count {
+            if !self.draw_row(page, cursor, setup, ink, row) {
+                return;
+            }
+        }
+    }
+
+    /// Draws what blocks stand for, a run after another.
+    pub(crate) fn draw_blocks(
+        &mut self,
+        page: &mut Bands,
+        cursor: &mut Cursor,
+        setup: &RowSetup,
+        ink: &Ink<'_>,
+        mut blocks: Blocks<'_>,
+    )
+        requires setup { IsSetUp setup.now ink.now (layout page.old) self.old }
+        requires ready { RowsReady setup.now (layout page.old) cursor.old.y (count_rows blocks) }
+        ensures items { drawn_by self.new page.new cursor.new ≡ with_items setup.now.environment
+            setup.now.settings ink.now blocks.entry (drawn_by self.old page.old cursor.old) }
+    {
+        while let Some(run) = blocks.next_run() {
+            match run {
+                Run::WhiteSeed => self.seed.fill(0),
+                Run::Rows {
+                    method,
+                    data,
+                    count,
+                } => {
+                    let row = RowData {
+                        method,
+                        bytes: data,
+                    };
+                    self.draw_run(page, cursor, setup, ink, row, count);
+                }
+            }
+        }
+    }
+}
+
+/// How many rows there are in blocks, at most as many as a page has lines.
+pub(crate) fn count_rows(mut blocks: Blocks<'_>) -> usize
+    ensures count { result ≡ min longest_side (count_rows blocks.entry) }
+{
+    let most = MAX_SIDE as usize;
+    let mut rows: usize = 0;
+    while let Some(run) = blocks.next_run() {
+        if let Run::Rows { count, .. } = run {
+            rows = rows.saturating_add(count).min(most);
+        }
+    }
+    rows
+}
