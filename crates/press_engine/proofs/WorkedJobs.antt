@@ -14,6 +14,8 @@ use Rattle.press_page.specs.declared.place.Dot.{Dot}
 use Rattle.press_pattern.specs.Ink.{black_ink}
 use Rattle.press_pattern.specs.Solid.{solid_black}
 use Rattle.press_raster.specs.Mark.{raster_mark}
+use Rattle.press_rows.specs.Blocks.{items}
+use Rattle.press_rows.specs.DeltaRow.{deltas, replacements, laid_over}
 use Rattle.press_rows.specs.Row.{raster_row}
 use Rattle.press_sink.specs.Sending.{Output, Deliver, Reply}
 use Rattle.press_engine.specs.Machine.{Run, power_on, run_all, run_each, run_at}
@@ -155,6 +157,31 @@ a_row_at_200 = refl
 no_row_at_200 : told row_of_a_dot ≡ front (with_row letter (record { x = 75; y = 187 }) 4 75) ∷ []
 unfolding run_each run_at raster_row
 no_row_at_200 = refl
+
+-- Adaptive compression, a command of five rows at 300 dots per inch: a row of eight dots, the same twice more, an empty one, and
+-- by a delta row of that the first and the last dot of a byte.
+abbrev five_rows : Token
+five_rows =
+    Grouped (code "*") (code "b") (codes "15") (code "W")
+    (0x00 ∷ 0x00 ∷ 0x01 ∷ 0xFF ∷ 0x05 ∷ 0x00 ∷ 0x02 ∷ 0x04 ∷ 0x00 ∷ 0x01 ∷ 0x03 ∷ 0x00 ∷ 0x02 ∷ 0x00 ∷ 0x81 ∷ [])
+
+abbrev row_at : (line byte : ℕ) → Page → Page
+row_at line byte page =
+    painted page
+    (raster_mark Portrait page (record { x = 75; y = line }) 1 (record { bits = byte ∷ replicate 299 0; dots = 2400 }) (black_ink both_transparent))
+
+rows_of_blocks :
+    told (Grouped (code "*") (code "t") (codes "300") (code "R") [] ∷ Grouped (code "*") (code "r") (codes "0") (code "A") []
+    ∷ Grouped (code "*") (code "b") (codes "5") (code "M") [] ∷ five_rows ∷ form_feed ∷ [])
+    ≡ front (row_at 191 0x81 (row_at 190 0x00 (row_at 189 0xFF (row_at 188 0xFF (row_at 187 0xFF letter))))) ∷ []
+unfolding run_each run_at items raster_row deltas replacements laid_over
+rows_of_blocks = refl
+
+-- no data is no row there: the page has no mark, and ESC E prints none; by method 0 it is a row
+no_rows_of_no_data :
+    told (Grouped (code "*") (code "b") (codes "5") (code "M") [] ∷ Grouped (code "*") (code "b") (codes "0") (code "W") [] ∷ reset ∷ []) ≡ []
+unfolding run_each run_at items
+no_rows_of_no_data = refl
 
 -- a definition that is open is dropped where a value is set, and goes on at a query
 abbrev define : Token

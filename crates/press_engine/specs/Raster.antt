@@ -4,11 +4,11 @@ use Rattle.press_cursor.specs.Cursor.{moved_x, moved_y}
 use Rattle.press_page.specs.Numbers.{named, above}
 use Rattle.press_pattern.specs.Ink.{ink_of, black_ink}
 use Rattle.press_pattern.specs.declared.ink.Ink.{Ink}
-use Rattle.press_raster.specs.Graphics.{started, moved_down, takes_row}
+use Rattle.press_raster.specs.Graphics.{started, moved_down, takes_rows, passed}
+use Rattle.press_raster.specs.Rows.{Drawn, drawn, drawn_rows}
 use Rattle.press_raster.specs.Settings.{row_height, set_resolution}
-use Rattle.press_raster.specs.Transfer.{page_with_row, transferred}
-use Rattle.press_raster.specs.declared.raster.RowPlace.{RowPlace}
 use Rattle.press_raster.specs.declared.settings.RasterSettings.{RasterSettings}
+use Rattle.press_raster.specs.declared.settings.RowCoding.TheVariants.{By}
 use Rattle.press_rows.specs.declared.compression.Method.TheVariants.{Unencoded}
 use Rattle.press_engine.specs.declared.state.State.{State}
 use Rattle.press_engine.specs.Closing.{page_now}
@@ -48,7 +48,7 @@ start_raster number state =
 -- ESC*r#C, end raster graphics: the compression method is 0 then
 abbrev pub end_raster_and_method : State → State
 end_raster_and_method state =
-    with_raster (λ settings. record settings { method = Unencoded }) (ended_raster state)
+    with_raster (λ settings. record settings { coding = By Unencoded }) (ended_raster state)
 
 -- so many rows down from the cursor
 abbrev pub rows_down : (rows : ℕ) → State → State
@@ -73,22 +73,25 @@ abbrev pub ink_now : State → Ink
 ink_now state =
     unwrap_or (ink_of state.patterns (pattern_now state) state.drawing.mode) (black_ink state.drawing.mode)
 
--- where a row lies
-abbrev pub row_place : State → RowPlace
-row_place state = record { environment = state.environment; y = state.cursor.y }
+-- what rows are drawn on: raster graphics, the page of now, and the cursor
+abbrev pub drawn_now : State → Drawn
+drawn_now state = drawn state.graphics (page_now state) state.cursor
 
--- a row that has effect: the page has a mark then, and the cursor is a row further down
-abbrev pub with_row : List ℕ → State → State
-with_row bytes state =
-    record (rows_down 1 state) {
-      page = Some (page_with_row (row_place state) state.drawing.raster (ink_now state) bytes state.graphics (page_now state));
-      graphics = transferred (row_place state) state.drawing.raster bytes state.graphics;
-    }
+-- the state after rows of which one had effect: the page has a mark then
+abbrev pub with_drawn : Drawn → State → State
+with_drawn drawn state =
+    record state { graphics = drawn.graphics; page = Some drawn.page; cursor = drawn.cursor }
 
-abbrev pub transfer_row : List ℕ → State → Effect
-transfer_row bytes state =
-    if takes_row state.drawing.raster state.graphics then Makes (with_row bytes state) else Changes state
+abbrev pub with_rows : List ℕ → State → State
+with_rows bytes state =
+    with_drawn (drawn_rows state.environment state.drawing.raster (ink_now state) bytes (drawn_now state)) state
+
+-- the rows that have effect; without one, the data can only make the seed row white
+abbrev pub transfer_rows : List ℕ → State → Effect
+transfer_rows bytes state =
+    if takes_rows state.drawing.raster bytes state.graphics then Makes (with_rows bytes state)
+    else Changes (record state { graphics = passed state.drawing.raster bytes state.graphics })
 
 -- ESC*b#W, transfer raster data: where raster graphics is off, it starts at the left edge
 abbrev pub transfer : List ℕ → State → Effect
-transfer bytes state = transfer_row bytes (start_raster (pos 0) state)
+transfer bytes state = transfer_rows bytes (start_raster (pos 0) state)

@@ -2,10 +2,11 @@
 //! PCL Print Model).
 
 use press_bits::{Bitmap, BlankError, Mode};
+use press_cursor::Cursor;
 use press_fill::{Rect, fill};
 use press_page::{Media, PageEnv};
 use press_pattern::{Ink, Pattern, Patterns};
-use press_raster::{Raster, RasterSettings, RowPlace};
+use press_raster::{Raster, RasterSettings};
 use std::alloc::{AllocError, Global};
 use std::marker::Model;
 
@@ -26,8 +27,8 @@ impl Model for Canvas {
 }
 
 impl Canvas {
-    ghost use Rattle.std.specs.Prelude.{◌≡◌, ◌<◌, ◌^◌, unsigned_abs, IfOk};
-    ghost use Rattle.press_raster.specs.Transfer.{page_with_row, transferred};
+    ghost use Rattle.std.specs.Prelude.{◌≡◌, IfOk};
+    ghost use Rattle.press_raster.specs.Rows.{drawn, drawn_rows};
     ghost use Rattle.press_fill.specs.Fill.{filled};
     ghost use Rattle.press_pattern.specs.Ink.{ink_of};
     ghost use Rattle.press_engine.specs.Place.{blank_page};
@@ -69,21 +70,19 @@ impl Canvas {
         fill(&mut self.bitmap, environment, patterns, rect, pattern, mode)
     }
 
-    /// Transfers a raster row.
+    /// Transfers raster rows.
     pub fn transfer(
         &mut self,
         raster: &mut Raster,
-        place: &RowPlace,
+        environment: &PageEnv,
+        cursor: &mut Cursor,
         settings: RasterSettings,
         ink: &Ink<'_>,
         bytes: &[u8],
     ) -> Result<(), AllocError>
-        requires { unsigned_abs place.now.y < 2 ^ 33 }
-        ensures page { IfOk result (λ _. self.new
-            ≡ page_with_row place.now settings ink.now bytes.now raster.old self.old) }
-        ensures raster { IfOk result (λ _. raster.new
-            ≡ transferred place.now settings bytes.now raster.old) }
+        ensures { IfOk result (λ _. drawn raster.new self.new cursor.new ≡ drawn_rows environment.now
+            settings ink.now bytes.now (drawn raster.old self.old cursor.old)) }
     {
-        raster.transfer(&mut self.bitmap, place, settings, ink, bytes)
+        raster.transfer(&mut self.bitmap, environment, cursor, settings, ink, bytes)
     }
 }

@@ -7,7 +7,7 @@ ghost use Rattle.press_engine.specs.Raster.{start_of, asked_offset};
 use crate::effect::Effect;
 use crate::state::State;
 use press_pattern::Ink;
-use press_raster::RowPlace;
+use press_raster::RowCoding;
 use press_rows::Method;
 use press_units::{Pos, Value};
 use std::alloc::{AllocError, Global};
@@ -31,13 +31,13 @@ fn rows_of(value: Value) -> Option<u16>
 }
 
 impl State {
-    ghost use Rattle.std.specs.Prelude.{◌≡◌, ◌<◌, ◌^◌, unsigned_abs, IfOk, IsErr};
+    ghost use Rattle.std.specs.Prelude.{◌≡◌, IfOk, IsErr};
     ghost use Rattle.press_units.specs.Value.{whole_part};
     ghost use Rattle.press_raster.specs.Settings.{set_source_width, set_source_height};
     ghost use Rattle.press_engine.specs.Effects.{effect_of};
     ghost use Rattle.press_engine.specs.Engine.{TakesMemory};
     ghost use Rattle.press_engine.specs.Raster.{set_raster_resolution, while_off, start_at, start_raster, end_raster_and_method, rows_down};
-    ghost use Rattle.press_engine.specs.Raster.{offset_raster, row_place, with_row, transfer_row, transfer};
+    ghost use Rattle.press_engine.specs.Raster.{offset_raster, with_rows, transfer_rows, transfer};
 
     /// `*t#R`: the resolution of raster graphics on the page of now, while it is off.
     pub fn set_raster_resolution(&mut self, value: Value)
@@ -93,7 +93,7 @@ impl State {
         ensures { self.new ≡ end_raster_and_method self.old }
     {
         self.graphics.end();
-        self.drawing.raster.method = Method::Unencoded;
+        self.drawing.raster.coding = RowCoding::By(Method::Unencoded);
     }
 
     /// Moves so many rows of raster graphics down.
@@ -119,51 +119,48 @@ impl State {
         }
     }
 
-    /// Where the next row lies.
-    fn row_place(&self) -> RowPlace
-        ensures place { result ≡ row_place self.now }
-        ensures bound { unsigned_abs result.y < 2 ^ 33 }
-    {
-        RowPlace {
-            environment: self.environment,
-            y: self.cursor.y(),
-        }
-    }
-
-    /// Transfers a row that has effect; the page has a mark then, and the cursor is a row further down.
-    fn take_row(&mut self, alloc: Global, bytes: &[u8]) -> Result<(), AllocError>
-        ensures { IfOk result (λ _. self.new ≡ with_row bytes.now self.old) }
+    /// Transfers rows of which one has effect; the page has a mark then.
+    fn take_rows(&mut self, alloc: Global, bytes: &[u8]) -> Result<(), AllocError>
+        ensures { IfOk result (λ _. self.new ≡ with_rows bytes.now self.old) }
     {
         let mut page = self.take_page(alloc)?;
-        let (pattern, place) = (self.pattern_now(), self.row_place());
-        let (settings, mode) = (self.drawing.raster, self.drawing.mode);
+        let (pattern, settings) = (self.pattern_now(), self.drawing.raster);
+        let mode = self.drawing.mode;
         let ink = self.patterns.ink(pattern, mode).unwrap_or(Ink::black(mode));
-        page.transfer(&mut self.graphics, &place, settings, &ink, bytes)?;
+        let environment = self.environment;
+        page.transfer(
+            &mut self.graphics,
+            &environment,
+            &mut self.cursor,
+            settings,
+            &ink,
+            bytes,
+        )?;
         self.page = Some(page);
-        self.move_rows_down(1);
         Ok(())
     }
 
-    /// Transfers a row, if it has effect.
-    fn transfer_row(&mut self, alloc: Global, bytes: &[u8]) -> Result<Effect, AllocError>
+    /// Transfers the rows that have effect.
+    fn transfer_rows(&mut self, alloc: Global, bytes: &[u8]) -> Result<Effect, AllocError>
         ensures effect { IfOk result (λ effect.
-            effect_of self.new effect ≡ transfer_row bytes.now self.old) }
-        ensures memory { IsErr result → TakesMemory (transfer_row bytes.now self.old) }
+            effect_of self.new effect ≡ transfer_rows bytes.now self.old) }
+        ensures memory { IsErr result → TakesMemory (transfer_rows bytes.now self.old) }
     {
-        if !self.graphics.takes_row(self.drawing.raster) {
+        if !self.graphics.takes_rows(self.drawing.raster, bytes) {
+            self.graphics.pass(self.drawing.raster, bytes);
             return Ok(Effect::Changes);
         }
-        self.take_row(alloc, bytes)?;
+        self.take_rows(alloc, bytes)?;
         Ok(Effect::Makes)
     }
 
-    /// `*b#W`: transfers a row; where raster graphics is off, it starts at the left edge.
+    /// `*b#W`: transfers rows; where raster graphics is off, it starts at the left edge.
     pub fn transfer(&mut self, alloc: Global, bytes: &[u8]) -> Result<Effect, AllocError>
         ensures effect { IfOk result (λ effect.
             effect_of self.new effect ≡ transfer bytes.now self.old) }
         ensures memory { IsErr result → TakesMemory (transfer bytes.now self.old) }
     {
         self.start_raster(0);
-        self.transfer_row(alloc, bytes)
+        self.transfer_rows(alloc, bytes)
     }
 }
