@@ -2,7 +2,7 @@
 
 ghost use Rattle.std.specs.Prelude.{◌≡◌, length, IfOk, vec_len};
 
-use press_rows::{Method, decode, encode};
+use press_rows::{Blocks, Method, decode, encode};
 use std::alloc::{AllocError, Global};
 use std::process::Abort;
 use std::test::Fail;
@@ -287,4 +287,58 @@ fn refused_memory(rt: HostRuntime) -> Result<(), Fail> {
         Err(_) => assert_eq!(rt; data.as_slice(), b"AB".as_slice()),
     }
     Ok(())
+}
+
+/// Blocks of rows of two bytes after a seed row of C3 3C: their rows, and the seed row behind them.
+type RowsOfBlocks = (&'static [u8], &'static [[u8; 2]], [u8; 2]);
+
+const BLOCKS: [RowsOfBlocks; 16] = [
+    (b"", &[], [0xc3, 0x3c]),
+    (
+        b"\x00\x00\x02\xf0\x0f\x05\x00\x02",
+        &[[0xf0, 0x0f], [0xf0, 0x0f], [0xf0, 0x0f]],
+        [0xf0, 0x0f],
+    ),
+    (b"\x04\x00\x02", &[[0, 0], [0, 0]], [0, 0]),
+    (b"\x05\x00\x01", &[[0xc3, 0x3c]], [0xc3, 0x3c]),
+    (b"\x04\x00\x00", &[], [0, 0]),
+    (b"\x05\x00\x00\x05\x00\x01", &[[0, 0]], [0, 0]),
+    (b"\x01\x00\x02\x01\x81", &[[0x81, 0x81]], [0x81, 0x81]),
+    (b"\x02\x00\x02\xff\x18", &[[0x18, 0x18]], [0x18, 0x18]),
+    (b"\x03\x00\x02\x01\xaa", &[[0xc3, 0xaa]], [0xc3, 0xaa]),
+    // a block that is cut has the bytes that are there
+    (b"\x00\x00\x05\xf0", &[[0xf0, 0]], [0xf0, 0]),
+    (b"\x03\x00\x09\x20\x11", &[[0x11, 0x3c]], [0x11, 0x3c]),
+    // a count of 0 by a method is a row of no data
+    (b"\x00\x00\x00", &[[0, 0]], [0, 0]),
+    (b"\x03\x00\x00", &[[0xc3, 0x3c]], [0xc3, 0x3c]),
+    // an unknown command ends the data, and so does a header that is cut
+    (
+        b"\x00\x00\x01\xf0\x06\x00\x01\xff\x00\x00\x01\xff",
+        &[[0xf0, 0]],
+        [0xf0, 0],
+    ),
+    (b"\x00\x00\x01\xf0\x05\x00", &[[0xf0, 0]], [0xf0, 0]),
+    (b"\x05", &[], [0xc3, 0x3c]),
+];
+
+/// Takes the rows of blocks one after another.
+fn expect_blocks(rt: &impl Abort, data: &[u8], rows: &[[u8; 2]], last: [u8; 2]) {
+    let mut seed = [0xc3, 0x3c];
+    let mut out = [0xaa; 2];
+    let mut blocks = Blocks::new(data);
+    for row in rows {
+        assert!(rt; blocks.next_row(&mut seed, &mut out));
+        assert_eq!(rt; out, *row);
+        seed = out;
+    }
+    assert!(rt; !blocks.next_row(&mut seed, &mut out));
+    assert_eq!(rt; seed, last);
+}
+
+#[test]
+fn blocks_have_their_rows(rt: HostRuntime) {
+    for (data, rows, last) in BLOCKS {
+        expect_blocks(&rt, data, rows, last);
+    }
 }
