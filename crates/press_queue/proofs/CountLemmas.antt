@@ -1,5 +1,5 @@
 -- How many entries pass a test, after changes of the entries.
-use Rattle.std.proofs.Common.{◌≡◌, ℕ, zero, suc, ◌+◌, ◌≤◌, List, [], ◌∷◌, Bool, true, false, nat_eq, Some, None, cond, ◌&&◌, not, filter, find, length, insert, refl, ap, arith, rules}
+use Rattle.std.proofs.Common.{◌≡◌, ℕ, zero, suc, ◌+◌, ◌≤◌, List, [], ◌∷◌, Bool, true, false, nat_eq, Some, cond, filter, length, insert, refl, ap, arith, rules}
 use Rattle.std.specs.Map.{lookup}
 use Rattle.std.proofs.lemmas.Option.{same_Some}
 use Rattle.press_queue.specs.declared.entry.Entry.{Entry}
@@ -77,18 +77,6 @@ pub count_le : (p q : Entry → Bool) → ((e : Entry) → p e ≡ true → q e 
 count_le p q h [] = omega arith
 count_le p q h (e ∷ es) = omega (arith, count-cons p e es, count-cons q e es, one_le (p e.1) (q e.1) (h e.1), count_le p q h es)
 
-one_parts : (b c : Bool) → one b ≤ one c + one (b && not c)
-one_parts true true = omega arith
-one_parts true false = omega arith
-one_parts false true = omega arith
-one_parts false false = omega arith
-
--- who passes a test passes another one too, or not
-pub count_parts : (p q : Entry → Bool) (es : List (ℕ × Entry)) → count_of p es ≤ count_of q es + count_of (λ e. p e && not (q e)) es
-count_parts p q [] = omega arith
-count_parts p q (e ∷ es) =
-    omega (arith, count-cons p e es, count-cons q e es, count-cons (λ x. p x && not (q x)) e es, one_parts (p e.1) (q e.1), count_parts p q es)
-
 -- of some of the entries
 pub count-filter : (p : Entry → Bool) (q : ℕ × Entry → Bool) (es : List (ℕ × Entry)) → count_of p (filter q es) ≤ count_of p es
 count-filter p q [] = omega arith
@@ -115,13 +103,3 @@ count-with_entry_le p number new (e ∷ es) = at_head (nat_eq number e.0) (count
         → count_of p (cond b ((e.0, new) ∷ es) (e ∷ with_entry number new es)) ≤ count_of p (e ∷ es) + one (p new)
     at_head true below = omega (arith, count-cons p e es, count-cons p (e.0, new) es)
     at_head false below = omega (arith, count-cons p e es, count-cons p e (with_entry number new es), below)
-
--- where a search finds none, none passes
-pub count_none : (p : ℕ × Entry → Bool) (es : List (ℕ × Entry)) → find p es ≡ None → length (filter p es) ≡ 0
-count_none p [] none = refl
-count_none p (e ∷ es) none = at_head (p e) none (count_none p es)
-  where
-    at_head : (b : Bool) → cond b (Some e) (find p es) ≡ None → (find p es ≡ None → length (filter p es) ≡ 0)
-        → length (cond b (e ∷ filter p es) (filter p es)) ≡ 0
-    at_head true none below = absurd (cc)
-    at_head false none below = below none

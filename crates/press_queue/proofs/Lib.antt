@@ -1,5 +1,6 @@
 mod CountLemmas
 mod EntryLemmas
+pub mod FirstLemmas
 mod KeyLemmas
 mod NumberLemmas
 mod PutLemmas

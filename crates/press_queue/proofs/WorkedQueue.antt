@@ -1,11 +1,11 @@
 -- Refusals of commands on small and on full queues, and places of entries, computed.
-use Rattle.std.proofs.Common.{◌≡◌, ℕ, zero, suc, List, [], ◌∷◌, map, true, false, pos, negsuc, Result, Ok, Err, refl}
+use Rattle.std.proofs.Common.{◌≡◌, ℕ, zero, suc, List, [], ◌∷◌, map, true, false, pos, negsuc, Some, None, Result, Ok, Err, refl}
 use Rattle.press_queue.specs.declared.entry.Entry.{Entry}
 use Rattle.press_queue.specs.declared.refusal.Refusal.{Refusal}
 use Rattle.press_queue.specs.declared.refusal.Refusal.TheVariants as refusals
 use Rattle.press_queue.specs.declared.status.Status.{Status}
 use Rattle.press_queue.specs.declared.status.Status.TheVariants as statuses
-use Rattle.press_queue.specs.Rows.{QueueAnswer, submit, hold, resume, suspend, abort, remove, set_priority, set_position}
+use Rattle.press_queue.specs.Rows.{QueueAnswer, submit, hold, resume, suspend, abort, remove, set_priority, set_position, begin, begun_entry}
 use Rattle.press_queue.specs.State.{QueueState}
 use Rattle.press_queue.specs.Status.{is_waiting, is_running, has_ended, is_in_flight, new_entry}
 
@@ -73,6 +73,30 @@ status_before_priority = refl
 
 pub status_before_position : (set_position 8 (pos 1) (queue_of (running_entry ∷ []))).1 ≡ Err refusals.WrongStatus
 status_before_position = refl
+
+-- An entry begins beside others that run, at the place it had, while fewer than eight are in flight. Where eight are, none that
+-- never began does, and the first that waits and has begun goes on. None does where the queue is held.
+abbrev begun_before : ℕ × Entry
+begun_before = (9, record { priority = 50; status = statuses.Waiting; begun = true })
+
+abbrev new_one : ℕ × Entry
+new_one = (10, new_entry 50)
+
+abbrev seven_in_flight : List (ℕ × Entry)
+seven_in_flight = running_entry ∷ suspended_ones 6
+
+pub begins_beside_others : begin (queue_of (new_one ∷ begun_before ∷ running_entry ∷ suspended_ones 5))
+    ≡ (queue_of ((10, begun_entry new_one.1) ∷ begun_before ∷ running_entry ∷ suspended_ones 5), Some 10)
+begins_beside_others = refl
+
+pub goes_on_at_eight : begin (queue_of (new_one ∷ begun_before ∷ seven_in_flight)) ≡ (queue_of (new_one ∷ (9, begun_entry begun_before.1) ∷ seven_in_flight), Some 9)
+goes_on_at_eight = refl
+
+pub none_begins_at_eight : begin (queue_of (new_one ∷ running_entry ∷ suspended_ones 7)) ≡ (queue_of (new_one ∷ running_entry ∷ suspended_ones 7), None)
+none_begins_at_eight = refl
+
+pub none_begins_where_held : begin (record (queue_of (new_one ∷ [])) { held = true }) ≡ (record (queue_of (new_one ∷ [])) { held = true }, None)
+none_begins_where_held = refl
 
 -- a new entry stands before an aborted one of lower priority
 abbrev aborted_entry : ℕ × Entry

@@ -1,5 +1,5 @@
 -- Entries under their numbers, in the order of the queue.
-use Rattle.std.specs.Prelude.{ℕ, List, Option, nat_eq, nat_lt, length, filter, find, insert}
+use Rattle.std.specs.Prelude.{ℕ, ◌&&◌, List, Option, nat_eq, nat_lt, length, filter, find, insert}
 use Rattle.std.specs.List.{position_or_len}
 use Rattle.std.specs.Map.{lookup, remove_entry, set_value}
 use Rattle.press_queue.specs.declared.entry.Entry.{Entry}
@@ -41,6 +41,10 @@ moved_to index number entry entries = insert (without_entry number entries) inde
 -- the first entry that waits
 abbrev pub first_waiting : List (ℕ × Entry) → Option (ℕ × Entry)
 first_waiting entries = find (λ e. is_waiting e.1.status) entries
+
+-- the first entry that waits and has begun
+abbrev pub first_to_go_on : List (ℕ × Entry) → Option (ℕ × Entry)
+first_to_go_on entries = find (λ e. is_waiting e.1.status && e.1.begun) entries
 
 -- the first entry that runs
 abbrev pub first_running : List (ℕ × Entry) → Option (ℕ × Entry)

@@ -1,5 +1,5 @@
 -- The law of queues, as a statement: what is true of every queue stays true.
-use Rattle.std.specs.Prelude.{◌≡◌, ℕ, ℤ, None}
+use Rattle.std.specs.Prelude.{ℕ, ℤ}
 use Rattle.press_queue.specs.declared.status.End.{End}
 use Rattle.press_queue.specs.EveryQueue.{IsQueue}
 use Rattle.press_queue.specs.Rows as rows
@@ -9,7 +9,7 @@ use Rattle.press_queue.specs.State.{QueueState, empty_queue}
 abbrev pub Keeps : (QueueState → QueueState) → Type 0
 Keeps row = (queue : QueueState) → IsQueue queue → IsQueue (row queue)
 
--- It is true of a new queue, and each row keeps it; begin, where no entry runs.
+-- It is true of a new queue, and each row keeps it.
 pub record EachRowKeepsTheQueue : Type 0 where
   pub new : IsQueue empty_queue
   pub submit : (priority : ℤ) → Keeps (λ queue. (rows.submit priority queue).0)
@@ -25,5 +25,5 @@ pub record EachRowKeepsTheQueue : Type 0 where
   pub open_queue : Keeps rows.open_queue
   pub close_queue : Keeps rows.close_queue
   pub flush : Keeps rows.flush
-  pub begin : (queue : QueueState) → rows.running queue ≡ None → IsQueue queue → IsQueue (rows.begin queue).0
+  pub begin : Keeps (λ queue. (rows.begin queue).0)
   pub finish : (number : ℕ) (end : End) → Keeps (rows.finish_entry number end)

@@ -14,7 +14,7 @@ use Rattle.press_queue.specs.declared.status.End.{End}
 use Rattle.press_queue.specs.declared.status.QueueStatus.{QueueStatus}
 use Rattle.press_queue.specs.declared.status.QueueStatus.TheVariants as standings
 use Rattle.press_queue.specs.Entries.{entry_numbered, with_entry, with_status, without_entry, put, put_again, moved_to}
-use Rattle.press_queue.specs.Entries.{first_waiting, first_running, running_ones, count_in_flight}
+use Rattle.press_queue.specs.Entries.{first_waiting, first_to_go_on, first_running, running_ones, count_in_flight}
 use Rattle.press_queue.specs.Legal.{is_legal}
 use Rattle.press_queue.specs.Priority.{priority_of, position_within}
 use Rattle.press_queue.specs.State.{QueueState}
@@ -169,9 +169,14 @@ abbrev pub begin_with : Option (ℕ × Entry) → QueueState → QueueState × O
 begin_with None queue = (queue, None)
 begin_with (Some e) queue = (with_entries (with_entry e.0 (begun_entry e.1) queue.entries) queue, Some e.0)
 
--- A turn finds no entry that runs: unless the queue is held, the first that waits runs, at the place it had.
+-- the entry that comes next: the first that waits; where the most entries are in flight, the first that waits and has begun
+abbrev pub next_to_run : List (ℕ × Entry) → Option (ℕ × Entry)
+next_to_run entries =
+    if nat_le most_in_flight (count_in_flight entries) then first_to_go_on entries else first_waiting entries
+
+-- Unless the queue is held, the entry that comes next runs, at the place it had.
 abbrev pub begin : QueueState → QueueState × Option ℕ
-begin queue = begin_with (if queue.held then None else first_waiting queue.entries) queue
+begin queue = begin_with (if queue.held then None else next_to_run queue.entries) queue
 
 -- A running entry ends.
 abbrev pub finish_entry_at : Option Entry → ℕ → End → QueueState → QueueState

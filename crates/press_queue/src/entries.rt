@@ -4,7 +4,7 @@ ghost use Rattle.std.specs.Prelude.{◌≡◌, ◌<◌, IsSome, None, OnOk, OnEr
 ghost use Rattle.std.specs.Map.Iter.{deref_pair};
 ghost use Rattle.indexmap.specs.IndexMap.{index_map_len};
 ghost use Rattle.press_queue.specs.Entries.{entry_numbered, with_entry, with_status, place_of, put, put_again, moved_to};
-ghost use Rattle.press_queue.specs.Entries.{first_waiting, first_running, running_ones, count_in_flight};
+ghost use Rattle.press_queue.specs.Entries.{first_waiting, first_to_go_on, first_running, running_ones, count_in_flight};
 
 use crate::entry::Entry;
 use crate::status::Status;
@@ -94,6 +94,18 @@ pub fn first_waiting(entries: &Entries) -> Option<(u64, Entry)>
 {
     for (number, entry) in entries.iter() {
         if entry.status.is_waiting() {
+            return Some((*number, *entry));
+        }
+    }
+    None
+}
+
+/// The first entry that waits and has begun, with its number.
+pub fn first_to_go_on(entries: &Entries) -> Option<(u64, Entry)>
+    ensures { result ≡ first_to_go_on entries.now.entries }
+{
+    for (number, entry) in entries.iter() {
+        if entry.status.is_waiting() && entry.begun {
             return Some((*number, *entry));
         }
     }

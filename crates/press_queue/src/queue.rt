@@ -254,16 +254,29 @@ impl Queue {
         entries::keep_running(&mut self.entries);
     }
 
-    /// Where no entry runs, the first entry that waits runs, at the place that it had; its number is
-    /// given. `None` where none waits, or the queue is held.
+    /// The entry that comes next: the first that waits, or, where the most entries are in flight, the
+    /// first that waits and has begun.
+    fn next_to_run(&self) -> Option<(u64, Entry)>
+        ensures { result ≡ rows.next_to_run self.now.entries }
+    {
+        if entries::count_in_flight(&self.entries) < MAX_IN_FLIGHT {
+            entries::first_waiting(&self.entries)
+        } else {
+            entries::first_to_go_on(&self.entries)
+        }
+    }
+
+    /// The first entry that waits runs, at the place that it had, and its number is given; where eight
+    /// are in flight, the first that waits and has begun. `None` where there is none, or the queue is
+    /// held. Entries that run are no matter: whether another may run beside them, the caller knows.
     pub fn begin(&mut self) -> Option<u64>
-        requires { rows.running self.old ≡ None }
-        ensures { (self.new, result) ≡ rows.begin self.old }
+        ensures row { (self.new, result) ≡ rows.begin self.old }
+        ensures bounds { IsQueue self.old }
     {
         if self.held {
             return None;
         }
-        let (number, entry) = entries::first_waiting(&self.entries)?;
+        let (number, entry) = self.next_to_run()?;
         let begun = Entry {
             status: Status::Running,
             begun: true,
@@ -285,8 +298,8 @@ impl Queue {
 
     /// Its entries, in order, its flags, and the last number that it gave.
     ///
-    /// Of every queue: no number stands twice, and each is one that the queue gave; at most 64 entries are in the list, at
-    /// most one runs, and at most eight are in flight, of which at most seven do not run.
+    /// Of every queue: no number stands twice, and each is one that the queue gave; at most 64 entries are in the list, and
+    /// at most eight are in flight, of which at most seven do not run.
     pub fn status(&self) -> QueueView<'_>
         ensures shown { shown result ≡ self.now }
         ensures bounds { IsQueue self.now }
