@@ -11,6 +11,7 @@ use Rattle.press_queue.specs.declared.command.EntryCommand.{EntryCommand}
 use Rattle.press_queue.specs.declared.command.EntryCommand.TheVariants as commands
 use Rattle.press_queue.specs.declared.entry.Entry.{Entry}
 use Rattle.press_queue.specs.declared.refusal.Refusal.{Refusal}
+use Rattle.press_queue.specs.declared.status.End.TheVariants.{Aborted}
 use Rattle.press_queue.specs.declared.status.Status.{Status}
 use Rattle.press_queue.specs.declared.status.Status.TheVariants as statuses
 use Rattle.press_queue.specs.Entries.{entry_numbered, place_of, put, with_entry, without_entry}
@@ -41,6 +42,15 @@ pub record SetsEntry (old new : QueueState) (number : ℕ) (entry : Entry) : Typ
 abbrev pub SetsWork : (old new : List (ℕ × Work)) → (number : ℕ) → Work → Type 0
 SetsWork old new number work = (n : ℕ) → lookup (nat_eq n) new ≡ cond (nat_eq number n) (Some work) (lookup (nat_eq n) old)
 
+-- another number stands as before
+stands-apart : (old new : QueueState) (works after : List (ℕ × Work)) (number : ℕ) (is : Entry) (left : Work) → SetsEntry old new number is → SetsWork works after number left
+    → (n : ℕ) → nat_eq number n ≡ false → standing n new after ≡ standing n old works
+stands-apart old new works after number is left entry_set work_set n apart =
+    let given : nat_le n new.last ≡ nat_le n old.last = ap (λ l. nat_le n l) entry_set.last in
+    let entry_is : entry_numbered n new.entries ≡ entry_numbered n old.entries = entry_set.entries n ∙ ap (λ b. cond b (Some is) (entry_numbered n old.entries)) apart in
+    let work_is : lookup (nat_eq n) after ≡ lookup (nat_eq n) works = work_set n ∙ ap (λ b. cond b (Some left) (lookup (nat_eq n) works)) apart in
+    (λ j. standing_of (given j) (entry_is j) (work_is j))
+
 -- what happens to each number, where one entry and its work change
 pub one-changes : (submits : Option (JobTicket × List Page)) (old new : QueueState) (works after : List (ℕ × Work)) (number : ℕ) (was is : Entry) (work left : Work) (sheets : List Sides) (steps : ℕ) (failed : Bool)
     → standing number old works ≡ Listed was work → SetsEntry old new number is → SetsWork works after number left
@@ -61,11 +71,7 @@ one-changes submits old new works after number was is work left sheets steps fai
         let now : standing n new after ≡ Listed is left = λ j. standing_of (given j) (entry_is j) (work_is j) in
         subst (λ s. Change submits s (standing n new after) sheets steps failed) (sym before)
         (subst (λ s. Change submits (Listed was work) s sheets steps failed) (sym now) (changes same))
-    at false apart =
-        let given : nat_le n new.last ≡ nat_le n old.last = ap (λ l. nat_le n l) entry_set.last in
-        let entry_is : entry_numbered n new.entries ≡ entry_numbered n old.entries = entry_set.entries n ∙ ap (λ b. cond b (Some is) (entry_numbered n old.entries)) apart in
-        let work_is : lookup (nat_eq n) after ≡ lookup (nat_eq n) works = work_set n ∙ ap (λ b. cond b (Some left) (lookup (nat_eq n) works)) apart in
-        Stays (λ j. standing_of (given j) (entry_is j) (work_is j)) (idle apart)
+    at false apart = Stays (stands-apart old new works after number is left entry_set work_set n apart) (idle apart)
 
 -- an entry is set in its place
 pub set-entry : (queue : QueueState) (number : ℕ) (was is : Entry) → entry_numbered number queue.entries ≡ Some was → SetsEntry queue (rows.with_entries (with_entry number is queue.entries) queue) number is
@@ -189,17 +195,47 @@ set_position-changes submits queue works number position whole =
 
 -- ---- an entry that is aborted
 
-pub ends-changes : (submits : Option (JobTicket × List Page)) (queue : QueueState) (works : List (ℕ × Work)) (number : ℕ) (entry : Entry) → IsWhole queue works → entry_numbered number queue.entries ≡ Some entry
-    → IsOpen entry → (n : ℕ) → Change submits (standing n queue works) (standing n (rows.set_status number statuses.Aborted entry queue) (works_without_job number works)) [] 0 false
-ends-changes submits queue works number entry whole there is_open n =
+-- what it leaves of the queue and the works
+record Ends (queue : QueueState) (works : List (ℕ × Work)) (number : ℕ) (entry : Entry) : Type 0 where
+  pub work : Work
+  pub stood : standing number queue works ≡ Listed entry work
+  pub entry_set : SetsEntry queue (rows.set_status number statuses.Aborted entry queue) number (aborted_entry entry)
+  pub work_set : SetsWork works (works_without_job number works) number (without_job work)
+
+ends : (queue : QueueState) (works : List (ℕ × Work)) (number : ℕ) (entry : Entry) → IsWhole queue works → entry_numbered number queue.entries ≡ Some entry → Ends queue works number entry
+ends queue works number entry whole there =
     let listed = listed_of (nat_le number queue.last) (entry_numbered number queue.entries) (lookup (nat_eq number) works) entry (whole.proper number) there in
     let of = listed_is (nat_le number queue.last) (entry_numbered number queue.entries) (lookup (nat_eq number) works) entry listed.0 listed.1 in
     let left : works_without_job number works ≡ set_value (nat_eq number) works (without_job listed.0) =
     ap (λ o. changed_by o (λ w all. set_value (nat_eq number) all (without_job w)) works) of.work_is in
-    one-changes submits queue (rows.set_status number statuses.Aborted entry queue) works (works_without_job number works) number entry (aborted_entry entry) listed.0 (without_job listed.0) [] 0 false listed.1
-    (set-entry queue number entry (aborted_entry entry) there)
-    (subst (λ ws. SetsWork works ws number (without_job listed.0)) (sym left) (set-work works number listed.0 (without_job listed.0) of.work_is)) n
-    (λ _. Aborts entry listed.0 is_open refl refl idle) (λ _. idle)
+    record {
+      work = listed.0;
+      stood = listed.1;
+      entry_set = set-entry queue number entry (aborted_entry entry) there;
+      work_set = subst (λ ws. SetsWork works ws number (without_job listed.0)) (sym left) (set-work works number listed.0 (without_job listed.0) of.work_is);
+    }
+
+ends-changes : (submits : Option (JobTicket × List Page)) (queue : QueueState) (works : List (ℕ × Work)) (number : ℕ) (entry : Entry) → IsWhole queue works → entry_numbered number queue.entries ≡ Some entry
+    → IsOpen entry → (n : ℕ) → Change submits (standing n queue works) (standing n (rows.set_status number statuses.Aborted entry queue) (works_without_job number works)) [] 0 false
+ends-changes submits queue works number entry whole there is_open n =
+    let it = ends queue works number entry whole there in
+    one-changes submits queue (rows.set_status number statuses.Aborted entry queue) works (works_without_job number works) number entry (aborted_entry entry) it.work (without_job it.work) [] 0 false
+    it.stood it.entry_set it.work_set n (λ _. Aborts entry it.work is_open refl refl idle) (λ _. idle)
+
+-- an entry that is aborted by an operator, if it is there
+pub finish-changes : (number : ℕ) (queue : QueueState) (works : List (ℕ × Work)) (entry : Entry) → IsWhole queue works → entry_numbered number queue.entries ≡ Some entry → IsOpen entry
+    → (n : ℕ) → Change None (standing n queue works) (standing n (rows.finish_entry number Aborted queue) (works_without_job number works)) [] 0 false
+finish-changes number queue works entry whole there is_open n =
+    subst (λ (q : QueueState). Change None (standing n queue works) (standing n q (works_without_job number works)) [] 0 false)
+    (sym (ap (λ o. rows.finish_entry_at o number Aborted queue) there)) (ends-changes None queue works number entry whole there is_open n)
+
+-- the others stand as before
+pub finish-apart : (number : ℕ) (queue : QueueState) (works : List (ℕ × Work)) (entry : Entry) → IsWhole queue works → entry_numbered number queue.entries ≡ Some entry
+    → (n : ℕ) → nat_eq number n ≡ false → standing n (rows.finish_entry number Aborted queue) (works_without_job number works) ≡ standing n queue works
+finish-apart number queue works entry whole there n apart =
+    let it = ends queue works number entry whole there in
+    ap (λ (q : QueueState). standing n q (works_without_job number works)) (ap (λ o. rows.finish_entry_at o number Aborted queue) there)
+    ∙ stands-apart queue (rows.set_status number statuses.Aborted entry queue) works (works_without_job number works) number (aborted_entry entry) (without_job it.work) it.entry_set it.work_set n apart
 
 pub abort-changes : (submits : Option (JobTicket × List Page)) (number : ℕ) (queue new : QueueState) (works : List (ℕ × Work)) → IsWhole queue works → rows.abort number queue ≡ (new, Ok tt)
     → (n : ℕ) → Change submits (standing n queue works) (standing n new (works_without_job number works)) [] 0 false

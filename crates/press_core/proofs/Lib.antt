@@ -1,6 +1,8 @@
 mod AccountLemmas
 mod AnswerLemmas
 mod ChangeLemmas
+mod DeviceLemmas
+mod EngineLemmas
 mod EntryLemmas
 mod EventLemmas
 mod FloatLemmas
@@ -10,6 +12,8 @@ mod HandingLemmas
 mod JobLemmas
 mod MessageChanges
 mod RunLemmas
+mod RunsLemmas
+mod PressLemmas
 mod RepeatLemmas
 mod SoundLemmas
 mod StandLemmas
@@ -18,5 +22,6 @@ mod StepsLemmas
 mod TurnChanges
 mod TurnLemmas
 mod WorkLemmas
+pub mod WorkedEngines
 pub mod WorkedHistory
 pub mod WorkedMessages

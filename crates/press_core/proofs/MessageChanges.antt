@@ -1,9 +1,11 @@
 -- What a message makes of the queue and of each number.
-use Rattle.std.proofs.Common.{◌≡◌, ◌++◌, ℕ, ℤ, false, List, [], ◌∷◌, Option, Some, None, IfSome, Result, Ok, Err, option_map, option_and_then, refl, sym, ap, subst}
+use Rattle.std.proofs.Common.{◌≡◌, ◌++◌, ◌+◌, ℕ, ℤ, nat_eq, nat_le, false, List, [], ◌∷◌, Option, Some, None, IfSome, Result, Ok, Err, option_map, option_and_then, refl, sym, ap, subst, arith, rules}
 use Rattle.std.specs.Prelude.{codes}
+use Rattle.std.specs.Map.{lookup}
 use Rattle.std.specs.Result.{result_ok}
 use Rattle.serde_json.specs.Data.{Data, string}
 use Rattle.press_bits.specs.Page.{Page}
+use Rattle.press_queue.specs.Entries.{entry_numbered}
 use Rattle.press_queue.specs.EveryQueue.{IsQueue}
 use Rattle.press_queue.specs.Laws.{EachRowKeepsTheQueue}
 use Rattle.press_queue.specs.Rows as rows
@@ -14,6 +16,7 @@ use Rattle.press_core.specs.declared.flag.FlagCommand.{FlagCommand}
 use Rattle.press_core.specs.declared.flag.FlagCommand.TheVariants as flags
 use Rattle.press_core.specs.declared.message_type.MessageType.{MessageType}
 use Rattle.press_core.specs.declared.message_type.MessageType.TheVariants as types
+use Rattle.press_core.specs.Engines.{RunsOnEngines}
 use Rattle.press_core.specs.Listings.{entry_id}
 use Rattle.press_core.specs.Messages.{Heading, Headed, heading_of, message_in}
 use Rattle.press_core.specs.Response.{adding}
@@ -21,34 +24,39 @@ use Rattle.press_core.specs.Rows as table
 use Rattle.press_core.specs.Work.{IsPrintable, new_work}
 use Rattle.press_core.specs.World.{World, with_new_work, with_queue}
 use Rattle.press_core.proofs.ChangeLemmas.{QueueChanges, abort-changes, enters-changes, flush-changes, hold-changes, idle, remove-changes, resume-changes, set_position-changes, set_priority-changes, suspend-changes}
+use Rattle.press_core.proofs.EngineLemmas.{RunsAsBefore, on_engines-kept, on_engines-left}
+use Rattle.press_core.proofs.RunsLemmas.{abort-but, flush-runs, hold-runs, remove-runs, resume-runs, set_position-runs, set_priority-runs, submitted-runs, suspend-but}
 use Rattle.press_core.proofs.SoundLemmas.{submitted_is}
-use Rattle.press_core.proofs.Standings.{Change, Stays, IsWhole, standing}
+use Rattle.press_core.proofs.Standings.{Change, Stays, IsWholeWorld, standing, unknown_of}
 
--- The queue is still one, and this happens to each number, where nothing is handed out.
+-- The queue is still one, its entries that run are on engines, and this happens to each number, where nothing is handed out.
 pub record Becomes (submits : Option (JobTicket × List Page)) (old new : World) : Type 0 where
   pub queue : IsQueue new.queue
+  pub on_engines : RunsOnEngines new.queue new.engines
   pub each : (n : ℕ) → Change submits (standing n old.queue old.works) (standing n new.queue new.works) [] 0 false
 
-pub becomes_same : (submits : Option (JobTicket × List Page)) (world : World) → IsWhole world.queue world.works → Becomes submits world world
-becomes_same submits world whole = record { queue = whole.queue_is; each = λ n. Stays refl idle }
+pub becomes_same : (submits : Option (JobTicket × List Page)) (world : World) → IsWholeWorld world → Becomes submits world world
+becomes_same submits world whole = record { queue = whole.numbers.queue_is; on_engines = whole.on_engines; each = λ n. Stays refl idle }
 
 -- ---- what follows a refusal
 
-named-becomes : {A : Type 0} (submits : Option (JobTicket × List Page)) (found : Result A Refused) (world : World) (row : A → table.MessageAnswer) → IsWhole world.queue world.works
+named-becomes : {A : Type 0} (submits : Option (JobTicket × List Page)) (found : Result A Refused) (world : World) (row : A → table.MessageAnswer) → IsWholeWorld world
     → ((a : A) → found ≡ Ok a → Becomes submits world (row a).1) → Becomes submits world (table.with_named found world row).1
 named-becomes submits (Err refused) world row whole next = becomes_same submits world whole
 named-becomes submits (Ok a) world row whole next = next a refl
 
-row-becomes : {A : Type 0} (submits : Option (JobTicket × List Page)) (answer : rows.QueueAnswer A) (world : World) (row : A → World → table.MessageAnswer) → IsWhole world.queue world.works
+row-becomes : {A : Type 0} (submits : Option (JobTicket × List Page)) (answer : rows.QueueAnswer A) (world : World) (row : A → World → table.MessageAnswer) → IsWholeWorld world
     → ((a : A) (queue : QueueState) → answer ≡ (queue, Ok a) → Becomes submits world (row a (with_queue queue world)).1) → Becomes submits world (table.after_queue_row answer world row).1
 row-becomes submits (queue, Err refusal) world row whole next = becomes_same submits world whole
 row-becomes submits (queue, Ok a) world row whole next = next a queue refl
 
 -- a command that changes the queue alone
-queue-becomes : (submits : Option (JobTicket × List Page)) (answer : rows.QueueAnswer (Unit {0})) (world : World) → IsWhole world.queue world.works → IsQueue answer.0
-    → QueueChanges submits world.queue world.works answer.0 → Becomes submits world (table.after_queue_row answer world (λ _ after. table.accepting after)).1
-queue-becomes submits (queue, Err refusal) world whole queue_is changes = becomes_same submits world whole
-queue-becomes submits (queue, Ok a) world whole queue_is changes = record { queue = queue_is; each = changes }
+queue-becomes : (submits : Option (JobTicket × List Page)) (answer : rows.QueueAnswer (Unit {0})) (world : World) → IsWholeWorld world → IsQueue answer.0
+    → RunsAsBefore world.queue answer.0 → QueueChanges submits world.queue world.works answer.0
+    → Becomes submits world (table.after_queue_row answer world (λ _ after. table.accepting after)).1
+queue-becomes submits (queue, Err refusal) world whole queue_is runs changes = becomes_same submits world whole
+queue-becomes submits (queue, Ok a) world whole queue_is runs changes =
+    record { queue = queue_is; on_engines = on_engines-kept world.queue queue world.engines runs whole.on_engines; each = changes }
 
 -- ---- the row of each type
 
@@ -56,7 +64,7 @@ queue-becomes submits (queue, Ok a) world whole queue_is changes = record { queu
 abbrev submits_in : List Page → Option JobTicket → Option (JobTicket × List Page)
 submits_in images ticket = option_map (λ ticket. (ticket, images)) ticket
 
-submit-becomes : EachRowKeepsTheQueue → (images : List Page) (found : Result (JobTicket × ℤ) Refused) (world : World) → IsWhole world.queue world.works
+submit-becomes : EachRowKeepsTheQueue → (images : List Page) (found : Result (JobTicket × ℤ) Refused) (world : World) → IsWholeWorld world
     → IfSome (option_map (λ both. both.0) (result_ok found)) (λ ticket. IsPrintable ticket images)
     → Becomes (submits_in images (option_map (λ both. both.0) (result_ok found))) world
     (table.with_named found world (λ both. table.after_queue_row (rows.submit both.1 world.queue) world (λ number after.
@@ -66,60 +74,87 @@ submit-becomes law images (Ok both) world whole printable =
     row-becomes (Some (both.0, images)) (rows.submit both.1 world.queue) world _ whole (λ number queue is.
     let submitted = submitted_is both.1 world.queue queue number (sym is) in
     record {
-      queue = subst IsQueue (ap (λ r. r.0) is) (law.submit both.1 world.queue whole.queue_is);
+      queue = subst IsQueue (ap (λ r. r.0) is) (law.submit both.1 world.queue whole.numbers.queue_is);
+      on_engines =
+          on_engines-kept world.queue queue world.engines
+          (subst (RunsAsBefore world.queue) (sym submitted.is) (submitted-runs number submitted.priority number world.queue (fresh number submitted.next))) whole.on_engines;
       each = λ n.
           subst (λ (q : QueueState). Change (Some (both.0, images)) (standing n world.queue world.works) (standing n q (world.works ++ (number, new_work both.0 images) ∷ [])) [] 0 false)
           (sym submitted.is)
-          (enters-changes (Some (both.0, images)) world.queue world.works number submitted.priority both.0 images whole submitted.next refl printable n);
+          (enters-changes (Some (both.0, images)) world.queue world.works number submitted.priority both.0 images whole.numbers submitted.next refl printable n);
     })
+  where
+    fresh : (number : ℕ) → number ≡ world.queue.last + 1 → entry_numbered number world.queue.entries ≡ None
+    fresh number next =
+        let above : nat_le number world.queue.last ≡ false = grind (arith, rules, next) in
+        (unknown_of (nat_le number world.queue.last) (entry_numbered number world.queue.entries) (lookup (nat_eq number) world.works) (whole.numbers.proper number) above).0
 
-flag-becomes : EachRowKeepsTheQueue → (flag : FlagCommand) (world : World) → IsWhole world.queue world.works → Becomes None world (with_queue (table.flagged flag world.queue) world)
-flag-becomes law flags.Hold world whole = record { queue = law.hold_queue world.queue whole.queue_is; each = λ n. Stays refl idle }
-flag-becomes law flags.Resume world whole = record { queue = law.resume_queue world.queue whole.queue_is; each = λ n. Stays refl idle }
-flag-becomes law flags.Open world whole = record { queue = law.open_queue world.queue whole.queue_is; each = λ n. Stays refl idle }
-flag-becomes law flags.Close world whole = record { queue = law.close_queue world.queue whole.queue_is; each = λ n. Stays refl idle }
+flag-becomes : EachRowKeepsTheQueue → (flag : FlagCommand) (world : World) → IsWholeWorld world → Becomes None world (with_queue (table.flagged flag world.queue) world)
+flag-becomes law flags.Hold world whole =
+    record { queue = law.hold_queue world.queue whole.numbers.queue_is; on_engines = on_engines-kept world.queue (table.flagged flags.Hold world.queue) world.engines (λ n. refl) whole.on_engines; each = λ n. Stays refl idle }
+flag-becomes law flags.Resume world whole =
+    record { queue = law.resume_queue world.queue whole.numbers.queue_is; on_engines = on_engines-kept world.queue (table.flagged flags.Resume world.queue) world.engines (λ n. refl) whole.on_engines; each = λ n. Stays refl idle }
+flag-becomes law flags.Open world whole =
+    record { queue = law.open_queue world.queue whole.numbers.queue_is; on_engines = on_engines-kept world.queue (table.flagged flags.Open world.queue) world.engines (λ n. refl) whole.on_engines; each = λ n. Stays refl idle }
+flag-becomes law flags.Close world whole =
+    record { queue = law.close_queue world.queue whole.numbers.queue_is; on_engines = on_engines-kept world.queue (table.flagged flags.Close world.queue) world.engines (λ n. refl) whole.on_engines; each = λ n. Stays refl idle }
 
-answered-becomes : EachRowKeepsTheQueue → (message_type : MessageType) (message : Data) (images : List Page) (world : World) → IsWhole world.queue world.works
+answered-becomes : EachRowKeepsTheQueue → (message_type : MessageType) (message : Data) (images : List Page) (world : World) → IsWholeWorld world
     → IfSome (table.ticket_of_type message_type message images) (λ ticket. IsPrintable ticket images)
     → Becomes (submits_in images (table.ticket_of_type message_type message images)) world (table.answered message_type message images world).1
 answered-becomes law types.SubmitQueueEntry message images world whole printable = submit-becomes law images (table.submission message images) world whole printable
 answered-becomes law types.HoldQueueEntry message images world whole printable =
     named-becomes None (table.named_entry message world.queue) world _ whole (λ number _.
-    queue-becomes None (rows.hold number world.queue) world whole (law.hold number world.queue whole.queue_is) (hold-changes None world.queue world.works number whole))
+    queue-becomes None (rows.hold number world.queue) world whole (law.hold number world.queue whole.numbers.queue_is) (hold-runs number world.queue)
+    (hold-changes None world.queue world.works number whole.numbers))
 answered-becomes law types.ResumeQueueEntry message images world whole printable =
     named-becomes None (table.named_entry message world.queue) world _ whole (λ number _.
-    queue-becomes None (rows.resume number world.queue) world whole (law.resume number world.queue whole.queue_is) (resume-changes None world.queue world.works number whole))
+    queue-becomes None (rows.resume number world.queue) world whole (law.resume number world.queue whole.numbers.queue_is) (resume-runs number world.queue)
+    (resume-changes None world.queue world.works number whole.numbers))
 answered-becomes law types.SuspendQueueEntry message images world whole printable =
     named-becomes None (table.named_entry message world.queue) world _ whole (λ number _.
-    queue-becomes None (rows.suspend number world.queue) world whole (law.suspend number world.queue whole.queue_is) (suspend-changes None world.queue world.works number whole))
+    row-becomes None (rows.suspend number world.queue) world _ whole (λ a queue is.
+    record {
+      queue = subst IsQueue (ap (λ r. r.0) is) (law.suspend number world.queue whole.numbers.queue_is);
+      on_engines = on_engines-left number world.queue queue world.engines (suspend-but number world.queue queue (sym is)) whole.on_engines;
+      each = subst (λ (q : QueueState). QueueChanges None world.queue world.works q) (ap (λ r. r.0) is) (suspend-changes None world.queue world.works number whole.numbers);
+    }))
 answered-becomes law types.AbortQueueEntry message images world whole printable =
     named-becomes None (table.named_entry message world.queue) world _ whole (λ number _.
     row-becomes None (rows.abort number world.queue) world _ whole (λ a queue is.
     record {
-      queue = subst IsQueue (ap (λ r. r.0) is) (law.abort number world.queue whole.queue_is);
-      each = abort-changes None number world.queue queue world.works whole is;
+      queue = subst IsQueue (ap (λ r. r.0) is) (law.abort number world.queue whole.numbers.queue_is);
+      on_engines = on_engines-left number world.queue queue world.engines (abort-but number world.queue queue (sym is)) whole.on_engines;
+      each = abort-changes None number world.queue queue world.works whole.numbers is;
     }))
 answered-becomes law types.RemoveQueueEntry message images world whole printable =
     named-becomes None (table.named_entry message world.queue) world _ whole (λ number _.
     row-becomes None (rows.remove number world.queue) world _ whole (λ a queue is.
     record {
-      queue = subst IsQueue (ap (λ r. r.0) is) (law.remove number world.queue whole.queue_is);
-      each = remove-changes None number world.queue queue world.works whole is;
+      queue = subst IsQueue (ap (λ r. r.0) is) (law.remove number world.queue whole.numbers.queue_is);
+      on_engines =
+          on_engines-kept world.queue queue world.engines
+          (subst (RunsAsBefore world.queue) (ap (λ r. r.0) is) (remove-runs number world.queue whole.numbers.queue_is.distinct)) whole.on_engines;
+      each = remove-changes None number world.queue queue world.works whole.numbers is;
     }))
 answered-becomes law types.SetQueueEntryPriority message images world whole printable =
     named-becomes None (table.named_entry_with (codes "Priority") message world.queue) world _ whole (λ both _.
-    queue-becomes None (rows.set_priority both.0 both.1 world.queue) world whole (law.set_priority both.0 both.1 world.queue whole.queue_is)
-    (set_priority-changes None world.queue world.works both.0 both.1 whole))
+    queue-becomes None (rows.set_priority both.0 both.1 world.queue) world whole (law.set_priority both.0 both.1 world.queue whole.numbers.queue_is)
+    (set_priority-runs both.0 both.1 world.queue whole.numbers.queue_is.distinct) (set_priority-changes None world.queue world.works both.0 both.1 whole.numbers))
 answered-becomes law types.SetQueueEntryPosition message images world whole printable =
     named-becomes None (table.named_entry_with (codes "Position") message world.queue) world _ whole (λ both _.
-    queue-becomes None (rows.set_position both.0 both.1 world.queue) world whole (law.set_position both.0 both.1 world.queue whole.queue_is)
-    (set_position-changes None world.queue world.works both.0 both.1 whole))
+    queue-becomes None (rows.set_position both.0 both.1 world.queue) world whole (law.set_position both.0 both.1 world.queue whole.numbers.queue_is)
+    (set_position-runs both.0 both.1 world.queue whole.numbers.queue_is.distinct) (set_position-changes None world.queue world.works both.0 both.1 whole.numbers))
 answered-becomes law types.HoldQueue message images world whole printable = flag-becomes law flags.Hold world whole
 answered-becomes law types.ResumeQueue message images world whole printable = flag-becomes law flags.Resume world whole
 answered-becomes law types.OpenQueue message images world whole printable = flag-becomes law flags.Open world whole
 answered-becomes law types.CloseQueue message images world whole printable = flag-becomes law flags.Close world whole
 answered-becomes law types.FlushQueue message images world whole printable =
-    record { queue = law.flush world.queue whole.queue_is; each = flush-changes None world.queue world.works whole }
+    record {
+      queue = law.flush world.queue whole.numbers.queue_is;
+      on_engines = on_engines-kept world.queue (rows.flush world.queue) world.engines (flush-runs world.queue whole.numbers.queue_is.distinct) whole.on_engines;
+      each = flush-changes None world.queue world.works whole.numbers;
+    }
 answered-becomes law types.QueueStatus message images world whole printable = becomes_same None world whole
 answered-becomes law types.Status message images world whole printable = becomes_same None world whole
 
@@ -129,7 +164,7 @@ responding-world : (heading : Heading) (answer : table.MessageAnswer) → (table
 responding-world heading (Ok addition, world) = refl
 responding-world heading (Err refused, world) = refl
 
-headed-becomes : EachRowKeepsTheQueue → (message : Data) (found : Headed) (images : List Page) (world : World) → IsWhole world.queue world.works
+headed-becomes : EachRowKeepsTheQueue → (message : Data) (found : Headed) (images : List Page) (world : World) → IsWholeWorld world
     → IfSome (table.ticket_of_headed found message images) (λ ticket. IsPrintable ticket images)
     → Becomes (submits_in images (table.ticket_of_headed found message images)) world (table.responding_to found message images world).1
 headed-becomes law message (Err stopped) images world whole printable = becomes_same None world whole
@@ -137,14 +172,14 @@ headed-becomes law message (Ok headed) images world whole printable =
     subst (Becomes (submits_in images (table.ticket_of_type headed.1 message images)) world) (sym (responding-world headed.0 (table.answered headed.1 message images world)))
     (answered-becomes law headed.1 message images world whole printable)
 
-in-becomes : EachRowKeepsTheQueue → (found : Option Data) (images : List Page) (world : World) → IsWhole world.queue world.works
+in-becomes : EachRowKeepsTheQueue → (found : Option Data) (images : List Page) (world : World) → IsWholeWorld world
     → IfSome (option_and_then (λ message. table.ticket_of_headed (heading_of message) message images) found) (λ ticket. IsPrintable ticket images)
     → Becomes (submits_in images (option_and_then (λ message. table.ticket_of_headed (heading_of message) message images) found)) world (table.responding_in found images world).1
 in-becomes law None images world whole printable = becomes_same None world whole
 in-becomes law (Some message) images world whole printable = headed-becomes law message (heading_of message) images world whole printable
 
 -- A message that is answered.
-pub message-becomes : EachRowKeepsTheQueue → (text : List ℕ) (images : List Page) (world : World) → IsWhole world.queue world.works
+pub message-becomes : EachRowKeepsTheQueue → (text : List ℕ) (images : List Page) (world : World) → IsWholeWorld world
     → IfSome (table.ticket_in text images) (λ ticket. IsPrintable ticket images)
     → Becomes (submits_in images (table.ticket_in text images)) world (table.responded text images world).1
 message-becomes law text images world whole printable = in-becomes law (message_in text) images world whole printable

@@ -13,65 +13,77 @@ use Rattle.press_queue.specs.Laws.{EachRowKeepsTheQueue}
 use Rattle.press_sink.specs.declared.sheet.Delivery.{Delivery}
 use Rattle.press_sink.specs.Sides.{Sides}
 use Rattle.press_ticket.specs.Ticket.{JobTicket}
-use Rattle.press_core.specs.Events.{Event, EventAnswer, Happening, Happens, IsRun, Leads, Message, Nothing, Operator, Response, TurnOf, Turned}
+use Rattle.press_core.specs.Engines.{RunsOnEngines, are_engines}
+use Rattle.press_core.specs.Events.{Event, EventAnswer, Happening, Happens, IsRun, Leads, Message, Nothing, Operator, Response, TurnOn, Turned}
 use Rattle.press_core.specs.History.{Seen, TakesInAll, both_seen, entering, handed_under, sheets_under, is_fault_of, last_seen, met_fault, seen_after, steps_answered, steps_in, submitted_by}
 use Rattle.press_core.specs.Laws.{EntriesAreBounded, EntriesDoNotInterfere, GivenUnder, JobsHandOutTheWantedSheets, SheetsAreGiven, StaysGone}
 use Rattle.press_core.specs.Turns.{IsJobOf, sheets_from}
 use Rattle.press_core.specs.Work.{new_work}
-use Rattle.press_core.specs.World.{World, empty_world, is_listed}
+use Rattle.press_core.specs.World.{World, is_listed, new_world}
 use Rattle.press_core.proofs.AccountLemmas.{Account, EnteredBy, IsKnown, account-listed, account-never, account-next, account-seen, found_now, given_as, is_given, seen_now-is}
+use Rattle.press_core.proofs.EngineLemmas.{on_engines-new, running-bound}
 use Rattle.press_core.proofs.HandedLemmas.{handed-append}
 use Rattle.press_core.proofs.JobLemmas.{IsJobOf-one, IsJobOf-some}
 use Rattle.press_core.proofs.MessageChanges.{Becomes, message-becomes}
-use Rattle.press_core.proofs.Standings.{Change, Stays, Gone, IsProper, IsWhole, gone-kept, gone_absent, gone_of, proper-kept, standing, standing_of}
+use Rattle.press_core.proofs.Standings.{Change, Stays, Gone, IsProper, IsWholeWorld, gone-kept, gone_absent, gone_of, proper-kept, standing, standing_of}
 use Rattle.press_core.proofs.TurnChanges.{operator-becomes, turn-becomes}
 
 -- ---- every event is such
 
--- What an event does to the queue and to each number.
+-- What an event does to the queue, to the engines and to each number.
 pub record EventDoes (old : World) (event : Event) (answer : EventAnswer) (handed : List Delivery) (next : World) : Type 0 where
   pub queue : IsQueue next.queue
-  pub each : (n : ℕ) → Change (submitted_by event) (standing n old.queue old.works) (standing n next.queue next.works) (sheets_under n handed) (steps_answered n answer) (is_fault_of n old answer)
+  pub on_engines : RunsOnEngines next.queue next.engines
+  pub each : (n : ℕ) → Change (submitted_by event) (standing n old.queue old.works) (standing n next.queue next.works) (sheets_under n handed) (steps_answered n answer) (is_fault_of n old event answer)
 
 of-message : (old : World) (text : List ℕ) (images : List Page) (bytes : List ℕ) (handed : List Delivery) (between next : World) → handed ≡ [] → next ≡ between
     → Becomes (submitted_by (Message text images)) old between → EventDoes old (Message text images) (Response (Some bytes)) handed next
 of-message old text images bytes handed between next none same becomes = record {
   queue = subst (λ (w : World). IsQueue w.queue) (sym same) becomes.queue;
+  on_engines = subst (λ (w : World). RunsOnEngines w.queue w.engines) (sym same) becomes.on_engines;
   each = λ n.
       subst (λ l. Change (submitted_by (Message text images)) (standing n old.queue old.works) (standing n next.queue next.works) (sheets_under n l) 0 false) (sym none)
       (subst (λ (w : World). Change (submitted_by (Message text images)) (standing n old.queue old.works) (standing n w.queue w.works) [] 0 false) (sym same) (becomes.each n));
 }
 
-pub event-does : EachRowKeepsTheQueue → (old : World) (event : Event) (answer : EventAnswer) (handed : List Delivery) (next : World) → IsWhole old.queue old.works
+pub event-does : EachRowKeepsTheQueue → (old : World) (event : Event) (answer : EventAnswer) (handed : List Delivery) (next : World) → IsWholeWorld old
     → Happens old event answer handed next → EventDoes old event answer handed next
 event-does law old (Message text images) (Response (Some bytes)) handed next whole happens =
     of-message old text images bytes handed _ next happens.0 (ap (λ r. r.1) happens.1) (message-becomes law text images old whole happens.2)
 event-does law old (Message text images) (Response None) handed next whole happens = record {
-  queue = subst (λ (w : World). IsQueue w.queue) (sym happens.1) whole.queue_is;
+  queue = subst (λ (w : World). IsQueue w.queue) (sym happens.1) whole.numbers.queue_is;
+  on_engines = subst (λ (w : World). RunsOnEngines w.queue w.engines) (sym happens.1) whole.on_engines;
   each = λ n. Stays (ap (λ (w : World). standing n w.queue w.works) happens.1) (record { no_sheets = ap (sheets_under n) happens.0; no_steps = refl });
 }
-event-does law old (TurnOf most) (Turned result) handed next whole happens =
-    let becomes = turn-becomes law old most result handed next whole happens in record { queue = becomes.queue; each = becomes.each }
+event-does law old (TurnOn engine most) (Turned result) handed next whole happens =
+    let becomes = turn-becomes law old engine most result handed next whole happens in
+    record { queue = becomes.queue; on_engines = becomes.on_engines; each = becomes.each }
 event-does law old (Operator command) Nothing handed next whole happens =
     let becomes = operator-becomes law command old whole in
     record {
       queue = subst (λ (w : World). IsQueue w.queue) (sym happens.1) becomes.queue;
+      on_engines = subst (λ (w : World). RunsOnEngines w.queue w.engines) (sym happens.1) becomes.on_engines;
       each = λ n.
           subst (λ l. Change None (standing n old.queue old.works) (standing n next.queue next.works) (sheets_under n l) 0 false) (sym happens.0)
           (subst (λ (w : World). Change None (standing n old.queue old.works) (standing n w.queue w.works) [] 0 false) (sym happens.1) (becomes.each n));
     }
 event-does law old (Message text images) (Turned result) handed next whole happens = absurd happens
 event-does law old (Message text images) Nothing handed next whole happens = absurd happens
-event-does law old (TurnOf most) (Response bytes) handed next whole happens = absurd happens
-event-does law old (TurnOf most) Nothing handed next whole happens = absurd happens
+event-does law old (TurnOn engine most) (Response bytes) handed next whole happens = absurd happens
+event-does law old (TurnOn engine most) Nothing handed next whole happens = absurd happens
 event-does law old (Operator command) (Response bytes) handed next whole happens = absurd happens
 event-does law old (Operator command) (Turned result) handed next whole happens = absurd happens
 
-whole-next : (old : World) (event : Event) (answer : EventAnswer) (handed : List Delivery) (next : World) → IsWhole old.queue old.works → EventDoes old event answer handed next
-    → IsWhole next.queue next.works
+whole-next : (old : World) (event : Event) (answer : EventAnswer) (handed : List Delivery) (next : World) → IsWholeWorld old → EventDoes old event answer handed next
+    → IsWholeWorld next
 whole-next old event answer handed next whole does = record {
-  queue_is = does.queue;
-  proper = λ n. proper-kept (submitted_by event) (standing n old.queue old.works) (standing n next.queue next.works) (sheets_under n handed) (steps_answered n answer) (is_fault_of n old answer) (does.each n) (whole.proper n);
+  numbers = record {
+    queue_is = does.queue;
+    proper = λ n.
+        proper-kept (submitted_by event) (standing n old.queue old.works) (standing n next.queue next.works) (sheets_under n handed) (steps_answered n answer) (is_fault_of n old event answer) (does.each n)
+        (whole.numbers.proper n);
+  };
+  on_engines = does.on_engines;
 }
 
 -- ---- runs
@@ -80,11 +92,14 @@ empty-proper : (n : ℕ) (given : Bool) → IsProper (standing_of given None Non
 empty-proper n true = tt
 empty-proper n false = tt
 
-empty-whole : EachRowKeepsTheQueue → IsWhole empty_world.queue empty_world.works
-empty-whole law = record { queue_is = law.new; proper = λ n. empty-proper n (nat_le n 0) }
+new-whole : EachRowKeepsTheQueue → (engines : ℕ) → are_engines engines ≡ true → IsWholeWorld (new_world engines)
+new-whole law engines are = record {
+  numbers = record { queue_is = law.new; proper = λ n. empty-proper n (nat_le n 0) };
+  on_engines = on_engines-new engines are;
+}
 
-run-whole : EachRowKeepsTheQueue → (world : World) (happenings : List Happening) (last : World) → IsWhole world.queue world.works → Leads world happenings last → IsWhole last.queue last.works
-run-whole law world [] last whole leads = subst (λ (w : World). IsWhole w.queue w.works) (sym leads) whole
+run-whole : EachRowKeepsTheQueue → (world : World) (happenings : List Happening) (last : World) → IsWholeWorld world → Leads world happenings last → IsWholeWorld last
+run-whole law world [] last whole leads = subst IsWholeWorld (sym leads) whole
 run-whole law world (h ∷ happenings) last whole (happens, leads) =
     run-whole law h.next happenings last (whole-next world h.event h.answer h.handed h.next whole (event-does law world h.event h.answer h.handed h.next whole happens)) leads
 
@@ -109,7 +124,7 @@ empty-account n true = record { no_sheets = refl; no_steps = refl }
 empty-account n false = (refl, refl, record { no_sheets = refl; no_steps = refl })
 
 run-account : JobsHandOutTheWantedSheets → EachRowKeepsTheQueue → (n : ℕ) (world : World) (happenings : List Happening) (last : World) (seen : Option Seen) (found : Option Happening) (sheets : List Sides) (steps : ℕ)
-    (failed : Bool) → IsWhole world.queue world.works → Leads world happenings last → Account (standing n world.queue world.works) seen found sheets steps failed
+    (failed : Bool) → IsWholeWorld world → Leads world happenings last → Account (standing n world.queue world.works) seen found sheets steps failed
     → Account (standing n last.queue last.works) (seen_after n seen happenings) (option_or found (entering n happenings)) (sheets ++ handed_under n happenings) (steps + steps_in n happenings)
     (failed || met_fault n world happenings)
 run-account jobs law n world [] last seen found sheets steps failed whole leads account =
@@ -133,32 +148,33 @@ run-account jobs law n world (h ∷ happenings) last seen found sheets steps fai
     let entry = entry_numbered n h.next.queue.entries in
     let work = lookup (nat_eq n) h.next.works in
     let new = standing_of given entry work in
-    let next = account-next jobs (standing n world.queue world.works) new given h seen found sheets (sheets_under n h.handed) steps (steps_answered n h.answer) failed (is_fault_of n world h.answer)
+    let next = account-next jobs (standing n world.queue world.works) new given h seen found sheets (sheets_under n h.handed) steps (steps_answered n h.answer) failed (is_fault_of n world h.event h.answer)
     (does.each n) (given_as given entry work) account in
     let seen_next = option_or (both_seen entry work) seen in
-    let next_seen : Account new seen_next (found_now given h found) (sheets ++ sheets_under n h.handed) (steps + steps_answered n h.answer) (failed || is_fault_of n world h.answer) =
-    subst (λ o. Account new o (found_now given h found) (sheets ++ sheets_under n h.handed) (steps + steps_answered n h.answer) (failed || is_fault_of n world h.answer))
-    (sym (seen_now-is given entry work seen (after.proper n))) next in
-    let run = run-account jobs law n h.next happenings last seen_next (found_now given h found) (sheets ++ sheets_under n h.handed) (steps + steps_answered n h.answer) (failed || is_fault_of n world h.answer)
+    let next_seen : Account new seen_next (found_now given h found) (sheets ++ sheets_under n h.handed) (steps + steps_answered n h.answer) (failed || is_fault_of n world h.event h.answer) =
+    subst (λ o. Account new o (found_now given h found) (sheets ++ sheets_under n h.handed) (steps + steps_answered n h.answer) (failed || is_fault_of n world h.event h.answer))
+    (sym (seen_now-is given entry work seen (after.numbers.proper n))) next in
+    let run = run-account jobs law n h.next happenings last seen_next (found_now given h found) (sheets ++ sheets_under n h.handed) (steps + steps_answered n h.answer) (failed || is_fault_of n world h.event h.answer)
     after leads next_seen in
     let sheets_are : (sheets ++ sheets_under n h.handed) ++ handed_under n happenings ≡ sheets ++ handed_under n (h ∷ happenings) =
     append_assoc sheets (sheets_under n h.handed) (handed_under n happenings)
     ∙ ap (λ l. sheets ++ l) (sym (handed-append n h.handed (flat_map (λ (x : Happening). x.handed) happenings))) in
     let steps_are : (steps + steps_answered n h.answer) + steps_in n happenings ≡ steps + steps_in n (h ∷ happenings) =
     omega (arith, sum_by-cons (λ (x : Happening). steps_answered n x.answer) h happenings) in
-    let failed_is = or-assoc failed (is_fault_of n world h.answer) (met_fault n h.next happenings) in
+    let failed_is = or-assoc failed (is_fault_of n world h.event h.answer) (met_fault n h.next happenings) in
     let found_is = found-next (λ (x : Happening). nat_le n x.next.queue.last) h happenings found in
     subst (λ o. Account (standing n last.queue last.works) (seen_after n seen_next happenings) o (sheets ++ handed_under n (h ∷ happenings)) (steps + steps_in n (h ∷ happenings)) (failed || met_fault n world (h ∷ happenings))) found_is
     (subst (λ l. Account (standing n last.queue last.works) (seen_after n seen_next happenings) (option_or (found_now given h found) (entering n happenings)) l (steps + steps_in n (h ∷ happenings)) (failed || met_fault n world (h ∷ happenings))) sheets_are
     (subst (λ k. Account (standing n last.queue last.works) (seen_after n seen_next happenings) (option_or (found_now given h found) (entering n happenings)) ((sheets ++ sheets_under n h.handed) ++ handed_under n happenings) k (failed || met_fault n world (h ∷ happenings))) steps_are
     (subst (λ b. Account (standing n last.queue last.works) (seen_after n seen_next happenings) (option_or (found_now given h found) (entering n happenings)) ((sheets ++ sheets_under n h.handed) ++ handed_under n happenings) ((steps + steps_answered n h.answer) + steps_in n happenings) b) failed_is run)))
 
--- from the empty press
-run-from-empty : JobsHandOutTheWantedSheets → EachRowKeepsTheQueue → (n : ℕ) (happenings : List Happening) (last : World) → IsRun happenings last
-    → Account (standing n last.queue last.works) (last_seen n happenings) (entering n happenings) (handed_under n happenings) (steps_in n happenings) (met_fault n empty_world happenings)
-run-from-empty jobs law n happenings last run =
-    let account = run-account jobs law n empty_world happenings last None None [] 0 false (empty-whole law) run (empty-account n (nat_le n 0)) in
-    subst (λ k. Account (standing n last.queue last.works) (last_seen n happenings) (entering n happenings) (handed_under n happenings) k (met_fault n empty_world happenings)) (omega arith) account
+-- from a press at its beginning
+run-from-new : JobsHandOutTheWantedSheets → EachRowKeepsTheQueue → (n : ℕ) (happenings : List Happening) (last : World) → (run : IsRun happenings last)
+    → Account (standing n last.queue last.works) (last_seen n happenings) (entering n happenings) (handed_under n happenings) (steps_in n happenings) (met_fault n (new_world run.engines) happenings)
+run-from-new jobs law n happenings last run =
+    let first = new_world run.engines in
+    let account = run-account jobs law n first happenings last None None [] 0 false (new-whole law run.engines run.are) run.leads (empty-account n (nat_le n 0)) in
+    subst (λ k. Account (standing n last.queue last.works) (last_seen n happenings) (entering n happenings) (handed_under n happenings) k (met_fault n first happenings)) (omega arith) account
 
 -- ---- given sheets
 
@@ -167,19 +183,19 @@ given-under jobs law happenings last number run = record {
   given = λ seen is. let known = of seen is in is_given seen.entry seen.work _ _ _ known.1;
   entered = λ seen is. (of seen is).0;
   listed = account-listed (nat_le number last.queue.last) (entry_numbered number last.queue.entries) (lookup (nat_eq number) last.works) (last_seen number happenings) _ _ _ _ account;
-  never = λ is. (account-never (standing number last.queue last.works) _ _ _ _ (subst (λ o. Account (standing number last.queue last.works) o (entering number happenings) (handed_under number happenings) (steps_in number happenings) (met_fault number empty_world happenings)) is account)).no_sheets;
+  never = λ is. (account-never (standing number last.queue last.works) _ _ _ _ (subst (λ o. Account (standing number last.queue last.works) o (entering number happenings) (handed_under number happenings) (steps_in number happenings) (met_fault number (new_world run.engines) happenings)) is account)).no_sheets;
 } where
-  account : Account (standing number last.queue last.works) (last_seen number happenings) (entering number happenings) (handed_under number happenings) (steps_in number happenings) (met_fault number empty_world happenings)
-  account = run-from-empty jobs law number happenings last run
+  account : Account (standing number last.queue last.works) (last_seen number happenings) (entering number happenings) (handed_under number happenings) (steps_in number happenings) (met_fault number (new_world run.engines) happenings)
+  account = run-from-new jobs law number happenings last run
 
   of : (seen : Seen) → last_seen number happenings ≡ Some seen
-      → EnteredBy (entering number happenings) seen.work × IsKnown seen.entry seen.work (handed_under number happenings) (steps_in number happenings) (met_fault number empty_world happenings)
+      → EnteredBy (entering number happenings) seen.work × IsKnown seen.entry seen.work (handed_under number happenings) (steps_in number happenings) (met_fault number (new_world run.engines) happenings)
   of seen is = account-seen (standing number last.queue last.works) seen _ _ _ _
-      (subst (λ o. Account (standing number last.queue last.works) o (entering number happenings) (handed_under number happenings) (steps_in number happenings) (met_fault number empty_world happenings)) is account)
+      (subst (λ o. Account (standing number last.queue last.works) o (entering number happenings) (handed_under number happenings) (steps_in number happenings) (met_fault number (new_world run.engines) happenings)) is account)
 
 -- ---- numbers that are gone
 
-run-gone : EachRowKeepsTheQueue → (n : ℕ) (world : World) (happenings : List Happening) (last : World) → IsWhole world.queue world.works → Leads world happenings last
+run-gone : EachRowKeepsTheQueue → (n : ℕ) (world : World) (happenings : List Happening) (last : World) → IsWholeWorld world → Leads world happenings last
     → standing n world.queue world.works ≡ Gone → (handed_under n happenings ≡ []) × (standing n last.queue last.works ≡ Gone)
 run-gone law n world [] last whole leads gone = (refl, ap (λ (w : World). standing n w.queue w.works) leads ∙ gone)
 run-gone law n world (h ∷ happenings) last whole (happens, leads) gone =
@@ -193,9 +209,9 @@ run-gone law n world (h ∷ happenings) last whole (happens, leads) gone =
 stays-gone : EachRowKeepsTheQueue → (before after : List Happening) (mid last : World) (number : ℕ) → IsRun before mid → Leads mid after last → number ≤ mid.queue.last
     → is_listed number mid.queue ≡ false → StaysGone after last number
 stays-gone law before after mid last number run leads below absent =
-    let whole = run-whole law empty_world before mid (empty-whole law) run in
+    let whole = run-whole law (new_world run.engines) before mid (new-whole law run.engines run.are) run.leads in
     let given : nat_le number mid.queue.last ≡ true = grind (arith, rules, below) in
-    let gone = gone_of (nat_le number mid.queue.last) (entry_numbered number mid.queue.entries) (lookup (nat_eq number) mid.works) (whole.proper number) given absent in
+    let gone = gone_of (nat_le number mid.queue.last) (entry_numbered number mid.queue.entries) (lookup (nat_eq number) mid.works) (whole.numbers.proper number) given absent in
     let rest = run-gone law number mid after last whole leads gone in
     record {
       nothing = rest.0;
@@ -213,10 +229,10 @@ took-sheets : JobsHandOutTheWantedSheets → EachRowKeepsTheQueue → (ticket : 
 took-sheets jobs law ticket images steps number happenings items took job = at (last_seen number happenings) account
   where
     account : Account (standing number took.last.queue took.last.works) (last_seen number happenings) (entering number happenings) (handed_under number happenings) (steps_in number happenings)
-        (met_fault number empty_world happenings)
-    account = run-from-empty jobs law number happenings took.last took.run
+        (met_fault number (new_world took.run.engines) happenings)
+    account = run-from-new jobs law number happenings took.last took.run
 
-    at : (o : Option Seen) → Account (standing number took.last.queue took.last.works) o (entering number happenings) (handed_under number happenings) (steps_in number happenings) (met_fault number empty_world happenings)
+    at : (o : Option Seen) → Account (standing number took.last.queue took.last.works) o (entering number happenings) (handed_under number happenings) (steps_in number happenings) (met_fault number (new_world took.run.engines) happenings)
         → handed_under number happenings ≡ sheets_from 0 steps items
     at None account =
         let never = account-never (standing number took.last.queue took.last.works) _ _ _ _ account in
@@ -238,8 +254,16 @@ entries-do-not-interfere jobs law = record {
 
 -- ---- bounds
 
+-- the world that a run leads to
+whole-last : EachRowKeepsTheQueue → (happenings : List Happening) (last : World) → IsRun happenings last → IsWholeWorld last
+whole-last law happenings last run = run-whole law (new_world run.engines) happenings last (new-whole law run.engines run.are) run.leads
+
 pub entries-are-bounded : EachRowKeepsTheQueue → EntriesAreBounded
 entries-are-bounded law = record {
-  queue = λ happenings last run. (run-whole law empty_world happenings last (empty-whole law) run).queue_is;
+  on_engines = λ happenings last run. (whole-last law happenings last run).on_engines;
+  running = λ happenings last run.
+      let whole = whole-last law happenings last run in
+      running-bound last.queue last.engines whole.numbers.queue_is.distinct whole.on_engines;
+  queue = λ happenings last run. (whole-last law happenings last run).numbers.queue_is;
   once = λ before after mid last number run leads below absent. (stays-gone law before after mid last number run leads below absent).absent;
 }

@@ -1,5 +1,5 @@
 -- What each row of the queue leaves of a press: entries and their works go together.
-use Rattle.std.proofs.Common.{◌≡◌, ℕ, ℤ, ◌+◌, ◌&&◌, ◌||◌, ◌⊎◌, inl, inr, not, Bool, true, false, if◌then◌else◌, List, [], ◌∷◌, ◌++◌, Option, Some, None, Result, Ok, Err, is_some, nat_eq, nat_le, insert, option_map, refl, sym, ap, subst, ◌∙◌, arith, rules, length, find, is_ok, IfSome, IsTrue, cond, true≢false}
+use Rattle.std.proofs.Common.{◌≡◌, ℕ, ℤ, ◌+◌, ◌&&◌, ◌||◌, ◌⊎◌, inl, inr, not, Bool, true, false, if◌then◌else◌, List, [], ◌∷◌, ◌++◌, Option, Some, None, Result, Ok, Err, is_some, nat_eq, nat_le, insert, refl, sym, ap, subst, ◌∙◌, arith, rules, length, is_ok, IsTrue, cond, true≢false}
 use Rattle.std.specs.List.{IsDistinct}
 use Rattle.std.specs.Map.{keys_of, lookup, set_value}
 use Rattle.std.specs.Option.{option_map_or}
@@ -27,7 +27,7 @@ use Rattle.press_queue.specs.Status.{has_ended, is_running, new_entry, status_at
 use Rattle.press_core.specs.Inside.{GoTogether, IsSound}
 use Rattle.press_core.specs.Work.{Work}
 use Rattle.press_core.specs.World.{is_listed, works_listed, works_without_job}
-use Rattle.press_core.proofs.EntryLemmas.{added_lookup, first_is_numbered, inserted_lookup, moved_lookup, removed_lookup, set_lookup}
+use Rattle.press_core.proofs.EntryLemmas.{added_lookup, inserted_lookup, moved_lookup, removed_lookup, set_lookup}
 use Rattle.press_core.proofs.WorkLemmas.{IsSound-at, StandsFor, changed_entry, ended_entry, ended_together, has_work, set_both}
 
 -- ---- a command to one entry
@@ -299,16 +299,6 @@ IsSound-flushed old works distinct sound =
           → (entry_numbered n (running_ones old.entries) ≡ None) ⊎ (entry_numbered n (running_ones old.entries) ≡ Some entry)
       at true e = inr e
       at false e = inl e
-
--- the entry that runs is the one of its number
-pub running_runs : (queue : QueueState) → IsDistinct nat_eq (keys_of queue.entries) → IfSome (rows.running queue) (λ number. IsTrue (rows.entry_runs number queue))
-running_runs queue distinct = at_first (find (λ e. is_running e.1.status) queue.entries) refl
-  where
-    at_first : (o : Option (ℕ × Entry)) → find (λ e. is_running e.1.status) queue.entries ≡ o → IfSome (option_map (λ e. e.0) o) (λ number. IsTrue (rows.entry_runs number queue))
-    at_first None is = tt
-    at_first (Some x) is =
-        let found = first_is_numbered (λ e. is_running e.1.status) queue.entries x distinct is in
-        rw found.1 found.0
 
 -- ---- a new entry
 

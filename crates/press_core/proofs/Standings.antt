@@ -14,8 +14,10 @@ use Rattle.press_queue.specs.State.{QueueState}
 use Rattle.press_queue.specs.Status.{has_ended, is_running, new_entry}
 use Rattle.press_sink.specs.Sides.{Sides}
 use Rattle.press_ticket.specs.Ticket.{JobTicket}
+use Rattle.press_core.specs.Engines.{RunsOnEngines}
 use Rattle.press_core.specs.Turns.{IsJobOf, place_in_job, sheets_from}
 use Rattle.press_core.specs.Work.{IsPrintable, Work, at_place, new_work, with_delivered, without_job}
+use Rattle.press_core.specs.World.{World}
 
 -- ---- how a number stands
 
@@ -50,6 +52,11 @@ IsProper Torn = ⊥
 pub record IsWhole (queue : QueueState) (works : List (ℕ × Work)) : Type 0 where
   pub queue_is : IsQueue queue
   pub proper : (n : ℕ) → IsProper (standing n queue works)
+
+-- so does the world, and each entry that runs is on an engine of its own
+pub record IsWholeWorld (world : World) : Type 0 where
+  pub numbers : IsWhole world.queue world.works
+  pub on_engines : RunsOnEngines world.queue world.engines
 
 -- ---- what happens to a number
 

@@ -173,8 +173,9 @@ stopped_in_step number taken most old now next deliveries error before between a
       sheets = took.sheets ++ hands.handed;
       steps = λ items job.
           let so_far = took.steps items job in
-          fronts (place_in_job old) (taken + 1) most items (took.sheets ++ hands.handed) hands.others (omega (arith, so_far.0, below, step.within items job))
-          (with_one (place_in_job old) taken items took.sheets hands.handed hands.others so_far.1 (step.here items job));
+          let front = fronts (place_in_job old) (taken + 1) most items (took.sheets ++ hands.handed) hands.others (omega (arith, so_far.0, below, step.within items job))
+          (with_one (place_in_job old) taken items took.sheets hands.handed hands.others so_far.1 (step.here items job)) in
+          (front.0, front.1, hands.fault);
       left =
           ap (λ (w : Work). record w { delivered = count; place = None }) step.next_is
           ∙ ap (λ (w : Work). record w { delivered = count; place = None }) took.left
@@ -189,7 +190,8 @@ stopped_before_step number taken most old now next before after took is below = 
   sheets = took.sheets;
   steps = λ items job.
       let so_far = took.steps items job in
-      fronts (place_in_job old) taken most items took.sheets [] (omega (arith, so_far.0, below)) (sym so_far.1 ∙ sym (append-nil took.sheets));
+      let front = fronts (place_in_job old) taken most items took.sheets [] (omega (arith, so_far.0, below)) (sym so_far.1 ∙ sym (append-nil took.sheets)) in
+      (front.0, front.1, refl);
   left = ap (without_job) (is ∙ ap (without_job) took.left);
   were = record { told = took.were.told; faults = took.were.faults };
 }

@@ -1,7 +1,6 @@
 -- What a turn, or a command of an operator, makes of the queue and of each number.
-use Rattle.std.proofs.Common.{◌≡◌, ◌≤◌, ◌+◌, ◌-◌, ◌==◌, ℕ, nat_le, nat_eq, if◌then◌else◌, find, Bool, true, false, MatchBool, List, [], length, Option, Some, None, Result, Ok, Err, is_some, option_map, refl, sym, ap, subst, ◌∙◌, arith, rules, true≢false}
-use Rattle.std.specs.List.{IsDistinct}
-use Rattle.std.specs.Map.{keys_of, lookup, set_value}
+use Rattle.std.proofs.Common.{◌≡◌, ◌≤◌, ◌<◌, ◌+◌, ◌-◌, ◌==◌, ◌&&◌, ℕ, nat_le, nat_eq, if◌then◌else◌, Bool, true, false, MatchBool, List, [], ◌∷◌, length, slice_set, Option, Some, None, Result, Ok, Err, is_some, refl, sym, ap, subst, ◌∙◌, arith, rules, true≢false}
+use Rattle.std.specs.Map.{lookup, set_value}
 use Rattle.std.proofs.lemmas.Bool.{eqb-true}
 use Rattle.std.proofs.lemmas.Map.Steps.{set_value_same}
 use Rattle.std.proofs.lemmas.Option.{same_Some}
@@ -11,7 +10,7 @@ use Rattle.press_queue.specs.declared.status.End.{End}
 use Rattle.press_queue.specs.declared.status.End.TheVariants.{Completed, Aborted}
 use Rattle.press_queue.specs.declared.status.Status.{Status}
 use Rattle.press_queue.specs.declared.status.Status.TheVariants as statuses
-use Rattle.press_queue.specs.Entries.{entry_numbered, first_waiting, with_entry}
+use Rattle.press_queue.specs.Entries.{entry_numbered, with_entry}
 use Rattle.press_queue.specs.EveryQueue.{IsQueue}
 use Rattle.press_queue.specs.Laws.{EachRowKeepsTheQueue}
 use Rattle.press_queue.specs.Rows as rows
@@ -24,17 +23,21 @@ use Rattle.press_core.specs.declared.operator.OperatorCommand.{OperatorCommand}
 use Rattle.press_core.specs.declared.operator.OperatorCommand.TheVariants as operators
 use Rattle.press_core.specs.declared.turn.Turn.{Turn}
 use Rattle.press_core.specs.declared.turn.TurnError.{TurnError}
-use Rattle.press_core.specs.Events.{EventAnswer, Turned, aborted_running, operated}
-use Rattle.press_core.specs.History.{sheets_under, is_fault_of, is_number, steps_answered}
-use Rattle.press_core.specs.Turns.{EntrySteps, IsJobOf, StepsTo, TakesTurn, TurnAt, at_turn, at_turn_with, completed, is_idle, place_in_job, steps_from}
+use Rattle.press_core.specs.declared.turn.TurnError.TheVariants.{NoEngine}
+use Rattle.press_core.specs.Engines.{RunsOnEngines, count_on, is_number, left_by}
+use Rattle.press_core.specs.Events.{Event, TurnOn, EventAnswer, Turned, aborted_on, all_aborted, operated}
+use Rattle.press_core.specs.History.{sheets_under, is_fault_of, steps_answered}
+use Rattle.press_core.specs.Turns.{EntrySteps, IsJobOf, StepsTo, TakesTurn, TakesTurnOn, TurnAt, at_turn, at_turn_with, completed, is_idle, place_in_job, steps_from, with_turn}
 use Rattle.press_core.specs.Work.{Work, at_place, with_delivered, without_job}
-use Rattle.press_core.specs.World.{World, with_queue, with_work, works_without_job}
-use Rattle.press_core.proofs.ChangeLemmas.{ends-changes, idle, one-changes, set-entry, set-work}
-use Rattle.press_core.proofs.EntryLemmas.{first_is_numbered}
+use Rattle.press_core.specs.World.{World, has_engine, on_engine, with_work}
+use Rattle.press_core.proofs.ChangeLemmas.{finish-apart, finish-changes, idle, one-changes, set-entry, set-work}
+use Rattle.press_core.proofs.EngineLemmas.{RunsBut, absent-apart, first-runs, on_engines-left, on_engines-taken, one, others-run, own-once, runs-on_engine, set-same}
 use Rattle.press_core.proofs.HandedLemmas.{handed-other, handed-own}
-use Rattle.press_core.proofs.MessageChanges.{Becomes, becomes_same}
-use Rattle.press_core.proofs.Standings.{Change, Stays, Steps, Completes, Fails, FrontOf, IsIdle, IsOpen, IsProper, IsWhole, Listed, StepsOf, completed_entry, failed_entry, listed_is, listed_of, standing}
-use Rattle.press_core.proofs.TurnLemmas.{IsBegun, ended_is}
+use Rattle.press_core.proofs.MessageChanges.{Becomes}
+use Rattle.press_core.proofs.RunsLemmas.{begun-but, finish-but}
+use Rattle.press_core.proofs.SoundLemmas.{runs_as}
+use Rattle.press_core.proofs.Standings.{Change, Stays, Steps, Completes, Fails, FrontOf, IsIdle, IsOpen, IsProper, IsWhole, IsWholeWorld, Listed, StepsOf, completed_entry, failed_entry, listed_is, listed_of, proper-kept, standing}
+use Rattle.press_core.proofs.TurnLemmas.{IsBegun, Waited, begun_is, begun_still, ended_is}
 
 -- ---- the entry that runs, or begins
 
@@ -60,15 +63,8 @@ record Runs (queue : QueueState) (number : ℕ) : Type 0 where
   pub there : entry_numbered number queue.entries ≡ Some entry
   pub runs : entry.status ≡ statuses.Running
 
-runs-of : (queue : QueueState) (number : ℕ) → IsDistinct nat_eq (keys_of queue.entries) → rows.running queue ≡ Some number → Runs queue number
-runs-of queue number distinct is = at_first (find (λ e. is_running e.1.status) queue.entries) refl is
-  where
-    at_first : (o : Option (ℕ × Entry)) → find (λ e. is_running e.1.status) queue.entries ≡ o → option_map (λ e. e.0) o ≡ Some number → Runs queue number
-    at_first None found e = absurd (cc)
-    at_first (Some x) found e =
-        let numbered = first_is_numbered (λ y. is_running y.1.status) queue.entries x distinct found in
-        let same : x.0 ≡ number = same_Some x.0 number e in
-        record { entry = x.1; there = subst (λ n. entry_numbered n queue.entries ≡ Some x.1) same numbered.1; runs = runs_then x.1.status numbered.0 }
+runs-of : (queue : QueueState) (number : ℕ) → rows.entry_runs number queue ≡ true → Runs queue number
+runs-of queue number is = let it = runs_as number queue is in record { entry = it.entry; there = it.there; runs = runs_then it.entry.status it.runs }
 
 -- an entry takes a turn: it has not ended, and is the same but that it runs and has begun
 record TakesIt (queue new : QueueState) (number : ℕ) : Type 0 where
@@ -93,42 +89,25 @@ ran-before queue works number whole runs =
       is_open = ap has_ended runs.runs;
     }
 
--- the first that waits begins
-begun-waiting : (queue new : QueueState) (number : ℕ) → IsDistinct nat_eq (keys_of queue.entries) → rows.begin queue ≡ (new, Some number) → TakesIt queue new number
-begun-waiting queue new number distinct is = at_held queue.held is
-  where
-    at_first : (o : Option (ℕ × Entry)) → first_waiting queue.entries ≡ o → rows.begin_with o queue ≡ (new, Some number) → TakesIt queue new number
-    at_first None found e = absurd (true≢false (sym (ap (λ r. is_some r.1) e)))
-    at_first (Some x) found e =
-        let numbered = first_is_numbered (λ y. is_waiting y.1.status) queue.entries x distinct found in
-        let same : x.0 ≡ number = same_Some x.0 number (ap (λ r. r.1) e) in
-        record {
-          begins = record {
-            entry = x.1;
-            there = subst (λ n. entry_numbered n queue.entries ≡ Some x.1) same numbered.1;
-            is = sym (ap (λ r. r.0) e) ∙ ap (λ n. rows.with_entries (set_value (nat_eq n) queue.entries (rows.begun_entry x.1)) queue) same;
-          };
-          is_open = waits_open x.1.status numbered.0;
-        }
-
-    at_held : (held : Bool) → rows.begin_with (if held then None else first_waiting queue.entries) queue ≡ (new, Some number) → TakesIt queue new number
-    at_held true e = absurd (true≢false (sym (ap (λ r. is_some r.1) e)))
-    at_held false e = at_first (first_waiting queue.entries) refl e
+-- it waited, and begins
+begun-waiting : (queue new : QueueState) (number : ℕ) → Waited queue new number → TakesIt queue new number
+begun-waiting queue new number it = record { begins = it.begins; is_open = waits_open it.begins.entry.status it.waited }
 
 -- no entry begins
 begun-none : (queue new : QueueState) → rows.begin queue ≡ (new, None) → new ≡ queue
-begun-none queue new is = at_first (if queue.held then None else first_waiting queue.entries) is
+begun-none queue new is = at_next (if queue.held then None else rows.next_to_run queue.entries) is
   where
-    at_first : (o : Option (ℕ × Entry)) → rows.begin_with o queue ≡ (new, None) → new ≡ queue
-    at_first None e = sym (ap (λ r. r.0) e)
-    at_first (Some x) e = absurd (true≢false (ap (λ r. is_some r.1) e))
+    at_next : (o : Option (ℕ × Entry)) → rows.begin_with o queue ≡ (new, None) → new ≡ queue
+    at_next None e = sym (ap (λ r. r.0) e)
+    at_next (Some x) e = absurd (true≢false (ap (λ r. is_some r.1) e))
 
 -- ---- what a turn does to each number
 
--- The queue is still one, and this happens to each number.
-pub record TurnBecomes (old new : World) (handed : List Delivery) (answer : EventAnswer) : Type 0 where
+-- The queue is still one, its entries that run are on engines, and this happens to each number.
+pub record TurnBecomes (old new : World) (event : Event) (handed : List Delivery) (answer : EventAnswer) : Type 0 where
   pub queue : IsQueue new.queue
-  pub each : (n : ℕ) → Change None (standing n old.queue old.works) (standing n new.queue new.works) (sheets_under n handed) (steps_answered n answer) (is_fault_of n old answer)
+  pub on_engines : RunsOnEngines new.queue new.engines
+  pub each : (n : ℕ) → Change None (standing n old.queue old.works) (standing n new.queue new.works) (sheets_under n handed) (steps_answered n answer) (is_fault_of n old event answer)
 
 -- ---- the steps of the entry
 
@@ -139,26 +118,26 @@ record Stepped (old new : World) (number : ℕ) (was is : Entry) (work left : Wo
   pub queue_is : new.queue ≡ rows.with_entries (with_entry number is old.queue.entries) old.queue
   pub works_are : new.works ≡ set_value (nat_eq number) old.works left
 
-stepped-each : (old new : World) (number : ℕ) (was is : Entry) (work left : Work) (sheets : List Sides) (answer : EventAnswer) → IsWhole old.queue old.works → Stepped old new number was is work left
+stepped-each : (old new : World) (number : ℕ) (was is : Entry) (work left : Work) (sheets : List Sides) (event : Event) (answer : EventAnswer) → IsWhole old.queue old.works → Stepped old new number was is work left
     → ((n : ℕ) → nat_eq number n ≡ false → steps_answered n answer ≡ 0)
-    → Change None (Listed was work) (Listed is left) sheets (steps_answered number answer) (is_fault_of number old answer)
-    → (n : ℕ) → Change None (standing n old.queue old.works) (standing n new.queue new.works) (sheets_under n (under_tag number sheets)) (steps_answered n answer) (is_fault_of n old answer)
-stepped-each old new number was is work left sheets answer whole stepped none changes n =
+    → Change None (Listed was work) (Listed is left) sheets (steps_answered number answer) (is_fault_of number old event answer)
+    → (n : ℕ) → Change None (standing n old.queue old.works) (standing n new.queue new.works) (sheets_under n (under_tag number sheets)) (steps_answered n answer) (is_fault_of n old event answer)
+stepped-each old new number was is work left sheets event answer whole stepped none changes n =
     let listed = listed_of (nat_le number old.queue.last) (entry_numbered number old.queue.entries) (lookup (nat_eq number) old.works) was (whole.proper number) stepped.there in
     let of = listed_is (nat_le number old.queue.last) (entry_numbered number old.queue.entries) (lookup (nat_eq number) old.works) was listed.0 listed.1 in
     let same : listed.0 ≡ work = same_Some listed.0 work (sym of.work_is ∙ stepped.here) in
     let there : standing number old.queue old.works ≡ Listed was work = listed.1 ∙ ap (λ w. Listed was w) same in
-    let own : nat_eq number n ≡ true → Change None (Listed was work) (Listed is left) (sheets_under n (under_tag number sheets)) (steps_answered n answer) (is_fault_of n old answer) =
+    let own : nat_eq number n ≡ true → Change None (Listed was work) (Listed is left) (sheets_under n (under_tag number sheets)) (steps_answered n answer) (is_fault_of n old event answer) =
     λ e. let here : number ≡ n = eqb-true number n e in
-    subst (λ m. Change None (Listed was work) (Listed is left) (sheets_under m (under_tag number sheets)) (steps_answered m answer) (is_fault_of m old answer)) here
-    (subst (λ l. Change None (Listed was work) (Listed is left) l (steps_answered number answer) (is_fault_of number old answer)) (sym (handed-own number sheets)) changes) in
+    subst (λ m. Change None (Listed was work) (Listed is left) (sheets_under m (under_tag number sheets)) (steps_answered m answer) (is_fault_of m old event answer)) here
+    (subst (λ l. Change None (Listed was work) (Listed is left) l (steps_answered number answer) (is_fault_of number old event answer)) (sym (handed-own number sheets)) changes) in
     let others : nat_eq number n ≡ false → IsIdle (sheets_under n (under_tag number sheets)) (steps_answered n answer) =
     λ apart. record { no_sheets = handed-other number n sheets apart; no_steps = none n apart } in
-    subst (λ (q : QueueState). Change None (standing n old.queue old.works) (standing n q new.works) (sheets_under n (under_tag number sheets)) (steps_answered n answer) (is_fault_of n old answer)) (sym stepped.queue_is)
-    (subst (λ ws. Change None (standing n old.queue old.works) (standing n (rows.with_entries (with_entry number is old.queue.entries) old.queue) ws) (sheets_under n (under_tag number sheets)) (steps_answered n answer) (is_fault_of n old answer))
+    subst (λ (q : QueueState). Change None (standing n old.queue old.works) (standing n q new.works) (sheets_under n (under_tag number sheets)) (steps_answered n answer) (is_fault_of n old event answer)) (sym stepped.queue_is)
+    (subst (λ ws. Change None (standing n old.queue old.works) (standing n (rows.with_entries (with_entry number is old.queue.entries) old.queue) ws) (sheets_under n (under_tag number sheets)) (steps_answered n answer) (is_fault_of n old event answer))
     (sym stepped.works_are)
     (one-changes None old.queue (rows.with_entries (with_entry number is old.queue.entries) old.queue) old.works (set_value (nat_eq number) old.works left) number was is work left
-    (sheets_under n (under_tag number sheets)) (steps_answered n answer) (is_fault_of n old answer) there (set-entry old.queue number was is stepped.there) (set-work old.works number work left stepped.here) n own others))
+    (sheets_under n (under_tag number sheets)) (steps_answered n answer) (is_fault_of n old event answer) there (set-entry old.queue number was is stepped.there) (set-work old.works number work left stepped.here) n own others))
 
 -- the steps of an answer, for the numbers that it does not name
 steps-other : (turn : Turn) (number n : ℕ) → turn.entry ≡ Some number → nat_eq number n ≡ false → steps_answered n (Turned (Ok turn)) ≡ 0
@@ -199,123 +178,225 @@ ended old new next number end work left is begins here queue_is works_are same =
   works_are = works_are;
 }
 
-turn-ok : EachRowKeepsTheQueue → (old : World) (new : QueueState) (number most : ℕ) (turn : Turn) (handed : List Delivery) (next : World) → TakesIt old.queue new number → IsWhole old.queue old.works
-    → IsQueue new → turn.entry ≡ Some number → (es : EntrySteps (with_queue new old) number most (Ok turn.steps) handed next)
-    → (b : Bool) → (place_in_job es.work + turn.steps == length es.items) ≡ b → TurnBecomes old next handed (Turned (Ok turn))
-turn-ok law old new number most turn handed next takes whole queue names es true is =
+-- the world where this is the queue, and these are the engines
+abbrev taken : QueueState → List (Option ℕ) → World → World
+taken queue engines world = record world { queue = queue; engines = engines }
+
+-- an entry takes a turn on an engine, in a press that is whole
+record Taking (old : World) (new : QueueState) (engines : List (Option ℕ)) (number : ℕ) : Type 0 where
+  pub whole : IsWhole old.queue old.works
+  pub takes : TakesIt old.queue new number
+  pub queue_is : IsQueue new
+  pub on_engines : RunsOnEngines new engines
+
+-- it ended: it is on no engine
+off-engines : (number : ℕ) (end : End) (new : QueueState) (engines : List (Option ℕ)) → RunsOnEngines new engines → RunsOnEngines (rows.finish_entry number end new) (left_by number engines)
+off-engines number end new engines on = on_engines-left number new (rows.finish_entry number end new) engines (finish-but number end new) on
+
+turn-ok : EachRowKeepsTheQueue → (event : Event) (old : World) (new : QueueState) (engines : List (Option ℕ)) (number most : ℕ) (turn : Turn) (handed : List Delivery) (next : World)
+    → Taking old new engines number → turn.entry ≡ Some number → (es : EntrySteps (taken new engines old) number most (Ok turn.steps) handed next)
+    → (b : Bool) → (place_in_job es.work + turn.steps == length es.items) ≡ b → TurnBecomes old next event handed (Turned (Ok turn))
+turn-ok law event old new engines number most turn handed next taking names es true is =
     let work = es.work in
     let left = without_job (with_delivered es.sheets work) in
-    let after : next ≡ completed number (with_delivered es.sheets work) (with_queue new old) =
-    es.after ∙ ap (λ b. if b then completed number (with_delivered es.sheets work) (with_queue new old)
-    else with_work number (at_place (place_in_job work + turn.steps) (with_delivered es.sheets work)) (with_queue new old)) is in
-    let entry = takes.begins.entry in
+    let after : next ≡ completed number (with_delivered es.sheets work) (taken new engines old) =
+    es.after ∙ ap (λ b. if b then completed number (with_delivered es.sheets work) (taken new engines old)
+    else with_work number (at_place (place_in_job work + turn.steps) (with_delivered es.sheets work)) (taken new engines old)) is in
+    let entry = taking.takes.begins.entry in
     let went : Stepped old next number entry (completed_entry entry) work left =
-    ended old new next number Completed work left (completed_entry entry) takes.begins es.is_work (ap (λ (w : World). w.queue) after) (ap (λ (w : World). w.works) after) refl in
+    ended old new next number Completed work left (completed_entry entry) taking.takes.begins es.is_work (ap (λ (w : World). w.queue) after) (ap (λ (w : World). w.works) after) refl in
     let all : place_in_job work + turn.steps ≡ length es.items = grind (arith, rules, is) in
-    let change : Change None (Listed entry work) (Listed (completed_entry entry) left) es.sheets (steps_answered number (Turned (Ok turn))) false =
-    subst (λ k. Change None (Listed entry work) (Listed (completed_entry entry) left) es.sheets k false) (sym (steps-own turn number names))
-    (Completes entry work es.items takes.is_open (steps-of work es.items most turn.steps es.sheets es.is_job es.steps) all refl refl) in
+    let change : Change None (Listed entry work) (Listed (completed_entry entry) left) es.sheets (steps_answered number (Turned (Ok turn))) (is_fault_of number old event (Turned (Ok turn))) =
+    subst (λ k. Change None (Listed entry work) (Listed (completed_entry entry) left) es.sheets k (is_fault_of number old event (Turned (Ok turn)))) (sym (steps-own turn number names))
+    (Completes entry work es.items taking.takes.is_open (steps-of work es.items most turn.steps es.sheets es.is_job es.steps) all refl refl) in
     record {
-      queue = subst IsQueue (sym (ap (λ (w : World). w.queue) after)) (law.finish number Completed new queue);
-      each = λ n. subst (λ l. Change None (standing n old.queue old.works) (standing n next.queue next.works) (sheets_under n l) (steps_answered n (Turned (Ok turn))) false) (sym es.handed_are)
-          (stepped-each old next number entry (completed_entry entry) work left es.sheets (Turned (Ok turn)) whole went (λ n apart. steps-other turn number n names apart) change n);
+      queue = subst IsQueue (sym (ap (λ (w : World). w.queue) after)) (law.finish number Completed new taking.queue_is);
+      on_engines = subst (λ (w : World). RunsOnEngines w.queue w.engines) (sym after) (off-engines number Completed new engines taking.on_engines);
+      each = λ n. subst (λ l. Change None (standing n old.queue old.works) (standing n next.queue next.works) (sheets_under n l) (steps_answered n (Turned (Ok turn))) (is_fault_of n old event (Turned (Ok turn)))) (sym es.handed_are)
+          (stepped-each old next number entry (completed_entry entry) work left es.sheets event (Turned (Ok turn)) taking.whole went (λ n apart. steps-other turn number n names apart) change n);
     }
-turn-ok law old new number most turn handed next takes whole queue names es false is =
+turn-ok law event old new engines number most turn handed next taking names es false is =
     let work = es.work in
     let left = at_place (place_in_job work + turn.steps) (with_delivered es.sheets work) in
-    let after : next ≡ with_work number left (with_queue new old) =
-    es.after ∙ ap (λ b. if b then completed number (with_delivered es.sheets work) (with_queue new old)
-    else with_work number left (with_queue new old)) is in
-    let entry = takes.begins.entry in
+    let after : next ≡ with_work number left (taken new engines old) =
+    es.after ∙ ap (λ b. if b then completed number (with_delivered es.sheets work) (taken new engines old)
+    else with_work number left (taken new engines old)) is in
+    let entry = taking.takes.begins.entry in
     let went : Stepped old next number entry (rows.begun_entry entry) work left = record {
-      there = takes.begins.there;
+      there = taking.takes.begins.there;
       here = es.is_work;
-      queue_is = ap (λ (w : World). w.queue) after ∙ takes.begins.is;
+      queue_is = ap (λ (w : World). w.queue) after ∙ taking.takes.begins.is;
       works_are = ap (λ (w : World). w.works) after;
     } in
-    let change : Change None (Listed entry work) (Listed (rows.begun_entry entry) left) es.sheets (steps_answered number (Turned (Ok turn))) false =
-    subst (λ k. Change None (Listed entry work) (Listed (rows.begun_entry entry) left) es.sheets k false) (sym (steps-own turn number names))
-    (Steps entry work es.items takes.is_open (steps-of work es.items most turn.steps es.sheets es.is_job es.steps) refl refl) in
+    let change : Change None (Listed entry work) (Listed (rows.begun_entry entry) left) es.sheets (steps_answered number (Turned (Ok turn))) (is_fault_of number old event (Turned (Ok turn))) =
+    subst (λ k. Change None (Listed entry work) (Listed (rows.begun_entry entry) left) es.sheets k (is_fault_of number old event (Turned (Ok turn)))) (sym (steps-own turn number names))
+    (Steps entry work es.items taking.takes.is_open (steps-of work es.items most turn.steps es.sheets es.is_job es.steps) refl refl) in
     record {
-      queue = subst IsQueue (sym (ap (λ (w : World). w.queue) after)) queue;
-      each = λ n. subst (λ l. Change None (standing n old.queue old.works) (standing n next.queue next.works) (sheets_under n l) (steps_answered n (Turned (Ok turn))) false) (sym es.handed_are)
-          (stepped-each old next number entry (rows.begun_entry entry) work left es.sheets (Turned (Ok turn)) whole went (λ n apart. steps-other turn number n names apart) change n);
+      queue = subst IsQueue (sym (ap (λ (w : World). w.queue) after)) taking.queue_is;
+      on_engines = subst (λ (w : World). RunsOnEngines w.queue w.engines) (sym after) taking.on_engines;
+      each = λ n. subst (λ l. Change None (standing n old.queue old.works) (standing n next.queue next.works) (sheets_under n l) (steps_answered n (Turned (Ok turn))) (is_fault_of n old event (Turned (Ok turn)))) (sym es.handed_are)
+          (stepped-each old next number entry (rows.begun_entry entry) work left es.sheets event (Turned (Ok turn)) taking.whole went (λ n apart. steps-other turn number n names apart) change n);
     }
 
-turn-err : EachRowKeepsTheQueue → (old : World) (new : QueueState) (number most : ℕ) (error : TurnError) (handed : List Delivery) (next : World) → TakesIt old.queue new number → IsWhole old.queue old.works
-    → IsQueue new → (at_turn old.queue).1 ≡ Some number → EntrySteps (with_queue new old) number most (Err error) handed next → TurnBecomes old next handed (Turned (Err error))
-turn-err law old new number most error handed next takes whole queue named es =
+turn-err : EachRowKeepsTheQueue → (event : Event) (old : World) (new : QueueState) (engines : List (Option ℕ)) (number most : ℕ) (error : TurnError) (handed : List Delivery) (next : World)
+    → Taking old new engines number → is_fault_of number old event (Turned (Err error)) ≡ true → EntrySteps (taken new engines old) number most (Err error) handed next
+    → TurnBecomes old next event handed (Turned (Err error))
+turn-err law event old new engines number most error handed next taking fault es =
     let work = es.work in
     let left = without_job (with_delivered es.sheets work) in
-    let entry = takes.begins.entry in
+    let entry = taking.takes.begins.entry in
     let went : Stepped old next number entry (failed_entry entry) work left =
-    ended old new next number Aborted work left (failed_entry entry) takes.begins es.is_work (ap (λ (w : World). w.queue) es.after) (ap (λ (w : World). w.works) es.after) refl in
-    let own : nat_eq number number ≡ true = grind (arith, rules) in
-    let fault : is_fault_of number old (Turned (Err error)) ≡ true = ap (λ o. is_number number o) named ∙ own in
-    let change : Change None (Listed entry work) (Listed (failed_entry entry) left) es.sheets 0 (is_fault_of number old (Turned (Err error))) =
-    Fails entry work es.items takes.is_open (front-of work es.items most error es.sheets es.is_job es.steps) fault refl refl in
+    ended old new next number Aborted work left (failed_entry entry) taking.takes.begins es.is_work (ap (λ (w : World). w.queue) es.after) (ap (λ (w : World). w.works) es.after) refl in
+    let change : Change None (Listed entry work) (Listed (failed_entry entry) left) es.sheets 0 (is_fault_of number old event (Turned (Err error))) =
+    Fails entry work es.items taking.takes.is_open (front-of work es.items most error es.sheets es.is_job es.steps) fault refl refl in
     record {
-      queue = subst IsQueue (sym (ap (λ (w : World). w.queue) es.after)) (law.finish number Aborted new queue);
-      each = λ n. subst (λ l. Change None (standing n old.queue old.works) (standing n next.queue next.works) (sheets_under n l) 0 (is_fault_of n old (Turned (Err error)))) (sym es.handed_are)
-          (stepped-each old next number entry (failed_entry entry) work left es.sheets (Turned (Err error)) whole went (λ n apart. refl) change n);
+      queue = subst IsQueue (sym (ap (λ (w : World). w.queue) es.after)) (law.finish number Aborted new taking.queue_is);
+      on_engines = subst (λ (w : World). RunsOnEngines w.queue w.engines) (sym es.after) (off-engines number Aborted new engines taking.on_engines);
+      each = λ n. subst (λ l. Change None (standing n old.queue old.works) (standing n next.queue next.works) (sheets_under n l) 0 (is_fault_of n old event (Turned (Err error)))) (sym es.handed_are)
+          (stepped-each old next number entry (failed_entry entry) work left es.sheets event (Turned (Err error)) taking.whole went (λ n apart. refl) change n);
     }
 
-turn-some : EachRowKeepsTheQueue → (old : World) (new : QueueState) (number most : ℕ) (result : Result Turn TurnError) (handed : List Delivery) (next : World) → TakesIt old.queue new number
-    → IsWhole old.queue old.works → IsQueue new → (at_turn old.queue).1 ≡ Some number → TurnAt (with_queue new old) (Some number) most result handed next
-    → TurnBecomes old next handed (Turned result)
-turn-some law old new number most (Ok turn) handed next takes whole queue named (names, es) =
-    turn-ok law old new number most turn handed next takes whole queue names es (place_in_job es.work + turn.steps == length es.items) refl
-turn-some law old new number most (Err error) handed next takes whole queue named (names, es) = turn-err law old new number most error handed next takes whole queue named es
+turn-some : EachRowKeepsTheQueue → (old : World) (new : QueueState) (engines : List (Option ℕ)) (engine number most : ℕ) (result : Result Turn TurnError) (handed : List Delivery) (next : World)
+    → Taking old new engines number → (at_turn engine old).1 ≡ Some number → TurnAt (taken new engines old) (Some number) most result handed next
+    → TurnBecomes old next (TurnOn engine most) handed (Turned result)
+turn-some law old new engines engine number most (Ok turn) handed next taking named (names, es) =
+    turn-ok law (TurnOn engine most) old new engines number most turn handed next taking names es (place_in_job es.work + turn.steps == length es.items) refl
+turn-some law old new engines engine number most (Err error) handed next taking named (names, es) =
+    let own : nat_eq number number ≡ true = grind (arith, rules) in
+    let fault : is_fault_of number old (TurnOn engine most) (Turned (Err error)) ≡ true =
+    ap (λ b. b && is_number number (at_turn engine old).1) es.steps.2 ∙ ap (λ o. is_number number o) named ∙ own in
+    turn-err law (TurnOn engine most) old new engines number most error handed next taking fault es
 
-turn-none : (old : World) (new : QueueState) (most : ℕ) (result : Result Turn TurnError) (handed : List Delivery) (next : World) → IsWhole old.queue old.works → new ≡ old.queue
-    → TurnAt (with_queue new old) None most result handed next → TurnBecomes old next handed (Turned result)
-turn-none old new most result handed next whole same turn = record {
-  queue = subst (λ (w : World). IsQueue w.queue) (sym turn.2) (subst IsQueue (sym same) whole.queue_is);
-  each = λ n.
-      Stays (ap (λ (w : World). standing n w.queue w.works) turn.2 ∙ ap (λ q. standing n q old.works) same)
-      (record { no_sheets = ap (sheets_under n) turn.1; no_steps = ap (λ r. steps_answered n (Turned r)) turn.0 });
+-- nothing is done
+nothing-done : (old next : World) (event : Event) (answer : EventAnswer) (handed : List Delivery) → IsWholeWorld old → handed ≡ [] → next ≡ old → ((n : ℕ) → steps_answered n answer ≡ 0)
+    → TurnBecomes old next event handed answer
+nothing-done old next event answer handed whole none same steps = record {
+  queue = subst (λ (w : World). IsQueue w.queue) (sym same) whole.numbers.queue_is;
+  on_engines = subst (λ (w : World). RunsOnEngines w.queue w.engines) (sym same) whole.on_engines;
+  each = λ n. Stays (ap (λ (w : World). standing n w.queue w.works) same) (record { no_sheets = ap (sheets_under n) none; no_steps = steps n });
 }
 
--- A turn.
-pub turn-becomes : EachRowKeepsTheQueue → (old : World) (most : ℕ) (result : Result Turn TurnError) (handed : List Delivery) (next : World) → IsWhole old.queue old.works
-    → TakesTurn old most result handed next → TurnBecomes old next handed (Turned result)
-turn-becomes law old most result handed next whole turn = at_idle (is_idle most old) turn
+turn-none : (old : World) (new : QueueState) (engines : List (Option ℕ)) (engine most : ℕ) (result : Result Turn TurnError) (handed : List Delivery) (next : World) → IsWholeWorld old → new ≡ old.queue
+    → engines ≡ old.engines → TurnAt (taken new engines old) None most result handed next → TurnBecomes old next (TurnOn engine most) handed (Turned result)
+turn-none old new engines engine most result handed next whole same those turn =
+    nothing-done old next (TurnOn engine most) (Turned result) handed whole turn.1 (turn.2 ∙ ap (λ q. taken q engines old) same ∙ ap (λ es. taken old.queue es old) those)
+    (λ n. ap (λ r. steps_answered n (Turned r)) turn.0)
+
+-- A turn of an engine that there is.
+turn-taken : EachRowKeepsTheQueue → (old : World) (engine most : ℕ) (result : Result Turn TurnError) (handed : List Delivery) (next : World) → IsWholeWorld old → has_engine engine old ≡ true
+    → TakesTurn old engine most result handed next → TurnBecomes old next (TurnOn engine most) handed (Turned result)
+turn-taken law old engine most result handed next whole there turn = at_idle (is_idle most old) turn
   where
-    at_begin : rows.running old.queue ≡ None → (found : QueueState × Option ℕ) → rows.begin old.queue ≡ found → TurnAt (with_queue found.0 old) found.1 most result handed next
-        → TurnBecomes old next handed (Turned result)
-    at_begin none (new, None) is turn = turn-none old new most result handed next whole (begun-none old.queue new is) turn
-    at_begin none (new, Some number) is turn =
-        turn-some law old new number most result handed next (begun-waiting old.queue new number whole.queue_is.distinct is) whole
-        (subst IsQueue (ap (λ r. r.0) is) (law.begin old.queue none whole.queue_is)) (ap (λ o. (at_turn_with o old.queue).1) none ∙ ap (λ r. r.1) is) turn
+    Becoming : World → Option ℕ → Type 0
+    Becoming world entry = TurnAt world entry most result handed next
 
-    at_running : (o : Option ℕ) → rows.running old.queue ≡ o → TurnAt (with_queue (at_turn_with o old.queue).0 old) (at_turn_with o old.queue).1 most result handed next
-        → TurnBecomes old next handed (Turned result)
-    at_running None is turn = at_begin is (rows.begin old.queue) refl turn
-    at_running (Some number) is turn =
-        turn-some law old old.queue number most result handed next (ran-before old.queue old.works number whole (runs-of old.queue number whole.queue_is.distinct is)) whole
-        whole.queue_is (ap (λ o. (at_turn_with o old.queue).1) is) turn
+    at_begin : on_engine engine old ≡ None → (found : QueueState × Option ℕ) → rows.begin old.queue ≡ found
+        → Becoming (taken found.0 (slice_set old.engines engine found.1) old) found.1 → TurnBecomes old next (TurnOn engine most) handed (Turned result)
+    at_begin free (new, None) is turn =
+        turn-none old new (slice_set old.engines engine None) engine most result handed next whole (begun-none old.queue new is) (set-same old.engines engine None free) turn
+    at_begin free (new, Some number) is turn =
+        let it = begun_is old.queue new number whole.numbers.queue_is.distinct (sym is) in
+        let within : engine < length old.engines = grind (arith, rules, there) in
+        turn-some law old new (slice_set old.engines engine (Some number)) engine number most result handed next
+        (record {
+          whole = whole.numbers;
+          takes = begun-waiting old.queue new number it;
+          queue_is = subst IsQueue (ap (λ r. r.0) is) (law.begin old.queue whole.numbers.queue_is);
+          on_engines = on_engines-taken number engine old.queue new old.engines within free (begun_still old.queue new number it) (begun-but old.queue new number it.begins) whole.on_engines;
+        })
+        (ap (λ o. (at_turn_with o old.queue).1) free ∙ ap (λ r. r.1) is) turn
 
-    at_idle : (b : Bool)
-        → MatchBool b (TurnAt old None most result handed next) (TurnAt (with_queue (at_turn old.queue).0 old) (at_turn old.queue).1 most result handed next)
-        → TurnBecomes old next handed (Turned result)
-    at_idle true turn = turn-none old old.queue most result handed next whole refl turn
-    at_idle false turn = at_running (rows.running old.queue) refl turn
+    at_entry : (o : Option ℕ) → on_engine engine old ≡ o
+        → Becoming (taken (at_turn_with o old.queue).0 (slice_set old.engines engine (at_turn_with o old.queue).1) old) (at_turn_with o old.queue).1
+        → TurnBecomes old next (TurnOn engine most) handed (Turned result)
+    at_entry None is turn = at_begin is (rows.begin old.queue) refl turn
+    at_entry (Some number) is turn =
+        let runs = runs-of old.queue number (runs-on_engine number engine old.queue old.engines is whole.on_engines) in
+        turn-some law old old.queue (slice_set old.engines engine (Some number)) engine number most result handed next
+        (record {
+          whole = whole.numbers;
+          takes = ran-before old.queue old.works number whole.numbers runs;
+          queue_is = whole.numbers.queue_is;
+          on_engines = subst (λ es. RunsOnEngines old.queue es) (sym (set-same old.engines engine (Some number) is)) whole.on_engines;
+        })
+        (ap (λ o. (at_turn_with o old.queue).1) is) turn
+
+    at_idle : (b : Bool) → MatchBool b (Becoming old None) (Becoming (with_turn engine old) (at_turn engine old).1) → TurnBecomes old next (TurnOn engine most) handed (Turned result)
+    at_idle true turn = turn-none old old.queue old.engines engine most result handed next whole refl refl turn
+    at_idle false turn = at_entry (on_engine engine old) refl turn
+
+-- A turn.
+pub turn-becomes : EachRowKeepsTheQueue → (old : World) (engine most : ℕ) (result : Result Turn TurnError) (handed : List Delivery) (next : World) → IsWholeWorld old
+    → TakesTurnOn old engine most result handed next → TurnBecomes old next (TurnOn engine most) handed (Turned result)
+turn-becomes law old engine most result handed next whole turn = at_engine (has_engine engine old) refl turn
+  where
+    at_engine : (b : Bool) → has_engine engine old ≡ b → MatchBool b (TakesTurn old engine most result handed next) ((result ≡ Err NoEngine) × (handed ≡ []) × (next ≡ old))
+        → TurnBecomes old next (TurnOn engine most) handed (Turned result)
+    at_engine true there turn = turn-taken law old engine most result handed next whole there turn
+    at_engine false absent (is, none, same) =
+        nothing-done old next (TurnOn engine most) (Turned result) handed whole none same (λ n. ap (λ r. steps_answered n (Turned r)) is)
 
 -- ---- commands of an operator
 
-pub operator-becomes : EachRowKeepsTheQueue → (command : OperatorCommand) (world : World) → IsWhole world.queue world.works → Becomes None world (operated command world)
-operator-becomes law operators.Pause world whole = record { queue = whole.queue_is; each = λ n. Stays refl idle }
-operator-becomes law operators.Continue world whole = record { queue = whole.queue_is; each = λ n. Stays refl idle }
-operator-becomes law operators.AbortRunning world whole = at_running (rows.running world.queue) refl
-  where
-    at_running : (o : Option ℕ) → rows.running world.queue ≡ o → Becomes None world (aborted_running o world)
-    at_running None is = becomes_same None world whole
-    at_running (Some number) is =
-        let runs = runs-of world.queue number whole.queue_is.distinct is in
-        record {
-          queue = law.finish number Aborted world.queue whole.queue_is;
-          each = λ n.
-              subst (λ (q : QueueState). Change None (standing n world.queue world.works) (standing n q (works_without_job number world.works)) [] 0 false)
-              (sym (ap (λ o. rows.finish_entry_at o number Aborted world.queue) runs.there))
-              (ends-changes None world.queue world.works number runs.entry whole runs.there (ap has_ended runs.runs) n);
-        }
+-- an entry that runs is aborted
+record AbortsIt (world next : World) (number : ℕ) : Type 0 where
+  pub whole : IsWholeWorld next
+  pub changes : (n : ℕ) → Change None (standing n world.queue world.works) (standing n next.queue next.works) [] 0 false
+  pub others : (n : ℕ) → nat_eq number n ≡ false → standing n next.queue next.works ≡ standing n world.queue world.works
+  pub runs : RunsBut number false world.queue next.queue
+
+aborts-it : EachRowKeepsTheQueue → (world : World) (number : ℕ) → IsWholeWorld world → rows.entry_runs number world.queue ≡ true → AbortsIt world (aborted_on (Some number) world) number
+aborts-it law world number whole is =
+    let runs = runs-of world.queue number is in
+    let next = aborted_on (Some number) world in
+    let changes : (n : ℕ) → Change None (standing n world.queue world.works) (standing n next.queue next.works) [] 0 false =
+    finish-changes number world.queue world.works runs.entry whole.numbers runs.there (ap has_ended runs.runs) in
+    record {
+      whole = record {
+        numbers = record {
+          queue_is = law.finish number Aborted world.queue whole.numbers.queue_is;
+          proper = λ n. proper-kept None (standing n world.queue world.works) (standing n next.queue next.works) [] 0 false (changes n) (whole.numbers.proper n);
+        };
+        on_engines = off-engines number Aborted world.queue world.engines whole.on_engines;
+      };
+      changes = changes;
+      others = finish-apart number world.queue world.works runs.entry whole.numbers runs.there;
+      runs = finish-but number Aborted world.queue;
+    }
+
+-- what the abortion of those that run on these engines does: a number that is on none of them stands as before
+record AbortsAll (engines : List (Option ℕ)) (world next : World) : Type 0 where
+  pub whole : IsWholeWorld next
+  pub changes : (n : ℕ) → Change None (standing n world.queue world.works) (standing n next.queue next.works) [] 0 false
+  pub others : (n : ℕ) → count_on n engines ≡ 0 → standing n next.queue next.works ≡ standing n world.queue world.works
+
+-- the first is aborted, and then the others
+aborts-then : (number : ℕ) (engines : List (Option ℕ)) (world mid last : World) → AbortsIt world mid number → AbortsAll engines mid last
+    → ((n : ℕ) → count_on n (Some number ∷ engines) ≤ one (rows.entry_runs n world.queue)) → AbortsAll (Some number ∷ engines) world last
+aborts-then number engines world mid last it rest on = record {
+  whole = rest.whole;
+  changes = λ n. by n (nat_eq number n) refl;
+  others = λ n none. let apart = absent-apart number n engines none in rest.others n apart.1 ∙ it.others n apart.0;
+} where
+  by : (n : ℕ) (b : Bool) → nat_eq number n ≡ b → Change None (standing n world.queue world.works) (standing n last.queue last.works) [] 0 false
+  by n true same =
+      let none : count_on n engines ≡ 0 = own-once number n engines same (rows.entry_runs n world.queue) (on n) in
+      subst (λ s. Change None (standing n world.queue world.works) s [] 0 false) (sym (rest.others n none)) (it.changes n)
+  by n false apart = subst (λ s. Change None s (standing n last.queue last.works) [] 0 false) (it.others n apart) (rest.changes n)
+
+aborts-all : EachRowKeepsTheQueue → (engines : List (Option ℕ)) (world : World) → IsWholeWorld world → ((n : ℕ) → count_on n engines ≤ one (rows.entry_runs n world.queue))
+    → AbortsAll engines world (all_aborted engines world)
+aborts-all law [] world whole on = record { whole = whole; changes = λ n. Stays refl idle; others = λ n none. refl }
+aborts-all law (None ∷ engines) world whole on = let rest = aborts-all law engines world whole on in record { whole = rest.whole; changes = rest.changes; others = rest.others }
+aborts-all law (Some number ∷ engines) world whole on =
+    let mid = aborted_on (Some number) world in
+    let it = aborts-it law world number whole (first-runs number engines (rows.entry_runs number world.queue) (on number)) in
+    aborts-then number engines world mid (all_aborted engines mid) it
+    (aborts-all law engines mid it.whole (λ n. others-run number n engines (rows.entry_runs n world.queue) (rows.entry_runs n mid.queue) (it.runs n) (on n))) on
+
+pub operator-becomes : EachRowKeepsTheQueue → (command : OperatorCommand) (world : World) → IsWholeWorld world → Becomes None world (operated command world)
+operator-becomes law operators.Pause world whole = record { queue = whole.numbers.queue_is; on_engines = whole.on_engines; each = λ n. Stays refl idle }
+operator-becomes law operators.Continue world whole = record { queue = whole.numbers.queue_is; on_engines = whole.on_engines; each = λ n. Stays refl idle }
+operator-becomes law operators.AbortRunning world whole =
+    let all = aborts-all law world.engines world whole (λ n. omega (arith, whole.on_engines.each n)) in
+    record { queue = all.whole.numbers.queue_is; on_engines = all.whole.on_engines; each = all.changes }

@@ -1,5 +1,5 @@
--- Turns: the entry that begins, and what its steps leave of the press.
-use Rattle.std.proofs.Common.{◌≡◌, ℕ, ◌+◌, Bool, true, false, List, [], Option, Some, None, Result, Ok, Err, IsSome, IsTrue, OnErr, is_some, nat_eq, if◌then◌else◌, length, option_and_then, ◌==◌, refl, sym, ap, subst, ◌∙◌, arith, rules, true≢false}
+-- Turns: the entry that an engine takes, and what its steps leave of the press.
+use Rattle.std.proofs.Common.{◌≡◌, ℕ, ◌+◌, slice_set, Bool, true, false, List, [], Option, Some, None, Result, Ok, Err, IfErr, IsSome, IsTrue, MatchBool, OnErr, is_ok, is_some, nat_eq, nat_lt, if◌then◌else◌, length, option_and_then, ◌==◌, refl, sym, ap, subst, ◌∙◌, arith, rules, true≢false}
 use Rattle.std.specs.declared.alloc.AllocError.{AllocError}
 use Rattle.std.specs.List.{IsDistinct}
 use Rattle.std.specs.Map.{keys_of, lookup, set_value}
@@ -10,10 +10,13 @@ use Rattle.press_page.specs.Environment.{changed_by}
 use Rattle.press_queue.specs.declared.entry.Entry.{Entry}
 use Rattle.press_queue.specs.declared.status.End.{End}
 use Rattle.press_queue.specs.declared.status.End.TheVariants.{Completed, Aborted}
-use Rattle.press_queue.specs.Entries.{entry_numbered, with_entry, first_waiting}
+use Rattle.press_queue.specs.declared.status.Status.{Status}
+use Rattle.press_queue.specs.declared.status.Status.TheVariants as statuses
+use Rattle.press_queue.specs.Entries.{entry_numbered, with_entry}
 use Rattle.press_queue.specs.Rows as rows
 use Rattle.press_queue.specs.State.{QueueState}
 use Rattle.press_queue.specs.Status.{is_running, is_waiting, status_at_end}
+use Rattle.press_queue.proofs.FirstLemmas.{next_is_numbered}
 use Rattle.press_sink.specs.declared.sheet.Delivery.{Delivery}
 use Rattle.press_sink.specs.Sending.{under_tag}
 use Rattle.press_sink.specs.Sides.{Sides}
@@ -21,13 +24,15 @@ use Rattle.press_sink.specs.Told.{SheetsTold}
 use Rattle.press_sink.proofs.SendingLemmas.{told-nothing}
 use Rattle.press_core.specs.declared.turn.Turn.{Turn}
 use Rattle.press_core.specs.declared.turn.TurnError.{TurnError}
-use Rattle.press_core.specs.declared.turn.TurnError.TheVariants.{SinkFault, NoMemory}
+use Rattle.press_core.specs.declared.turn.TurnError.TheVariants.{NoEngine, SinkFault, NoMemory}
+use Rattle.press_core.specs.Engines.{are_engines, left_by}
 use Rattle.press_core.specs.Handing.{IsAfterSteps, TakesSteps}
 use Rattle.press_core.specs.Inside.{AreTogether, Begins, HasPlace, IsSound, begun_work, begun_works, with_begun}
-use Rattle.press_core.specs.Turns.{EntrySteps, FaultsAfter, IsJobOf, NamesEntry, StepsTo, TakesTurn, TurnAt, WereHandedOut, aborted, after_steps, completed, is_idle, place_in_job, sheets_from, steps_from, steps_of, at_turn, at_turn_with}
+use Rattle.press_core.specs.Turns.{EntrySteps, FaultsAfter, IsJobOf, NamesEntry, StepsTo, TakesTurn, TakesTurnOn, TurnAt, WereHandedOut, aborted, after_steps, completed, is_idle, is_fault, no_turn, place_in_job, sheets_from, steps_from, steps_of, at_turn, at_turn_with, with_turn}
 use Rattle.press_core.specs.Work.{Work, at_place, with_delivered, without_job}
-use Rattle.press_core.specs.World.{World, works_without_job, with_queue, with_work, work_numbered}
-use Rattle.press_core.proofs.EntryLemmas.{first_is_numbered, set_twice, there_set}
+use Rattle.press_core.specs.World.{World, has_engine, off_engine, on_engine, works_without_job, with_queue, with_work, work_numbered}
+use Rattle.press_core.proofs.EngineLemmas.{set-same}
+use Rattle.press_core.proofs.EntryLemmas.{set_twice, there_set}
 use Rattle.press_core.proofs.JobLemmas.{IsJobOf-some}
 use Rattle.press_core.proofs.SoundLemmas.{over_at_end, runs_as, some_not, still_at_end}
 use Rattle.press_core.proofs.WorkLemmas.{ended_entry, has_work, running_place, set_both, set_work}
@@ -58,23 +63,44 @@ pub record IsBegun (queue new : QueueState) (number : ℕ) : Type 0 where
   pub there : entry_numbered number queue.entries ≡ Some entry
   pub is : new ≡ rows.with_entries (with_entry number (rows.begun_entry entry) queue.entries) queue
 
-pub begun_is : (queue new : QueueState) (number : ℕ) → IsDistinct nat_eq (keys_of queue.entries) → (new, Some number) ≡ rows.begin queue → IsBegun queue new number
+-- it waited before
+pub record Waited (queue new : QueueState) (number : ℕ) : Type 0 where
+  pub begins : IsBegun queue new number
+  pub waited : is_waiting begins.entry.status ≡ true
+
+pub begun_is : (queue new : QueueState) (number : ℕ) → IsDistinct nat_eq (keys_of queue.entries) → (new, Some number) ≡ rows.begin queue → Waited queue new number
 begun_is queue new number distinct is = at_held queue.held is
   where
-    at_first : (o : Option (ℕ × Entry)) → first_waiting queue.entries ≡ o → (new, Some number) ≡ rows.begin_with o queue → IsBegun queue new number
-    at_first None found e = absurd (true≢false (ap (λ r. is_some r.1) e))
-    at_first (Some x) found e =
+    at_next : (o : Option (ℕ × Entry)) → rows.next_to_run queue.entries ≡ o → (new, Some number) ≡ rows.begin_with o queue → Waited queue new number
+    at_next None found e = absurd (true≢false (ap (λ r. is_some r.1) e))
+    at_next (Some x) found e =
         let same : number ≡ x.0 = grind (arith, rules, e) in
-        let numbered = first_is_numbered (λ y. is_waiting y.1.status) queue.entries x distinct found in
+        let numbered = next_is_numbered queue.entries x distinct found in
         record {
-          entry = x.1;
-          there = ap (λ n. entry_numbered n queue.entries) same ∙ numbered.1;
-          is = ap (λ r. r.0) e ∙ ap (λ n. rows.with_entries (with_entry n (rows.begun_entry x.1) queue.entries) queue) (sym same);
+          begins = record {
+            entry = x.1;
+            there = ap (λ n. entry_numbered n queue.entries) same ∙ numbered.1;
+            is = ap (λ r. r.0) e ∙ ap (λ n. rows.with_entries (with_entry n (rows.begun_entry x.1) queue.entries) queue) (sym same);
+          };
+          waited = numbered.0;
         }
 
-    at_held : (held : Bool) → (new, Some number) ≡ rows.begin_with (if held then None else first_waiting queue.entries) queue → IsBegun queue new number
+    at_held : (held : Bool) → (new, Some number) ≡ rows.begin_with (if held then None else rows.next_to_run queue.entries) queue → Waited queue new number
     at_held true e = absurd (true≢false (ap (λ r. is_some r.1) e))
-    at_held false e = at_first (first_waiting queue.entries) refl e
+    at_held false e = at_next (rows.next_to_run queue.entries) refl e
+
+-- so it did not run
+waits_still : (status : Status) → is_waiting status ≡ true → is_running status ≡ false
+waits_still statuses.Waiting is = refl
+waits_still statuses.Running is = absurd (true≢false (sym is))
+waits_still statuses.Held is = refl
+waits_still statuses.Suspended is = refl
+waits_still statuses.Completed is = refl
+waits_still statuses.Aborted is = refl
+
+pub begun_still : (queue new : QueueState) (number : ℕ) → Waited queue new number → rows.entry_runs number queue ≡ false
+begun_still queue new number waited =
+    ap (λ o. option_map_or (λ entry. is_running entry.status) o false) waited.begins.there ∙ waits_still waited.begins.entry.status waited.waited
 
 -- it runs then
 pub begun_runs : (queue new : QueueState) (number : ℕ) → IsBegun queue new number → IsTrue (rows.entry_runs number new)
@@ -117,17 +143,32 @@ begun_already number works has = at_work (lookup (nat_eq number) works) refl
         let same = begun_place work work.place refl placed in
         rw is (ap (λ w. set_value (nat_eq number) works w) same ∙ set_value_same (nat_eq number) works work is)
 
-pub begins_running : (world : World) (number : ℕ) → rows.running world.queue ≡ Some number → IsTrue (rows.entry_runs number world.queue) → IsSound world.queue world.works
-    → Begins world (Ok (Some number)) world
-begins_running world number is runs sound =
-    let same : at_turn world.queue ≡ (world.queue, Some number) = ap (λ o. at_turn_with o world.queue) is in (
+abbrev pub the_world : QueueState → Bool → List (ℕ × Work) → List (Option ℕ) → World
+the_world queue paused works engines = record { queue = queue; paused = paused; works = works; engines = engines }
+
+pub begins_running : (world : World) (engine number : ℕ) → on_engine engine world ≡ Some number → IsTrue (rows.entry_runs number world.queue) → IsSound world.queue world.works
+    → Begins engine world (Ok (Some number)) world
+begins_running world engine number is runs sound =
+    let same : at_turn engine world ≡ (world.queue, Some number) = ap (λ o. at_turn_with o world.queue) is in (
       ap (λ r. r.1) same,
-      sym (ap (λ (q : QueueState). with_queue q (with_begun number world)) (ap (λ r. r.0) same)
-          ∙ ap (λ works. record world { works = works }) (begun_already number world.works (runs_placed number world.queue world.works runs sound))),
+      sym (ap (λ r. the_world r.0 world.paused (begun_works number world.works) (slice_set world.engines engine r.1)) same
+          ∙ ap (λ works. the_world world.queue world.paused works (slice_set world.engines engine (Some number)))
+          (begun_already number world.works (runs_placed number world.queue world.works runs sound))
+          ∙ ap (λ engines. the_world world.queue world.paused world.works engines) (set-same world.engines engine (Some number) is)),
     )
 
-begins_at : (world : World) (new : QueueState) (number : ℕ) → rows.running world.queue ≡ None → (new, Some number) ≡ rows.begin world.queue → at_turn world.queue ≡ (new, Some number)
-begins_at world new number none is = ap (λ o. at_turn_with o world.queue) none ∙ sym is
+begins_at : (world : World) (engine : ℕ) (new : QueueState) (o : Option ℕ) → on_engine engine world ≡ None → (new, o) ≡ rows.begin world.queue → at_turn engine world ≡ (new, o)
+begins_at world engine new o none is = ap (λ e. at_turn_with e world.queue) none ∙ sym is
+
+-- no entry comes next
+pub begins_none : (world : World) (engine : ℕ) (new : QueueState) → on_engine engine world ≡ None → (new, None) ≡ rows.begin world.queue
+    → Begins engine world (Ok None) (the_world new world.paused world.works world.engines)
+begins_none world engine new none is =
+    let same = begins_at world engine new None none is in (
+      ap (λ r. r.1) same,
+      sym (ap (λ r. the_world r.0 world.paused world.works (slice_set world.engines engine r.1)) same
+          ∙ ap (λ engines. the_world new world.paused world.works engines) (set-same world.engines engine None none)),
+    )
 
 -- ---- an entry that ends as it begins
 
@@ -147,25 +188,29 @@ IsSound-given_up queue new works number end begins sound =
     subst (λ q. IsSound q (works_without_job number works)) (sym (ended_is queue new number end begins))
     (ended_entry number begins.entry ended queue works begins.there (over_at_end end) (still_at_end end) sound)
 
-pub begins_given_up : (world : World) (number : ℕ) (new after : QueueState) (works : List (ℕ × Work)) (error : AllocError) → rows.running world.queue ≡ None
+pub begins_given_up : (world : World) (engine number : ℕ) (new after : QueueState) (works : List (ℕ × Work)) (engines : List (Option ℕ)) (error : AllocError) → on_engine engine world ≡ None
     → IsDistinct nat_eq (keys_of world.queue.entries) → IsSound world.queue world.works → (new, Some number) ≡ rows.begin world.queue
-    → after ≡ rows.finish_entry number Aborted new → works ≡ works_without_job number world.works → Begins world (Err error) (record { queue = after; paused = world.paused; works = works })
-begins_given_up world number new after works error none distinct sound is ends lands = at_work (lookup (nat_eq number) world.works) refl
+    → after ≡ rows.finish_entry number Aborted new → works ≡ works_without_job number world.works → engines ≡ left_by number (slice_set world.engines engine (Some number))
+    → Begins engine world (Err error) (the_world after world.paused works engines)
+begins_given_up world engine number new after works engines error none distinct sound is ends lands leaves = at_work (lookup (nat_eq number) world.works) refl
   where
     begins : IsBegun world.queue new number
-    begins = begun_is world.queue new number distinct is
+    begins = (begun_is world.queue new number distinct is).begins
 
-    at_work : (o : Option Work) → lookup (nat_eq number) world.works ≡ o → Begins world (Err error) (record { queue = after; paused = world.paused; works = works })
+    at_work : (o : Option Work) → lookup (nat_eq number) world.works ≡ o → Begins engine world (Err error) (the_world after world.paused works engines)
     at_work None there = let has = has_work world.queue world.works number begins.entry begins.there sound in absurd (some_not (sym there ∙ has.is))
     at_work (Some work) there =
-        let same = begins_at world new number none is in
+        let same = begins_at world engine new (Some number) none is in
         let works_are = lands ∙ ap (λ o. changed_by o (λ w all. set_value (nat_eq number) all (without_job w)) world.works) there in (
           number,
           work,
           ap (λ r. r.1) same,
           there,
-          ap (λ q. record { queue = q; paused = world.paused; works = works }) (ends ∙ sym (ap (λ r. rows.finish_entry number Aborted r.0) same))
-              ∙ ap (λ ws. record { queue = rows.finish_entry number Aborted (at_turn world.queue).0; paused = world.paused; works = ws }) works_are,
+          ap (λ q. the_world q world.paused works engines) ends
+              ∙ ap (λ ws. the_world (rows.finish_entry number Aborted new) world.paused ws engines) works_are
+              ∙ ap (λ es. the_world (rows.finish_entry number Aborted new) world.paused (set_value (nat_eq number) world.works (without_job work)) es) leaves
+              ∙ sym (ap (λ r. the_world (rows.finish_entry number Aborted r.0) world.paused (set_value (nat_eq number) world.works (without_job work))
+              (left_by number (slice_set world.engines engine r.1))) same),
         )
 
 -- a work that is given up after another stood for it
@@ -193,7 +238,7 @@ leaves_over world number steps old new sheets items left over =
 pub leaves_fault : (world : World) (number : ℕ) (error : TurnError) (old new : Work) (sheets : List Sides) (items : List Run) → without_job new ≡ without_job (with_delivered sheets old)
     → aborted number new world ≡ after_steps number old items (Err error) sheets world
 leaves_fault world number error old new sheets items left =
-    ap (λ (w : Work). record world { queue = rows.finish_entry number Aborted world.queue; works = set_value (nat_eq number) world.works w }) left
+    ap (λ (w : Work). record world { queue = rows.finish_entry number Aborted world.queue; works = set_value (nat_eq number) world.works w; engines = left_by number world.engines }) left
 
 pub after_ok : (old new : Work) (result : Result ℕ TurnError) (steps : ℕ) (sheets : List Sides) → result ≡ Ok steps → IsAfterSteps old result sheets new
     → new ≡ at_place (place_in_job old + steps) (with_delivered sheets old)
@@ -203,16 +248,14 @@ pub after_err : (old new : Work) (result : Result ℕ TurnError) (error : TurnEr
     → without_job new ≡ without_job (with_delivered sheets old)
 after_err old new result error sheets is left = subst (λ r. IsAfterSteps old r sheets new) is left
 
-abbrev pub the_world : QueueState → Bool → List (ℕ × Work) → World
-the_world queue paused works = record { queue = queue; paused = paused; works = works }
-
--- the world after an entry that ran ended, by what its queue and its works are
-pub ended_world : (world : World) (number : ℕ) (end : End) (old new : Work) (queue : QueueState) (works : List (ℕ × Work)) → work_numbered number world ≡ Some old
-    → queue ≡ rows.finish_entry number end world.queue → works ≡ works_without_job number (set_value (nat_eq number) world.works new)
-    → record { queue = queue; paused = world.paused; works = works } ≡ with_queue (rows.finish_entry number end world.queue) (with_work number (without_job new) world)
-ended_world world number end old new queue works there ends lands =
-    ap (λ q. record { queue = q; paused = world.paused; works = works }) ends
-    ∙ ap (λ ws. record { queue = rows.finish_entry number end world.queue; paused = world.paused; works = ws }) (lands ∙ without_job_set number world.works old new there)
+-- the world after an entry that ran ended, by what its queue, its works and its engines are
+pub ended_world : (world : World) (number : ℕ) (end : End) (old new : Work) (queue : QueueState) (works : List (ℕ × Work)) (engines : List (Option ℕ)) → work_numbered number world ≡ Some old
+    → queue ≡ rows.finish_entry number end world.queue → works ≡ works_without_job number (set_value (nat_eq number) world.works new) → engines ≡ left_by number world.engines
+    → the_world queue world.paused works engines ≡ off_engine number (with_queue (rows.finish_entry number end world.queue) (with_work number (without_job new) world))
+ended_world world number end old new queue works engines there ends lands leaves =
+    ap (λ q. the_world q world.paused works engines) ends
+    ∙ ap (λ ws. the_world (rows.finish_entry number end world.queue) world.paused ws engines) (lands ∙ without_job_set number world.works old new there)
+    ∙ ap (λ es. the_world (rows.finish_entry number end world.queue) world.paused (set_value (nat_eq number) world.works (without_job new)) es) leaves
 
 -- the steps of an entry, from those of its work
 pub entry_steps : (world : World) (number most : ℕ) (old new : Work) (result : Result ℕ TurnError) (before after : SheetsTold) (next : World) → work_numbered number world ≡ Some old
@@ -249,10 +292,10 @@ after_begun : (world : World) (number : ℕ) (work : Work) (items : List Run) (r
     → after_steps number (begun_work work) items result sheets (with_begun number world) ≡ after_steps number work items result sheets world
 after_begun world number work items (Ok steps) sheets is =
     ifs (place_in_job work + steps == length items) _ _ _ _
-    (ap (λ works. record world { queue = rows.finish_entry number Completed world.queue; works = works }) (begun_again number world.works work (without_job (with_delivered sheets work)) is))
+    (ap (λ works. record world { queue = rows.finish_entry number Completed world.queue; works = works; engines = left_by number world.engines }) (begun_again number world.works work (without_job (with_delivered sheets work)) is))
     (ap (λ works. record world { works = works }) (begun_again number world.works work (at_place (place_in_job work + steps) (with_delivered sheets work)) is))
 after_begun world number work items (Err error) sheets is =
-    ap (λ works. record world { queue = rows.finish_entry number Aborted world.queue; works = works }) (begun_again number world.works work (without_job (with_delivered sheets work)) is)
+    ap (λ works. record world { queue = rows.finish_entry number Aborted world.queue; works = works; engines = left_by number world.engines }) (begun_again number world.works work (without_job (with_delivered sheets work)) is)
 
 steps_begun : (work : Work) (items : List Run) (most : ℕ) (result : Result ℕ TurnError) (sheets : List Sides) → StepsTo (begun_work work) items most result sheets
     → StepsTo work items most result sheets
@@ -290,16 +333,17 @@ steps_of_begun world next number most result handed steps = at_work (work_number
 -- ---- a turn
 
 -- a turn that does something
-pub turn_of : (world next : World) (most : ℕ) (result : Result Turn TurnError) (handed : List Delivery) → is_idle most world ≡ false
-    → TurnAt (with_queue (at_turn world.queue).0 world) (at_turn world.queue).1 most result handed next → TakesTurn world most result handed next
-turn_of world next most result handed works turn = rw works turn
+turn_of : (world next : World) (engine most : ℕ) (result : Result Turn TurnError) (handed : List Delivery) → is_idle most world ≡ false
+    → TurnAt (with_turn engine world) (at_turn engine world).1 most result handed next → TakesTurn world engine most result handed next
+turn_of world next engine most result handed works turn = rw works turn
 
 -- memory ran out as the entry began
-pub turn_stopped : (world next : World) (most : ℕ) (error : AllocError) → is_idle most world ≡ false → Begins world (Err error) next → TakesTurn world most (Err NoMemory) [] next
-turn_stopped world next most error works (number, work, is, there, after) =
+pub turn_stopped : (world next : World) (engine most : ℕ) (error : AllocError) → is_idle most world ≡ false → Begins engine world (Err error) next
+    → TakesTurn world engine most (Err NoMemory) [] next
+turn_stopped world next engine most error works (number, work, is, there, after) =
     let some = IsJobOf-some work in
-    turn_of world next most (Err NoMemory) [] works
-    (subst (λ o. TurnAt (with_queue (at_turn world.queue).0 world) o most (Err NoMemory) [] next) (sym is) (
+    turn_of world next engine most (Err NoMemory) [] works
+    (subst (λ o. TurnAt (with_turn engine world) o most (Err NoMemory) [] next) (sym is) (
       tt,
       record {
         work = work;
@@ -307,30 +351,57 @@ turn_stopped world next most error works (number, work, is, there, after) =
         items = some.0;
         is_job = some.1;
         sheets = [];
-        steps = (sheets_from (place_in_job work) (steps_from (place_in_job work) most some.0) some.0, refl);
+        steps = (sheets_from (place_in_job work) (steps_from (place_in_job work) most some.0) some.0, refl, refl);
         handed_are = refl;
         after = after;
       },
     ))
 
 -- an entry that began, or ran before, took steps
-pub turn_taken : (world begun next : World) (number most : ℕ) (result : Result Turn TurnError) (handed : List Delivery) → is_idle most world ≡ false → Begins world (Ok (Some number)) begun
-    → NamesEntry result number → EntrySteps begun number most (steps_of result) handed next → TakesTurn world most result handed next
-turn_taken world begun next number most result handed works begins names steps =
-    turn_of world next most result handed works
-    (subst (λ o. TurnAt (with_queue (at_turn world.queue).0 world) o most result handed next) (sym begins.0) (
+pub turn_taken : (world begun next : World) (engine number most : ℕ) (result : Result Turn TurnError) (handed : List Delivery) → is_idle most world ≡ false
+    → Begins engine world (Ok (Some number)) begun → NamesEntry result number → EntrySteps begun number most (steps_of result) handed next
+    → TakesTurn world engine most result handed next
+turn_taken world begun next engine number most result handed works begins names steps =
+    turn_of world next engine most result handed works
+    (subst (λ o. TurnAt (with_turn engine world) o most result handed next) (sym begins.0) (
       names,
-      steps_of_begun (with_queue (at_turn world.queue).0 world) next number most (steps_of result) handed
+      steps_of_begun (with_turn engine world) next number most (steps_of result) handed
           (subst (λ (w : World). EntrySteps w number most (steps_of result) handed next) begins.1 steps),
     ))
+
+-- an error of a turn of an engine that there is, is a fault
+pub turn_fault : (world next : World) (engine most : ℕ) (result : Result Turn TurnError) (handed : List Delivery) → TakesTurn world engine most result handed next
+    → IfErr result (λ error. IsTrue (is_fault error))
+turn_fault world next engine most (Ok turn) handed takes = tt
+turn_fault world next engine most (Err error) handed takes = at_idle (is_idle most world) takes
+  where
+    at_entry : (w : World) (o : Option ℕ) → TurnAt w o most (Err error) handed next → IsTrue (is_fault error)
+    at_entry w None turn = absurd (true≢false (sym (ap is_ok turn.0)))
+    at_entry w (Some number) turn = turn.1.steps.2
+
+    at_idle : (b : Bool) → MatchBool b (TurnAt world None most (Err error) handed next) (TurnAt (with_turn engine world) (at_turn engine world).1 most (Err error) handed next)
+        → IsTrue (is_fault error)
+    at_idle true turn = at_entry world None turn
+    at_idle false turn = at_entry (with_turn engine world) (at_turn engine world).1 turn
+
+-- there is a first engine
+pub first_engine : (count : ℕ) → are_engines count ≡ true → nat_lt 0 count ≡ true
+first_engine count are = grind (arith, rules, are)
+
+pub turn_on_fault : (world next : World) (engine most : ℕ) (result : Result Turn TurnError) (handed : List Delivery) → has_engine engine world ≡ true
+    → TakesTurnOn world engine most result handed next → IfErr result (λ error. IsTrue (is_fault error))
+turn_on_fault world next engine most result handed there turn =
+    turn_fault world next engine most result handed
+    (subst (λ b. MatchBool b (TakesTurn world engine most result handed next) ((result ≡ Err NoEngine) × (handed ≡ []) × (next ≡ world))) there turn)
 
 pub nothing_handed : {A : Type 0} (result : Result A TurnError) (told : SheetsTold) → FaultsAfter result told.faults told.faults → WereHandedOut [] result told told
 nothing_handed result told faults = record { told = told-nothing told.delivered; faults = faults }
 
-pub begins_some : (world begun : World) (entry : Option ℕ) (number : ℕ) → entry ≡ Some number → Begins world (Ok entry) begun → Begins world (Ok (Some number)) begun
-begins_some world begun entry number is begins = subst (λ o. Begins world (Ok o) begun) is begins
+pub begins_some : (world begun : World) (engine : ℕ) (entry : Option ℕ) (number : ℕ) → entry ≡ Some number → Begins engine world (Ok entry) begun → Begins engine world (Ok (Some number)) begun
+begins_some world begun engine entry number is begins = subst (λ o. Begins engine world (Ok o) begun) is begins
 
 pub fault_of_turn : (A B : Type 0) (error : TurnError) (before after : ℕ) → FaultsAfter {A = A} (Err error) before after → FaultsAfter {A = B} (Err error) before after
+fault_of_turn A B NoEngine before after faults = faults
 fault_of_turn A B SinkFault before after faults = faults
 fault_of_turn A B NoMemory before after faults = faults
 

@@ -1,5 +1,6 @@
--- What a history tells of its numbers, computed: entry 1 takes two turns, is completed and removed; entry 2 meets a fault in its turn.
-use Rattle.std.proofs.Common.{◌≡◌, ℕ, List, [], ◌∷◌, Some, None, Ok, Err, true, false, refl}
+-- What a history of a press of two engines tells of its numbers, computed: entry 1 takes two turns of engine 1, is completed and
+-- removed; entry 2 meets a fault in its turn.
+use Rattle.std.proofs.Common.{◌≡◌, ℕ, List, [], ◌∷◌, Option, Some, None, Ok, Err, true, false, refl}
 use Rattle.press_bits.specs.Page.{blank}
 use Rattle.press_queue.specs.declared.entry.Entry.{Entry}
 use Rattle.press_queue.specs.declared.status.Status.TheVariants.{Running, Completed, Aborted}
@@ -7,11 +8,11 @@ use Rattle.press_queue.specs.State.{QueueState}
 use Rattle.press_queue.specs.Status.{new_entry}
 use Rattle.press_sink.specs.Sides.{Sides}
 use Rattle.press_core.specs.declared.operator.OperatorCommand.TheVariants.{AbortRunning, Continue, Pause}
-use Rattle.press_core.specs.declared.turn.TurnError.TheVariants.{SinkFault}
-use Rattle.press_core.specs.Events.{Event, EventAnswer, Happening, IsRun, Message, Nothing, Operator, Response, TurnOf, Turned}
+use Rattle.press_core.specs.declared.turn.TurnError.TheVariants.{NoEngine, SinkFault}
+use Rattle.press_core.specs.Events.{Event, EventAnswer, Happening, IsRun, Message, Nothing, Operator, Response, TurnOn, Turned}
 use Rattle.press_core.specs.History.{entering, handed_under, last_seen, met_fault, steps_in}
 use Rattle.press_core.specs.Work.{Work}
-use Rattle.press_core.specs.World.{World, empty_world, with_pause}
+use Rattle.press_core.specs.World.{World, new_world, with_pause}
 
 abbrev sheet_of : (width : ℕ) → Sides
 sheet_of width = record { front = blank width 1; back = None }
@@ -19,8 +20,9 @@ sheet_of width = record { front = blank width 1; back = None }
 abbrev queue_with : List (ℕ × Entry) → QueueState
 queue_with entries = record { entries = entries; held = false; closed = false; last = 2 }
 
-abbrev world_with : List (ℕ × Entry) → List (ℕ × Work) → World
-world_with entries works = record { queue = queue_with entries; paused = false; works = works }
+-- engine 1 runs this entry, or none
+abbrev world_with : List (ℕ × Entry) → List (ℕ × Work) → (running : Option ℕ) → World
+world_with entries works running = record { queue = queue_with entries; paused = false; works = works; engines = None ∷ running ∷ [] }
 
 abbrev running_entry : Entry
 running_entry = record { priority = 50; status = Running; begun = true }
@@ -34,33 +36,33 @@ aborted_entry = record running_entry { status = Aborted }
 -- two entries come; 1 takes three steps, and then its last two; it is removed; the turn of 2 has a fault
 abbrev both_come : (one two : Work) → Happening
 both_come one two =
-    record { event = Message [] []; answer = Response (Some []); handed = []; next = world_with ((1, new_entry 50) ∷ (2, new_entry 50) ∷ []) ((1, one) ∷ (2, two) ∷ []) }
+    record { event = Message [] []; answer = Response (Some []); handed = []; next = world_with ((1, new_entry 50) ∷ (2, new_entry 50) ∷ []) ((1, one) ∷ (2, two) ∷ []) None }
 
 abbrev first_turn : (one two : Work) → Happening
 first_turn one two = record {
-  event = TurnOf 3;
+  event = TurnOn 1 3;
   answer = Turned (Ok (record { entry = Some 1; steps = 3 }));
   handed = record { tag = 1; sheet = sheet_of 1 } ∷ [];
-  next = world_with ((1, running_entry) ∷ (2, new_entry 50) ∷ []) ((1, one) ∷ (2, two) ∷ []);
+  next = world_with ((1, running_entry) ∷ (2, new_entry 50) ∷ []) ((1, one) ∷ (2, two) ∷ []) (Some 1);
 }
 
 abbrev last_turn : (one two : Work) → Happening
 last_turn one two = record {
-  event = TurnOf 3;
+  event = TurnOn 1 3;
   answer = Turned (Ok (record { entry = Some 1; steps = 2 }));
   handed = record { tag = 1; sheet = sheet_of 2 } ∷ [];
-  next = world_with ((1, completed_entry) ∷ (2, new_entry 50) ∷ []) ((1, one) ∷ (2, two) ∷ []);
+  next = world_with ((1, completed_entry) ∷ (2, new_entry 50) ∷ []) ((1, one) ∷ (2, two) ∷ []) None;
 }
 
 abbrev removal : (two : Work) → Happening
-removal two = record { event = Message [] []; answer = Response (Some []); handed = []; next = world_with ((2, new_entry 50) ∷ []) ((2, two) ∷ []) }
+removal two = record { event = Message [] []; answer = Response (Some []); handed = []; next = world_with ((2, new_entry 50) ∷ []) ((2, two) ∷ []) None }
 
 abbrev failed_turn : (two : Work) → Happening
 failed_turn two = record {
-  event = TurnOf 3;
+  event = TurnOn 1 3;
   answer = Turned (Err SinkFault);
   handed = record { tag = 2; sheet = sheet_of 3 } ∷ [];
-  next = world_with ((2, aborted_entry) ∷ []) ((2, two) ∷ []);
+  next = world_with ((2, aborted_entry) ∷ []) ((2, two) ∷ []) None;
 }
 
 abbrev history : (one two : Work) → List Happening
@@ -94,25 +96,37 @@ steps_of_one one two = refl
 pub steps_of_two : (one two : Work) → steps_in 2 (history one two) ≡ 0
 steps_of_two one two = refl
 
-pub no_fault_of_one : (one two : Work) → met_fault 1 empty_world (history one two) ≡ false
+pub no_fault_of_one : (one two : Work) → met_fault 1 (new_world 2) (history one two) ≡ false
 no_fault_of_one one two = refl
 
-pub fault_of_two : (one two : Work) → met_fault 2 empty_world (history one two) ≡ true
+pub fault_of_two : (one two : Work) → met_fault 2 (new_world 2) (history one two) ≡ true
 fault_of_two one two = refl
 
--- A run from a new press: it is paused, its turn does nothing; a message meets want of memory; it goes on, no entry waits, and none
--- runs that an operator could abort.
+-- A run from a new press of two engines: it is paused, its turns do nothing; a message meets want of memory; it goes on, no entry
+-- waits, and none runs that an operator could abort; and there is no third engine.
 abbrev nothing_of : (event : Event) → EventAnswer → World → Happening
 nothing_of event answer next = record { event = event; answer = answer; handed = []; next = next }
 
 abbrev no_turn : EventAnswer
 no_turn = Turned (Ok (record { entry = None; steps = 0 }))
 
+abbrev beginning : World
+beginning = new_world 2
+
 abbrev quiet_run : List Happening
 quiet_run =
-    nothing_of (Operator Pause) Nothing (with_pause true empty_world) ∷ nothing_of (TurnOf 3) no_turn (with_pause true empty_world)
-    ∷ nothing_of (Message [] []) (Response None) (with_pause true empty_world) ∷ nothing_of (Operator Continue) Nothing empty_world
-    ∷ nothing_of (TurnOf 3) no_turn empty_world ∷ nothing_of (Operator AbortRunning) Nothing empty_world ∷ []
+    nothing_of (Operator Pause) Nothing (with_pause true beginning) ∷ nothing_of (TurnOn 1 3) no_turn (with_pause true beginning)
+    ∷ nothing_of (Message [] []) (Response None) (with_pause true beginning) ∷ nothing_of (Operator Continue) Nothing beginning
+    ∷ nothing_of (TurnOn 0 3) no_turn beginning ∷ nothing_of (Operator AbortRunning) Nothing beginning
+    ∷ nothing_of (TurnOn 2 3) (Turned (Err NoEngine)) beginning ∷ []
 
-pub quiet_run_is : IsRun quiet_run empty_world
-quiet_run_is = ((refl, refl), ((refl, refl, refl), ((refl, refl), ((refl, refl), ((refl, refl, refl), ((refl, refl), refl))))))
+pub quiet_run_is : IsRun quiet_run beginning
+quiet_run_is = record {
+  engines = 2;
+  are = refl;
+  leads = ((refl, refl), ((refl, refl, refl), ((refl, refl), ((refl, refl), ((refl, refl, refl), ((refl, refl), ((refl, refl, refl), refl)))))));
+}
+
+-- an engine that is not there is no fault of an entry
+pub no_engine_no_fault : (number : ℕ) → met_fault number beginning quiet_run ≡ false
+no_engine_no_fault number = refl

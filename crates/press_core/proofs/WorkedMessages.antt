@@ -80,7 +80,7 @@ two_entries = record {
 }
 
 abbrev busy_world : World
-busy_world = record empty_world { queue = two_entries }
+busy_world = record empty_world { queue = two_entries; engines = Some 1 ∷ [] }
 
 pub unknown_entry : response_to (entry_message (codes "HoldQueueEntry") (codes "Q3")) busy_world
     ≡ codes "{\"ReturnCode\":21,\"Type\":\"HoldQueueEntry\",\"refID\":\"m1\"}"
@@ -127,6 +127,24 @@ pub idle_device : response_to (message (codes "Status")) empty_world
     ≡ codes "{\"Device\":{\"QueueEntryID\":\"\",\"Sheets\":0,\"Status\":\"Idle\"},\"ReturnCode\":0,\"Type\":\"Status\",\"refID\":\"m1\"}"
 unfolding digits serde_json_on_literals
 idle_device = refl
+
+-- Of a press of two engines both are told, and the first once more.
+abbrev second_busy : World
+second_busy = record empty_world { queue = two_entries; engines = None ∷ Some 1 ∷ [] }
+
+pub two_engines : response_to (message (codes "Status")) second_busy
+    ≡ codes "{\"Device\":{\"QueueEntryID\":\"\",\"Sheets\":0,\"Status\":\"Idle\"},\"Engines\":[{\"QueueEntryID\":\"\",\"Sheets\":0,\"Status\":\"Idle\"},{\"QueueEntryID\":\"Q1\",\"Sheets\":0,\"Status\":\"Running\"}],\"ReturnCode\":0,\"Type\":\"Status\",\"refID\":\"m1\"}"
+unfolding digits serde_json_on_literals
+two_engines = refl
+
+-- an entry that is suspended or aborted leaves its engine
+pub suspended_leaves : (responding_in (Some (entry_message (codes "SuspendQueueEntry") (codes "Q1"))) [] second_busy).1.engines ≡ None ∷ None ∷ []
+unfolding digits serde_json_on_literals
+suspended_leaves = refl
+
+pub aborted_leaves : (responding_in (Some (entry_message (codes "AbortQueueEntry") (codes "Q1"))) [] second_busy).1.engines ≡ None ∷ None ∷ []
+unfolding digits serde_json_on_literals
+aborted_leaves = refl
 
 -- a new entry: a ticket of one page, and its image
 abbrev ticket_with : Data → Data

@@ -1,7 +1,7 @@
 -- What a run of events tells of a number: what was handed out under it, how its entry was seen last, and with what it entered.
-use Rattle.std.specs.Prelude.{◌≡◌, ◌≤◌, ◌++◌, ◌==◌, ◌||◌, ℕ, nat_le, List, [], ◌∷◌, length, filter, find, Bool, true, false, if◌then◌else◌, Option, Some, None, option_map, option_and_then, Ok, Err}
+use Rattle.std.specs.Prelude.{◌≡◌, ◌≤◌, ◌++◌, ◌==◌, ◌||◌, ◌&&◌, ℕ, nat_le, List, [], ◌∷◌, length, filter, find, Bool, true, false, if◌then◌else◌, Option, Some, None, option_map, option_and_then, Ok, Err}
 use Rattle.std.specs.List.{flat_map, sum_by}
-use Rattle.std.specs.Option.{option_map_or, option_or}
+use Rattle.std.specs.Option.{option_or}
 use Rattle.press_bits.specs.Page.{Page}
 use Rattle.press_engine.specs.Machine.{Run}
 use Rattle.press_queue.specs.declared.entry.Entry.{Entry}
@@ -13,11 +13,12 @@ use Rattle.press_sink.specs.Sending.{sheets_in}
 use Rattle.press_sink.specs.Sides.{Sides}
 use Rattle.press_ticket.specs.Ticket.{JobTicket}
 use Rattle.press_writer.specs.Wanted.{wanted}
-use Rattle.press_core.specs.Events.{Event, Message, EventAnswer, Turned, Happening, IsRun}
+use Rattle.press_core.specs.Engines.{is_number}
+use Rattle.press_core.specs.Events.{Event, Message, TurnOn, EventAnswer, Turned, Happening, IsRun}
 use Rattle.press_core.specs.Rows.{ticket_in}
-use Rattle.press_core.specs.Turns.{IsJobOf, at_turn, sheets_from}
+use Rattle.press_core.specs.Turns.{IsJobOf, at_turn, is_fault, sheets_from}
 use Rattle.press_core.specs.Work.{Work}
-use Rattle.press_core.specs.World.{World, empty_world, work_numbered}
+use Rattle.press_core.specs.World.{World, new_world, work_numbered}
 
 -- ---- what was handed out
 
@@ -92,10 +93,6 @@ entered_with number happenings = option_and_then (λ (happening : Happening). su
 
 -- ---- steps and faults of its own turns
 
--- whether this is the number
-abbrev pub is_number : (number : ℕ) → Option ℕ → Bool
-is_number number other = option_map_or (λ it. it == number) other false
-
 -- the steps that an answer says were taken for this number
 abbrev pub steps_answered : (number : ℕ) → EventAnswer → ℕ
 steps_answered number (Turned (Ok turn)) = if is_number number turn.entry then turn.steps else 0
@@ -105,15 +102,16 @@ steps_answered number answer = 0
 abbrev pub steps_in : (number : ℕ) → List Happening → ℕ
 steps_in number happenings = sum_by (λ (happening : Happening). steps_answered number happening.answer) happenings
 
--- whether an answer in a world is a fault in a turn of this number
-abbrev pub is_fault_of : (number : ℕ) → World → EventAnswer → Bool
-is_fault_of number world (Turned (Err error)) = is_number number (at_turn world.queue).1
-is_fault_of number world answer = false
+-- whether the answer to an event in a world is a fault in a turn of this number
+abbrev pub is_fault_of : (number : ℕ) → World → Event → EventAnswer → Bool
+is_fault_of number world (TurnOn engine most) (Turned (Err error)) = is_fault error && is_number number (at_turn engine world).1
+is_fault_of number world event answer = false
 
 -- whether a turn of this number met a fault, from a world on
 abbrev pub met_fault : (number : ℕ) → World → List Happening → Bool
 met_fault number world [] = false
-met_fault number world (happening ∷ happenings) = is_fault_of number world happening.answer || met_fault number happening.next happenings
+met_fault number world (happening ∷ happenings) =
+    is_fault_of number world happening.event happening.answer || met_fault number happening.next happenings
 
 -- In a run of events the entry of a number entered with this ticket and these images, took so many steps in all, and met no
 -- fault in its own turns.
@@ -122,4 +120,4 @@ pub record TakesInAll (number steps : ℕ) (ticket : JobTicket) (images : List P
   pub run : IsRun happenings last
   pub entered : entered_with number happenings ≡ Some (ticket, images)
   pub steps_are : steps_in number happenings ≡ steps
-  pub no_fault : met_fault number empty_world happenings ≡ false
+  pub no_fault : met_fault number (new_world run.engines) happenings ≡ false

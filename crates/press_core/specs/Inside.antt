@@ -9,10 +9,11 @@ use Rattle.press_queue.specs.Entries.{entry_numbered}
 use Rattle.press_queue.specs.Status.{is_in_flight, is_running}
 use Rattle.press_core.specs.declared.work.RunningJob.{RunningJob}
 use Rattle.press_core.specs.declared.work.Work.TheInside.{Inside}
+use Rattle.press_core.specs.Engines.{RunsOnEngines}
 use Rattle.press_core.specs.Jobs.{IsAt}
-use Rattle.press_core.specs.Turns.{IsJobOf, aborted, place_in_job, at_turn}
+use Rattle.press_core.specs.Turns.{IsJobOf, aborted, place_in_job, at_turn, with_turn}
 use Rattle.press_core.specs.Work.{Work, IsPrintable, at_place}
-use Rattle.press_core.specs.World.{work_changed, World, with_queue, work_numbered}
+use Rattle.press_core.specs.World.{work_changed, World, work_numbered}
 
 abbrev pub work_of : Inside → Work
 work_of work = record {
@@ -58,15 +59,20 @@ begun_works = work_changed begun_work
 abbrev pub with_begun : ℕ → World → World
 with_begun number world = record world { works = begun_works number world.works }
 
--- What a turn begins with: no entry runs; or this one does, and has begun; or memory ran out as it began, and it is aborted.
-abbrev pub Begins : World → Result (Option ℕ) AllocError → World → Type 0
-Begins old (Ok None) new = ((at_turn old.queue).1 ≡ None) × (new ≡ with_queue (at_turn old.queue).0 old)
-Begins old (Ok (Some number)) new =
-    ((at_turn old.queue).1 ≡ Some number) × (new ≡ with_begun number (with_queue (at_turn old.queue).0 old))
-Begins old (Err error) new =
-    (number : ℕ) × (work : Work) × ((at_turn old.queue).1 ≡ Some number) × (work_numbered number old ≡ Some work)
-    × (new ≡ aborted number work (with_queue (at_turn old.queue).0 old))
+-- What a turn of an engine begins with: it runs no entry; or it runs this one, which has begun; or memory ran out as it began, and
+-- it is aborted.
+abbrev pub Begins : (engine : ℕ) → World → Result (Option ℕ) AllocError → World → Type 0
+Begins engine old (Ok None) new = ((at_turn engine old).1 ≡ None) × (new ≡ with_turn engine old)
+Begins engine old (Ok (Some number)) new = ((at_turn engine old).1 ≡ Some number) × (new ≡ with_begun number (with_turn engine old))
+Begins engine old (Err error) new =
+    (number : ℕ) × (work : Work) × ((at_turn engine old).1 ≡ Some number) × (work_numbered number old ≡ Some work)
+    × (new ≡ aborted number work (with_turn engine old))
 
 -- There is a work for each entry of the queue, and for no other, and they go together.
 pub record IsSound (queue : QueueState) (works : List (ℕ × Work)) : Type 0 where
   pub together : (number : ℕ) → GoTogether (entry_numbered number queue.entries) (lookup (nat_eq number) works)
+
+-- So it is of a press, and each entry that runs is on an engine of its own.
+pub record IsPress (queue : QueueState) (works : List (ℕ × Work)) (engines : List (Option ℕ)) : Type 0 where
+  pub sound : IsSound queue works
+  pub on_engines : RunsOnEngines queue engines

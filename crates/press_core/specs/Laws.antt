@@ -2,9 +2,11 @@
 use Rattle.std.specs.Prelude.{◌≡◌, ◌≤◌, ℕ, List, [], length, false, true, Some, None}
 use Rattle.press_bits.specs.Page.{Page}
 use Rattle.press_engine.specs.Machine.{Run}
+use Rattle.press_queue.specs.Entries.{running_ones}
 use Rattle.press_queue.specs.EveryQueue.{IsQueue}
 use Rattle.press_ticket.specs.Ticket.{JobTicket}
 use Rattle.press_writer.specs.Wanted.{wanted}
+use Rattle.press_core.specs.Engines.{RunsOnEngines}
 use Rattle.press_core.specs.Events.{Happening, IsRun, Leads}
 use Rattle.press_core.specs.History.{AreGiven, Seen, TakesInAll, entered_with, handed_under, last_seen, seen_in}
 use Rattle.press_core.specs.Turns.{IsJobOf, sheets_from}
@@ -49,9 +51,13 @@ pub record EntriesDoNotInterfere : Type 0 where
       → TakesInAll number steps ticket images happenings → IsJobOf (new_work ticket images) items
       → handed_under number happenings ≡ sheets_from 0 steps items
 
--- The law of bounds: in every run of events the queue is as every queue is: at most one entry runs, at most eight are in flight,
--- at most 64 are in the list, under numbers that differ; and a number that was given is not given again.
+-- The law of bounds: in every run of events each entry that runs is on an engine of its own, one of one to four, so that at most as
+-- many run as there are engines; and the queue is as every queue is: at most eight are in flight, at most 64 are in the list, under
+-- numbers that differ; and a number that was given is not given again.
 pub record EntriesAreBounded : Type 0 where
+  pub on_engines : (happenings : List Happening) (last : World) → IsRun happenings last → RunsOnEngines last.queue last.engines
+  pub running : (happenings : List Happening) (last : World) → IsRun happenings last
+      → length (running_ones last.queue.entries) ≤ length last.engines
   pub queue : (happenings : List Happening) (last : World) → IsRun happenings last → IsQueue last.queue
   pub once : (before after : List Happening) (mid last : World) (number : ℕ) → IsRun before mid → Leads mid after last
       → number ≤ mid.queue.last → is_listed number mid.queue ≡ false → is_listed number last.queue ≡ false

@@ -1,4 +1,5 @@
 pub mod Work
+pub mod Engines
 pub mod World
 pub mod Parameters
 pub mod Messages

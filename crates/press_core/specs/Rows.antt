@@ -1,6 +1,6 @@
 -- What each message does to the world of a press, and what it is answered (CIP4 JDF 1.5, queue commands and queries of JMF;
 -- this profile).
-use Rattle.std.specs.Prelude.{ℕ, ℤ, pos, List, [], Option, Some, None, Result, Ok, Err, ok_or, option_map, option_and_then, codes}
+use Rattle.std.specs.Prelude.{ℕ, ℤ, pos, List, [], ◌++◌, length, nat_lt, if◌then◌else◌, Option, Some, None, Result, Ok, Err, ok_or, option_map, option_and_then, codes}
 use Rattle.std.specs.Result.{result_ok}
 use Rattle.serde_json.specs.Data.{Data, string}
 use Rattle.press_bits.specs.Page.{Page}
@@ -22,12 +22,12 @@ use Rattle.press_core.specs.declared.flag.FlagCommand.{FlagCommand}
 use Rattle.press_core.specs.declared.flag.FlagCommand.TheVariants as flags
 use Rattle.press_core.specs.declared.message_type.MessageType.{MessageType}
 use Rattle.press_core.specs.declared.message_type.MessageType.TheVariants as types
-use Rattle.press_core.specs.Listings.{entry_id, number_with_id, listed_queue, listed_device}
+use Rattle.press_core.specs.Listings.{entry_id, number_with_id, listed_queue, listed_device, listed_devices}
 use Rattle.press_core.specs.Messages.{Heading, Headed, heading_of, message_in, no_message, refused_with, for_fault, for_parameter}
 use Rattle.press_core.specs.Parameters.{Found, optional_parameter, both_found, text_parameter, whole_parameter, object_parameter}
 use Rattle.press_core.specs.Response.{Additions, adding, accepted_text, refused_text, no_heading}
 use Rattle.press_core.specs.Work.{new_work}
-use Rattle.press_core.specs.World.{World, with_queue, with_new_work, without_gone, without_job_of, device}
+use Rattle.press_core.specs.World.{World, with_queue, with_new_work, without_gone, off_engine, given_up, device, devices}
 
 -- What a message is answered, and the world after it: what the response adds, or why nothing was done.
 abbrev pub MessageAnswer : Type 0
@@ -148,13 +148,19 @@ flagged flags.Resume queue = rows.resume_queue queue
 flagged flags.Open queue = rows.open_queue queue
 flagged flags.Close queue = rows.close_queue queue
 
+-- What is told of the engines: what engine 0 does; and where there are others, of each what it does.
+abbrev pub devices_added : World → Additions
+devices_added world =
+    adding (codes "Device") (listed_device (device 0 world))
+    ++ (if nat_lt 1 (length world.engines) then adding (codes "Engines") (listed_devices (devices world)) else [])
+
 -- The row of each type of message.
 abbrev pub answered : MessageType → Data → List Page → World → MessageAnswer
 answered types.SubmitQueueEntry message images world = submit_row message images world
 answered types.HoldQueueEntry message images world = entry_row message world rows.hold (λ number after. accepting after)
-answered types.SuspendQueueEntry message images world = entry_row message world rows.suspend (λ number after. accepting after)
+answered types.SuspendQueueEntry message images world = entry_row message world rows.suspend (λ number after. accepting (off_engine number after))
 answered types.ResumeQueueEntry message images world = entry_row message world rows.resume (λ number after. accepting after)
-answered types.AbortQueueEntry message images world = entry_row message world rows.abort (λ number after. accepting (without_job_of number after))
+answered types.AbortQueueEntry message images world = entry_row message world rows.abort (λ number after. accepting (given_up number after))
 answered types.RemoveQueueEntry message images world =
     entry_row message world rows.remove (λ number after.
     telling (adding (codes "Status") (string (codes "Removed"))) (without_gone after))
@@ -166,7 +172,7 @@ answered types.OpenQueue message images world = accepting (with_queue (flagged f
 answered types.CloseQueue message images world = accepting (with_queue (flagged flags.Close world.queue) world)
 answered types.FlushQueue message images world = accepting (without_gone (with_queue (rows.flush world.queue) world))
 answered types.QueueStatus message images world = telling (adding (codes "Queue") (listed_queue world.queue)) world
-answered types.Status message images world = telling (adding (codes "Device") (listed_device (device world))) world
+answered types.Status message images world = telling (devices_added world) world
 
 -- The response to a message of this heading, and the world after it.
 abbrev pub responding : Heading → MessageAnswer → List ℕ × World

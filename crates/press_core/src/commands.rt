@@ -7,7 +7,7 @@ use crate::listings::{entry_id, listed_device, listed_queue, number_with_id};
 use crate::message_type::MessageType;
 use crate::parameters::{id_and_number, id_parameter};
 use crate::press::Press;
-use crate::response::{accepted, text};
+use crate::response::{Additions, accepted, adding, text};
 use crate::submission::submission;
 use crate::work::Work;
 use crate::works::{drop_job, enter, forget_gone};
@@ -17,17 +17,17 @@ use serde_json::Value;
 use std::alloc::AllocError;
 
 impl Press {
-    ghost use Rattle.std.specs.Prelude.{◌≡◌, ◌+◌, None, IfOk, IfErr, OnOk, codes, false, nat_eq};
+    ghost use Rattle.std.specs.Prelude.{◌≡◌, ◌+◌, IfOk, IfErr, OnOk, codes, false, map, nat_eq};
     ghost use Rattle.std.specs.List.{IsDistinct};
     ghost use Rattle.std.specs.Map.{keys_of};
     ghost use Rattle.serde_json.specs.Data.{string};
-    ghost use Rattle.serde_json.specs.View.{view};
+    ghost use Rattle.serde_json.specs.View.{view, items_view, items_of};
     ghost use Rattle.press_queue.specs.Rows as rows;
     ghost use Rattle.press_core.specs.declared.fault.Stop.TheVariants.{NoMemory};
     ghost use Rattle.press_core.specs.Listings.{entry_id, listed_queue, listed_device};
     ghost use Rattle.press_core.specs.Response.{adding, accepted_text};
     ghost use Rattle.press_core.specs.Rows as table;
-    ghost use Rattle.press_core.specs.Shown.{shown_heading};
+    ghost use Rattle.press_core.specs.Shown.{shown_heading, additions_of};
     ghost use Rattle.press_core.specs.declared.message_type.MessageType.TheVariants.{SubmitQueueEntry};
     ghost use Rattle.press_core.specs.Stops.{AnswersMessage, Accepts};
     ghost use Rattle.press_core.specs.World as world;
@@ -56,7 +56,7 @@ impl Press {
             MessageType::SetQueueEntryPriority => self.set_priority(heading, message),
             MessageType::SetQueueEntryPosition => self.set_position(heading, message),
             MessageType::QueueStatus => self.tell_queue(heading),
-            MessageType::Status => self.tell_device(heading),
+            MessageType::Status => self.tell_devices(heading),
             MessageType::HoldQueue => self.set_flag(heading, FlagCommand::Hold),
             MessageType::ResumeQueue => self.set_flag(heading, FlagCommand::Resume),
             MessageType::OpenQueue => self.set_flag(heading, FlagCommand::Open),
@@ -127,7 +127,7 @@ impl Press {
     {
         let next = self.queue.status().last.saturating_add(1);
         let id = Value::String(entry_id(self.alloc, next)?);
-        accepted(self.alloc, heading, Some(("QueueEntryID", id)))
+        accepted(self.alloc, heading, adding(self.alloc, "QueueEntryID", id)?)
     }
 
     /// Holds an entry that waits.
@@ -137,20 +137,21 @@ impl Press {
             self.old (shown_heading heading.entry) result self.new }
     {
         let number = self.named_entry(message)?;
-        let response = accepted(self.alloc, heading, None)?;
+        let response = accepted(self.alloc, heading, Vec::new(self.alloc))?;
         self.queue.hold(number)?;
         Ok(response)
     }
 
-    /// Suspends the entry that runs, unless the most entries are in flight. Its job stays where it is.
+    /// Suspends an entry that runs, unless the most entries are in flight. Its job stays where it is, and it leaves its engine.
     fn suspend(&mut self, heading: Heading<'_>, message: &Value) -> Result<Vec<u8>, Stop>
         ensures { AnswersMessage (table.entry_row (view message.now) self.old rows.suspend
-            (λ number after. table.accepting after))
+            (λ number after. table.accepting (world.off_engine number after)))
             self.old (shown_heading heading.entry) result self.new }
     {
         let number = self.named_entry(message)?;
-        let response = accepted(self.alloc, heading, None)?;
+        let response = accepted(self.alloc, heading, Vec::new(self.alloc))?;
         self.queue.suspend(number)?;
+        self.engines.leave(number);
         Ok(response)
     }
 
@@ -161,21 +162,22 @@ impl Press {
             self.old (shown_heading heading.entry) result self.new }
     {
         let number = self.named_entry(message)?;
-        let response = accepted(self.alloc, heading, None)?;
+        let response = accepted(self.alloc, heading, Vec::new(self.alloc))?;
         self.queue.resume(number)?;
         Ok(response)
     }
 
-    /// Aborts an entry that did not end, and its job with it.
+    /// Aborts an entry that did not end, and its job with it; it leaves its engine, if it is on one.
     fn abort(&mut self, heading: Heading<'_>, message: &Value) -> Result<Vec<u8>, Stop>
         ensures { AnswersMessage (table.entry_row (view message.now) self.old rows.abort
-            (λ number after. table.accepting (world.without_job_of number after)))
+            (λ number after. table.accepting (world.given_up number after)))
             self.old (shown_heading heading.entry) result self.new }
     {
         let number = self.named_entry(message)?;
-        let response = accepted(self.alloc, heading, None)?;
+        let response = accepted(self.alloc, heading, Vec::new(self.alloc))?;
         self.queue.abort(number)?;
         drop_job(&mut self.works, number);
+        self.engines.leave(number);
         Ok(response)
     }
 
@@ -187,7 +189,7 @@ impl Press {
     {
         let number = self.named_entry(message)?;
         let removed = text(self.alloc, "Removed")?;
-        let response = accepted(self.alloc, heading, Some(("Status", removed)))?;
+        let response = accepted(self.alloc, heading, adding(self.alloc, "Status", removed)?)?;
         self.queue.remove(number)?;
         forget_gone(&mut self.works, &self.queue);
         Ok(response)
@@ -201,7 +203,7 @@ impl Press {
             self.old (shown_heading heading.entry) result self.new }
     {
         let (number, priority) = self.named_entry_with("Priority", message)?;
-        let response = accepted(self.alloc, heading, None)?;
+        let response = accepted(self.alloc, heading, Vec::new(self.alloc))?;
         self.queue.set_priority(number, priority)?;
         Ok(response)
     }
@@ -214,7 +216,7 @@ impl Press {
             self.old (shown_heading heading.entry) result self.new }
     {
         let (number, position) = self.named_entry_with("Position", message)?;
-        let response = accepted(self.alloc, heading, None)?;
+        let response = accepted(self.alloc, heading, Vec::new(self.alloc))?;
         self.queue.set_position(number, position)?;
         Ok(response)
     }
@@ -227,18 +229,43 @@ impl Press {
         ensures err { IfErr result (λ stop. stop ≡ NoMemory) }
     {
         let queue = listed_queue(self.alloc, &self.queue)?;
-        Ok(accepted(self.alloc, heading, Some(("Queue", queue)))?)
+        Ok(accepted(self.alloc, heading, adding(self.alloc, "Queue", queue)?)?)
     }
 
-    /// Tells what the press does.
-    fn tell_device(&self, heading: Heading<'_>) -> Result<Vec<u8>, Stop>
+    /// Tells what engine 0 does; and where there are others, what each does.
+    fn tell_devices(&self, heading: Heading<'_>) -> Result<Vec<u8>, Stop>
         ensures tells { IfOk result (λ bytes.
             bytes.items ≡ accepted_text (shown_heading heading.entry)
-            (adding (codes "Device") (listed_device (world.device self.now)))) }
+            (table.devices_added self.now)) }
         ensures err { IfErr result (λ stop. stop ≡ NoMemory) }
     {
+        let additions = self.devices_added()?;
+        Ok(accepted(self.alloc, heading, additions)?)
+    }
+
+    /// What is told of the engines.
+    fn devices_added(&self) -> Result<Additions, AllocError>
+        ensures { IfOk result (λ additions.
+            additions_of additions.items ≡ table.devices_added self.now) }
+    {
         let device = listed_device(self.alloc, self.status())?;
-        Ok(accepted(self.alloc, heading, Some(("Device", device)))?)
+        let mut additions = adding(self.alloc, "Device", device)?;
+        if self.engines.count() > 1 {
+            additions.push(("Engines", Value::Array(self.listed_devices()?)))?;
+        }
+        Ok(additions)
+    }
+
+    /// What each engine does, from engine 0 on.
+    fn listed_devices(&self) -> Result<Vec<Value>, AllocError>
+        ensures { IfOk result (λ values. items_view values.items
+            ≡ items_of (map listed_device (world.devices self.now))) }
+    {
+        let mut values = Vec::new(self.alloc);
+        for engine in 0..self.engines.count() {
+            values.push(listed_device(self.alloc, self.device(engine))?)?;
+        }
+        Ok(values)
     }
 
     /// Sets a flag of the queue.
@@ -247,7 +274,7 @@ impl Press {
             (table.accepting (world.with_queue (table.flagged command self.old.queue) self.old))
             self.old (shown_heading heading.entry) result self.new }
     {
-        let response = accepted(self.alloc, heading, None)?;
+        let response = accepted(self.alloc, heading, Vec::new(self.alloc))?;
         match command {
             FlagCommand::Hold => self.queue.hold_queue(),
             FlagCommand::Resume => self.queue.resume_queue(),
@@ -264,7 +291,7 @@ impl Press {
             (world.with_queue (rows.flush self.old.queue) self.old)))
             self.old (shown_heading heading.entry) result self.new }
     {
-        let response = accepted(self.alloc, heading, None)?;
+        let response = accepted(self.alloc, heading, Vec::new(self.alloc))?;
         self.queue.flush();
         forget_gone(&mut self.works, &self.queue);
         Ok(response)

@@ -1,8 +1,9 @@
-//! The press: messages, turns and operators on one queue of jobs.
+//! The press: messages, turns of its engines, and operators on one queue of jobs.
 #![tactic(auto)]
 
 mod commands;
 mod device;
+mod engines;
 mod fault;
 mod flag;
 mod handing;
@@ -23,6 +24,7 @@ mod work;
 mod works;
 
 pub use device::{Device, DeviceStatus};
+pub use engines::BadEngines;
 pub use operator::OperatorCommand;
 pub use press::Press;
 pub use turn::{Turn, TurnError};
