@@ -1,19 +1,22 @@
 -- The calls of a job, one after another.
-use Rattle.std.proofs.Common.{◌≡◌, ◌∙◌, ◌<◌, ◌+◌, ℕ, List, [], ◌∷◌, ◌++◌, length, take, get_or, Ok, Err, Result, IsSome, OnOk, refl, sym, ap, subst}
+use Rattle.std.proofs.Common.{◌≡◌, ◌∙◌, ◌<◌, ◌+◌, ℕ, List, [], ◌∷◌, ◌++◌, length, take, drop, get_or, Ok, Err, Result, Option, Some, None, IsSome, OnOk, IfErr, false, refl, sym, ap, subst, append_assoc}
 use Rattle.std.specs.List.{flat_map}
 use Rattle.std.proofs.lemmas.Grind.{flat_map-append}
-use Rattle.std.proofs.lemmas.List.{append-nil, take_more}
+use Rattle.std.proofs.lemmas.Bool.{true≢false}
+use Rattle.std.proofs.lemmas.List.{append-nil, take_more, take-append-drop}
 use Rattle.press_cmd.specs.Token.{Token}
 use Rattle.press_sink.specs.Told.{Told, CanCount, most_faults}
-use Rattle.press_sink.specs.Sending.{Complete}
+use Rattle.press_sink.specs.Sending.{Complete, AtSheet, AtReply, ForMemory}
+use Rattle.press_engine.specs.declared.machine.Machine.{Machine}
 use Rattle.press_stream.specs.declared.fault.JobError.{JobError}
+use Rattle.press_stream.specs.declared.fault.JobError.TheVariants as errors
 use Rattle.press_stream.specs.State.{JobState, opened}
-use Rattle.press_stream.specs.Answers.{Pushes, Takes, Finishes}
+use Rattle.press_stream.specs.Answers.{Pushes, Takes, Feeds, Finishes, Faults, FaultsBefore, StepFaults}
 use Rattle.press_stream.specs.declared.step.Step.{Step}
 use Rattle.press_stream.specs.declared.step.Step.TheVariants as steps
 use Rattle.press_stream.specs.Chain.{CallsGo, PrintsAll}
 use Rattle.press_stream.specs.Meaning.{Goes}
-use Rattle.press_stream.specs.Printed.{Prints}
+use Rattle.press_stream.specs.Printed.{Prints, PrintedTo}
 
 -- the bytes of the first pieces, and of one more
 pub pieces-next : {A : Type 0} (f : A → List ℕ) (pieces : List A) (i : ℕ) (other : A) → i < length pieces → flat_map f (take (i + 1) pieces) ≡ flat_map f (take i pieces) ++ f (get_or pieces i other)
@@ -26,6 +29,9 @@ pieces-next f pieces i other inside =
 pub Goes-opened : CallsGo → (job : JobState) (tag : ℕ) (told : Told) → job ≡ opened → Goes opened [] [] tag job told told
 Goes-opened calls job tag told is =
     subst (λ (one : JobState). Goes opened [] [] tag one told told) (sym is) (calls.begins opened tag told refl)
+
+pub opened-going : (job : JobState) → job ≡ opened → job.held.ended ≡ false
+opened-going job is = ap (λ (one : JobState). one.held.ended) is
 
 -- one call more
 pub Goes-more : CallsGo → (bytes more all : List ℕ) (given others : List Token) (tag : ℕ) (job new : JobState) (before middle after : Told) → all ≡ bytes ++ more → Goes opened bytes given tag job before middle → Goes job more others tag new middle after → Goes opened all (given ++ others) tag new before after
@@ -64,3 +70,85 @@ stepped calls old new tag result step before after running answer takes = by ste
   by (steps.Ran kind) ran = (ran.given, ran.goes)
   by steps.Hungry quiet = still calls old new tag before after running quiet.1 quiet.2
   by steps.Ended quiet = still calls old new tag before after running quiet.1 quiet.2
+
+-- a job that takes more bytes takes more behind a piece that was pushed
+pub pushed-going : (old new : JobState) (piece : List ℕ) (result : Result (Unit {0}) JobError) → Pushes old piece result new → OnOk result (new.held.ended ≡ false)
+pushed-going old new piece (Ok done) pushes = ap (λ (job : JobState). job.held.ended) pushes.2 ∙ pushes.1
+pushed-going old new piece (Err error) pushes = tt
+
+-- and behind a step
+pub stepped-going : (old new : JobState) (tag : ℕ) (result : Result Step JobError) (step : Step) (before after : Told) → old.held.ended ≡ false → result ≡ Ok step → Takes old tag result new before after → new.held.ended ≡ false
+stepped-going old new tag result step before after going answer takes = by step (subst (λ (one : Result Step JobError). Takes old tag one new before after) answer takes) where
+  by : (step : Step) → Takes old tag (Ok step) new before after → new.held.ended ≡ false
+  by (steps.Ran kind) ran = ran.still ∙ going
+  by steps.Hungry quiet = ap (λ (job : JobState). job.held.ended) quiet.1 ∙ going
+  by steps.Ended quiet = ap (λ (job : JobState). job.held.ended) quiet.1 ∙ going
+
+-- the bytes of the first pieces, of one more, and of the others
+pub pieces-rest : {A : Type 0} (f : A → List ℕ) (pieces : List A) (i : ℕ) (other : A) → i < length pieces → (flat_map f (take i pieces) ++ f (get_or pieces i other)) ++ flat_map f (drop (i + 1) pieces) ≡ flat_map f pieces
+pieces-rest f pieces i other inside =
+    ap (λ (front : List ℕ). front ++ flat_map f (drop (i + 1) pieces)) (sym (pieces-next f pieces i other inside))
+    ∙ sym (flat_map-append f (take (i + 1) pieces) (drop (i + 1) pieces))
+    ∙ ap (flat_map f) (take-append-drop (i + 1) pieces)
+
+-- a job that has failed has no machine
+has_failed : (machine : Option Machine) (one : Machine) → machine ≡ None → machine ≡ Some one → ⊥
+has_failed machine one none some = cc
+
+-- A job that went on stopped at a fault: the bytes are printed as far as the answer says.
+pub PrintedTo-fault : PrintsAll → (bytes more : List ℕ) (given : List Token) (tag : ℕ) (error : JobError) (job new : JobState) (before middle after : Told) → Goes opened bytes given tag job before middle → Faults job more tag error new middle after → PrintedTo (Some error) (bytes ++ more) tag None before after
+PrintedTo-fault prints bytes more given tag errors.SinkFault job new before middle after goes faults = prints.stopped bytes more given tag AtSheet job before middle after (λ e. cc) goes faults.1 None
+PrintedTo-fault prints bytes more given tag errors.ReplyFault job new before middle after goes faults = prints.stopped bytes more given tag AtReply job before middle after (λ e. cc) goes faults.1 None
+PrintedTo-fault prints bytes more given tag errors.NoMemory job new before middle after goes faults = prints.stopped bytes more given tag ForMemory job before middle after (λ e. cc) goes faults.1 None
+PrintedTo-fault prints bytes more given tag errors.Failed job new before middle after goes faults = absurd (has_failed job.machine _ faults.0 goes.carried.ends)
+PrintedTo-fault prints bytes more given tag errors.ReadFault job new before middle after goes faults = absurd faults
+PrintedTo-fault prints bytes more given tag errors.AfterEnd job new before middle after goes faults = absurd faults
+
+-- the same of a fault whatever bytes come behind the piece, in the midst of all bytes
+pub PrintedTo-before : PrintsAll → (bytes piece more all : List ℕ) (given : List Token) (tag : ℕ) (error : JobError) (job new : JobState) (before middle after : Told) → job.held.ended ≡ false → (bytes ++ piece) ++ more ≡ all → Goes opened bytes given tag job before middle → FaultsBefore job piece tag error new middle after → PrintedTo (Some error) all tag None before after
+PrintedTo-before prints bytes piece more all given tag error job new before middle after going is goes faults =
+    let P : List ℕ → Type 0 = λ handed. PrintedTo (Some error) handed tag None before after in
+    subst P (sym (append_assoc bytes piece more) ∙ is)
+    (PrintedTo-fault prints bytes (piece ++ more) given tag error job new before middle after goes
+    (faults more (λ ended. absurd (true≢false (sym ended ∙ going)))))
+
+-- a fault of a piece that was fed before the end of input
+pub fed-fault : (old new : JobState) (piece : List ℕ) (tag : ℕ) (error : JobError) (before after : Told) → old.held.ended ≡ false → Feeds old piece tag (Err error) new before after → FaultsBefore old piece tag error new before after
+fed-fault old new piece tag errors.SinkFault before after going feeds = feeds
+fed-fault old new piece tag errors.ReplyFault before after going feeds = feeds
+fed-fault old new piece tag errors.NoMemory before after going feeds = feeds
+fed-fault old new piece tag errors.Failed before after going feeds = feeds
+fed-fault old new piece tag errors.ReadFault before after going feeds = feeds
+fed-fault old new piece tag errors.AfterEnd before after going feeds = absurd (true≢false (sym feeds.0.1 ∙ going))
+
+-- of a piece that was pushed
+pub pushed-fault : CallsGo → (old new : JobState) (piece : List ℕ) (tag : ℕ) (result : Result (Unit {0}) JobError) (told : Told) → IsSome old.machine → old.held.ended ≡ false → Pushes old piece result new → IfErr result (λ error. FaultsBefore old piece tag error new told told)
+pushed-fault calls old new piece tag (Ok done) told running going pushes = tt
+pushed-fault calls old new piece tag (Err errors.NoMemory) told running going pushes = λ more none_after. (pushes.2, calls.wants old (piece ++ more) tag told running none_after)
+pushed-fault calls old new piece tag (Err errors.Failed) told running going pushes = absurd (no_machine old.machine running pushes.0) where
+  no_machine : (machine : Option Machine) → IsSome machine → machine ≡ None → ⊥
+  no_machine machine some none = cc
+pushed-fault calls old new piece tag (Err errors.AfterEnd) told running going pushes = absurd (true≢false (sym pushes.0.1 ∙ going))
+pushed-fault calls old new piece tag (Err errors.SinkFault) told running going pushes = absurd pushes
+pushed-fault calls old new piece tag (Err errors.ReplyFault) told running going pushes = absurd pushes
+pushed-fault calls old new piece tag (Err errors.ReadFault) told running going pushes = absurd pushes
+
+-- of a step
+pub stepped-fault : CallsGo → (old new : JobState) (tag : ℕ) (error : JobError) (before after : Told) → StepFaults old tag error new before after → FaultsBefore old [] tag error new before after
+stepped-fault calls old new tag errors.SinkFault before after faults = λ more none_after. (faults.0, calls.stops old more tag AtSheet before after (λ e. cc) none_after faults.1)
+stepped-fault calls old new tag errors.ReplyFault before after faults = λ more none_after. (faults.0, calls.stops old more tag AtReply before after (λ e. cc) none_after faults.1)
+stepped-fault calls old new tag errors.NoMemory before after faults = λ more none_after. (faults.0, calls.stops old more tag ForMemory before after (λ e. cc) none_after faults.1)
+stepped-fault calls old new tag errors.Failed before after faults = λ more none_after. faults
+stepped-fault calls old new tag errors.ReadFault before after faults = absurd faults
+stepped-fault calls old new tag errors.AfterEnd before after faults = absurd faults
+
+-- there was no memory for a job
+pub PrintedTo-none : CallsGo → PrintsAll → (all : List ℕ) (tag : ℕ) (told : Told) → PrintedTo (Some errors.NoMemory) all tag None told told
+PrintedTo-none calls prints all tag told =
+    prints.stopped [] all [] tag ForMemory opened told told told (λ e. cc) (calls.begins opened tag told refl) (calls.wants opened all tag told refl (λ ended. absurd (true≢false (sym ended)))) None
+
+-- the fault of the end of a stream
+pub PrintedTo-end : PrintsAll → (bytes all : List ℕ) (given : List Token) (tag : ℕ) (error : JobError) (job new : JobState) (before middle after : Told) → all ≡ bytes → Goes opened bytes given tag job before middle → Faults job [] tag error new middle after → PrintedTo (Some error) all tag None before after
+PrintedTo-end prints bytes all given tag error job new before middle after is goes faults =
+    let P : List ℕ → Type 0 = λ handed. PrintedTo (Some error) handed tag None before after in
+    subst P (append-nil bytes ∙ sym is) (PrintedTo-fault prints bytes [] given tag error job new before middle after goes faults)

@@ -1,5 +1,5 @@
 -- Events, some after others.
-use Rattle.std.proofs.Common.{◌≡◌, ◌∙◌, ◌<◌, ◌+◌, ℕ, List, [], ◌∷◌, ◌++◌, length, take, get_or, map, Option, Some, None, option_map, Result, Ok, Vec, refl, sym, ap, subst}
+use Rattle.std.proofs.Common.{◌≡◌, ◌∙◌, ◌<◌, ◌+◌, ℕ, List, [], ◌∷◌, ◌++◌, length, take, get_or, map, true, Option, Some, None, option_map, Result, Ok, Vec, refl, sym, ap, subst}
 use Rattle.std.specs.List.{flat_map}
 use Rattle.std.proofs.lemmas.Grind.{flat_map-append}
 use Rattle.std.proofs.lemmas.List.{append_assoc, append-nil, map-append, take_more}
@@ -11,10 +11,11 @@ use Rattle.press_sink.specs.Told.{SheetsTold, most_faults}
 use Rattle.press_core.specs.declared.operator.OperatorCommand.{OperatorCommand}
 use Rattle.press_core.specs.declared.turn.Turn.{Turn}
 use Rattle.press_core.specs.declared.turn.TurnError.{TurnError}
-use Rattle.press_core.specs.Events.{Event, Message, TurnOf, Operator, EventAnswer, Response, Turned, Nothing, Happening, Happens, Leads, response_to}
+use Rattle.press_core.specs.Engines.{are_engines}
+use Rattle.press_core.specs.Events.{Event, Message, TurnOn, Operator, EventAnswer, Response, Turned, Nothing, Happening, Happens, IsRun, Leads, response_to}
 use Rattle.press_core.specs.Laws.{EntriesAreBounded, SheetsAreGiven}
 use Rattle.press_core.specs.Turns.{FaultsAfter, WereHandedOut}
-use Rattle.press_core.specs.World.{World, empty_world}
+use Rattle.press_core.specs.World.{World, new_world}
 use Rattle.press_theorem.specs.Events.{HappenAll, HappenFromNew, line_of}
 
 Leads-join : (world middle last : World) (happenings others : List Happening) → Leads world happenings middle → Leads middle others last → Leads world (happenings ++ others) last
@@ -62,9 +63,9 @@ message-happened world last text images result response told line old new answer
     (appended ∙ ap (λ (bytes : List ℕ). old ++ (bytes ++ 10 ∷ [])) is)
 
 -- a turn was taken
-pub turn-happened : (world last : World) (most : ℕ) (result : Result Turn TurnError) (turn : Turn) (before after : SheetsTold) (bytes : List ℕ) → result ≡ Ok turn → ((handed : List Delivery) × Happens world (TurnOf most) (Turned result) handed last × WereHandedOut handed result before after) → HappenAll world (TurnOf most ∷ []) last before after bytes bytes
-turn-happened world last most result turn before after bytes answer taken =
-    HappenAll-one world last (TurnOf most) (Turned result) taken.0 before after bytes bytes taken.1 taken.2.told
+pub turn-happened : (world last : World) (engine most : ℕ) (result : Result Turn TurnError) (turn : Turn) (before after : SheetsTold) (bytes : List ℕ) → result ≡ Ok turn → ((handed : List Delivery) × Happens world (TurnOn engine most) (Turned result) handed last × WereHandedOut handed result before after) → HappenAll world (TurnOn engine most ∷ []) last before after bytes bytes
+turn-happened world last engine most result turn before after bytes answer taken =
+    HappenAll-one world last (TurnOn engine most) (Turned result) taken.0 before after bytes bytes taken.1 taken.2.told
     (subst (λ (one : Result Turn TurnError). FaultsAfter one before.faults after.faults) answer taken.2.faults)
     (sym (append-nil bytes))
 
@@ -105,12 +106,14 @@ can_count-then before after is can = subst (λ (n : ℕ). n < most_faults) (sym 
 
 -- ---- from a new press
 
-pub from-new : SheetsAreGiven → EntriesAreBounded → (start : World) (events : List Event) (last : World) (before after : SheetsTold) (old new : List ℕ) → start ≡ empty_world
-    → HappenAll start events last before after old new → HappenFromNew events last before after old new
-from-new given bounded start events last before after old new is all =
+pub from-new : SheetsAreGiven → EntriesAreBounded → (start : World) (engines : ℕ) (events : List Event) (last : World) (before after : SheetsTold) (old new : List ℕ)
+    → are_engines engines ≡ true → start ≡ new_world engines → HappenAll start events last before after old new → HappenFromNew engines events last before after old new
+from-new given bounded start engines events last before after old new are is all =
     let happened = subst (λ (w : World). HappenAll w events last before after old new) is all in
+    let run : IsRun happened.happenings last = record { engines = engines; are = are; leads = happened.leads } in
     record {
       happened = happened;
-      given = λ number. given.under happened.happenings last number happened.leads;
-      queue = bounded.queue happened.happenings last happened.leads;
+      given = λ number. given.under happened.happenings last number run;
+      on_engines = bounded.on_engines happened.happenings last run;
+      queue = bounded.queue happened.happenings last run;
     }

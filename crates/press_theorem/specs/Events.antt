@@ -3,16 +3,17 @@ use Rattle.std.specs.Prelude.{◌≡◌, ℕ, List, [], ◌∷◌, ◌++◌, Som
 use Rattle.std.specs.List.{flat_map}
 use Rattle.press_queue.specs.EveryQueue.{IsQueue}
 use Rattle.press_sink.specs.Told.{SheetsTold}
-use Rattle.press_core.specs.Events.{Event, Message, TurnOf, Operator, EventAnswer, Response, Happening, Leads}
+use Rattle.press_core.specs.Engines.{RunsOnEngines}
+use Rattle.press_core.specs.Events.{Event, Message, TurnOn, Operator, EventAnswer, Response, Happening, Leads}
 use Rattle.press_core.specs.Laws.{GivenUnder}
-use Rattle.press_core.specs.World.{World, empty_world}
+use Rattle.press_core.specs.World.{World, new_world}
 use Rattle.press_theorem.specs.declared.events.PressEvent.{PressEvent}
 use Rattle.press_theorem.specs.declared.events.PressEvent.TheVariants as events
 
 -- the event of the press's world
 abbrev pub event_of : PressEvent → Event
 event_of (events.Message text images) = Message text.now images.now
-event_of (events.Turn most) = TurnOf most
+event_of (events.Turn engine most) = TurnOn engine most
 event_of (events.Operator command) = Operator command
 
 -- a response, with a line feed; nothing of an event that has none
@@ -30,9 +31,10 @@ pub record HappenAll (world : World) (events : List Event) (last : World) (befor
   pub no_fault : after.faults ≡ before.faults
   pub responses : new ≡ old ++ flat_map (λ happening. line_of happening.answer) happenings
 
--- They happened one after another to a new press. Under each number was handed out what its entry says, as it was seen last; and the
--- queue is as every queue is.
-pub record HappenFromNew (events : List Event) (last : World) (before after : SheetsTold) (old new : List ℕ) : Type 0 where
-  pub happened : HappenAll empty_world events last before after old new
+-- They happened one after another to a new press of so many engines. Under each number was handed out what its entry says, as it was
+-- seen last; each entry that runs is on an engine of its own; and the queue is as every queue is.
+pub record HappenFromNew (engines : ℕ) (events : List Event) (last : World) (before after : SheetsTold) (old new : List ℕ) : Type 0 where
+  pub happened : HappenAll (new_world engines) events last before after old new
   pub given : (number : ℕ) → GivenUnder happened.happenings last number
+  pub on_engines : RunsOnEngines last.queue last.engines
   pub queue : IsQueue last.queue

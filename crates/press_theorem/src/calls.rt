@@ -1,10 +1,11 @@
 //! A stream in pieces, with steps between them.
-ghost use Rattle.std.specs.Prelude.{List, IsSome, IfOk, OnOk};
+ghost use Rattle.std.specs.Prelude.{◌≡◌, List, Some, None, IsSome, false, IfOk, IfErr, OnOk};
 ghost use Rattle.std.specs.List.{flat_map};
 ghost use Rattle.press_sink.specs.Told.{both, CanCount};
 ghost use Rattle.press_sink.specs.Sending.{Complete};
+ghost use Rattle.press_stream.specs.Answers.{FaultsBefore};
 ghost use Rattle.press_stream.specs.Meaning.{Goes};
-ghost use Rattle.press_stream.specs.Printed.{Prints};
+ghost use Rattle.press_stream.specs.Printed.{Prints, PrintedTo};
 ghost use Rattle.press_cmd.specs.Token.{Token};
 ghost use Rattle.press_theorem.specs.Calls.{bytes_of};
 
@@ -27,8 +28,8 @@ pub enum Call<'a> {
 ///
 /// # Errors
 ///
-/// `SinkFault` (301) and `ReplyFault` (302): a sink had a fault, and nothing came after it. What went out by then the clauses of
-/// [`Job`] say.
+/// `SinkFault` (301) and `ReplyFault` (302): a sink had a fault, and nothing came after it. `NoMemory`. What went out by then is a
+/// front of what the whole stream prints: behind it the next output is a sheet at 301, a reply at 302, of which a front went out.
 pub fn print_calls<S: SheetSink, P: ReplySink>(
     alloc: Global,
     calls: &[Call<'_>],
@@ -37,7 +38,11 @@ pub fn print_calls<S: SheetSink, P: ReplySink>(
     replies: &mut P,
 ) -> Result<Job, JobError>
     requires { CanCount (both (S.told sheets.old) (P.told replies.old)) }
-    ensures { IfOk result (λ job. Prints (flat_map bytes_of calls.now) tag Complete job.machine
+    ensures ok { IfOk result (λ job. Prints (flat_map bytes_of calls.now) tag Complete job.machine
+        (both (S.told sheets.old) (P.told replies.old))
+        (both (S.told sheets.new) (P.told replies.new))) }
+    ensures err { IfErr result (λ error.
+        PrintedTo (Some error) (flat_map bytes_of calls.now) tag None
         (both (S.told sheets.old) (P.told replies.old))
         (both (S.told sheets.new) (P.told replies.new))) }
 {
@@ -59,9 +64,15 @@ fn make<S: SheetSink, P: ReplySink>(
     replies: &mut P,
 ) -> Result<(), JobError>
     requires running { IsSome job.old.machine }
+    requires going { job.old.held.ended ≡ false }
     requires can_count { CanCount (both (S.told sheets.old) (P.told replies.old)) }
-    ensures { OnOk result ((given : List Token)
+    ensures goes { OnOk result ((given : List Token)
         × Goes job.old (bytes_of call.entry) given tag job.new
+        (both (S.told sheets.old) (P.told replies.old))
+        (both (S.told sheets.new) (P.told replies.new))) }
+    ensures going { OnOk result (job.new.held.ended ≡ false) }
+    ensures faults { IfErr result (λ error.
+        FaultsBefore job.old (bytes_of call.entry) tag error job.new
         (both (S.told sheets.old) (P.told replies.old))
         (both (S.told sheets.new) (P.told replies.new))) }
 {

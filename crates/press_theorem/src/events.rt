@@ -1,7 +1,8 @@
 //! What happens to a press, one event after another (CIP4 JDF 1.5, the queue and JMF messages).
-ghost use Rattle.std.specs.Prelude.{◌≡◌, ◌<◌, [], ◌∷◌, ◌++◌, OnOk, map};
+ghost use Rattle.std.specs.Prelude.{◌≡◌, ◌<◌, ℕ, [], ◌∷◌, ◌++◌, IsTrue, OnOk, map};
 ghost use Rattle.press_sink.specs.Told.{most_faults};
-ghost use Rattle.press_core.specs.World.{empty_world};
+ghost use Rattle.press_core.specs.Engines.{are_engines};
+ghost use Rattle.press_core.specs.World.{new_world};
 ghost use Rattle.press_theorem.specs.Events.{HappenAll, HappenFromNew, event_of};
 
 use press_bits::Bitmap;
@@ -17,8 +18,11 @@ pub enum PressEvent<'a> {
         text: &'a [u8],
         images: &'a [Bitmap],
     },
-    /// A turn is taken, of at most so many steps.
-    Turn(u64),
+    /// A turn of an engine is taken, of at most so many steps.
+    Turn {
+        engine: u64,
+        most: u64,
+    },
     /// The operator asks for something.
     Operator(OperatorCommand),
 }
@@ -27,13 +31,14 @@ pub enum PressEvent<'a> {
 /// turns and commands of the operator come, the press goes from world to world as its rows say, and the sink takes the sheets
 /// that are handed out, each under the number of its entry, and nothing else.
 ///
-/// To a new press they happen by the laws of every run: what was handed out under the number of an entry in flight are the sheets of
+/// To a new press of one to four engines they happen by the laws of every run: each entry that runs is on an engine of its own; what was handed out under the number of an entry in flight are the sheets of
 /// the steps that were taken of its job, of a completed one all sheets that its ticket wants, of every other one a front of those.
 ///
 /// # Errors
 ///
-/// `SinkFault` (301) and `NoMemory`: the events before it happened. Of the turn that met it the entry is aborted, as
-/// [`Press::turn`] says; a message that met it changed nothing, or has no response.
+/// `NoEngine` (702), `SinkFault` (301) and `NoMemory`: the events before it happened. A turn of an engine that is not there changed
+/// nothing; of a turn that met a fault the entry is aborted, as [`Press::turn_on`] says; a message that met it changed nothing, or has
+/// no response.
 pub fn carry_out_events<S: SheetSink>(
     press: &mut Press,
     events: &[PressEvent<'_>],
@@ -43,8 +48,8 @@ pub fn carry_out_events<S: SheetSink>(
     requires { (S.told sheets.old).faults < most_faults }
     ensures all { OnOk result (HappenAll press.old (map event_of events.now) press.new
         (S.told sheets.old) (S.told sheets.new) responses.old.items responses.new.items) }
-    ensures from_new { OnOk result (press.old ≡ empty_world
-        → HappenFromNew (map event_of events.now) press.new
+    ensures from_new { OnOk result ((engines : ℕ) → IsTrue (are_engines engines)
+        → press.old ≡ new_world engines → HappenFromNew engines (map event_of events.now) press.new
         (S.told sheets.old) (S.told sheets.new) responses.old.items responses.new.items) }
 {
     laws::sheets_are_given();
@@ -71,8 +76,8 @@ fn carry_out<S: SheetSink>(
             let response = press.message(text, images)?;
             append_line(&response, responses)?;
         }
-        PressEvent::Turn(most) => {
-            press.turn(most, sheets)?;
+        PressEvent::Turn { engine, most } => {
+            press.turn_on(engine, most, sheets)?;
         }
         PressEvent::Operator(command) => press.operator(command),
     }

@@ -1,9 +1,9 @@
 //! A stream in pieces.
-ghost use Rattle.std.specs.Prelude.{IfOk};
+ghost use Rattle.std.specs.Prelude.{Some, None, IfOk, IfErr};
 ghost use Rattle.std.specs.List.{flat_map};
 ghost use Rattle.press_sink.specs.Told.{both, CanCount};
 ghost use Rattle.press_sink.specs.Sending.{Complete};
-ghost use Rattle.press_stream.specs.Printed.{Prints};
+ghost use Rattle.press_stream.specs.Printed.{Prints, PrintedTo};
 
 use press_sink::{ReplySink, SheetSink};
 use press_stream::{Job, JobError, laws};
@@ -15,8 +15,8 @@ use std::alloc::Global;
 ///
 /// # Errors
 ///
-/// `SinkFault` (301) and `ReplyFault` (302): a sink had a fault, and nothing came after it. What went out by then the clauses of
-/// [`Job`] say.
+/// `SinkFault` (301) and `ReplyFault` (302): a sink had a fault, and nothing came after it. `NoMemory`. What went out by then is a
+/// front of what the whole stream prints: behind it the next output is a sheet at 301, a reply at 302, of which a front went out.
 pub fn print_pieces<S: SheetSink, P: ReplySink>(
     alloc: Global,
     pieces: &[&[u8]],
@@ -25,8 +25,12 @@ pub fn print_pieces<S: SheetSink, P: ReplySink>(
     replies: &mut P,
 ) -> Result<Job, JobError>
     requires { CanCount (both (S.told sheets.old) (P.told replies.old)) }
-    ensures { IfOk result (λ job.
+    ensures ok { IfOk result (λ job.
         Prints (flat_map (λ piece. piece.now) pieces.now) tag Complete job.machine
+        (both (S.told sheets.old) (P.told replies.old))
+        (both (S.told sheets.new) (P.told replies.new))) }
+    ensures err { IfErr result (λ error.
+        PrintedTo (Some error) (flat_map (λ piece. piece.now) pieces.now) tag None
         (both (S.told sheets.old) (P.told replies.old))
         (both (S.told sheets.new) (P.told replies.new))) }
 {

@@ -1,8 +1,24 @@
-use Rattle.press_theorem.proofs.ChainLemmas.{pushed, stepped}
+use Rattle.std.proofs.lemmas.Result.{err_from_is_err_and}
+use Rattle.press_theorem.proofs.ChainLemmas.{pushed, pushed-going, pushed-fault, stepped, stepped-going, stepped-fault}
 use Rattle.press_theorem.proofs.calls.make.Goals as goal
 
-pub returns-in-Push : goal.returns-in-Push
-returns-in-Push g c = rw c.in-Push.is (pushed c.chain.ensures.calls c.args.job.now c.push.new.self c.in-Push.piece.now c.args.tag c.push.result _ c.push.ensures.pushes)
+pub returns-in-Push-clause-goes : goal.returns-in-Push-clause-goes
+returns-in-Push-clause-goes g c = rw c.in-Push.is (pushed c.chain.ensures.calls c.args.job.now c.push.new.self c.in-Push.piece.now c.args.tag c.push.result _ c.push.ensures.pushes)
 
-pub returns-in_ok-step-in-Step : goal.returns-in_ok-step-in-Step
-returns-in_ok-step-in-Step g c = rw c.in-Step.is (stepped c.chain.ensures.calls c.args.job.now c.step.new.self c.args.tag c.step.result c.in_ok-step-in-Step.field-0 _ _ c.requires.running c.in_ok-step-in-Step.was c.step.ensures.takes)
+pub returns-in-Push-clause-going : goal.returns-in-Push-clause-going
+returns-in-Push-clause-going g c = pushed-going c.args.job.now c.push.new.self c.in-Push.piece.now c.push.result c.push.ensures.pushes
+
+pub returns-in-Push-clause-faults : goal.returns-in-Push-clause-faults
+returns-in-Push-clause-faults g c = rw c.in-Push.is (pushed-fault c.chain.ensures.calls c.args.job.now c.push.new.self c.in-Push.piece.now c.args.tag c.push.result _ c.requires.running c.requires.going c.push.ensures.pushes)
+
+pub returns-in_ok-step-in-Step-clause-goes : goal.returns-in_ok-step-in-Step-clause-goes
+returns-in_ok-step-in-Step-clause-goes g c = rw c.in-Step.is (stepped c.chain.ensures.calls c.args.job.now c.step.new.self c.args.tag c.step.result c.in_ok-step-in-Step.field-0 _ _ c.requires.running c.in_ok-step-in-Step.was c.step.ensures.takes)
+
+pub returns-in_ok-step-in-Step-clause-going : goal.returns-in_ok-step-in-Step-clause-going
+returns-in_ok-step-in-Step-clause-going g c = stepped-going c.args.job.now c.step.new.self c.args.tag c.step.result c.in_ok-step-in-Step.field-0 _ _ c.requires.going c.in_ok-step-in-Step.was c.step.ensures.takes
+
+pub returns-in_err-step-in-Step-clause-faults : goal.returns-in_err-step-in-Step-clause-faults
+returns-in_err-step-in-Step-clause-faults g c =
+    let p = err_from_is_err_and c.from_residual.result c.from_residual.ensures.1 in
+    rw (p.1, p.2)
+    (rw c.in-Step.is (stepped-fault c.chain.ensures.calls c.args.job.now c.step.new.self c.args.tag c.in_err-step-in-Step.field-0.0 _ _ c.in_err-step-in-Step.ensures.takes))

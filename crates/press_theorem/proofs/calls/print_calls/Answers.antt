@@ -1,15 +1,17 @@
-use Rattle.std.proofs.Common.{[], sym, ap, get_or, take}
+use Rattle.std.proofs.Common.{[], ◌+◌, sym, ap, get_or, take, drop}
 use Rattle.std.specs.List.{flat_map}
 use Rattle.std.proofs.lemmas.List.{take_all}
+use Rattle.std.proofs.lemmas.Result.{err_from_is_err_and}
 use Rattle.press_theorem.specs.declared.calls.Call.TheVariants.{Push}
 use Rattle.press_theorem.specs.Calls.{bytes_of}
-use Rattle.press_theorem.proofs.ChainLemmas.{pieces-next, Goes-opened, Goes-more, can_count-after, Prints-end}
+use Rattle.press_theorem.proofs.ChainLemmas.{opened-going, pieces-next, Goes-opened, Goes-more, can_count-after, Prints-end, pieces-rest, PrintedTo-before, PrintedTo-none, PrintedTo-end}
 use Rattle.press_theorem.proofs.calls.print_calls.Goals as goal
 
 pub loop-call-init : goal.loop-call-init
 loop-call-init g c = record {
   given = [];
   goes = Goes-opened c.chain.ensures.calls c.in_ok-job.job c.args.tag _ c.in_ok-job.ensures;
+  going = opened-going c.in_ok-job.job c.in_ok-job.ensures;
   can_count = c.requires;
 }
 
@@ -19,16 +21,45 @@ loop-call-preserved g c =
     let i = c.loop-call.call-index in
     let first = Push (record { ref_ptr = (0, 0); now = [] }) in
     let call = get_or pieces i first in
-    let more = c.in_ok-make.ensures in
+    let more = c.in_ok-make.ensures.goes in
     let goes = c.loop-call.invariant.goes in
     record {
       given = _;
       goes = Goes-more c.chain.ensures.calls (flat_map bytes_of (take i pieces)) (bytes_of call) _ c.loop-call.invariant.given more.0 c.args.tag c.loop-call.job c.make.new.job _ _ _ (pieces-next bytes_of pieces i first c.loop-call-test.true) goes more.1;
+      going = c.in_ok-make.ensures.going;
       can_count = can_count-after c.loop-call.job c.make.new.job (bytes_of call) more.0 c.args.tag _ _ more.1 c.loop-call.invariant.can_count;
     }
 
-pub returns : goal.returns
-returns g c =
+pub returns-clause-ok : goal.returns-clause-ok
+returns-clause-ok g c =
     let pieces = c.args.calls.now in
     let i = c.loop-call.call-index in
     Prints-end c.chain.ensures.calls c.chain.ensures.prints (flat_map bytes_of (take i pieces)) (flat_map bytes_of pieces) c.loop-call.invariant.given c.args.tag c.loop-call.job c.finish.new.self c.finish.result c.in_ok-finish.field-0 _ _ _ c.in_ok-finish.was (sym (ap (flat_map bytes_of) (take_all i pieces c.loop-call-test.false))) c.loop-call.invariant.goes c.finish.ensures.finishes
+
+pub make-requires-clause-going : goal.make-requires-clause-going
+make-requires-clause-going g c = c.loop-call.invariant.going
+
+pub returns-in_err-job-clause-err : goal.returns-in_err-job-clause-err
+returns-in_err-job-clause-err g c =
+    let p = err_from_is_err_and c.from_residual.result c.from_residual.ensures.1 in
+    rw (p.1, p.2) (PrintedTo-none c.chain.ensures.calls c.chain.ensures.prints (flat_map bytes_of c.args.calls.now) c.args.tag _)
+
+pub returns-in_err-make-clause-err : goal.returns-in_err-make-clause-err
+returns-in_err-make-clause-err g c =
+    let calls = c.args.calls.now in
+    let i = c.loop-call.call-index in
+    let first = Push (record { ref_ptr = (0, 0); now = [] }) in
+    let call = get_or calls i first in
+    let p = err_from_is_err_and c.from_residual-in_err-make.result c.from_residual-in_err-make.ensures.1 in
+    rw (p.1, p.2)
+    (PrintedTo-before c.chain.ensures.prints (flat_map bytes_of (take i calls)) (bytes_of call) (flat_map bytes_of (drop (i + 1) calls)) (flat_map bytes_of calls) c.loop-call.invariant.given c.args.tag c.in_err-make.field-0.0 c.loop-call.job c.make.new.job _ _ _
+    c.loop-call.invariant.going (pieces-rest bytes_of calls i first c.loop-call-test.true) c.loop-call.invariant.goes c.in_err-make.ensures.faults)
+
+pub returns-in_err-finish-clause-err : goal.returns-in_err-finish-clause-err
+returns-in_err-finish-clause-err g c =
+    let calls = c.args.calls.now in
+    let i = c.loop-call.call-index in
+    let p = err_from_is_err_and c.from_residual-in_err-finish.result c.from_residual-in_err-finish.ensures.1 in
+    rw (p.1, p.2)
+    (PrintedTo-end c.chain.ensures.prints (flat_map bytes_of (take i calls)) (flat_map bytes_of calls) c.loop-call.invariant.given c.args.tag c.in_err-finish.field-0.0 c.loop-call.job c.finish.new.self _ _ _
+    (sym (ap (flat_map bytes_of) (take_all i calls c.loop-call-test.false))) c.loop-call.invariant.goes c.in_err-finish.ensures.finishes)

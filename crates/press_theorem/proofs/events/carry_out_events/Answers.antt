@@ -31,9 +31,9 @@ returns-clause-all g c =
     subst (λ (some : _). HappenAll c.args.press.now (map event_of some) c.loop-event.press (told c.args.sheets.now) (told c.loop-event.sheets) c.args.responses.now.items c.loop-event.responses.items) (take_all i events c.loop-event-test.false) c.loop-event.invariant.happened
 
 pub returns-clause-from_new : goal.returns-clause-from_new
-returns-clause-from_new g c = λ new.
+returns-clause-from_new g c = λ engines are new.
     let told = g.S.SheetSink.told in
     let events = c.args.events.now in
     let i = c.loop-event.event-index in
-    from-new c.sheets_are_given.ensures c.entries_are_bounded.ensures c.args.press.now (map event_of events) c.loop-event.press (told c.args.sheets.now) (told c.loop-event.sheets) c.args.responses.now.items c.loop-event.responses.items new
+    from-new c.sheets_are_given.ensures c.entries_are_bounded.ensures c.args.press.now engines (map event_of events) c.loop-event.press (told c.args.sheets.now) (told c.loop-event.sheets) c.args.responses.now.items c.loop-event.responses.items are new
     (subst (λ (some : _). HappenAll c.args.press.now (map event_of some) c.loop-event.press (told c.args.sheets.now) (told c.loop-event.sheets) c.args.responses.now.items c.loop-event.responses.items) (take_all i events c.loop-event-test.false) c.loop-event.invariant.happened)

@@ -1,4 +1,4 @@
-use Rattle.std.proofs.Common.{List, take}
+use Rattle.std.proofs.Common.{◌≡◌, false, List, take}
 use Rattle.std.specs.List.{flat_map}
 use Rattle.press_cmd.specs.Token.{Token}
 use Rattle.press_sink.specs.Told.{both, CanCount}
@@ -14,5 +14,6 @@ invariant-loop-piece g l =
     record {
       given : List Token;
       goes : Goes opened (flat_map (λ piece. piece.now) (take l.piece-index l.pieces)) given l.tag l.job before after;
+      going : l.job.held.ended ≡ false;
       can_count : CanCount after;
     }
