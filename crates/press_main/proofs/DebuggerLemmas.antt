@@ -1,5 +1,5 @@
 -- Lines of a debugger, some after others.
-use Rattle.std.proofs.Common.{◌≡◌, ◌∙◌, ℕ, List, [], ◌∷◌, ◌++◌, true, false, Option, Some, None, Ok, Err, refl, sym, ap, subst, inl, inr}
+use Rattle.std.proofs.Common.{◌≡◌, ◌∙◌, ℕ, List, [], ◌∷◌, ◌++◌, true, false, Option, Ok, Err, refl, sym, ap, subst, inl, inr}
 use Rattle.std.specs.Io.KnownBytes.{Consumes, Appends}
 use Rattle.std.proofs.KnownBytes.{Appends-nil, Appends-trans, Consumes-nil, Consumes-trans}
 use Rattle.std.proofs.lemmas.List.{append_assoc, append-nil}
@@ -14,7 +14,6 @@ use Rattle.press_main.specs.Assembly.{ReadWhole}
 use Rattle.press_main.specs.DebuggerLines.{asked_of}
 use Rattle.press_main.specs.Debugging.{Seat, seat, opened, DoesLine, StandsIn, Answers, AnswersAll, AnswersSome, StopsAtLine, Debugs, StopsDebugging}
 use Rattle.press_main.specs.LineReading.{GivesLine}
-use Rattle.press_main.specs.Lines.{HasNoFeed}
 use Rattle.press_main.proofs.DebuggerSteps.{stands_at_start, stands_line, Answers-then}
 use Rattle.press_main.proofs.LineLemmas.{next-line, reads-no-more}
 

@@ -1,26 +1,24 @@
 -- Lines of a session, some after others.
-use Rattle.std.proofs.Common.{◌≡◌, ◌∙◌, ℕ, List, [], ◌∷◌, ◌++◌, codes, true, false, Option, Some, None, option_map, Result, Ok, Err, OnOk, IfErr, length, refl, sym, ap, subst, inl, inr, arith}
-use Rattle.std.specs.Prelude.{◌==◌}
+use Rattle.std.proofs.Common.{◌≡◌, ◌∙◌, ℕ, List, [], ◌∷◌, ◌++◌, codes, true, false, Option, Some, None, option_map, Result, Ok, Err, OnOk, IfErr, refl, sym, ap, subst, inl, inr}
 use Rattle.std.specs.Io.KnownBytes.{Consumes, Appends}
 use Rattle.std.proofs.KnownBytes.{Appends-nil, Appends-trans, Consumes-nil, Consumes-trans}
-use Rattle.std.proofs.lemmas.Bool.{eqb-true}
 use Rattle.std.proofs.lemmas.List.{append_assoc, append-nil}
 use Rattle.press_asm.specs.Text.{lines_of}
 use Rattle.press_sink.specs.declared.sheet.Delivery.{Delivery}
 use Rattle.press_core.specs.declared.turn.Turn.{Turn}
-use Rattle.press_core.specs.Events.{TurnOf, Turned, Happening, Happens, Leads}
+use Rattle.press_core.specs.declared.engines.BadEngines.{BadEngines}
+use Rattle.press_core.specs.Engines.{are_engines}
+use Rattle.press_core.specs.Events.{TurnOn, Turned, Happening, Happens, Leads}
 use Rattle.press_core.specs.Laws.{SheetsAreGiven}
-use Rattle.press_core.specs.World.{World, empty_world}
+use Rattle.press_core.specs.World.{World, new_world}
 use Rattle.press_main.specs.declared.inputs.InputError.{InputError}
-use Rattle.press_main.specs.declared.inputs.InputError.TheVariants as reading
 use Rattle.press_main.specs.declared.jobs.JobFileError.TheVariants as fault
 use Rattle.press_main.specs.declared.sessions.SessionError.{SessionError}
-use Rattle.press_main.specs.declared.sessions.SessionError.TheVariants.{File}
+use Rattle.press_main.specs.declared.sessions.SessionError.TheVariants.{Engines, File}
 use Rattle.press_main.specs.EntryListing.{entry_listing}
 use Rattle.press_main.specs.EventLines.{EventLine, event_of_line}
 use Rattle.press_main.specs.LineReading.{GivesLine}
-use Rattle.press_main.specs.Lines.{HasNoFeed}
-use Rattle.press_main.specs.Sessions.{Inputs, answer_text, answer_to, answers_to, happenings_in, handed_in, turn_text, AreLinesOf, TakesEvent, TakesAsked, TakesLines, Plays, PlaysToItsEnd, StopsAtLine, Ends, StopsEnding, StopsListing, StopsPlaying}
+use Rattle.press_main.specs.Sessions.{Inputs, answer_text, answer_to, answers_to, happenings_in, handed_in, turn_text, AreLinesOf, TakesEvent, TakesAsked, TakesLines, Plays, PlaysToItsEnd, StopsAtLine, Ends, StopsEnding, StopsListing, StopsPlaying, Stops}
 use Rattle.press_main.proofs.LineLemmas.{next-line, reads-no-more}
 
 Leads-join : (world middle last : World) (happenings others : List Happening) → Leads world happenings middle → Leads middle others last → Leads world (happenings ++ others) last
@@ -237,8 +235,8 @@ IsPlayed-stops_ending inputs world had bytes left old held middle between writte
     }
 
 -- a turn was taken, and this is its line
-pub turn-taken : (world next : World) (most : ℕ) (turn : Turn) (had has handed : List Delivery) (line answer : List ℕ) → Happens world (TurnOf most) (Turned (Ok turn)) handed next → has ≡ had ++ handed → line ≡ turn_text turn.entry turn.steps → answer ≡ line → TakesEvent (TurnOf most) world had next has answer
-turn-taken world next most turn had has handed line answer happens all is same = (Turned (Ok turn), handed, happens, all, same ∙ is)
+pub turn-taken : (world next : World) (engine most : ℕ) (turn : Turn) (had has handed : List Delivery) (line answer : List ℕ) → Happens world (TurnOn engine most) (Turned (Ok turn)) handed next → has ≡ had ++ handed → line ≡ turn_text turn.entry turn.steps → answer ≡ line → TakesEvent (TurnOn engine most) world had next has answer
+turn-taken world next engine most turn had has handed line answer happens all is same = (Turned (Ok turn), handed, happens, all, same ∙ is)
 
 pub OnOk-lift : {X E : Type 0} (result : Result X E) (P Q : Type 0) → (P → Q) → OnOk result P → OnOk result Q
 OnOk-lift (Ok value) P Q f h = f h
@@ -272,8 +270,21 @@ StopsEnding-listed (Err error) inputs line lines world next had has answers old 
 
 -- ---- from a press at its beginning
 
-pub plays-given : SheetsAreGiven → (inputs : Inputs) (world : World) (had : List Delivery) (bytes left old new : Option (List ℕ)) → world ≡ empty_world → had ≡ []
-    → PlaysToItsEnd inputs world had bytes left old new → Plays inputs bytes left old new
-plays-given given inputs world had bytes left old new begins none plays =
+pub plays-given : SheetsAreGiven → (engines : ℕ) (inputs : Inputs) (world : World) (had : List Delivery) (bytes left old new : Option (List ℕ)) → are_engines engines ≡ true → world ≡ new_world engines → had ≡ []
+    → PlaysToItsEnd inputs world had bytes left old new → Plays engines inputs bytes left old new
+plays-given given engines inputs world had bytes left old new are begins none plays =
     let played = subst (λ (w : World). PlaysToItsEnd inputs w [] bytes left old new) begins (subst (λ l. PlaysToItsEnd inputs world l bytes left old new) none plays) in
-    record { played = played; given = λ number. given.under (happenings_in played.takes.happenings) played.next number played.takes.leads }
+    record {
+      are = are;
+      played = played;
+      given = λ number. given.under (happenings_in played.takes.happenings) played.next number (record { engines = engines; are = are; leads = played.takes.leads });
+    }
+
+pub stops-playing : (engines : ℕ) (inputs : Inputs) (world : World) (had : List Delivery) (bytes left old new : Option (List ℕ)) (why : SessionError) → are_engines engines ≡ true → world ≡ new_world engines → had ≡ []
+    → StopsPlaying inputs world had bytes left old new why → Stops engines inputs bytes left old new why
+stops-playing engines inputs world had bytes left old new why are begins none stops =
+    rw are (subst (λ (w : World). StopsPlaying inputs w [] bytes left old new why) begins (subst (λ l. StopsPlaying inputs world l bytes left old new why) none stops))
+
+-- without a press
+pub stops-beginning : (engines : ℕ) (inputs : Inputs) (bytes old : Option (List ℕ)) (error : BadEngines) → are_engines engines ≡ false → Stops engines inputs bytes bytes old old (Engines error)
+stops-beginning engines inputs bytes old error none = rw none ((error, refl), refl, refl)

@@ -50,9 +50,21 @@ no_job : asked (codes "press" ∷ codes "write" ∷ codes "t" ∷ []) ≡ None
 unfolding clap_on_literals
 no_job = refl
 
-session : asked (codes "press" ∷ codes "press" ∷ []) ≡ Some (record { source = Standard; made = Answered })
+session : asked (codes "press" ∷ codes "press" ∷ []) ≡ Some (record { source = Standard; made = Answered 1 })
 unfolding clap_on_literals
 session = refl
+
+session_of_engines : asked (codes "press" ∷ codes "press" ∷ codes "--engines" ∷ codes "04" ∷ []) ≡ Some (record { source = Standard; made = Answered 4 })
+unfolding clap_on_literals
+session_of_engines = refl
+
+session_of_no_number : asked (codes "press" ∷ codes "press" ∷ codes "--engines" ∷ codes "two" ∷ []) ≡ None
+unfolding clap_on_literals
+session_of_no_number = refl
+
+session_of_nothing : asked (codes "press" ∷ codes "press" ∷ codes "--engines" ∷ []) ≡ None
+unfolding clap_on_literals
+session_of_nothing = refl
 
 session_of_a_file : asked (codes "press" ∷ codes "press" ∷ codes "a" ∷ []) ≡ None
 unfolding clap_on_literals

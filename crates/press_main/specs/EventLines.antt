@@ -10,10 +10,11 @@ use Rattle.press_main.specs.declared.event_lines.LineKind.{LineKind}
 use Rattle.press_main.specs.declared.event_lines.LineKind.TheVariants.{Message, Turn, Pause, Continue, Abort}
 use Rattle.press_main.specs.Lines.{words_of, number_in}
 
--- What a line asks: a message by the names of its file and of the files of its images, a turn, or a command of an operator.
+-- What a line asks: a message by the names of its file and of the files of its images, a turn of an
+-- engine, or a command of an operator.
 pub data EventLine : Type 0 where
   MessageLine : (file : List ℕ) → (images : List (List ℕ)) → EventLine
-  TurnLine : (most : ℕ) → EventLine
+  TurnLine : (engine most : ℕ) → EventLine
   OperatorLine : OperatorCommand → EventLine
 
 -- the kind of the lines that begin with a word
@@ -29,7 +30,8 @@ kind_named word =
 -- what a line of a kind asks, by the words behind the first
 abbrev pub asked_by : LineKind → List (List ℕ) → Option EventLine
 asked_by Message (file ∷ images) = Some (MessageLine file images)
-asked_by Turn (number ∷ []) = option_map TurnLine (number_in number)
+asked_by Turn (number ∷ []) = option_map (TurnLine 0) (number_in number)
+asked_by Turn (number ∷ engine ∷ []) = option_and_then (λ which. option_map (TurnLine which) (number_in number)) (number_in engine)
 asked_by Pause [] = Some (OperatorLine operators.Pause)
 asked_by Continue [] = Some (OperatorLine operators.Continue)
 asked_by Abort [] = Some (OperatorLine operators.AbortRunning)
@@ -54,5 +56,5 @@ event_of_line line = event_in (words_of line)
 -- what the code's event of a line asks
 abbrev pub line_seen : LineEvent → EventLine
 line_seen (events.Message file images) = MessageLine file.now (map (λ name. name.now) images.now)
-line_seen (events.Turn most) = TurnLine most
+line_seen (events.Turn engine most) = TurnLine engine most
 line_seen (events.Operator command) = OperatorLine command

@@ -29,10 +29,10 @@ pub record Writing (name : Text) (status : ℕ) (had left : Option (List ℕ)) (
   pub done : status ≡ 0 → MakesTheTicket name had left images before after
   pub stops : status ≢ 0 → (why : JobFileError) × StopsMakingJob name had left images before after why
 
--- A session was played to its end, or stopped, with the files of its messages among these inputs.
-pub record Playing (status : ℕ) (inputs : Text → Option (List ℕ)) (had left old new : Option (List ℕ)) : Type 0 where
-  pub done : status ≡ 0 → Plays inputs had left old new
-  pub stops : status ≢ 0 → (why : SessionError) × Stops inputs had left old new why
+-- A session with a press of so many engines was played to its end, or stopped, with the files of its messages among these inputs.
+pub record Playing (engines status : ℕ) (inputs : Text → Option (List ℕ)) (had left old new : Option (List ℕ)) : Type 0 where
+  pub done : status ≡ 0 → Plays engines inputs had left old new
+  pub stops : status ≢ 0 → (why : SessionError) × Stops engines inputs had left old new why
 
 -- A session with a debugger of the stream of an input came to the end of its lines, or stopped.
 pub record Debugging (status : ℕ) (stream had left old new : Option (List ℕ)) : Type 0 where
@@ -45,7 +45,7 @@ abbrev pub Makes : Made → (inputs : Text → Option (List ℕ)) → ℕ → (h
 Makes Listed inputs status had left old new before after = PrintsListing status had left old new × (after ≡ before)
 Makes (FilesBy template) inputs status had left old new before after =
     PrintsFiles template status had left old new before after ⊎ DoesNothing status had left old new before after
-Makes Answered inputs status had left old new before after = Playing status inputs had left old new × (after ≡ before)
+Makes (Answered engines) inputs status had left old new before after = Playing engines status inputs had left old new × (after ≡ before)
 Makes AsText inputs status had left old new before after = Disassembling status had left old new × (after ≡ before)
 Makes (DebuggedOf name) inputs status had left old new before after = Debugging status (inputs name) had left old new × (after ≡ before)
 Makes (StreamTo name) inputs status had left old new before after = Assembling name status had left before after × (new ≡ old)

@@ -1,19 +1,21 @@
 -- Sessions with a press: what its lines ask, what comes of them, and what is written.
-use Rattle.std.specs.Prelude.{◌≡◌, ◌⊎◌, ℕ, List, [], ◌∷◌, ◌++◌, map, Option, Some, None, Ok, Err, codes, ⊤}
+use Rattle.std.specs.Prelude.{◌≡◌, ◌⊎◌, ℕ, List, [], ◌∷◌, ◌++◌, map, IsTrue, MatchBool, Option, Some, None, Ok, Err, codes, ⊤}
 use Rattle.std.specs.Fmt.{decimal}
 use Rattle.std.specs.Io.KnownBytes.{Consumes, IsAtEnd, Appends}
 use Rattle.press_pbm.specs.Spelling.{AppendsFront}
 use Rattle.press_sink.specs.declared.sheet.Delivery.{Delivery}
 use Rattle.press_asm.specs.Text.{lines_of}
-use Rattle.press_core.specs.Events.{Event, Message, TurnOf, Operator, Happening, Happens, EventAnswer, Response, Turned, Nothing, Leads}
+use Rattle.press_core.specs.declared.engines.BadEngines.{BadEngines}
+use Rattle.press_core.specs.Engines.{are_engines}
+use Rattle.press_core.specs.Events.{Event, Message, TurnOn, Operator, Happening, Happens, EventAnswer, Response, Turned, Nothing, Leads}
 use Rattle.press_core.specs.Laws.{GivenUnder}
-use Rattle.press_core.specs.World.{World, empty_world}
+use Rattle.press_core.specs.World.{World, new_world}
 use Rattle.press_main.specs.declared.inputs.InputError.{InputError}
 use Rattle.press_main.specs.declared.jobs.JobFileError.{JobFileError}
 use Rattle.press_main.specs.declared.jobs.JobFileError.TheVariants as fault
 use Rattle.press_main.specs.declared.sessions.Session.{Session}
 use Rattle.press_main.specs.declared.sessions.SessionError.{SessionError}
-use Rattle.press_main.specs.declared.sessions.SessionError.TheVariants.{File, Turn, Output, NoMemory}
+use Rattle.press_main.specs.declared.sessions.SessionError.TheVariants.{Engines, File, Turn, Output, NoMemory}
 use Rattle.press_main.specs.Assembly.{ReadWhole}
 use Rattle.press_main.specs.EntryListing.{entry_listing}
 use Rattle.press_main.specs.EntrySheets.{kept, entry_deliveries_of}
@@ -66,7 +68,7 @@ HasText had text = (left : Option (List ℕ)) × ReadWhole had left text
 -- The event is what a line asks: a message has the text of the input of its file, and the images of the inputs that are named.
 abbrev pub IsAsked : Inputs → EventLine → Event → Type 0
 IsAsked inputs (MessageLine file names) (Message text images) = HasText (inputs file) text × HaveImages (map inputs names) images
-IsAsked inputs (TurnLine most) (TurnOf steps) = steps ≡ most
+IsAsked inputs (TurnLine engine most) (TurnOn which steps) = (which ≡ engine) × (steps ≡ most)
 IsAsked inputs (OperatorLine asked) (Operator command) = command ≡ asked
 IsAsked inputs asked event = ⊥
 
@@ -120,8 +122,8 @@ abbrev pub HasFault : Inputs → EventLine → World → SessionError → Type 0
 HasFault inputs asked world NoMemory = ⊤
 HasFault inputs (MessageLine file names) world (File why) =
     IsUnread why ⊎ ((text : List ℕ) × HasText (inputs file) text × ImagesRefused (map inputs names) why)
-HasFault inputs (TurnLine most) world (Turn error) =
-    (handed : List Delivery) × (next : World) × Happens world (TurnOf most) (Turned (Err error)) handed next
+HasFault inputs (TurnLine engine most) world (Turn error) =
+    (handed : List Delivery) × (next : World) × Happens world (TurnOn engine most) (Turned (Err error)) handed next
 HasFault inputs asked world why = ⊥
 
 -- Why a line has no answer: what it asks has none, or memory ran out.
@@ -196,11 +198,18 @@ pub record StopsPlaying (inputs : Inputs) (world : World) (had : List Delivery) 
 abbrev pub delivered_by : Session → List Delivery
 delivered_by session = entry_deliveries_of (kept session.sheets)
 
--- A session was played, with a press at its beginning: under each number was delivered what its entry says, as it was seen last.
-pub record Plays (inputs : Inputs) (bytes left old new : Option (List ℕ)) : Type 0 where
-  pub played : PlaysToItsEnd inputs empty_world [] bytes left old new
+-- A session was played, with a press of so many engines at its beginning: under each number was delivered what its entry says, as it
+-- was seen last.
+pub record Plays (engines : ℕ) (inputs : Inputs) (bytes left old new : Option (List ℕ)) : Type 0 where
+  pub are : IsTrue (are_engines engines)
+  pub played : PlaysToItsEnd inputs (new_world engines) [] bytes left old new
   pub given : (number : ℕ) → GivenUnder (happenings_in played.takes.happenings) played.next number
 
+-- No press has so many engines, and nothing was read or written.
+abbrev pub DoesNotBegin : (bytes left old new : Option (List ℕ)) → SessionError → Type 0
+DoesNotBegin bytes left old new why = ((error : BadEngines) × (why ≡ Engines error)) × (left ≡ bytes) × (new ≡ old)
+
 -- It stopped early, and this is why.
-abbrev pub Stops : Inputs → (bytes left old new : Option (List ℕ)) → SessionError → Type 0
-Stops inputs bytes left old new why = StopsPlaying inputs empty_world [] bytes left old new why
+abbrev pub Stops : (engines : ℕ) → Inputs → (bytes left old new : Option (List ℕ)) → SessionError → Type 0
+Stops engines inputs bytes left old new why =
+    MatchBool (are_engines engines) (StopsPlaying inputs (new_world engines) [] bytes left old new why) (DoesNotBegin bytes left old new why)

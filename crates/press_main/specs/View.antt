@@ -21,7 +21,7 @@ source_seen (inputs.File name) = FileNamed name.now
 abbrev pub made_seen : Output → Made
 made_seen outputs.Listing = Listed
 made_seen (outputs.Files template) = FilesBy template.now
-made_seen outputs.Session = Answered
+made_seen (outputs.Session engines) = Answered engines
 made_seen outputs.Text = AsText
 made_seen (outputs.Debugged name) = DebuggedOf name.now
 made_seen (outputs.Assembled name) = StreamTo name.now

@@ -1,8 +1,9 @@
 -- What the words of the command line ask for.
-use Rattle.std.specs.Prelude.{List, [], ◌∷◌, Option, Some, None, Bool, true, false, codes, option_map, option_and_then, unwrap_or, if◌then◌else◌}
+use Rattle.std.specs.Prelude.{ℕ, List, [], ◌∷◌, Option, Some, None, Bool, true, false, codes, option_map, option_and_then, unwrap_or, if◌then◌else◌}
 use Rattle.std.specs.Option.{option_map_or}
 use Rattle.std.specs.Str.{bytes_eq}
 use Rattle.clap.specs.Words.{App, Row, Rule, Text, new_app, new_rule, with_rule, with_subcommand, subcommand_of, first_of, all_of, fault_of}
+use Rattle.press_main.specs.Lines.{number_word}
 use Rattle.press_main.specs.declared.words.Subcommand.{Subcommand}
 use Rattle.press_main.specs.declared.words.Subcommand.TheVariants.{Print, Asm, Disasm, Debug, Write, Press}
 use Rattle.clap.specs.declared.builder.action.ArgAction.TheVariants.{Append, SetTrue}
@@ -14,11 +15,11 @@ pub data Source : Type 0 where
 
 -- What is made of an input: of a stream a listing, files by this template, or its assembly text; of assembly text the file
 -- of this name; of a ticket the file of this name, its job with the images of these files; of lines of events the answers of
--- a press, and the listing of what it delivered; of lines of a debugger its answers, over the stream of this file.
+-- a press with so many engines, and the listing of what it delivered; of lines of a debugger its answers, over the stream of this file.
 pub data Made : Type 0 where
   Listed : Made
   FilesBy : Text → Made
-  Answered : Made
+  Answered : (engines : ℕ) → Made
   AsText : Made
   DebuggedOf : Text → Made
   StreamTo : Text → Made
@@ -58,9 +59,12 @@ images_rule = record (new_rule (codes "IMG")) { action = Some Append }
 abbrev pub write_app : App
 write_app = with_rule (with_rule (with_rule (new_app (codes "write")) (needed_rule (codes "TICKET"))) (needed_rule (codes "OUT"))) images_rule
 
--- `press` has no words.
+-- The word of `press`: how many engines it has.
+abbrev pub engines_rule : Rule
+engines_rule = record (new_rule (codes "engines")) { long = Some (codes "engines"); value_names = 1 }
+
 abbrev pub session_app : App
-session_app = new_app (codes "press")
+session_app = with_rule (new_app (codes "press")) engines_rule
 
 -- The command line: the subcommands of the program.
 abbrev pub press_app : App
@@ -108,9 +112,13 @@ debug_of name = if bytes_eq name (codes "-") then None else Some (record { sourc
 abbrev pub debug_asked : List Row → Option Asked
 debug_asked rows = option_and_then debug_of (first_of (codes "IN") rows)
 
+-- how many engines `press` asks for: one where nothing is said of them
+abbrev pub engines_of : List Row → Option ℕ
+engines_of rows = option_map_or number_word (first_of (codes "engines") rows) (Some 1)
+
 -- what `press` asks for: the events stand on standard input
-abbrev pub session_asked : Asked
-session_asked = record { source = Standard; made = Answered }
+abbrev pub session_asked : List Row → Option Asked
+session_asked rows = option_map (λ engines. record { source = Standard; made = Answered engines }) (engines_of rows)
 
 -- the subcommand of a name
 abbrev pub subcommand_named : Text → Option Subcommand
@@ -130,7 +138,7 @@ asked_of Asm rows = asm_asked rows
 asked_of Disasm rows = disasm_asked rows
 asked_of Debug rows = debug_asked rows
 asked_of Write rows = job_asked rows
-asked_of Press rows = Some session_asked
+asked_of Press rows = session_asked rows
 
 -- the same by its name
 abbrev pub asked_by : Text → List Row → Option Asked

@@ -11,8 +11,8 @@ use press_core::OperatorCommand;
 pub enum LineEvent<'a> {
     /// A message: the name of its file, and the names of the files of its images.
     Message(&'a [u8], &'a [&'a [u8]]),
-    /// A turn of at most so many steps.
-    Turn(u64),
+    /// A turn of an engine, of at most so many steps.
+    Turn { engine: u64, most: u64 },
     /// A command of the operator.
     Operator(OperatorCommand),
 }
@@ -27,8 +27,8 @@ pub enum LineKind {
     Abort,
 }
 
-/// What a line of these words asks, if it is one of an event: `message FILE IMG..`, `turn N`, `pause`, `continue` or `abort`.
-/// No word is empty, since one space stands between two.
+/// What a line of these words asks, if it is one of an event: `message FILE IMG..`, `turn N`, `turn N ENGINE`, `pause`,
+/// `continue` or `abort`. No word is empty, since one space stands between two.
 pub fn event_of<'a>(words: &'a [&'a [u8]]) -> Option<LineEvent<'a>>
     ensures { option_map line_seen result ≡ event_in (map (λ word. word.now) words.entry.now) }
 {
@@ -76,7 +76,14 @@ fn asked_by<'a>(kind: LineKind, words: &'a [&'a [u8]]) -> Option<LineEvent<'a>>
 {
     match (kind, words) {
         (LineKind::Message, [file, images @ ..]) => Some(LineEvent::Message(file, images)),
-        (LineKind::Turn, [number]) => Some(LineEvent::Turn(number_in(number)?)),
+        (LineKind::Turn, [number]) => Some(LineEvent::Turn {
+            engine: 0,
+            most: number_in(number)?,
+        }),
+        (LineKind::Turn, [number, engine]) => Some(LineEvent::Turn {
+            engine: number_in(engine)?,
+            most: number_in(number)?,
+        }),
         (LineKind::Pause, []) => Some(LineEvent::Operator(OperatorCommand::Pause)),
         (LineKind::Continue, []) => Some(LineEvent::Operator(OperatorCommand::Continue)),
         (LineKind::Abort, []) => Some(LineEvent::Operator(OperatorCommand::AbortRunning)),

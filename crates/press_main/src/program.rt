@@ -128,8 +128,8 @@ fn make<I: NamedInputs, O: NamedOutputs + Drop, R: Read, W: Write + Drop, E: Wri
             outputs,
         },
         Output::Files(template) => print_files(alloc, outputs, reader, template, out, err),
-        Output::Session => Finished {
-            status: press_lines(alloc, inputs, reader, &mut out, err),
+        Output::Session(engines) => Finished {
+            status: press_lines(alloc, inputs, *engines, reader, &mut out, err),
             out,
             outputs,
         },

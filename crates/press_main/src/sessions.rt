@@ -1,9 +1,9 @@
 //! Sessions with a press: lines of events, and what each is answered.
-ghost use Rattle.std.specs.Prelude.{◌≡◌, ◌≢◌, ◌≤◌, ◌∷◌, ◌++◌, ℕ, List, [], map, IfOk, IfErr, OnOk};
+ghost use Rattle.std.specs.Prelude.{◌≡◌, ◌≢◌, ◌≤◌, ◌∷◌, ◌++◌, ℕ, List, [], map, is_ok, IfOk, IfErr, OnOk};
 ghost use Rattle.std.specs.Io.KnownBytes.{Appends};
 ghost use Rattle.std.specs.String.{string_bytes};
 ghost use Rattle.press_asm.specs.Text.{lines_of};
-ghost use Rattle.press_core.specs.Events.{TurnOf, Operator};
+ghost use Rattle.press_core.specs.Events.{TurnOn, Operator};
 ghost use Rattle.press_main.specs.EntryListing.{entry_listing};
 ghost use Rattle.press_main.specs.EventLines.{MessageLine, TurnLine, line_seen};
 ghost use Rattle.press_main.specs.Lines.{HasNoFeed};
@@ -37,7 +37,7 @@ use crate::lines::{WHAT, line_of, words_of};
 use crate::listing::list_delivered;
 use crate::named_inputs::{NamedInputs, open_named};
 use crate::telling::{NO_OUTPUT, told, write_flushed};
-use press_core::{OperatorCommand, Press, Turn, TurnError, laws};
+use press_core::{BadEngines, OperatorCommand, Press, Turn, TurnError, laws};
 use press_units::NO_MEMORY;
 use std::alloc::{AllocError, Global};
 use std::io::{self, Read, Write};
@@ -46,10 +46,13 @@ use thiserror::Error;
 /// Why a session ended early.
 #[derive(Debug, Drop, Error)]
 pub enum SessionError {
+    /// No press has so many engines.
+    #[error("{0}")]
+    Engines(BadEngines),
     /// The file or an image of a message cannot be opened or read, or an image is refused; or the lines cannot be read.
     #[error("{0}")]
     File(JobFileError),
-    /// A turn had a fault.
+    /// A turn had a fault, or is of an engine that there is not.
     #[error("{0}")]
     Turn(TurnError),
     /// An answer or the listing cannot be written.
@@ -57,6 +60,17 @@ pub enum SessionError {
     Output(io::Error),
     #[error("{text}", text = NO_MEMORY)]
     NoMemory,
+}
+
+impl From<BadEngines> for SessionError {
+    ghost use Rattle.std.specs.Prelude.{◌≡◌};
+    ghost use Rattle.press_main.specs.declared.sessions.SessionError.TheVariants.{Engines};
+
+    ghost from_gives = { λ fault error. error ≡ Engines fault };
+
+    fn from(fault: BadEngines) -> SessionError {
+        SessionError::Engines(fault)
+    }
 }
 
 impl From<InputError> for SessionError {
@@ -115,32 +129,51 @@ impl From<AllocError> for SessionError {
     }
 }
 
-/// Has a session with a press that has no entries: carries out each line of events that a reader has, writes its answer to
-/// `out`, and at the end of the lines the listing, a line for each side that was delivered. The files of a message are opened
+/// Has a session with a press of so many engines that has no entries: carries out each line of events that a reader has, writes its
+/// answer to `out`, and at the end of the lines the listing, a line for each side that was delivered. The files of a message are opened
 /// by their names. In whatever order the events come, what was delivered under the number of an entry in flight are the sheets of
 /// the steps that were taken of its job, of a completed one all that its ticket wants, of every other one a front of those. After a
 /// fault, which stands on `err`, no line is carried out, and nothing is listed. The answer is the status: 0, or 1 after a fault.
 pub fn press_lines<I: NamedInputs, R: Read, W: Write, E: Write>(
     alloc: Global,
     inputs: &I,
+    engines: u64,
     reader: &mut R,
     out: &mut W,
     err: &mut E,
 ) -> u8
     ensures status { result ≤ 1 }
-    ensures plays { result ≡ 0 → Plays (I.bytes inputs.now)
+    ensures plays { result ≡ 0 → Plays engines (I.bytes inputs.now)
         (R.remaining reader.old) (R.remaining reader.new)
         (W.contents out.old) (W.contents out.new) }
-    ensures stops { result ≢ 0 → (why : SessionError) × Stops (I.bytes inputs.now)
+    ensures stops { result ≢ 0 → (why : SessionError) × Stops engines (I.bytes inputs.now)
         (R.remaining reader.old) (R.remaining reader.new)
         (W.contents out.old) (W.contents out.new) why }
 {
-    laws::sheets_are_given();
-    let mut session = Session::new(alloc);
-    match session.run(inputs, reader, out) {
+    match play(alloc, inputs, engines, reader, out) {
         Ok(()) => 0,
         Err(error) => told(&error, err),
     }
+}
+
+/// Has a session with a press of so many engines, and tells no fault.
+fn play<I: NamedInputs, R: Read, W: Write>(
+    alloc: Global,
+    inputs: &I,
+    engines: u64,
+    reader: &mut R,
+    out: &mut W,
+) -> Result<(), SessionError>
+    ensures ok { OnOk result (Plays engines (I.bytes inputs.now)
+        (R.remaining reader.old) (R.remaining reader.new)
+        (W.contents out.old) (W.contents out.new)) }
+    ensures err { IfErr result (Stops engines (I.bytes inputs.now)
+        (R.remaining reader.old) (R.remaining reader.new)
+        (W.contents out.old) (W.contents out.new)) }
+{
+    laws::sheets_are_given();
+    let mut session = Session::new(alloc, engines)?;
+    session.run(inputs, reader, out)
 }
 
 /// A press, and the sheets that it delivered.
@@ -152,18 +185,21 @@ struct Session {
 }
 
 impl Session {
-    ghost use Rattle.press_core.specs.World.{empty_world};
+    ghost use Rattle.press_core.specs.Engines.{are_engines};
+    ghost use Rattle.press_core.specs.World.{new_world};
 
-    /// A session with a press that has no entries.
-    fn new(alloc: Global) -> Self
-        ensures press { result.press ≡ empty_world }
-        ensures delivered { delivered_by result ≡ [] }
+    /// A session with a press of so many engines that has no entries.
+    fn new(alloc: Global, engines: u64) -> Result<Self, BadEngines>
+        ensures press { IfOk result (λ session. session.press ≡ new_world engines) }
+        ensures delivered { IfOk result (λ session. delivered_by session ≡ []) }
+        ensures are { is_ok result ≡ are_engines engines }
     {
-        Session {
+        let press = Press::with_engines(alloc, engines)?;
+        Ok(Session {
             alloc,
-            press: Press::new(alloc),
+            press,
             sheets: EntrySheets::new(alloc),
-        }
+        })
     }
 
     /// Carries out the lines that a reader has, and lists the sheets. A line is carried out before more is read.
@@ -279,7 +315,7 @@ impl Session {
     {
         match event {
             LineEvent::Message(file, images) => self.message(inputs, file, images),
-            LineEvent::Turn(most) => self.turn(most),
+            LineEvent::Turn { engine, most } => self.turn(engine, most),
             LineEvent::Operator(command) => self.operate(command),
         }
     }
@@ -306,15 +342,15 @@ impl Session {
         Ok(line_of(self.alloc, &response)?)
     }
 
-    /// Takes a turn: what it did.
-    fn turn(&mut self, most: u64) -> Result<Vec<u8>, SessionError>
-        ensures ok { IfOk result (λ answer. TakesEvent (TurnOf most)
+    /// Takes a turn of an engine: what it did.
+    fn turn(&mut self, engine: u64, most: u64) -> Result<Vec<u8>, SessionError>
+        ensures ok { IfOk result (λ answer. TakesEvent (TurnOn engine most)
             self.old.press (delivered_by self.old)
             self.new.press (delivered_by self.new) answer.items) }
         ensures err { IfErr result (λ why.
-            (inputs : Inputs) → HasFault inputs (TurnLine most) self.old.press why) }
+            (inputs : Inputs) → HasFault inputs (TurnLine engine most) self.old.press why) }
     {
-        let turn = self.press.turn(most, &mut self.sheets)?;
+        let turn = self.press.turn_on(engine, most, &mut self.sheets)?;
         Ok(turn_line(self.alloc, turn)?.into_bytes())
     }
 

@@ -1,11 +1,12 @@
 //! The words of the command line, and what they ask for.
 ghost use Rattle.std.specs.Prelude.{◌≡◌, ◌↔◌, ◌⊎◌, IfOk, IfErr, IsTrue, Some, None, map, option_map, option_and_then, codes, false};
-ghost use Rattle.clap.specs.Words.{app_of, rule_of, new_rule, kind_of, first_of, rows_of, found_of, subcommand_of, subcommand_rows_of, fault_of, FailsBy};
+ghost use Rattle.clap.specs.Words.{app_of, new_app, rule_of, new_rule, kind_of, first_of, rows_of, found_of, subcommand_of, subcommand_rows_of, fault_of, FailsBy};
 ghost use Rattle.clap.specs.declared.builder.command.Command.TheViews.{out-Command};
 ghost use Rattle.clap.specs.declared.error.kind.ErrorKind.TheVariants.{OutOfMemory};
-ghost use Rattle.press_main.specs.Words.{list_rule, needed_rule, images_rule, print_app, asm_app, disasm_app, debug_app, write_app, session_app, press_app, source_of, made_of, images_of, print_asked, asm_asked, disasm_asked, debug_asked, job_asked, subcommand_named, asked_of, asked_by, asked, is_set};
+ghost use Rattle.press_main.specs.Words.{list_rule, needed_rule, images_rule, engines_rule, print_app, asm_app, disasm_app, debug_app, write_app, session_app, press_app, source_of, made_of, images_of, engines_of, print_asked, asm_asked, disasm_asked, debug_asked, job_asked, session_asked, subcommand_named, asked_of, asked_by, asked, is_set};
 ghost use Rattle.press_main.specs.View.{source_seen, made_seen, request_seen, status_of, IsForMemory};
 
+use crate::lines::number_word;
 use clap::error::ErrorKind;
 use clap::{Arg, ArgAction, ArgMatches, Command, Error};
 use press_units::NO_MEMORY;
@@ -21,6 +22,7 @@ const AFTER_HELP: &str = "Examples:
   press debug page.pcl < lines.txt
   press write ticket.json job.prn page-1.pbm page-2.pbm
   press press < events.txt
+  press press --engines 2 < events.txt
 
 A fault is told in one line on standard error. What each means, and what to do:
   fault 111, 113        an image is no P4 file (raw PBM), or its end is missing: make it again
@@ -34,6 +36,9 @@ A fault is told in one line on standard error. What each means, and what to do:
                         correct the line that is told, by docs/ASSEMBLY.md
   fault 601 to 605      the ticket is refused (602 names the key): correct it by docs/TICKETS.md
   fault 611, 612, 613   images are too few, too wide or too tall: name one for each page, or scale it
+  fault 701             --engines asks for no engine, or for more than 4: ask for 1 to 4
+  fault 702             a line turn N ENGINE names an engine that the press does not have:
+                        count them from 0, or ask for more by --engines
   fault memory          memory ran out: give the program more, or print a smaller stream
 docs/FAULTS.md says more of each. See also docs/ASSEMBLY.md, DEBUGGER.md, TICKETS.md and QUEUE.md.";
 
@@ -42,8 +47,8 @@ const DEBUGGER_HELP: &str =
     "Lines: step, over, go N, break KIND, clear N, recent. docs/DEBUGGER.md explains them.";
 
 /// The lines of a session, for help.
-const SESSION_HELP: &str = "Lines: message FILE [IMG...], turn N, pause, continue, abort. \
-    docs/QUEUE.md explains them.";
+const SESSION_HELP: &str = "Lines: message FILE [IMG...], turn N [ENGINE], pause, continue, abort. \
+    Engines are counted from 0. docs/QUEUE.md explains them.";
 
 /// Where an input is read.
 #[derive(Debug, Drop)]
@@ -61,8 +66,8 @@ pub enum Output<'a> {
     Listing,
     /// A file for each side of a stream, by this template.
     Files(&'a str),
-    /// The answers to lines of events, and the listing of the sheets that a press then delivered.
-    Session,
+    /// The answers to lines of events, of a press with so many engines, and the listing of the sheets that it then delivered.
+    Session(u64),
     /// The assembly text of a stream.
     Text,
     /// The answers to the lines of a debugger of the stream of this file.
@@ -80,18 +85,13 @@ pub struct Request<'a> {
     pub output: Output<'a>,
 }
 
-/// A session with a press.
-const SESSION: Request<'static> = Request {
-    input: Input::Standard,
-    output: Output::Session,
-};
-
 /// Why the words ask for nothing.
 #[derive(Debug, Drop)]
 pub enum Refusal {
     /// The command line is refused, or asks for help; or memory ran out.
     Words(Error),
-    /// A subcommand lacks what its words have to name: `print` a template, where no listing is asked for, or `debug` a file.
+    /// A subcommand lacks what its words have to name: `print` a template, where no listing is asked for, `debug` a file, or
+    /// `press` a number of engines.
     NoName,
 }
 
@@ -128,8 +128,8 @@ impl fmt::Display for Refusal {
             Refusal::Words(error) => write!(f, "{error}"),
             Refusal::NoName => writeln!(
                 f,
-                "usage: press print IN OUT, press print --list IN, or press debug IN, \
-                where IN is a file and not -"
+                "usage: press print IN OUT, press print --list IN, press debug IN, \
+                where IN is a file and not -, or press press [--engines N], where N is a number"
             ),
         }
     }
@@ -255,19 +255,31 @@ fn write_command<'a>(alloc: Global) -> Result<Command<'a>, AllocError>
         .arg(images_word(alloc))
 }
 
+/// The option for the number of engines.
+fn engines_option<'a>(alloc: Global) -> Arg<'a>
+    ensures rule { rule_of result ≡ engines_rule }
+    ensures local { result.global ≡ false }
+{
+    Arg::new(alloc, "engines")
+        .long("engines")
+        .value_name("N")
+        .help("How many engines the press has, 1 to 4; one without it")
+}
+
 /// The subcommand `press`.
-fn press_command<'a>(alloc: Global) -> Command<'a>
-    ensures app { app_of result ≡ session_app }
-    ensures local { (out-Command result).has_globals ≡ false }
+fn press_command<'a>(alloc: Global) -> Result<Command<'a>, AllocError>
+    ensures app { IfOk result (λ command. app_of command ≡ session_app) }
+    ensures local { IfOk result (λ command. (out-Command command).has_globals ≡ false) }
 {
     Command::new(alloc, "press")
         .about("Plays a session with a press that has a queue, by the lines on standard input")
         .after_help(SESSION_HELP)
+        .arg(engines_option(alloc))
 }
 
-/// The command line that is taken.
-fn command<'a>(alloc: Global) -> Result<Command<'a>, AllocError>
-    ensures { IfOk result (λ command. app_of command ≡ press_app) }
+/// The program, with its help and no subcommand.
+fn program<'a>(alloc: Global) -> Command<'a>
+    ensures { app_of result ≡ new_app (codes "press") }
 {
     Command::new(alloc, "press")
         .about(
@@ -275,12 +287,19 @@ fn command<'a>(alloc: Global) -> Result<Command<'a>, AllocError>
              sheets of the stream on standard input",
         )
         .after_help(AFTER_HELP)
+}
+
+/// The command line that is taken.
+fn command<'a>(alloc: Global) -> Result<Command<'a>, AllocError>
+    ensures { IfOk result (λ command. app_of command ≡ press_app) }
+{
+    program(alloc)
         .subcommand(print_command(alloc)?)?
         .subcommand(asm_command(alloc)?)?
         .subcommand(disasm_command(alloc)?)?
         .subcommand(debug_command(alloc)?)?
         .subcommand(write_command(alloc)?)?
-        .subcommand(press_command(alloc))
+        .subcommand(press_command(alloc)?)
 }
 
 /// The matches of words, the program's name among them.
@@ -411,6 +430,28 @@ fn debug_request<'a>(matches: &ArgMatches<'a>) -> Option<Request<'a>>
     })
 }
 
+/// How many engines the matches of `press` ask for: one where they say nothing of them.
+#[tactic(auto, using(crate::proofs::WordsLemmas::value_by_rows))]
+fn engines_of(matches: &ArgMatches<'_>) -> Option<u64>
+    ensures { result ≡ engines_of (rows_of (found_of matches.now)) }
+{
+    match matches.get_str("engines") {
+        Some(number) => number_word(number.as_bytes()),
+        None => Some(1),
+    }
+}
+
+/// What the matches of `press` ask for. The events stand on standard input.
+fn session_request<'a>(matches: &ArgMatches<'a>) -> Option<Request<'a>>
+    ensures { option_map request_seen result ≡ session_asked (rows_of (found_of matches.now)) }
+{
+    let engines = engines_of(matches)?;
+    Some(Request {
+        input: Input::Standard,
+        output: Output::Session(engines),
+    })
+}
+
 /// A subcommand.
 #[derive(Clone, Copy)]
 enum Subcommand {
@@ -458,7 +499,7 @@ fn subcommand_request<'a>(
         Subcommand::Disasm => Ok(disasm_request(matches)),
         Subcommand::Debug => Ok(debug_request(matches)),
         Subcommand::Write => job_request(alloc, matches),
-        Subcommand::Press => Ok(Some(SESSION)),
+        Subcommand::Press => Ok(session_request(matches)),
     }
 }
 

@@ -1,4 +1,4 @@
-use Rattle.std.proofs.Common.{◌≡◌, ℕ, List}
+use Rattle.std.proofs.Common.{ℕ, List}
 use Rattle.std.specs.Fn.{FnReturnsAt}
 use Rattle.press_main.specs.Debugging.{IsQuiet, StandsIn, seat}
 use Rattle.press_main.specs.LineReading.{held, bytes_left}
