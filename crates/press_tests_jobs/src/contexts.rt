@@ -17,7 +17,7 @@ const SUBMIT_PAGE: &[u8] = br#"{"ID":"m","Type":"SubmitQueueEntry","Ticket":
 {"Amount":1,"JobID":"J","NPage":1,"Type":"DigitalPrinting","Version":"1.5"}}"#;
 
 /// An image of so many black dots beside one another.
-fn bar(alloc: Global, dots: u32) -> Result<Bitmap, Fail> {
+pub(crate) fn bar(alloc: Global, dots: u32) -> Result<Bitmap, Fail> {
     let mut image = Bitmap::blank(alloc, dots, 1)?;
     let mode = Mode {
         source_opaque: false,
@@ -37,7 +37,12 @@ fn images(alloc: Global) -> Result<[Bitmap; 2], Fail> {
 }
 
 /// The return code of the response to a command to an entry.
-fn answer(alloc: Global, press: &mut Press, kind: &str, entry: u64) -> Result<u64, Fail> {
+pub(crate) fn answer(
+    alloc: Global,
+    press: &mut Press,
+    kind: &str,
+    entry: u64,
+) -> Result<u64, Fail> {
     let text = format!(in alloc;
         "{{\"ID\":\"m\",\"QueueEntryID\":\"Q{entry}\",\"Type\":\"{kind}\"}}"
     )?;

@@ -1,10 +1,14 @@
-//! The tests of what takes jobs: streams, the debugger, tickets and their jobs, the queue, turns, and the program's files and sessions.
+//! The tests of what takes jobs: streams, the debugger, tickets and their jobs, the queue, turns, engines, and the program's files and sessions.
 #![tactic(auto)]
 
 #[cfg(test)]
 mod contexts;
 #[cfg(test)]
 mod debugger;
+#[cfg(test)]
+mod devices;
+#[cfg(test)]
+mod engines;
 #[cfg(test)]
 mod jobs_of_tickets;
 #[cfg(test)]
@@ -25,3 +29,5 @@ mod streams;
 mod tickets;
 #[cfg(test)]
 mod turns;
+#[cfg(test)]
+mod worked;

@@ -83,7 +83,7 @@ fn a_session_goes_by_lines_and_not_by_reads(rt: HostRuntime) -> Result<(), Fail>
         };
         let mut out = Vec::new(rt.alloc());
         let mut err = Vec::new(rt.alloc());
-        let status = press_lines(rt.alloc(), &Shelf, &mut reader, &mut out, &mut err);
+        let status = press_lines(rt.alloc(), &Shelf, 1, &mut reader, &mut out, &mut err);
         // the last line has no end: where a read fails it is not carried out
         let answers = match ANSWERS.split_once("turn - 0\nQ1 sheet") {
             Some((answers, _)) if fails => answers,
@@ -110,7 +110,7 @@ fn each_answer_is_flushed_before_more_is_read(rt: HostRuntime) -> Result<(), Fai
             fails,
         };
         let mut err = Vec::new(rt.alloc());
-        let status = press_lines(rt.alloc(), &Shelf, &mut reader, &mut out, &mut err);
+        let status = press_lines(rt.alloc(), &Shelf, 1, &mut reader, &mut out, &mut err);
         let wanted: (usize, &[u8]) = if fails {
             (0, b"fault output\n")
         } else {
@@ -133,7 +133,7 @@ fn answers_that_cannot_be_written_are_told(rt: HostRuntime) -> Result<(), Fail> 
     ] {
         let mut lines = line.as_bytes();
         let mut err = Vec::new(rt.alloc());
-        let status = press_lines(rt.alloc(), &Shelf, &mut lines, &mut Full, &mut err);
+        let status = press_lines(rt.alloc(), &Shelf, 1, &mut lines, &mut Full, &mut err);
         assert_eq!(rt;
             (status, err.as_slice()),
             (1, b"fault output\n".as_slice()),

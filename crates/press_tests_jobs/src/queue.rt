@@ -13,12 +13,6 @@ fn queue_of(alloc: Global, count: u64) -> Result<Queue, SubmitError> {
     Ok(queue)
 }
 
-/// Lets the first entry that waits begin.
-fn begin(rt: &impl Abort, queue: &mut Queue) -> Option<u64> {
-    assert!(rt; queue.running().is_none());
-    queue.begin()
-}
-
 /// Each refusal, its return code and its text.
 const CODES: [(Refusal, u8, &str); 7] = [
     (Refusal::Unknown, 21, "fault 21"),
@@ -50,7 +44,7 @@ fn each_refusal_has_its_code(rt: HostRuntime) -> Result<(), Fail> {
 /// Lets the first seven entries begin, and suspends each.
 fn suspend_seven(rt: &impl Abort, queue: &mut Queue) -> Result<(), Refusal> {
     for number in 1..8 {
-        assert_eq!(rt; begin(rt, queue), Some(number));
+        assert_eq!(rt; queue.begin(), Some(number));
         queue.suspend(number)?;
     }
     Ok(())
@@ -60,7 +54,7 @@ fn suspend_seven(rt: &impl Abort, queue: &mut Queue) -> Result<(), Refusal> {
 fn a_ninth_in_flight_is_refused(rt: HostRuntime) -> Result<(), Fail> {
     let mut queue = queue_of(rt.alloc(), 9)?;
     suspend_seven(&rt, &mut queue)?;
-    assert_eq!(rt; begin(&rt, &mut queue), Some(8));
+    assert_eq!(rt; (queue.begin(), queue.begin()), (Some(8), None));
     let waits = queue.suspend(9);
     let ninth = queue.suspend(8);
     queue.abort(1)?;
