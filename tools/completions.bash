@@ -9,6 +9,10 @@ _press() {
     mapfile -t COMPREPLY < <(compgen -W "--try print asm disasm debug write press help --help" -- "$word")
   elif [ "$first" = print ] && [[ "$word" == -* ]]; then
     mapfile -t COMPREPLY < <(compgen -W "--list" -- "$word")
+  elif [ "$first" = press ] && [ "${COMP_WORDS[COMP_CWORD-1]}" = --engines ]; then
+    mapfile -t COMPREPLY < <(compgen -W "1 2 3 4" -- "$word")
+  elif [ "$first" = press ] && [[ "$word" == -* ]]; then
+    mapfile -t COMPREPLY < <(compgen -W "--engines" -- "$word")
   elif [ "$first" != press ]; then
     mapfile -t COMPREPLY < <(compgen -f -- "$word")
   fi

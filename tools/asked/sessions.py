@@ -49,23 +49,34 @@ def waiting(order, priorities):
     return queue("Waiting", *((number, "Waiting", priorities[number]) for number in order))
 
 
+def does(status, name="", sheets=0):
+    """What an engine does."""
+    return {"QueueEntryID": name, "Sheets": sheets, "Status": status}
+
+
 def device(status, name="", sheets=0):
     """What the device does."""
-    return ask("Status", 0, answer={"Device": {"QueueEntryID": name, "Sheets": sheets, "Status": status}})
+    return ask("Status", 0, answer={"Device": does(status, name, sheets)})
 
 
-def turn(most, name, steps):
-    return f"turn {most}", f"turn {name} {steps}"
+def engines(*each):
+    """What several engines do, from engine 0 on; the first is the device."""
+    return ask("Status", 0, answer={"Device": each[0], "Engines": list(each)})
+
+
+def turn(most, name, steps, engine=None):
+    """A turn, of this engine where one is named."""
+    return f"turn {most}" + ("" if engine is None else f" {engine}"), f"turn {name} {steps}"
 
 
 def operator(word):
     return word, "ok"
 
 
-def session(*exchanges, sheets=()):
+def session(*exchanges, sheets=(), words="press"):
     """Lines with their answers, and the sheets that are listed at the end."""
     answers = [answer for _, answer in exchanges]
-    return "press", 0, "".join(f"{line}\n" for line in [*answers, *sheets]), "\n".join(line for line, _ in exchanges).encode()
+    return words, 0, "".join(f"{line}\n" for line in [*answers, *sheets]), "\n".join(line for line, _ in exchanges).encode()
 
 
 ALL = 18446744073709551615
@@ -212,6 +223,47 @@ SESSIONS += [
     session(submit(1), turn(14, "Q1", 14), submit(2, 51, ticket(NPage="2", Sides=""), ["bar", "dot"]), turn(1, "Q1", 1), turn(9, "Q1", 4),
             submit(3), turn(15, "Q2", 15), operator("abort"), turn(9, "Q3", 9), turn(100, "Q3", 10), turn(1, "-", 0),
             sheets=[SHEET, "Q2 sheet 1 front 2550x3300 black 3", "Q3 sheet 1 front 2550x3300 black 1"]),
+]
+
+def by_turns(steps):
+    """Two entries of 19 steps on two engines, so many steps a turn, until both are completed."""
+    taken = [min(steps, 19 - before) for before in range(0, 19, steps)]
+    return [turn(steps, f"Q{engine + 1}", count, engine) for count in taken for engine in (0, 1)]
+
+
+ALONE = does("Idle")
+BOTH = [SHEET, SHEET.replace("Q1", "Q2")]
+TWO, FOUR = "press --engines 2", "press --engines 4"
+SESSIONS += [
+    # two engines run an entry each, and the operator aborts both
+    session(submit(1), submit(2), submit(3), engines(ALONE, ALONE), turn(1, "Q1", 1, 0), engines(does("Running", "Q1"), ALONE),
+            turn(15, "Q2", 15, 1), queue("Running", (1, "Running", 50), (2, "Running", 50), (3, "Waiting", 50)),
+            engines(does("Running", "Q1"), does("Running", "Q2", 1)), turn(1, "Q2", 1, 1), turn(1, "Q1", 1), operator("abort"),
+            queue("Waiting", (1, "Aborted", 50), (2, "Aborted", 50), (3, "Waiting", 50)), engines(ALONE, ALONE),
+            turn(ALL, "Q3", 19, 1), turn(1, "-", 0, 0), sheets=[SHEET.replace("Q1", "Q2"), SHEET.replace("Q1", "Q3")], words=TWO),
+    # a pause stops both, and what runs can be aborted then; a held queue begins nothing on either
+    session(submit(1), submit(2), turn(15, "Q1", 15, 1), operator("pause"), turn(1, "-", 0, 0), turn(1, "-", 0, 1),
+            engines(does("Stopped"), does("Stopped", "Q1", 1)), operator("abort"), engines(does("Stopped"), does("Stopped")),
+            operator("continue"), ask("HoldQueue", 0), turn(1, "-", 0, 0), turn(1, "-", 0, 1), ask("ResumeQueue", 0), turn(1, "Q2", 1, 1),
+            ask("HoldQueue", 0), turn(1, "-", 0, 0), turn(ALL, "Q2", 18, 1), sheets=BOTH, words=TWO),
+    # what was suspended on one engine goes on with another, with its next step
+    session(submit(1), turn(14, "Q1", 14, 0), entry("SuspendQueueEntry", 1, 0), submit(2), turn(1, "Q2", 1, 0), entry("ResumeQueueEntry", 1, 0),
+            engines(does("Running", "Q2"), ALONE, ALONE, ALONE), turn(2, "Q1", 2, 3),
+            engines(does("Running", "Q2"), ALONE, ALONE, does("Running", "Q1", 1)), turn(ALL, "Q1", 3, 3), turn(ALL, "-", 0, 3),
+            turn(ALL, "Q2", 18), sheets=BOTH, words=FOUR),
+    # a message takes an entry off its engine, which takes the next; a flush leaves what runs
+    session(submit(1), submit(2), turn(1, "Q1", 1, 1), turn(1, "Q2", 1, 0), ask("FlushQueue", 0), submit(3), entry("AbortQueueEntry", 2, 0),
+            turn(1, "Q3", 1, 0), entry("SuspendQueueEntry", 1, 0), turn(1, "-", 0, 1), engines(does("Running", "Q3"), ALONE),
+            entry("AbortQueueEntry", 3, 0), entry("ResumeQueueEntry", 1, 0), turn(ALL, "Q1", 18, 0), sheets=[SHEET], words=TWO),
+    # with eight in flight a free engine takes none that has not begun, and one that is resumed
+    session(*(step for number in range(1, 8)
+              for step in (submit(number), turn(1, f"Q{number}", 1), entry("SuspendQueueEntry", number, 0))),
+            submit(8), turn(1, "Q8", 1), submit(9, 60), turn(1, "-", 0, 1), entry("ResumeQueueEntry", 3, 0), turn(1, "Q3", 1, 1),
+            entry("SuspendQueueEntry", 3, 27), entry("SuspendQueueEntry", 8, 27),
+            queue("Running", (9, "Waiting", 60), *((number, "Running" if number in (3, 8) else "Suspended", 50) for number in range(1, 9))),
+            entry("AbortQueueEntry", 8, 0), turn(1, "Q9", 1, 0), words=TWO),
+    *(session(submit(1), submit(2), *by_turns(steps), queue("Waiting", (1, "Completed", 50), (2, "Completed", 50)), sheets=BOTH, words=TWO)
+      for steps in range(1, 21)),
 ]
 
 # Changes of a ticket of three pages on both sides, how many commands its job has (11 around the sheets; 6, 9 and 6 for the pages; 1

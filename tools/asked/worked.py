@@ -12,6 +12,7 @@ STREAMS = [stream.replace(b"^", b"\x1b").replace(b"~", b"\x0c") for stream in [
     b"^*p0x0Y^&f1y0X^*c1a1b0P^*p+2X^&f3X^&f1X^&f3X~",
     b"^&f2y0X^*c4a1b0P~^&f1X^&f4X~~", b"^&f2y0X^*c4a1b0P~^&f1X^&f4X^*c1a1b0P^&f3y0X",
     UEL + b"@PJL SET COPIES=3\r\n@PJL INQUIRE COPIES\r\n@PJL DINQUIRE COPIES\r\n", UEL + b"^\x01@PJL ECHO x\n",
+    b"^*t300R^*r0A^*b5m15W\x00\x00\x01\xff\x05\x00\x02\x04\x00\x01\x03\x00\x02\x00\x81~",
     b"^*t75R^*r1A^*b1W\x80~", b"^*p10x20Y", b"^&l1O^*p0x0Y^*c3a2b0P~", b"^*c50G^*p0x0Y^*c4a1b2P~", b"^&l1S~^E",
     UEL + b"@PJL USTATUS PAGE=ON\n@PJL ENTER LANGUAGE=PCL\n~", b"^*t300R^*r0A^*b3m2W\x00\xff^*b1Y^*b0W^*rC~",
 ]]

@@ -25,7 +25,7 @@ LINES_PER_INCH = [1, 2, 3, 4, 6, 8, 12, 16, 24, 48]
 PAGE_SIZES = {1: "Executive", 2: "Letter", 3: "Legal", 6: "Ledger", 26: "A4", 27: "A3"}
 RASTER_RESOLUTIONS = {300: (75, 100, 150, 300), 600: (75, 100, 150, 200, 300, 600)}  # by that of the engine
 GROUPS = ["boxes", "pages", "raster", "patterns", "macros", "jobs", "resolution", "adaptive", "engines"]
-BUILT = "resolution"
+BUILT = "engines"
 WITH_TICKETS = GROUPS[GROUPS.index("jobs"):]
 
 

@@ -28,6 +28,8 @@ STREAMS = [
     ("a blank sheet between resets", "ESC E FF ESC E"),
     ("rows of raster by three methods",
      "ESC*t300R ESC*r0A ESC*b3m2W [00FF] ESC*b0W ESC*b0m0W ESC*b3m0W ESC*rC FF"),
+    ("rows of raster by blocks, on a turned page",
+     "ESC&l1O ESC*t150R ESC*r0A ESC*b5m15W [000001FF0500020400010300020081] ESC*rC FF"),
     ("patterns, of which one is cut",
      "ESC*c5G ESC*c16W [0000010000080008FFFFFFFFFFFFFFFF] ESC*c15W [000001000008000800000000000000] ESC*p0x0Y ESC*c2a1b4P FF"),
     ("a macro in a macro", "ESC*p0x0Y ESC&f1y0X ESC*c1a1b0P ESC*p+2X ESC&f3X ESC&f1X ESC&f3X FF"),
