@@ -1,6 +1,6 @@
 /* A press of a few commands, as a good programmer writes it in an evening, with no proof: scans, decodes, widens by a table, paints
    by words, counts. It reads standard input and prints the listing of `press print --list`. It knows Letter, the four orientations,
-   the cursor in dots, raster rows by methods 0 to 3 at 75 to DPI dots per inch (DPI / 4 at least), solid, shaded and user patterns of at most 16 dots and
+   the cursor in dots, raster rows by methods 0 to 3 and 5 at 75 to DPI dots per inch (DPI / 4 at least), solid, shaded and user patterns of at most 16 dots and
    lines, cross-hatches, fills and form feeds; every other command is passed over. Pages are kept in the frame, since turning them
    changes no count. */
 #include <stdint.h>
@@ -159,9 +159,8 @@ static void decode(uint8_t *row, long width, const uint8_t *data, long count) {
     }
 }
 
-static void transfer(const uint8_t *data, long count) {
+static void transfer_row(const uint8_t *data, long count) {
     static uint8_t row[8192 + 64], dots[4 * 8192 + 128];
-    if (!raster_on) start(0);
     if (source_height >= 0 && rows >= source_height) return;
     int size = DPI / resolution;
     long width = row_width(), bytes = (width + 7) / 8, column = offset() + left / DOT, line = (y + TOP) / DOT;
@@ -178,6 +177,34 @@ static void transfer(const uint8_t *data, long count) {
     marked = 1;
     place(x, y + 7200 / resolution);
     rows++;
+}
+
+/* blocks of adaptive rows: a command byte, a count of two bytes, and the data of one row by methods 0 to 3 */
+static void transfer_blocks(const uint8_t *data, long count) {
+    long at = 0;
+    while (at + 3 <= count) {
+        int command = data[at];
+        long asked = data[at + 1] * 256 + data[at + 2];
+        at += 3;
+        if (command > 5) break;
+        if (command <= 3) {
+            long given = asked < count - at ? asked : count - at;
+            method = command;
+            transfer_row(data + at, given);
+            at += given;
+            continue;
+        }
+        if (!asked) memset(seed, 0, sizeof seed);
+        method = command == 4 ? 0 : 3;
+        for (long each = 0; each < asked; each++) transfer_row(data, 0);
+    }
+    method = 5;
+}
+
+static void transfer(const uint8_t *data, long count) {
+    if (!raster_on) start(0);
+    if (method == 5) transfer_blocks(data, count);
+    else transfer_row(data, count);
 }
 
 static void fill(int kind, long id) {
@@ -217,7 +244,7 @@ static void command(int group, int family, long value, int signed_value, int let
     case '*' << 16 | 'r' << 8 | 'A': if (!raster_on && value >= 0 && value <= 3) start(value & 1 ? x : 0); break;
     case '*' << 16 | 'r' << 8 | 'B': raster_off(); break;
     case '*' << 16 | 'r' << 8 | 'C': raster_off(); method = 0; break;
-    case '*' << 16 | 'b' << 8 | 'M': if (value >= 0 && value <= 3) method = value; break;
+    case '*' << 16 | 'b' << 8 | 'M': if ((value >= 0 && value <= 3) || value == 5) method = value; break;
     case '*' << 16 | 'b' << 8 | 'Y':
         if (raster_on && value >= 1) { place(x, y + value * 7200 / resolution); rows += value; memset(seed, 0, sizeof seed); }
         break;
