@@ -5,6 +5,8 @@ from asked.files import named
 # A macro of five commands, of which the last calls the macro itself, is defined in ten steps and called: five in it, five in the one
 # that it starts; a third level does not run. Then the page is closed, and the stream ends.
 NESTED = named(b"\x1b*p0x0Y\x1b&f1y0X\x1b*c1a1b0P\x1b*p+2X\x1b&f3X\x1b&f1X\x1b&f3X\x0c")
+# A macro with a form feed, laid under the page of a form feed and under that which the added universal exit closes.
+OVERLAID = named(b"\x1b&f2y0X\x1b*c4a1b0P\x0c\x1b&f1X\x1b&f4X\x0c\x1b*c1a1b0P")
 # One command of each kind: job language, another language, text, a sequence that breaks, an escape sequence, one without a group.
 KINDS = named(b"\x1b%-12345X@PJL SET COPIES=2\n@PJL ENTER LANGUAGE=X\nab\x1b%-12345XA\x1b*p\x0c\x1bE\x1b%0A")
 # Above the top margin.
@@ -22,6 +24,10 @@ def state(step, depth, x, y):
 STATES = [(0, 0, 900)] + [(0, 0, 0)] * 9 + [(1, 0, 0)] * 4 + [(1, 48, 0)] + [(2, 48, 0)] * 4 + [(2, 96, 0)]
 STATES += [(0, 96, 0), (0, 96, 900), (0, 0, 900)]
 AT = [state(0, 0, 0, 900)] + [state(step, *place) for step, place in enumerate(STATES, 1)]
+# Those of the overlaid pages: four commands of the overlay run before each page is closed.
+LAID = [state(step, depth, 0, 900) for step, depth in enumerate([0] * 8 + [1] * 4 + [0] * 4 + [1] * 4 + [0], 1)]
+LAID_KINDS = ["par &fY", "par &fX", "par *cA", "par *cB", "par *cP", "ctl 0C", "par &fX", "par &fX", "ctl 0C", "par *cA", "par *cB", "par *cP",
+              "ctl 0C", "par *cA", "par *cB", "par *cP", "uel", "par *cA", "par *cB", "par *cP", "ctl 0C"]
 RECENT = ["par *pX", "par *pY", "par &fY", "par &fX", "par *cA", "par *cB", "par *cP", "par *pX", "par &fX", "par &fX", "par &fX"]
 
 
@@ -34,6 +40,7 @@ def asked(stream, *exchanges):
 STEPS = [
     asked(NESTED, *(("step", f"stepped {at}") for at in AT[1:]), *((line, f"ended {AT[23]}") for line in ["step", "over", "go 0", "go 9"])),
     asked(NESTED, ("go 10", f"limit {AT[10]}"), ("over", f"stepped {AT[21]}"), ("over", f"stepped {AT[22]}"), ("over", f"stepped {AT[23]}")),
+    asked(OVERLAID, *(("step", f"stepped {at}") for at in LAID), ("step", f"ended {LAID[20]}"), ("recent", LAID_KINDS)),
     asked(NESTED, ("go 12", f"limit {AT[12]}"), ("over", f"stepped {AT[13]}"), ("go 2", f"limit {AT[15]}"), ("over", f"stepped {AT[21]}")),
     asked(NESTED, ("go 0", f"limit {AT[0]}"), ("go 22", f"limit {AT[22]}"), ("go 1", f"ended {AT[23]}")),
     asked(NESTED, (f"go {MOST}", f"ended {AT[23]}")),

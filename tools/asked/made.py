@@ -15,6 +15,8 @@ MADE = [
     ("write ticket made dot", "made", b"", job([DOT])),
     ("write ticket made full", "made", b"", job([FULL])),
     ("print - made%d", "made1", b"\x0c", page([])),
+    ("print - made%%d", "made%1", b"\x0c", page([])),
+    ("print - made%dd%", "made1d%", b"\x0c", page([])),
     ("print - made%d", "made2", b"\x0c\x1b*p0x0Y\x1b*c3a2b0P\x0c", page([(75, 150, 3, 2)])),
 ]
 

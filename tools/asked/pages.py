@@ -182,6 +182,73 @@ MODES = [
 WIDE_DOTS = [(75, 4), (100, 3), (150, 2), (300, 1)]
 FINE_DOTS = [(75, 8), (100, 6), (150, 4), (200, 3), (300, 2), (600, 1)]
 
+# Rows by their data, one below the other: how many dots they are wide, the method and the data of each, in hexadecimal, and what it gives.
+# First the examples of the manual: "UUUUATTTTT" by methods 0 to 2, and three rows by method 3, each after the one before.
+DATA = [
+    (80, [(0, "55555555415454545454", "55555555415454545454"), (1, "035500410454", "55555555415454545454"),
+          (2, "FD550041FC54", "55555555415454545454")]),
+    (40, [(3, "01FF", "00FF000000"), (3, "02F0", "00FFF00000"), (3, "000F22AAAA", "0FFFF0AAAA")]),
+    (40, [(2, "FE41800142", "4141414200")]),
+    (32, [(1, "02F005", "F0F0F000")]),
+    # offsets of 31, 285 and 286 bytes, and what stands past the width
+    (2296, [(3, "1F0007", "00" * 31 + "07" + "00" * 255)]),
+    (2296, [(3, "1FFE07", "00" * 285 + "0700")]),
+    (2296, [(3, "1FFF0007", "00" * 286 + "07")]),
+    (248, [(3, "3E07080009", "00" * 30 + "07")]),
+    # more than the row has room for
+    (32, [(2, "01070880F009", "07080909"), (1, "FF05", "05050505"), (0, "0102030405", "01020304")]),
+]
+
+# A method, its data, and the row of each cut of them after the row 01020304, from none of its bytes on.
+CUTS = [
+    (0, "0708090A0B", ["00000000", "07000000", "07080000", "07080900", "0708090A", "0708090A"]),
+    (1, "01070008FF", ["00000000", "00000000", "07070000", "07070000", "07070800", "07070800"]),
+    (2, "01070880F009", ["00000000", "00000000", "07000000", "07080000", "07080000", "07080000", "07080909"]),
+    (3, "2107081FFF", ["01020304", "01020304", "01070304", "01070804", "01070804", "01070804"]),
+]
+DATA += [(32, [(0, "01020304", "01020304"), (method, data[:2 * cut], row)])
+         for method, data, rows in CUTS for cut, row in enumerate(rows)]
+
+# Blocks after the row C33C: their rows, and the seed row behind them, which an empty delta row prints.
+BLOCKS = [
+    ("", [], "C33C"),
+    ("000002F00F050002", ["F00F", "F00F", "F00F"], "F00F"),
+    ("040002", ["0000", "0000"], "0000"),
+    ("050001", ["C33C"], "C33C"),
+    ("040000", [], "0000"),
+    ("050000050001", ["0000"], "0000"),
+    ("0100020181", ["8181"], "8181"),
+    ("020002FF18", ["1818"], "1818"),
+    ("03000201AA", ["C3AA"], "C3AA"),
+    # a block that is cut has the bytes that are there
+    ("000005F0", ["F000"], "F000"),
+    ("0300092011", ["113C"], "113C"),
+    # a count of 0 by a method is a row of no data
+    ("000000", ["0000"], "0000"),
+    ("030000", ["C33C"], "C33C"),
+    # an unknown command ends the data, and so does a header that is cut
+    ("000001F0060001FF000001FF", ["F000"], "F000"),
+    ("000001F00500", ["F000"], "F000"),
+    ("05", [], "C33C"),
+]
+
+
+def transfer(method, data):
+    """The transfer of data in hexadecimal by a method."""
+    return f"*b{method}m{len(data) // 2}W[{data}]"
+
+
+def in_rows(width, transfers):
+    """The stream of these transfers of rows that are so many dots wide, on a page of its own."""
+    return f"^*t300R^*r{width}S^*r0A" + "".join("^" + transfer(method, data) for method, data in transfers) + "~"
+
+
+def dots_of(rows, width):
+    """The black dots of these rows, one below the other where raster graphics begins after power on."""
+    return [(75 + place, 187 + line, 1, 1) for line, row in enumerate(rows) for place in range(width)
+            if bytes.fromhex(row)[place // 8] & 0x80 >> place % 8]
+
+
 WIDTH, HEIGHT = 2550, 3300
 
 
@@ -211,6 +278,10 @@ ROWS += [("print - page-%d.pbm", 0, [page([(75 + place, 150, 1, 1) for place in 
 ROWS += [("print - page-%d.pbm", 0,
           [page([(x, y, 1, 1) for x in range(75, 75 + side) for y in range(187, 187 + side) if x % 2 == y % 2])],
           stream_of(f"^*c50G^*v2T^*t{resolution}R^*r8S^*r0A^*b1W[80]~")) for resolution, side in WIDE_DOTS]
+ROWS += [("print - page-%d.pbm", 0, [page(dots_of([row for _, _, row in rows], width))],
+          stream_of(in_rows(width, [(method, data) for method, data, _ in rows]))) for width, rows in DATA]
+ROWS += [("print - page-%d.pbm", 0, [page(dots_of(["C33C", *rows, seed], 16))],
+          stream_of(in_rows(16, [(0, "C33C"), (5, data), (3, "")]))) for data, rows, seed in BLOCKS]
 ROWS += [("print - page-%d.pbm", 0, [page(boxes, scale=2), ...], stream_of(FINE + stream)) for stream, boxes in FINE_BOXES]
 ROWS += [("print - page-%d.pbm", 0,
           [page([(x, y, 1, 1) for x in range(150, 150 + side) for y in range(375, 375 + side) if x % 2 == y % 2], scale=2)],

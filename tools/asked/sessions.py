@@ -225,10 +225,60 @@ SESSIONS += [
             sheets=[SHEET, "Q2 sheet 1 front 2550x3300 black 3", "Q3 sheet 1 front 2550x3300 black 1"]),
 ]
 
-def by_turns(steps):
-    """Two entries of 19 steps on two engines, so many steps a turn, until both are completed."""
-    taken = [min(steps, 19 - before) for before in range(0, 19, steps)]
-    return [turn(steps, f"Q{engine + 1}", count, engine) for count in taken for engine in (0, 1)]
+def listed(number, sheets):
+    """The lines of the sheets of an entry, each a front and perhaps a back with so many black dots."""
+    return [[f"Q{number} sheet {place} {side} 2550x3300 black {black}" for side, black in zip(["front", "back"], sides)]
+            for place, sides in enumerate(sheets, 1)]
+
+
+# Two tickets of images with 1, 16 and 3 black dots: pages on one side each, and two sheets with backs. How many steps each takes,
+# behind how many of them its sheets come (behind the form feed of their last side), and their black dots.
+IMAGES = ("dot", "lines", "bar")
+SIDE_BY_SIDE = [
+    (ticket(Sides=""), 38, [15, 26, 34], [(1,), (16,), (3,)]),
+    (ticket(RunList="[[-1,0],[1,1]]"), 43, [24, 40], [(3, 16), (1, 16)]),
+]
+
+
+def by_turns(most):
+    """Both entries on two engines that take turns of so many steps, until both are completed: each has the sheets of `SIDE_BY_SIDE`,
+    which it has alone."""
+    exchanges = [submit(number, text=text, images=IMAGES) for number, (text, _, _, _) in enumerate(SIDE_BY_SIDE, 1)]
+    sheets = []
+    for before in range(0, max(steps for _, steps, _, _ in SIDE_BY_SIDE), most):
+        for engine, (_, steps, behind, dots) in enumerate(SIDE_BY_SIDE):
+            if before < steps:
+                after = min(before + most, steps)
+                exchanges.append(turn(most, f"Q{engine + 1}", after - before, engine))
+                sheets += [line for place, lines in zip(behind, listed(engine + 1, dots)) if before < place <= after for line in lines]
+    return exchanges, sheets
+
+
+def side_by_side(most):
+    """The session of these turns; while both run, the queue says so."""
+    exchanges, sheets = by_turns(most)
+    running = queue("Running", (1, "Running", 50), (2, "Running", 50))
+    done = queue("Waiting", (1, "Completed", 50), (2, "Completed", 50))
+    return session(*exchanges[:4], running, *exchanges[4:], done, sheets=sheets, words="press --engines 2")
+
+
+def alone(number):
+    """One of these entries with one engine."""
+    text, steps, _, dots = SIDE_BY_SIDE[number]
+    return session(submit(1, text=text, images=IMAGES), turn(ALL, "Q1", steps), sheets=[line for lines in listed(1, dots) for line in lines])
+
+
+# A ticket of two pages on both sides of a sheet, which comes behind so many of its steps.
+PAIR, PAIR_STEPS, PAIR_BEHIND = ticket(NPage="2"), 27, 24
+
+
+def with_a_break(before):
+    """The entry of that ticket takes so many steps and is suspended, once; another runs whole, and it goes on to its end."""
+    pair, page = [line for sheet in listed(1, [(1, 16)]) for line in sheet], ["Q2 sheet 1 front 2550x3300 black 3"]
+    return session(submit(1, text=PAIR, images=IMAGES[:2]), turn(before, "Q1", before), entry("SuspendQueueEntry", 1, 0),
+                   entry("SuspendQueueEntry", 1, 22), submit(2, images=("bar",)), turn(ALL, "Q2", 19), turn(ALL, "-", 0),
+                   entry("ResumeQueueEntry", 1, 0), turn(ALL, "Q1", PAIR_STEPS - before),
+                   sheets=pair + page if before >= PAIR_BEHIND else page + pair)
 
 
 ALONE = does("Idle")
@@ -262,8 +312,11 @@ SESSIONS += [
             entry("SuspendQueueEntry", 3, 27), entry("SuspendQueueEntry", 8, 27),
             queue("Running", (9, "Waiting", 60), *((number, "Running" if number in (3, 8) else "Suspended", 50) for number in range(1, 9))),
             entry("AbortQueueEntry", 8, 0), turn(1, "Q9", 1, 0), words=TWO),
-    *(session(submit(1), submit(2), *by_turns(steps), queue("Waiting", (1, "Completed", 50), (2, "Completed", 50)), sheets=BOTH, words=TWO)
-      for steps in range(1, 21)),
+    # each entry has the sheets that it has alone, whichever number of steps a turn takes
+    *map(alone, range(2)),
+    *map(side_by_side, range(1, 21)),
+    # a suspended entry goes on where it stood, wherever that is
+    *map(with_a_break, range(1, PAIR_STEPS)),
 ]
 
 # Changes of a ticket of three pages on both sides, how many commands its job has (11 around the sheets; 6, 9 and 6 for the pages; 1

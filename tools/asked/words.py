@@ -14,6 +14,8 @@ ROWS = [
     ("print / a%d.pbm", 1, "fault 304\n", FEED),
     ("print - a.pbm", 1, "fault 121\n", FEED),
     ("print - %d%d", 1, "fault 121\n", FEED),
+    ("print - %d-%D-%d", 1, "fault 121\n", FEED),
+    ("print - page-%03d.pbm", 1, "fault 121\n", FEED),
     ("print - no/such/%d.pbm", 1, "fault 301\n", FEED),
     ("print - a%d.pbm", 0, b"@PJL ECHO x\r\n\x0c", b"\x1b%-12345X@PJL ECHO x\n"),
     ("print - a%d.pbm", 0, b"@PJL USTATUS PAGE\r\n1\r\n\x0c", b"\x1b%-12345X@PJL USTATUS PAGE=ON\n@PJL ENTER LANGUAGE=PCL\n\x0c"),

@@ -1,11 +1,8 @@
-//! Jobs of tickets: what is printed of them, and writes that fail.
+//! Jobs of tickets: what is printed of them; and the texts of a job's faults.
 use press_bits::{Bitmap, DotRow, Mode};
-use press_pbm::FuseWrite;
 use press_sink::Sheet;
 use press_stream::JobError;
 use press_theorem::print_ticket;
-use press_ticket::read_ticket;
-use press_writer::{JobWriter, WriterError, check, write_job};
 use std::alloc::Global;
 use std::process::Abort;
 use std::test::Fail;
@@ -33,53 +30,6 @@ fn dots(alloc: Global) -> Result<[Bitmap; 3], Fail> {
         image.paint_row(0, 0, black, DotRow::black(), mode)?;
     }
     Ok(images)
-}
-
-#[test]
-fn a_failed_write_is_told(rt: HostRuntime) -> Result<(), Fail> {
-    let ticket = read_ticket(rt.alloc(), TICKET)?;
-    let images = dots(rt.alloc())?;
-    check(&ticket, &images)?;
-    let mut output = FuseWrite::new(Vec::new(rt.alloc()), 0);
-    let written = write_job(rt.alloc(), &ticket, &images, &mut output);
-    assert!(rt; matches!(written, Err(WriterError::WriteFault)));
-    Ok(())
-}
-
-/// What stands before the first page of a job on both sides of Letter.
-const HEAD: &[u8] =
-    b"\x1B%-12345X@PJL SET RESOLUTION=300\n\x1BE\x1B&l2A\x1B&l0O\x1B&l1S\x1B&l0E\x1B*t300R";
-
-#[test]
-fn a_job_comes_in_pieces(rt: HostRuntime) -> Result<(), Fail> {
-    let ticket = read_ticket(rt.alloc(), TICKET)?;
-    let images = dots(rt.alloc())?;
-    let mut whole = Vec::new(rt.alloc());
-    write_job(rt.alloc(), &ticket, &images, &mut whole)?;
-    let mut writer = JobWriter::open(rt.alloc(), &ticket, &images)?;
-    let mut bytes = Vec::new(rt.alloc());
-    assert!(rt; writer.piece(&images, &mut bytes)?);
-    assert_eq!(rt; bytes.as_slice(), HEAD);
-    assert!(rt; writer.piece(&images, &mut bytes)?);
-    assert!(rt; writer.piece(&images, &mut bytes)?);
-    assert!(rt; HEAD.len() + 2 <= bytes.len());
-    assert_eq!(rt; whole.get(..bytes.len()), Some(bytes.as_slice()));
-    Ok(())
-}
-
-#[test]
-fn faults_of_jobs_are_told_by_their_numbers(rt: HostRuntime) -> Result<(), Fail> {
-    let told = format!(in rt.alloc();
-        "{}, {}, {}, {}, {}",
-        WriterError::PageMissing,
-        WriterError::TooWide,
-        WriterError::TooTall,
-        WriterError::WriteFault,
-        WriterError::NoMemory
-    )?;
-    let wanted = "fault 611, fault 612, fault 613, fault 614, fault memory";
-    assert_eq!(rt; told.as_str(), wanted);
-    Ok(())
 }
 
 #[test]

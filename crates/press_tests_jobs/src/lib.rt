@@ -1,14 +1,10 @@
-//! The tests of what takes jobs: streams, the debugger, tickets and their jobs, the queue, turns, engines, and the program's files and sessions.
+//! The tests of what takes jobs: streams, the debugger, tickets and their jobs, the queue, turns, and what the program flushes.
 #![tactic(auto)]
 
-#[cfg(test)]
-mod contexts;
 #[cfg(test)]
 mod debugger;
 #[cfg(test)]
 mod devices;
-#[cfg(test)]
-mod engines;
 #[cfg(test)]
 mod jobs_of_tickets;
 #[cfg(test)]
@@ -16,13 +12,9 @@ mod program_debugging;
 #[cfg(test)]
 mod program_devices;
 #[cfg(test)]
-mod program_jobs;
-#[cfg(test)]
 mod program_sessions;
 #[cfg(test)]
 mod queue;
-#[cfg(test)]
-mod steps;
 #[cfg(test)]
 mod streams;
 #[cfg(test)]

@@ -23,29 +23,6 @@ fn reads_and_writes_three_dots(rt: HostRuntime) -> Result<(), Fail> {
     Ok(())
 }
 
-#[test]
-fn what_follows_a_file_stays_unread(rt: HostRuntime) -> Result<(), Fail> {
-    let mut input = b"P4 9 2\n\xff\x80\x00\x00P4 ".as_slice();
-    let page = read_pbm(rt.alloc(), &mut input)?;
-    assert_eq!(rt;
-        (page.width(), page.height(), page.count_black()),
-        (9, 2, 9)
-    );
-    assert_eq!(rt; input, b"P4 ".as_slice());
-    Ok(())
-}
-
-#[test]
-fn spare_bits_are_no_dots(rt: HostRuntime) -> Result<(), Fail> {
-    let mut input = b"P4\n3 2\n\x5f\xff".as_slice();
-    let page = read_pbm(rt.alloc(), &mut input)?;
-    assert_eq!(rt; page.count_black(), 4);
-    let mut output = Vec::new(rt.alloc());
-    write_pbm(&page, &mut output)?;
-    assert_eq!(rt; output.as_slice(), b"P4\n3 2\n\x40\xe0".as_slice());
-    Ok(())
-}
-
 /// A reader that gives at most so many bytes at once, and is interrupted before each of them.
 #[derive(Drop)]
 struct Slow<'a> {
@@ -215,22 +192,5 @@ fn a_full_writer_is_a_fault(rt: HostRuntime) -> Result<(), Fail> {
         expect_tight(&rt, &page, rt.alloc(), most);
         expect_tight_bytes(&rt, rt.alloc(), most);
     }
-    Ok(())
-}
-
-#[test]
-fn faults_tell_their_number(rt: HostRuntime) -> Result<(), Fail> {
-    let faults = [
-        (ReadPbmError::NotPbm, "fault 111"),
-        (ReadPbmError::BadSize, "fault 112"),
-        (ReadPbmError::Truncated, "fault 113"),
-        (ReadPbmError::ReadFault, "fault 114"),
-        (ReadPbmError::NoMemory, "fault memory"),
-    ];
-    for (fault, text) in faults {
-        assert_eq!(rt; format!(in rt.alloc(); "{fault}")?.as_str(), text);
-    }
-    let fault = WritePbmError::WriteFault;
-    assert_eq!(rt; format!(in rt.alloc(); "{fault}")?.as_str(), "fault 115");
     Ok(())
 }

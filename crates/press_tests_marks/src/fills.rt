@@ -106,34 +106,6 @@ fn the_dot_rule(rt: HostRuntime) {
 }
 
 #[test]
-fn a_fill_of_no_lines_changes_nothing(rt: HostRuntime) -> Result<(), Fail> {
-    let mut page = half_black(rt.alloc(), 2)?;
-    let area = Rect {
-        x: 0,
-        y: 0,
-        width: 8,
-        height: 0,
-    };
-    let pattern = Pattern {
-        kind: Kind::Black,
-        id: 0,
-    };
-    let environment = environment(Orientation::ReversePortrait);
-    let patterns = Patterns::new(rt.alloc());
-    fill(
-        &mut page,
-        &environment,
-        &patterns,
-        area,
-        pattern,
-        TRANSPARENT,
-    )?;
-    expect_line(&rt, &page, 0, 0xF0);
-    expect_line(&rt, &page, 1, 0xF0);
-    Ok(())
-}
-
-#[test]
 fn a_white_fill_makes_no_band(rt: HostRuntime) -> Result<(), Fail> {
     let patterns = Patterns::new(rt.alloc());
     let environment = environment(Orientation::Landscape);

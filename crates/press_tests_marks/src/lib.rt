@@ -4,8 +4,6 @@
 #[cfg(test)]
 mod bitmaps;
 #[cfg(test)]
-mod dot_rules;
-#[cfg(test)]
 mod files;
 #[cfg(test)]
 mod fills;

@@ -2,17 +2,11 @@
 #![tactic(auto)]
 
 #[cfg(test)]
-mod faults;
-#[cfg(test)]
-mod folders;
-#[cfg(test)]
 mod replies;
 #[cfg(test)]
 mod rows;
 #[cfg(test)]
 mod sinks;
-#[cfg(test)]
-mod steps;
 mod stream_tables;
 #[cfg(test)]
 mod streams;

@@ -1,5 +1,4 @@
 //! Replies to a writer, and replies of which one fails.
-use press_pbm::FuseWrite;
 use press_sink::{FuseReplies, ListReplies, ReplyError, ReplySink, WriteReplies};
 use std::io::{self, ErrorKind, Write};
 use std::process::Abort;
@@ -48,39 +47,6 @@ fn replies_are_written_whole(rt: HostRuntime) -> Result<(), Fail> {
             b"one and two".as_slice()
         );
     }
-    Ok(())
-}
-
-#[test]
-fn each_write_may_fail(rt: HostRuntime) -> Result<(), Fail> {
-    for calls in 0..6 {
-        let bytes = Vec::with_capacity(rt.alloc(), 16)?;
-        let mut sink = WriteReplies::new(FuseWrite::new(Slow { bytes, most: 2 }, calls));
-        assert!(rt; has_fault(&rt, &mut sink, b"abcde") == (calls < 3));
-        assert!(rt; has_fault(&rt, &mut sink, b"fghij") == (3 <= calls));
-        assert_eq!(rt; sink.faults(), 1);
-        let written: &[u8] = match calls {
-            0 => b"fghij",
-            1 => b"abfghij",
-            2 => b"abcdfghij",
-            3 => b"abcde",
-            4 => b"abcdefg",
-            _ => b"abcdefghi",
-        };
-        assert_eq!(rt; sink.into_inner().into_inner().bytes.as_slice(), written);
-    }
-    Ok(())
-}
-
-#[test]
-fn a_writer_that_takes_nothing_is_a_fault(rt: HostRuntime) -> Result<(), Fail> {
-    let bytes = Vec::new(rt.alloc());
-    let mut sink = WriteReplies::new(Slow { bytes, most: 0 });
-    assert!(rt; has_fault(&rt, &mut sink, b"a"));
-    assert!(rt; has_fault(&rt, &mut sink, b"b"));
-    assert_eq!(rt; sink.faults(), 2);
-    assert!(rt; !has_fault(&rt, &mut sink, b""));
-    assert_eq!(rt; sink.faults(), 2);
     Ok(())
 }
 

@@ -1,8 +1,7 @@
 //! Sinks of sheets and of replies.
 use press_bits::Bitmap;
 use press_sink::{
-    Delivery, FolderSink, FuseSink, ListOutputs, ListReplies, ListSink, ReplySink, Sheet,
-    SheetSink, SinkError,
+    Delivery, FuseSink, ListReplies, ListSink, ReplySink, Sheet, SheetSink, SinkError,
 };
 use std::alloc::{AllocError, Global};
 use std::process::Abort;
@@ -68,35 +67,6 @@ fn joins_replies(rt: HostRuntime) -> Result<(), Fail> {
     sink.reply(b" two")?;
     assert_eq!(rt; sink.faults(), 0);
     assert_eq!(rt; sink.bytes(), b"one two".as_slice());
-    Ok(())
-}
-
-#[test]
-fn a_template_has_one_place_for_the_number(rt: HostRuntime) -> Result<(), Fail> {
-    let cases: [(&str, bool); 8] = [
-        ("page-%d.pbm", true),
-        ("%d", true),
-        ("%%d", true),
-        ("%dd%", true),
-        ("a.pbm", false),
-        ("", false),
-        ("%d%d", false),
-        ("%d-%D-%d", false),
-    ];
-    for (text, is_template) in cases {
-        match FolderSink::open(rt.alloc(), ListOutputs::new(rt.alloc()), text) {
-            Ok(sink) => {
-                assert!(rt; is_template, "{text}");
-                assert_eq!(rt; sink.faults(), 0);
-            }
-            Err(unopened) => {
-                assert!(rt; !is_template, "{text}");
-                let error = unopened.error;
-                let told = format!(in rt.alloc(); "{error}")?;
-                assert_eq!(rt; told.as_str(), "fault 121");
-            }
-        }
-    }
     Ok(())
 }
 

@@ -1,10 +1,8 @@
 //! Streams that are carried out without an end of input, with what they leave, by the tables of `stream_tables`.
 use crate::rows::{Row, rows_of};
 use crate::stream_tables::{Shows, TABLES};
-use press_cmd::Kind;
-use press_engine::{Engine, Last, View};
+use press_engine::{Engine, View};
 use press_page::Binding;
-use press_pbm::write_pbm;
 use press_scan::Scanner;
 use press_sink::{ListReplies, ListSink};
 use std::test::Fail;
@@ -207,21 +205,6 @@ fn streams_leave_what_their_rows_say(rt: HostRuntime) -> Result<(), Fail> {
     Ok(())
 }
 
-/// What the last step of a stream took.
-fn last_of(rt: &HostRuntime, stream: &[u8]) -> Result<Last, Fail> {
-    Ok(carried_out(rt, stream)?.engine.view().last)
-}
-
-#[test]
-fn the_last_step_is_shown(rt: HostRuntime) -> Result<(), Fail> {
-    let recorded = last_of(&rt, b"\x1B&f0X\x0C")?;
-    assert_eq!(rt; recorded, Last::Recorded(Kind::Control(0x0C)));
-    let ran = last_of(&rt, b"\x1B&f0X\x0D\x1B&f1x2X")?;
-    assert_eq!(rt; ran, Last::Ran(Kind::Control(b'\r')));
-    assert_eq!(rt; last_of(&rt, b"")?, Last::Nothing);
-    Ok(())
-}
-
 /// The macro ID that a copy of an engine shows.
 fn id_of_a_copy(engine: &Engine) -> Result<u16, Fail> {
     Ok(engine.copy()?.view().macro_id)
@@ -231,36 +214,5 @@ fn id_of_a_copy(engine: &Engine) -> Result<u16, Fail> {
 fn a_copy_shows_the_same(rt: HostRuntime) -> Result<(), Fail> {
     let left = carried_out(&rt, b"\x1B&f3Y")?;
     assert_eq!(rt; id_of_a_copy(&left.engine)?, 3);
-    Ok(())
-}
-
-/// The front of the first sheet of a stream, as a file.
-fn front_of(rt: &HostRuntime, pieces: &[&[u8]]) -> Result<Vec<u8>, Fail> {
-    let mut stream = Vec::new(rt.alloc());
-    for piece in pieces {
-        stream.extend_from_slice(piece)?;
-    }
-    let mut engine = Engine::power_on(rt.alloc())?;
-    let mut sheets = ListSink::new(rt.alloc());
-    carry_into(rt, &mut engine, stream.as_slice(), &mut sheets)?;
-    let first = sheets.deliveries().first().ok_or("no sheet")?;
-    let mut file = Vec::new(rt.alloc());
-    let Ok(()) = write_pbm(&first.sheet.front, &mut file) else {
-        return Err(Fail::from("the front was not written"));
-    };
-    Ok(file)
-}
-
-/// Each kind of command that a definition records, with a sequence that breaks, text, and data.
-const RECORDED: &[u8] =
-    b"\x1B9\x1B*p10x20Y\x1B*c30a2b0P\x1B*p40\r x\x1B%0A\x1B*r1A\x1B*b2W\x02\xF0\x1B*rB";
-
-#[test]
-fn a_macro_marks_as_its_commands_do(rt: HostRuntime) -> Result<(), Fail> {
-    let plain = front_of(&rt, &[RECORDED, b"\x0C"])?;
-    let executed = front_of(&rt, &[b"\x1B&f1y0X", RECORDED, b"\x1B&f1x2X\x0C"])?;
-    assert_eq!(rt; executed, plain);
-    let blank = front_of(&rt, &[b"\x1B*p10x20Y\x1B*c0P\x0C"])?;
-    assert!(rt; plain != blank);
     Ok(())
 }
