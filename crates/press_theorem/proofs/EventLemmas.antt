@@ -1,22 +1,24 @@
 -- Events, some after others.
-use Rattle.std.proofs.Common.{◌≡◌, ◌∙◌, ◌<◌, ◌+◌, ℕ, List, [], ◌∷◌, ◌++◌, length, take, get_or, map, true, Option, Some, None, option_map, Result, Ok, Vec, refl, sym, ap, subst}
+use Rattle.std.proofs.Common.{◌≡◌, ◌∙◌, ◌<◌, ◌+◌, ℕ, List, [], ◌∷◌, ◌++◌, length, take, drop, get_or, map, true, Option, Some, None, option_map, Result, Ok, Err, Vec, refl, sym, ap, subst}
 use Rattle.std.specs.List.{flat_map}
 use Rattle.std.proofs.lemmas.Grind.{flat_map-append}
-use Rattle.std.proofs.lemmas.List.{append_assoc, append-nil, map-append, take_more}
+use Rattle.std.proofs.lemmas.List.{append_assoc, append-nil, map-append, take-append-drop, take_more}
 use Rattle.std.specs.declared.alloc.AllocError.{AllocError}
 use Rattle.std.specs.declared.alloc.Global.{Global}
 use Rattle.press_bits.specs.Page.{Page}
+use Rattle.press_pbm.specs.Spelling.{AppendsFront}
 use Rattle.press_sink.specs.declared.sheet.Delivery.{Delivery}
 use Rattle.press_sink.specs.Told.{SheetsTold, most_faults}
 use Rattle.press_core.specs.declared.operator.OperatorCommand.{OperatorCommand}
 use Rattle.press_core.specs.declared.turn.Turn.{Turn}
 use Rattle.press_core.specs.declared.turn.TurnError.{TurnError}
+use Rattle.press_core.specs.declared.turn.TurnError.TheVariants.{NoMemory}
 use Rattle.press_core.specs.Engines.{are_engines}
 use Rattle.press_core.specs.Events.{Event, Message, TurnOn, Operator, EventAnswer, Response, Turned, Nothing, Happening, Happens, IsRun, Leads, response_to}
 use Rattle.press_core.specs.Laws.{EntriesAreBounded, SheetsAreGiven}
 use Rattle.press_core.specs.Turns.{FaultsAfter, WereHandedOut}
 use Rattle.press_core.specs.World.{World, new_world}
-use Rattle.press_theorem.specs.Events.{HappenAll, HappenFromNew, line_of}
+use Rattle.press_theorem.specs.Events.{FaultLeaves, HappenAll, HappenFromNew, HappenFromNewUpTo, HappenUpTo, line_of}
 
 Leads-join : (world middle last : World) (happenings others : List Happening) → Leads world happenings middle → Leads middle others last → Leads world (happenings ++ others) last
 Leads-join world middle last [] others first second = subst (λ (w : World). Leads w others last) first second
@@ -100,9 +102,84 @@ pub events-next : {A : Type 0} (f : A → Event) (events : List A) (i : ℕ) (ev
 events-next {A} f events i event inside is =
     ap (map f) (take_more events i event inside ∙ ap (λ (one : A). take i events ++ one ∷ []) (sym is)) ∙ map-append f (take i events) (event ∷ [])
 
+-- the events: the first, one, and the others
+pub events-rest : {A : Type 0} (f : A → Event) (events : List A) (i : ℕ) (event : A) → i < length events → event ≡ get_or events i event → map f events ≡ (map f (take i events) ++ f event ∷ []) ++ map f (drop (i + 1) events)
+events-rest {A} f events i event inside is =
+    sym
+    (ap (λ (front : List Event). front ++ map f (drop (i + 1) events)) (sym (events-next f events i event inside is))
+    ∙ sym (map-append f (take (i + 1) events) (drop (i + 1) events))
+    ∙ ap (map f) (take-append-drop (i + 1) events))
+
 -- the sink can count as before
 pub can_count-then : (before after : SheetsTold) → after.faults ≡ before.faults → before.faults < most_faults → after.faults < most_faults
 can_count-then before after is can = subst (λ (n : ℕ). n < most_faults) (sym is) can
+
+-- ---- up to a fault
+
+-- the fault came at one event
+HappenUpTo-one : (error : TurnError) (world last : World) (event : Event) (answer : EventAnswer) (handed : List Delivery) (before after : SheetsTold) (old new : List ℕ) → Happens world event answer handed last → WereHandedOut {A = Turn} handed (Err error) before after → FaultLeaves answer error old new → HappenUpTo error world (event ∷ []) last before after old new
+HappenUpTo-one error world last event answer handed before after old new happens took leaves = record {
+  front = [];
+  stopped = record { event = event; answer = answer; handed = handed; next = last };
+  behind = [];
+  are = refl;
+  between = world;
+  told = before;
+  said = old;
+  happened = HappenAll-none world before old;
+  leads = (happens, refl);
+  handed = took;
+  leaves = leaves;
+}
+
+-- a message, for which there was no memory
+message-stopped : (world last : World) (text : List ℕ) (images : List Page) (response : Option (List ℕ)) (told : SheetsTold) (old new : List ℕ) → Happens world (Message text images) (Response response) [] last → FaultLeaves (Response response) NoMemory old new → HappenUpTo NoMemory world (Message text images ∷ []) last told told old new
+message-stopped world last text images response told old new happens leaves =
+    HappenUpTo-one NoMemory world last (Message text images) (Response response) [] told told old new happens
+    (record { told = took-nothing told.delivered; faults = refl }) leaves
+
+-- it was not answered
+pub message-unanswered : (world last : World) (text : List ℕ) (images : List Page) (told : SheetsTold) (bytes : List ℕ) → Happens world (Message text images) (Response None) [] last → HappenUpTo NoMemory world (Message text images ∷ []) last told told bytes bytes
+message-unanswered world last text images told bytes happens =
+    message-stopped world last text images None told bytes bytes happens (refl, ([], [], refl, sym (append-nil bytes)))
+
+-- it was answered, and there was no memory for the line
+pub message-cut : (world last : World) (text : List ℕ) (images : List Page) (result : Result (Vec ℕ Global) AllocError) (response : Vec ℕ Global) (told : SheetsTold) (line old new : List ℕ) → result ≡ Ok response → Happens world (Message text images) (response_to result) [] last → line ≡ response.items → AppendsFront (Some old) (Some new) line → HappenUpTo NoMemory world (Message text images ∷ []) last told told old new
+message-cut world last text images result response told line old new answer happens is appends =
+    message-stopped world last text images (Some response.items) told old new
+    (subst (λ (one : Result (Vec ℕ Global) AllocError). Happens world (Message text images) (response_to one) [] last) answer happens)
+    (refl, subst (λ (bytes : List ℕ). AppendsFront (Some old) (Some new) bytes) is appends)
+
+-- a turn that was answered by it
+pub turn-stopped : (error : TurnError) (world last : World) (engine most : ℕ) (before after : SheetsTold) (bytes : List ℕ) → ((handed : List Delivery) × Happens world (TurnOn engine most) (Turned (Err error)) handed last × WereHandedOut {A = Turn} handed (Err error) before after) → HappenUpTo error world (TurnOn engine most ∷ []) last before after bytes bytes
+turn-stopped error world last engine most before after bytes taken =
+    HappenUpTo-one error world last (TurnOn engine most) (Turned (Err error)) taken.0 before after bytes bytes taken.1 taken.2 (refl, refl)
+
+-- three parts of a list, the second with an element in its midst
+append-around : (events front behind others : List Event) (one : Event) → (events ++ (front ++ one ∷ behind)) ++ others ≡ (events ++ front) ++ one ∷ (behind ++ others)
+append-around events front behind others one =
+    append_assoc events (front ++ one ∷ behind) others
+    ∙ ap (λ (some : List Event). events ++ some) (append_assoc front (one ∷ behind) others)
+    ∙ sym (append_assoc events front (one ∷ (behind ++ others)))
+
+-- events, and then others up to a fault, whatever stands behind them
+pub HappenUpTo-behind : (error : TurnError) (world middle last : World) (events others more all : List Event) (before between after : SheetsTold) (old written new : List ℕ) → all ≡ (events ++ others) ++ more → HappenAll world events middle before between old written → HappenUpTo error middle others last between after written new → HappenUpTo error world all last before after old new
+HappenUpTo-behind error world middle last events others more all before between after old written new is first second = record {
+  front = events ++ second.front;
+  stopped = second.stopped;
+  behind = second.behind ++ more;
+  are =
+      is
+      ∙ ap (λ (some : List Event). (events ++ some) ++ more) second.are
+      ∙ append-around events second.front second.behind more second.stopped.event;
+  between = second.between;
+  told = second.told;
+  said = second.said;
+  happened = HappenAll-then world middle second.between events second.front (events ++ second.front) before between second.told old written second.said refl first second.happened;
+  leads = second.leads;
+  handed = second.handed;
+  leaves = second.leaves;
+}
 
 -- ---- from a new press
 
@@ -116,4 +193,21 @@ from-new given bounded start engines events last before after old new are is all
       given = λ number. given.under happened.happenings last number run;
       on_engines = bounded.on_engines happened.happenings last run;
       queue = bounded.queue happened.happenings last run;
+    }
+
+pub up-to-from-new : SheetsAreGiven → EntriesAreBounded → (start : World) (error : TurnError) (engines : ℕ) (events : List Event) (last : World) (before after : SheetsTold) (old new : List ℕ)
+    → are_engines engines ≡ true → start ≡ new_world engines → HappenUpTo error start events last before after old new → HappenFromNewUpTo error engines events last before after old new
+up-to-from-new given bounded start error engines events last before after old new are is all =
+    let happened = subst (λ (w : World). HappenUpTo error w events last before after old new) is all in
+    let happenings : List Happening = happened.happened.happenings ++ happened.stopped ∷ [] in
+    let run : IsRun happenings last = record {
+      engines = engines;
+      are = are;
+      leads = Leads-join (new_world engines) happened.between last happened.happened.happenings (happened.stopped ∷ []) happened.happened.leads happened.leads;
+    } in
+    record {
+      happened = happened;
+      given = λ number. given.under happenings last number run;
+      on_engines = bounded.on_engines happenings last run;
+      queue = bounded.queue happenings last run;
     }

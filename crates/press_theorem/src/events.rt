@@ -1,9 +1,10 @@
 //! What happens to a press, one event after another (CIP4 JDF 1.5, the queue and JMF messages).
-ghost use Rattle.std.specs.Prelude.{◌≡◌, ◌<◌, ℕ, [], ◌∷◌, ◌++◌, IsTrue, OnOk, map};
+ghost use Rattle.std.specs.Prelude.{◌≡◌, ◌<◌, ℕ, [], ◌∷◌, ◌++◌, IsTrue, IfErr, OnErr, OnOk, map};
+ghost use Rattle.press_pbm.specs.Spelling.{AppendsFront};
 ghost use Rattle.press_sink.specs.Told.{most_faults};
 ghost use Rattle.press_core.specs.Engines.{are_engines};
 ghost use Rattle.press_core.specs.World.{new_world};
-ghost use Rattle.press_theorem.specs.Events.{HappenAll, HappenFromNew, event_of};
+ghost use Rattle.press_theorem.specs.Events.{HappenAll, HappenFromNew, HappenFromNewUpTo, HappenUpTo, event_of};
 
 use press_bits::Bitmap;
 use press_core::{OperatorCommand, Press, TurnError, laws};
@@ -36,9 +37,9 @@ pub enum PressEvent<'a> {
 ///
 /// # Errors
 ///
-/// `NoEngine` (702), `SinkFault` (301) and `NoMemory`: the events before it happened. A turn of an engine that is not there changed
-/// nothing; of a turn that met a fault the entry is aborted, as [`Press::turn_on`] says; a message that met it changed nothing, or has
-/// no response.
+/// `NoEngine` (702), `SinkFault` (301) and `NoMemory`: the events before it happened, and those behind it did not. A turn of an engine
+/// that is not there changed nothing; of a turn that met a fault the entry is aborted, as [`Press::turn_on`] says; a message that met it
+/// changed nothing, or it happened, and a front of its response is appended, without a line feed.
 pub fn carry_out_events<S: SheetSink>(
     press: &mut Press,
     events: &[PressEvent<'_>],
@@ -50,6 +51,12 @@ pub fn carry_out_events<S: SheetSink>(
         (S.told sheets.old) (S.told sheets.new) responses.old.items responses.new.items) }
     ensures from_new { OnOk result ((engines : ℕ) → IsTrue (are_engines engines)
         → press.old ≡ new_world engines → HappenFromNew engines (map event_of events.now) press.new
+        (S.told sheets.old) (S.told sheets.new) responses.old.items responses.new.items) }
+    ensures err { IfErr result (λ error. HappenUpTo error press.old (map event_of events.now)
+        press.new (S.told sheets.old) (S.told sheets.new) responses.old.items responses.new.items) }
+    ensures err_from_new { IfErr result (λ error. (engines : ℕ) → IsTrue (are_engines engines)
+        → press.old ≡ new_world engines
+        → HappenFromNewUpTo error engines (map event_of events.now) press.new
         (S.told sheets.old) (S.told sheets.new) responses.old.items responses.new.items) }
 {
     laws::sheets_are_given();
@@ -68,8 +75,10 @@ fn carry_out<S: SheetSink>(
     responses: &mut Vec<u8>,
 ) -> Result<(), TurnError>
     requires { (S.told sheets.old).faults < most_faults }
-    ensures { OnOk result (HappenAll press.old (event_of event.entry ∷ []) press.new
+    ensures all { OnOk result (HappenAll press.old (event_of event.entry ∷ []) press.new
         (S.told sheets.old) (S.told sheets.new) responses.old.items responses.new.items) }
+    ensures err { IfErr result (λ error. HappenUpTo error press.old (event_of event.entry ∷ [])
+        press.new (S.told sheets.old) (S.told sheets.new) responses.old.items responses.new.items) }
 {
     match event {
         PressEvent::Message { text, images } => {
@@ -84,9 +93,10 @@ fn carry_out<S: SheetSink>(
     Ok(())
 }
 
-/// Appends a line with its line feed.
+/// Appends a line with its line feed; where memory runs out, a front of the line without it.
 fn append_line(line: &[u8], out: &mut Vec<u8>) -> Result<(), AllocError>
-    ensures { OnOk result (out.new.items ≡ out.old.items ++ (line.now ++ 10 ∷ [])) }
+    ensures ok { OnOk result (out.new.items ≡ out.old.items ++ (line.now ++ 10 ∷ [])) }
+    ensures err { OnErr result (AppendsFront (Some out.old.items) (Some out.new.items) line.now) }
 {
     out.extend_from_slice(line)?;
     out.push(b'\n')?;
