@@ -1,9 +1,10 @@
 //! Pages of dots that stand in bands of sixty-four lines. A band that is not there is white.
 #![tactic(auto)]
 
-ghost use Rattle.std.specs.Prelude.{◌≡◌, ℕ, ◌<◌, ◌≤◌, ◌+◌, ◌*◌, ◌≢◌, ◌↔◌, ◌⊎◌, [], replicate, length, take, drop, pos, true, false, vec_len, MatchOption, IfOk, IsTrue, OnOk, OnErr};
+ghost use Rattle.std.specs.Prelude.{◌≡◌, ℕ, ◌<◌, ◌≤◌, ◌+◌, ◌*◌, ◌≢◌, ◌↔◌, ◌⊎◌, [], replicate, length, take, drop, min, pos, true, false, vec_len, MatchOption, IfOk, IsTrue, OnOk, OnErr};
+ghost use Rattle.std.specs.List.{range_with_len, sum_by};
 ghost use Rattle.press_bits.specs.Page.{HasNoDotOutside, black_at, black_in_line, blank, count_black, is_page_size};
-ghost use Rattle.press_bits.specs.Mark.{IsWhite, painted, row, row_mark, column_mark};
+ghost use Rattle.press_bits.specs.Mark.{IsSolid, IsWhite, painted, row, row_mark, column_mark};
 ghost use Rattle.press_bits.specs.Lines.{bytes_per_line, IsPageLine};
 ghost use Rattle.press_bits.specs.Bands.{AreReady, StaysReady, band_at, band_lines, is_there};
 
@@ -207,14 +208,30 @@ impl Bands {
 
     /// How many dots of a line are black.
     fn black_in(&self, y: u32) -> u32
-        requires { y < self.now.page.height }
+        requires inside { y < self.now.page.height }
+        requires narrow { self.now.page.width ≤ MAX_SIDE }
         ensures { result ≡ black_in_line self.now.page y }
     {
-        let band = &self.bands[y as usize / BAND];
-        if !band.is_there() {
+        dot_bytes::count_black(self.line(y))
+    }
+
+    /// How many dots of the lines of a band are black: none where it is not there.
+    fn black_in_band(&self, index: usize) -> u32
+        requires { band_lines * index < self.now.page.height }
+        ensures { sum_by (black_in_line self.now.page)
+            (range_with_len 0 (min self.now.page.height (band_lines * (index + 1))))
+            ≡ sum_by (black_in_line self.now.page) (range_with_len 0 (band_lines * index)) + result }
+    {
+        if !self.bands[index].is_there() {
             return 0;
         }
-        dot_bytes::count_black(self.line(y))
+        let first = (BAND * index) as u32;
+        let end = self.height.min(first + BAND as u32);
+        let mut black = 0;
+        for y in first..end {
+            black += self.black_in(y);
+        }
+        black
     }
 
     /// How many dots of the page are black.
@@ -222,8 +239,8 @@ impl Bands {
         ensures { result ≡ count_black self.now.page }
     {
         let mut black = 0;
-        for y in 0..self.height {
-            black += self.black_in(y);
+        for index in 0..self.bands.len() {
+            black += self.black_in_band(index);
         }
         black
     }
@@ -273,6 +290,27 @@ impl Bands {
             ≡ painted self.old.page (row_mark x y (row source.entry) (row pattern.entry) mode) }
         ensures ready { self.new.ready ≡ self.old.ready }
     {
+        self.paint_known_row(x, y, source, pattern, mode, false);
+    }
+
+    /// Paints a row as `paint_row` does, of which it may be known that its source dots and its pattern dots are all black: then
+    /// whole bytes are painted at once.
+    pub fn paint_known_row(
+        &mut self,
+        x: i64,
+        y: i64,
+        source: DotRow<'_>,
+        pattern: DotRow<'_>,
+        mode: Mode,
+        solid: bool,
+    )
+        requires some { 1 ≤ pattern.dots }
+        requires ready { IsWhite (row pattern) ⊎ AreReady self.old y 1 }
+        requires solid { solid ≡ true → IsSolid (row source) (row pattern) }
+        ensures painted { self.new.page
+            ≡ painted self.old.page (row_mark x y (row source.entry) (row pattern.entry) mode) }
+        ensures ready { self.new.ready ≡ self.old.ready }
+    {
         let Some(line) = place_within(y, self.height) else {
             return;
         };
@@ -289,6 +327,7 @@ impl Bands {
             source,
             pattern,
             mode,
+            solid,
         };
         self.bands[line / BAND].paint(start, &stroke);
     }
@@ -328,6 +367,7 @@ impl Bands {
             source,
             pattern,
             mode,
+            solid: false,
         };
         paint_down(&mut self.bands, column, &stroke);
     }

@@ -11,7 +11,9 @@ mod lanes;
 mod making;
 mod mode;
 mod painting;
+mod repeats;
 mod stroke;
+mod word;
 
 pub use band::white_bytes;
 pub use bands::{Bands, MAX_SIDE, WIDEST_ROW};

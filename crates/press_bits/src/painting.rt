@@ -1,17 +1,14 @@
-//! Rows of dots that are mixed into the bytes of a page, eight dots at a time.
-ghost use Rattle.std.specs.Prelude.{◌≡◌, ℕ, ◌+◌, ◌-◌, ◌*◌, ◌/◌, ◌%◌, ◌^◌, ◌<◌, ◌≤◌, ◌⊎◌, ◌&&◌, ◌||◌, not, ◌==◌, nat_le, nat_lt, min, pos, ◌+ℤ◌, length};
-ghost use Rattle.press_bits.specs.Mark.{row, row_dot, byte_dot, repeated};
-ghost use Rattle.press_bits.specs.DotRows.{mixed_dot};
-ghost use Rattle.press_bits.specs.Ranges.{IsPaintedAlong, IsStampedDown};
+//! Rows of dots that are mixed into the bytes of a page, sixty-four dots at a time.
+ghost use Rattle.std.specs.Prelude.{◌≡◌, ℕ, ◌+◌, ◌-◌, ◌*◌, ◌/◌, ◌%◌, ◌^◌, ◌<◌, ◌≤◌, ◌⊎◌, ◌&&◌, ◌||◌, not, nat_le, nat_lt, min, true, pos, ◌+ℤ◌, length};
+ghost use Rattle.press_bits.specs.Mark.{row, byte_dot, repeated};
+ghost use Rattle.press_bits.specs.Words.{word_dot};
+ghost use Rattle.press_bits.specs.Ranges.{IsBlackened, IsPaintedAlong, IsPaintedFrom, IsStampedDown};
 
-use crate::dot_bytes::{eight_dots, is_black, is_dot_black};
-use crate::dot_row::DotRow;
-use crate::lanes::{WIDEST_TILE, paint_by_lanes};
+use crate::dot_bytes::is_dot_black;
 use crate::mode::Mode;
+use crate::repeats::{front_word, repeated_word};
 use crate::stroke::{Column, Run, Stamp, Stroke};
-
-/// The fewest dots that are painted by lanes.
-const SHORTEST_RUN: usize = 256;
+use crate::word::{mixed_word, put_word, word_at, word_from};
 
 /// The dots that lie on a side of a page, of a row whose first dot lies at place `at`.
 pub(crate) fn run_within(at: i64, dots: usize, side: u32) -> Run
@@ -37,108 +34,48 @@ pub(crate) fn eight_alike(black: bool) -> u8
     if black { 0xFF } else { 0 }
 }
 
-/// Eight dots of a page after eight source dots were painted on them, through eight pattern dots, where the mask is black.
-pub(crate) fn mixed_byte(before: u8, source: u8, pattern: u8, mask: u8, mode: Mode) -> u8
-    ensures { (j : ℕ) → j < 8 → byte_dot result j ≡ mixed_dot (byte_dot mask j) mode
-        (byte_dot source j) (byte_dot pattern j) (byte_dot before j) }
-{
-    let source_white = eight_alike(mode.source_opaque) & !source;
-    let pattern_white = eight_alike(mode.pattern_opaque) & (source & !pattern);
-    let white = mask & (source_white | pattern_white);
-    let black = mask & (source & pattern);
-    (before & !white) | black
+/// Dots that stand in the eight bytes from byte `index` on: those from dot `from` on and before dot `to`.
+#[derive(Clone, Copy)]
+struct Part {
+    index: usize,
+    from: usize,
+    to: usize,
+    ghost begun: { 8 * index ≤ from },
+    ghost some: { from < to },
+    ghost within: { to ≤ 8 * index + 64 },
 }
 
-/// Of the eight dots from dot `start` on, those from dot `at` on and before dot `end`.
-pub(crate) fn mask_byte(start: usize, at: usize, end: usize) -> u8
-    requires small { end + 8 < 2 ^ 64 }
-    requires begun { at < start + 8 }
-    requires left { start < end }
-    ensures { (j : ℕ) → j < 8
-        → byte_dot result j ≡ (nat_le at (start + j) && nat_lt (start + j) end) }
+/// The dots of a part, among the sixty-four of its bytes.
+fn mask_word(part: Part) -> u64
+    requires { 8 * part.index + 64 < 2 ^ 64 }
+    ensures { (j : ℕ) → j < 64 → word_dot result j
+        ≡ (nat_le part.from (8 * part.index + j) && nat_lt (8 * part.index + j) part.to) }
 {
-    let begun = if start < at {
-        0xFF >> (at - start)
-    } else {
-        0xFF
-    };
-    if start + 8 <= end {
-        begun
-    } else {
-        let past = start + 8 - end;
-        (begun >> past) << past
-    }
+    let start = 8 * part.index;
+    (u64::MAX >> (part.from - start)) & (u64::MAX << (start + 64 - part.to))
 }
 
-/// The eight source dots from dot `start` on, where dot `skip` of the bytes is laid at dot `at`. What stands before that is
-/// no source dot.
-pub(crate) fn source_byte(start: usize, at: usize, bits: &[u8], skip: usize) -> u8
-    requires begun { at < start + 8 }
-    requires fits { skip + (start - at) < 2 ^ 64 }
-    ensures { (j : ℕ) → j < 8 → at ≤ start + j
-        → byte_dot result j ≡ row_dot bits.now (skip + (start + j - at)) }
-{
-    if start < at {
-        eight_dots(bits, skip) >> (at - start)
-    } else {
-        eight_dots(bits, skip + (start - at))
-    }
-}
-
-/// Eight dots of a pattern from dot `phase` on, where the pattern is repeated.
-pub(crate) fn pattern_byte(pattern: DotRow<'_>, phase: usize) -> u8
-    requires wide { 8 ≤ pattern.dots }
-    requires within { phase < pattern.dots }
-    ensures { (j : ℕ) → j < 8 → byte_dot result j ≡ repeated (row pattern.entry) (phase + j) }
-{
-    let left = pattern.dots - phase;
-    let byte = eight_dots(pattern.bits, phase);
-    if left >= 8 {
-        byte
-    } else {
-        let past = 8 - left;
-        ((byte >> past) << past) | (eight_dots(pattern.bits, 0) >> left)
-    }
-}
-
-/// The dot of a repeated pattern that is `step` dots further.
-pub(crate) fn further(phase: usize, step: usize, dots: usize) -> usize
-    requires within { phase < dots }
-    requires short { step ≤ dots }
-    ensures { result ≡ (phase + step) % dots }
-{
-    let left = dots - phase;
-    if step < left {
-        phase + step
-    } else {
-        step - left
-    }
-}
-
-/// A narrow pattern eight times, side by side, in whole bytes.
-fn eightfold(pattern: DotRow<'_>) -> [u8; 7]
-    requires some { 1 ≤ pattern.dots }
-    requires narrow { pattern.dots < 8 }
-    ensures { (p : ℕ) → p < 8 * pattern.entry.dots
-        → row_dot result p ≡ repeated (row pattern.entry) p }
-{
-    let mut bytes = [0; 7];
-    for p in 0..8 * pattern.dots {
-        if is_black(pattern.bits, p % pattern.dots) {
-            bytes[p / 8] |= 0x80 >> (p % 8);
-        }
-    }
-    bytes
-}
-
-/// Paints a run of source dots, through a pattern of at least eight dots, into the line that begins at byte `line`.
-fn paint_wide(rows: &mut [u8], line: usize, stroke: &Stroke<'_, '_>)
-    requires some { 0 < stroke.now.run.count }
-    requires within { 8 * line + stroke.now.run.first + stroke.now.run.count ≤ 8 * length rows.old }
+/// Paints the dots of a part of a stroke that lies in the line that begins at byte `line`, through the pattern of which this is
+/// the front.
+#[inline(always)]
+fn paint_word(
+    rows: &mut [u8],
+    part: Part,
+    line: usize,
+    stroke: &Stroke<'_, '_>,
+    front: u64,
+    divides: bool,
+)
+    requires room { part.index + 8 ≤ length rows.old }
     requires small { length rows.old < 2 ^ 40 }
+    requires begun { 8 * line + stroke.now.run.first ≤ part.from }
+    requires left { part.to ≤ 8 * line + stroke.now.run.first + stroke.now.run.count }
     requires enough { stroke.now.run.skip + stroke.now.run.count ≤ stroke.now.source.dots }
-    requires wide { 8 ≤ stroke.now.pattern.dots }
-    ensures { IsPaintedAlong rows.old rows.new line stroke.now }
+    requires pattern { 1 ≤ stroke.now.pattern.dots }
+    requires front { (j : ℕ) → j < 64
+        → word_dot front j ≡ repeated (row stroke.now.pattern) j }
+    requires divides { divides ≡ true → 64 % stroke.now.pattern.dots ≡ 0 }
+    ensures { IsPaintedFrom rows.old rows.new line stroke.now part.from part.to }
 {
     let Stroke {
         run,
@@ -147,65 +84,70 @@ fn paint_wide(rows: &mut [u8], line: usize, stroke: &Stroke<'_, '_>)
         mode,
         ..
     } = *stroke;
-    let at = 8 * line + run.first;
-    let end = at + run.count;
-    let mut phase = (8 * (run.first / 8)) % pattern.dots;
-    for index in at / 8..(end - 1) / 8 + 1 {
-        let mask = mask_byte(8 * index, at, end);
-        let source = source_byte(8 * index, at, source.bits, run.skip);
-        let tile = pattern_byte(pattern, phase);
-        rows[index] = mixed_byte(rows[index], source, tile, mask, mode);
-        phase = further(phase, 8, pattern.dots);
+    let shift = part.from - 8 * part.index;
+    let first = run.skip + (part.from - (8 * line + run.first));
+    let dots = word_from(source.bits, first);
+    let through = repeated_word(pattern, front, divides, part.from - 8 * line);
+    let before = word_at(rows, part.index);
+    let mask = mask_word(part);
+    let after = mixed_word(before, dots >> shift, through >> shift, mask, mode);
+    put_word(rows, part.index, after);
+}
+
+/// Blackens the dots from dot `from` on and before dot `to`, one after the other.
+fn blacken_dots(rows: &mut [u8], from: usize, to: usize)
+    requires onward { from ≤ to }
+    requires within { to ≤ 8 * length rows.old }
+    ensures { IsBlackened rows.old rows.new from to }
+{
+    for dot in from..to {
+        rows[dot / 8] |= 0x80 >> (dot % 8);
     }
+}
+
+/// Blackens the dots from dot `from` on and before dot `to`: those of whole bytes at once.
+fn blacken(rows: &mut [u8], from: usize, to: usize)
+    requires onward { from ≤ to }
+    requires within { to ≤ 8 * length rows.old }
+    requires small { length rows.old < 2 ^ 40 }
+    ensures { IsBlackened rows.old rows.new from to }
+{
+    let first = from.div_ceil(8);
+    let last = to / 8;
+    if last < first {
+        blacken_dots(rows, from, to);
+        return;
+    }
+    blacken_dots(rows, from, 8 * first);
+    rows[first..last].fill(0xFF);
+    blacken_dots(rows, 8 * last, to);
 }
 
 /// Paints a run of source dots, through a pattern, into the line that begins at byte `line`.
 pub(crate) fn paint_across(rows: &mut [u8], line: usize, stroke: &Stroke<'_, '_>)
-    requires some { 0 < stroke.now.run.count }
     requires within { 8 * line + stroke.now.run.first + stroke.now.run.count ≤ 8 * length rows.old }
+    requires long { 8 ≤ length rows.old }
     requires small { length rows.old < 2 ^ 40 }
     requires enough { stroke.now.run.skip + stroke.now.run.count ≤ stroke.now.source.dots }
     requires pattern { 1 ≤ stroke.now.pattern.dots }
     ensures { IsPaintedAlong rows.old rows.new line stroke.now }
 {
-    if stroke.pattern.dots >= 8 {
-        paint_unrolled(rows, line, stroke);
-    } else {
-        let Stroke {
-            run,
-            source,
-            mode,
-            ..
-        } = *stroke;
-        let bytes = eightfold(stroke.pattern);
-        let pattern = DotRow {
-            bits: &bytes,
-            dots: 8 * stroke.pattern.dots,
-        };
-        let unrolled = Stroke {
-            run,
-            source,
-            pattern,
-            mode,
-        };
-        paint_unrolled(rows, line, &unrolled);
+    if stroke.solid {
+        let from = 8 * line + stroke.run.first;
+        blacken(rows, from, from + stroke.run.count);
+        return;
     }
-}
-
-/// Paints a run of source dots, through a pattern of at least eight dots, into the line that begins at byte `line`: by lanes
-/// where the run is long and the pattern narrow.
-fn paint_unrolled(rows: &mut [u8], line: usize, stroke: &Stroke<'_, '_>)
-    requires some { 0 < stroke.now.run.count }
-    requires within { 8 * line + stroke.now.run.first + stroke.now.run.count ≤ 8 * length rows.old }
-    requires small { length rows.old < 2 ^ 40 }
-    requires enough { stroke.now.run.skip + stroke.now.run.count ≤ stroke.now.source.dots }
-    requires wide { 8 ≤ stroke.now.pattern.dots }
-    ensures { IsPaintedAlong rows.old rows.new line stroke.now }
-{
-    if stroke.pattern.dots <= WIDEST_TILE && stroke.run.count >= SHORTEST_RUN {
-        paint_by_lanes(rows, line, stroke);
-    } else {
-        paint_wide(rows, line, stroke);
+    let front = front_word(stroke.pattern);
+    let divides = 64 % stroke.pattern.dots == 0;
+    let last = rows.len() - 8;
+    let mut from = 8 * line + stroke.run.first;
+    let end = from + stroke.run.count;
+    while from < end {
+        let index = (from / 8).min(last);
+        let to = (8 * index + 64).min(end);
+        let part = Part { index, from, to };
+        paint_word(rows, part, line, stroke, front, divides);
+        from = to;
     }
 }
 

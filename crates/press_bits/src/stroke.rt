@@ -1,5 +1,6 @@
 //! What is painted along a line of a page, or down a column.
-ghost use Rattle.std.specs.Prelude.{◌*◌, ◌^◌, ◌<◌, ◌≤◌};
+ghost use Rattle.std.specs.Prelude.{◌≡◌, ◌*◌, ◌^◌, ◌<◌, ◌≤◌, true};
+ghost use Rattle.press_bits.specs.Mark.{IsSolid, row};
 
 use crate::dot_row::DotRow;
 use crate::mode::Mode;
@@ -13,14 +14,16 @@ pub(crate) struct Run {
     pub(crate) count: usize,
 }
 
-/// A run of the dots of a source row that is painted through a row of a pattern.
+/// A run of the dots of a source row that is painted through a row of a pattern; a solid one has black dots alone.
 #[derive(Clone, Copy, Debug)]
 pub(crate) struct Stroke<'s, 'p> {
     pub(crate) run: Run,
     pub(crate) source: DotRow<'s>,
     pub(crate) pattern: DotRow<'p>,
     pub(crate) mode: Mode,
+    pub(crate) solid: bool,
     ghost small: { source.dots < 2 ^ 64 },
+    ghost black: { solid ≡ true → IsSolid (row source) (row pattern) },
 }
 
 /// A column of dots, `place` dots from the left edge of lines that have `bytes` bytes each.

@@ -1,34 +1,44 @@
-use Rattle.std.proofs.Common.{◌≡◌, ℕ, ◌*◌, ◌≤◌, sym, ap, subst, ◌∙◌, arith, rules}
+use Rattle.std.proofs.Common.{◌≡◌, ℕ, ◌+◌, ◌*◌, ◌≤◌, ◌<◌, min, sym, ap, subst, ◌∙◌, arith}
 use Rattle.std.specs.List.{sum_by, range_with_len}
 use Rattle.press_bits.specs.Page.{HasNoDotOutside, black_at, black_in_line, longest_side}
 use Rattle.press_bits.specs.Bands.{BandedPage}
-use Rattle.press_bits.proofs.CountLemmas.{sum_more, sum_bound, count_bound, count_black-lines}
+use Rattle.press_bits.proofs.CountLemmas.{sum_bound, count_bound, count_black-lines}
 use Rattle.press_bits.proofs.BandLemmas.{height-page_of_bands, width-page_of_bands, no_dot_outside}
 use Rattle.press_bits.proofs.bands.Bands.count_black.Goals as goal
 
-pub black_in-black-requires : goal.black_in-black-requires
-black_in-black-requires c =
+pub black_in_band-black-requires : goal.black_in_band-black-requires
+black_in_band-black-requires c =
     let high : c.self.inside.height ≡ c.args.self.now.page.height = sym (height-page_of_bands _ _ _) ∙ ap (λ (b : BandedPage). b.page.height) c.self.view_is in
-    omega arith
+    omega (arith, c.self.invariant.count, high)
+
+-- the lines above a band that is a band of the page
+above : (black next : ℕ) (all : ℕ → ℕ) (high index : ℕ) → 64 * index < high → black ≡ all (min high (64 * index)) → all (min high (64 * (index + 1))) ≡ all (64 * index) + next → black + next ≡ all (min high (64 * (index + 1)))
+above black next all high index inside so_far more =
+    let here : min high (64 * index) ≡ 64 * index = omega arith in
+    ap (λ n. n + next) (so_far ∙ ap all here) ∙ sym more
 
 pub overflow_add-black : goal.overflow_add-black
 overflow_add-black c =
     let wide : c.self.inside.width ≡ c.args.self.now.page.width = sym (width-page_of_bands _ _ _) ∙ ap (λ (b : BandedPage). b.page.width) c.self.view_is in
+    let high : c.self.inside.height ≡ c.args.self.now.page.height = sym (height-page_of_bands _ _ _) ∙ ap (λ (b : BandedPage). b.page.height) c.self.view_is in
+    let inside : 64 * c.loop-index.index < c.args.self.now.page.height = omega (arith, c.self.invariant.count, high) in
     let each : (y : ℕ) → black_in_line c.args.self.now.page y ≤ longest_side =
     λ y. omega (arith, c.self.invariant.most_width, wide, count_bound (λ x. black_at c.args.self.now.page x y) c.args.self.now.page.width) in
-    let so_far : c.loop-y.black ≤ c.loop-y.y * longest_side =
-    omega (arith, c.loop-y.invariant, sum_bound (black_in_line c.args.self.now.page) longest_side c.loop-y.y each) in
-    let more : c.black_in-black.result ≤ longest_side = omega (arith, c.black_in-black.ensures, each c.loop-y.y) in
-    search (rules, so_far, more)
+    let grown = above c.loop-index.black c.black_in_band-black.result (λ n. sum_by (black_in_line c.args.self.now.page) (range_with_len 0 n)) c.args.self.now.page.height c.loop-index.index inside c.loop-index.invariant c.black_in_band-black.ensures in
+    record {
+      fits = omega (arith, grown, high, c.self.invariant.most_height, sum_bound (black_in_line c.args.self.now.page) longest_side (min c.args.self.now.page.height (64 * (c.loop-index.index + 1))) each);
+    }
 
-pub loop-y-preserved : goal.loop-y-preserved
-loop-y-preserved c = omega (arith, c.black_in-black.ensures, c.loop-y.invariant, sum_more (black_in_line c.args.self.now.page) c.loop-y.y)
+pub loop-index-preserved : goal.loop-index-preserved
+loop-index-preserved c =
+    let high : c.self.inside.height ≡ c.args.self.now.page.height = sym (height-page_of_bands _ _ _) ∙ ap (λ (b : BandedPage). b.page.height) c.self.view_is in
+    above c.loop-index.black c.black_in_band-black.result (λ n. sum_by (black_in_line c.args.self.now.page) (range_with_len 0 n)) c.args.self.now.page.height c.loop-index.index (omega (arith, c.self.invariant.count, high)) c.loop-index.invariant c.black_in_band-black.ensures
 
 pub returns : goal.returns
 returns c =
     let high : c.self.inside.height ≡ c.args.self.now.page.height = sym (height-page_of_bands _ _ _) ∙ ap (λ (b : BandedPage). b.page.height) c.self.view_is in
-    let last : c.loop-y.y ≡ c.args.self.now.page.height = omega arith in
+    let last : min c.args.self.now.page.height (64 * c.loop-index.index) ≡ c.args.self.now.page.height = omega (arith, c.self.invariant.count, high) in
     let none : HasNoDotOutside c.args.self.now.page = subst (λ (b : BandedPage). HasNoDotOutside b.page) c.self.view_is (no_dot_outside _ _ _) in
-    c.loop-y.invariant
+    c.loop-index.invariant
     ∙ ap (λ n. sum_by (black_in_line c.args.self.now.page) (range_with_len 0 n)) last
     ∙ sym (count_black-lines c.args.self.now.page none)

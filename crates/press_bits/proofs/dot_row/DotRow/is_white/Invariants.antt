@@ -1,5 +1,6 @@
-use Rattle.std.proofs.Common.{◌≡◌, ℕ, ◌<◌, get_or}
+use Rattle.std.proofs.Common.{◌≡◌, ℕ, ◌*◌, ◌<◌, false}
+use Rattle.press_bits.specs.Mark.{row_dot}
 use Rattle.press_bits.proofs.dot_row.DotRow.is_white.Given as goal
 
-abbrev pub invariant-loop-byte : goal.invariant-loop-byte
-invariant-loop-byte l = (k : ℕ) → k < l.byte-index → get_or l.self.bits.now k 0 ≡ 0
+abbrev pub invariant-loop-word : goal.invariant-loop-word
+invariant-loop-word l = (i : ℕ) → i < 8 * (8 * l.word) → row_dot l.self.bits.now i ≡ false

@@ -1,0 +1,91 @@
+-- Rows of dots that are painted along a line, one word after another.
+use Rattle.std.proofs.Common.{◌≡◌, ℕ, ◌+◌, ◌-◌, ◌*◌, ◌/◌, ◌^◌, ◌<◌, ◌≤◌, ◌⊎◌, Bool, true, false, ◌&&◌, List, sym, ap, ◌∙◌, inl, inr, arith}
+use Rattle.std.specs.Prelude.{nat_lt, nat_le}
+use Rattle.std.proofs.lemmas.Bool.{cases_lt}
+use Rattle.std.proofs.lemmas.Bool.Decides.{nat_tests}
+use Rattle.press_bits.specs.DotRows.{mixed_dot}
+use Rattle.press_bits.specs.Mark.{row_dot}
+use Rattle.press_bits.specs.Words.{word_dot}
+use Rattle.press_bits.specs.declared.mode.Mode.{Mode}
+use Rattle.press_bits.proofs.MixLemmas.{mixed_when, not_mixed}
+use Rattle.press_bits.proofs.WordLemmas.{shifted_right}
+
+-- The dots from `from` on and before `to` are painted, the others not.
+abbrev pub IsPaintedBetween : (old new : List ℕ) → Mode → (source tile : ℕ → Bool) → (from to : ℕ) → Type 0
+IsPaintedBetween old new mode source tile from to =
+    (p : ℕ) → row_dot new p ≡ mixed_dot (nat_le from p && nat_lt p to) mode (source p) (tile p) (row_dot old p)
+
+before_test : (from to p : ℕ) → p < from → (nat_le from p && nat_lt p to) ≡ false
+before_test from to p before = grind (arith, nat_tests)
+
+past_test : (from to p : ℕ) → to ≤ p → (nat_le from p && nat_lt p to) ≡ false
+past_test from to p past = grind (arith, nat_tests)
+
+reached_of : (from to p : ℕ) → (nat_le from p && nat_lt p to) ≡ true → from ≤ p
+reached_of from to p test = grind (arith, nat_tests)
+
+-- a dot of a run is one of its source
+pub in_run : (skip at count dots p : ℕ) → skip + count ≤ dots → (nat_le at p && nat_lt p (at + count)) ≡ true → skip + (p - at) < dots
+in_run skip at count dots p enough test = grind (arith, nat_tests)
+
+pub painted_none : (old : List ℕ) (mode : Mode) (source tile : ℕ → Bool) (from to : ℕ) → to ≤ from → IsPaintedBetween old old mode source tile from to
+painted_none old mode source tile from to none p = sym (not_mixed _ mode (source p) (tile p) (row_dot old p) (no_dot from to p none))
+  where
+    no_dot : (from to p : ℕ) → to ≤ from → (nat_le from p && nat_lt p to) ≡ false
+    no_dot from to p none = grind (arith, nat_tests)
+
+-- dots that are painted right of those that are painted
+pub painted_then : (old rows new : List ℕ) (mode : Mode) (source tile : ℕ → Bool) (from at to : ℕ) → from ≤ at → at ≤ to →
+    IsPaintedBetween old rows mode source tile from at → IsPaintedBetween rows new mode source tile at to → IsPaintedBetween old new mode source tile from to
+painted_then old rows new mode source tile from at to begun left first second p =
+    elim (cases_lt p at) [
+      | inl before ↦
+          second p
+          ∙ not_mixed _ mode (source p) (tile p) (row_dot rows p) (before_test at to p before)
+          ∙ first p
+          ∙ ap (λ t. mixed_dot t mode (source p) (tile p) (row_dot old p)) (same_front from at to p before left)
+      | inr behind ↦
+          second p
+          ∙ (λ i. mixed_dot (same_back from at to p behind begun i) mode (source p) (tile p) ((first p ∙ not_mixed _ mode (source p) (tile p) (row_dot old p) (past_test from at p behind)) i))
+    ]
+  where
+    same_front : (from at to p : ℕ) → p < at → at ≤ to → (nat_le from p && nat_lt p at) ≡ (nat_le from p && nat_lt p to)
+    same_front from at to p before left = grind (arith, nat_tests)
+
+    same_back : (from at to p : ℕ) → at ≤ p → from ≤ at → (nat_le at p && nat_lt p to) ≡ (nat_le from p && nat_lt p to)
+    same_back from at to p behind begun = grind (arith, nat_tests)
+
+-- the dots of a word are painted into eight bytes
+pub painted_word : (old new : List ℕ) (mode : Mode) (source tile : ℕ → Bool) (index from to dots through mask before after : ℕ) →
+    8 * index ≤ from → to ≤ 8 * index + 64 →
+    ((j : ℕ) → j < 64 → word_dot dots j ≡ source (from + j)) →
+    ((j : ℕ) → j < 64 → word_dot through j ≡ tile (from + j)) →
+    ((j : ℕ) → j < 64 → word_dot mask j ≡ (nat_le from (8 * index + j) && nat_lt (8 * index + j) to)) →
+    ((j : ℕ) → j < 64 → word_dot before j ≡ row_dot old (8 * index + j)) →
+    ((j : ℕ) → j < 64 → word_dot after j ≡ mixed_dot (word_dot mask j) mode (word_dot (dots / 2 ^ (from - 8 * index)) j) (word_dot (through / 2 ^ (from - 8 * index)) j) (word_dot before j)) →
+    ((j : ℕ) → j < 64 → row_dot new (8 * index + j) ≡ word_dot after j) →
+    ((p : ℕ) → (p < 8 * index) ⊎ (8 * index + 64 ≤ p) → row_dot new p ≡ row_dot old p) →
+    IsPaintedBetween old new mode source tile from to
+painted_word old new mode source tile index from to dots through mask before after begun within sources tiles masks befores mixed here elsewhere p =
+    elim (cases_lt p (8 * index)) [
+      | inl early ↦ elsewhere p (inl early) ∙ sym (not_mixed _ mode (source p) (tile p) (row_dot old p) (before_test from to p (omega arith)))
+      | inr reached ↦ elim (cases_lt p (8 * index + 64)) [
+        | inl low ↦ inside p (p - 8 * index) (omega arith) (omega arith)
+        | inr past ↦ elsewhere p (inr past) ∙ sym (not_mixed _ mode (source p) (tile p) (row_dot old p) (past_test from to p (omega arith)))
+      ]
+    ]
+  where
+    -- a dot of what was shifted to its place
+    late : (word p j : ℕ) (dot : ℕ → Bool) → p ≡ 8 * index + j → j < 64 → from ≤ p → ((i : ℕ) → i < 64 → word_dot word i ≡ dot (from + i)) → word_dot (word / 2 ^ (from - 8 * index)) j ≡ dot p
+    late word p j dot place low reached is =
+        shifted_right word (from - 8 * index) j (omega arith) low ∙ is (j - (from - 8 * index)) (omega arith) ∙ ap dot (omega arith)
+
+    inside : (p j : ℕ) → p ≡ 8 * index + j → j < 64 → row_dot new p ≡ mixed_dot (nat_le from p && nat_lt p to) mode (source p) (tile p) (row_dot old p)
+    inside p j place low =
+        ap (row_dot new) place
+        ∙ here j low
+        ∙ mixed j low
+        ∙ (λ i. mixed_dot (masks j low i) mode (word_dot (dots / 2 ^ (from - 8 * index)) j) (word_dot (through / 2 ^ (from - 8 * index)) j) (befores j low i))
+        ∙ ap (λ q. mixed_dot (nat_le from q && nat_lt q to) mode (word_dot (dots / 2 ^ (from - 8 * index)) j) (word_dot (through / 2 ^ (from - 8 * index)) j) (row_dot old q)) (sym place)
+        ∙ mixed_when (nat_le from p && nat_lt p to) mode (word_dot (dots / 2 ^ (from - 8 * index)) j) (source p) (word_dot (through / 2 ^ (from - 8 * index)) j) (tile p) (row_dot old p)
+        (λ t. late dots p j source place low (reached_of from to p t) sources) (λ t. late through p j tile place low (reached_of from to p t) tiles)

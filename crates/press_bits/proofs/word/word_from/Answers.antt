@@ -1,0 +1,6 @@
+use Rattle.std.proofs.Common.{rules}
+use Rattle.press_bits.proofs.WordLemmas.{nine_bytes}
+use Rattle.press_bits.proofs.word.word_from.Goals as goal
+
+pub returns : goal.returns
+returns c = λ j within. nine_bytes c.args.bits.now c.args.first c.word_at-left.result c.byte_at-right.result j (search rules) c.word_at-left.ensures.dots c.byte_at-right.ensures within
