@@ -53,6 +53,9 @@ fn fill_with(
     if let Orientation::Portrait = orientation {
         return fill_area(page, area, &ink.tile, ink.mode);
     }
+    if ink.tile.is_solid_black() {
+        return fill_area(page, area, &ink.tile, ink.mode);
+    }
     let tile = placement.placed(alloc, &ink.tile)?;
     fill_area(page, area, &tile.as_tile(), ink.mode)
 }

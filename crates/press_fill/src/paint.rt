@@ -1,7 +1,7 @@
 //! Areas of the page that are painted line by line through a tile.
 
-ghost use Rattle.std.specs.Prelude.{◌≡◌, ◌<◌, ◌≤◌, ◌+◌, ◌*◌, ◌⊎◌, min, pos, replicate, OnOk, OnErr};
-ghost use Rattle.press_bits.specs.Mark.{IsWhite, painted, row, row_mark};
+ghost use Rattle.std.specs.Prelude.{◌≡◌, ℕ, ◌<◌, ◌≤◌, ◌+◌, ◌*◌, ◌⊎◌, min, pos, true, replicate, OnOk, OnErr};
+ghost use Rattle.press_bits.specs.Mark.{IsWhite, painted, repeated, row, row_mark};
 ghost use Rattle.press_bits.specs.Bands.{AreReady};
 ghost use Rattle.press_pattern.specs.Tiling.{IsWhiteTile};
 ghost use Rattle.press_fill.specs.Area.{area_mark};
@@ -21,8 +21,17 @@ fn cut_length(from: u32, length: u32, edge: u32) -> u32
     length.min(edge.saturating_sub(from))
 }
 
-/// Paints so many columns of one line of the page, from x on, through a row of a pattern.
-fn paint_line(page: &mut Bands, x: u32, y: u32, columns: u32, pattern: DotRow<'_>, mode: Mode)
+/// Paints so many columns of one line of the page, from x on, through a row of a pattern, which may be solid black.
+fn paint_line(
+    page: &mut Bands,
+    x: u32,
+    y: u32,
+    columns: u32,
+    pattern: DotRow<'_>,
+    mode: Mode,
+    solid: bool,
+)
+    requires solid { solid ≡ true → (i : ℕ) → repeated (row pattern) i ≡ true }
     requires narrow { columns ≤ 8 * WIDEST_ROW }
     requires some { 1 ≤ pattern.dots }
     requires ready { IsWhite (row pattern) ⊎ AreReady page.old (pos y) 1 }
@@ -34,7 +43,7 @@ fn paint_line(page: &mut Bands, x: u32, y: u32, columns: u32, pattern: DotRow<'_
         bits: &[0xFF; WIDEST_ROW],
         dots: columns as usize,
     };
-    page.paint_row(i64::from(x), i64::from(y), source, pattern, mode);
+    page.paint_known_row(i64::from(x), i64::from(y), source, pattern, mode, solid);
 }
 
 /// Paints an area of the page, whose lines are ready, or white and stay so, through a tile that lies on it. Dots outside the
@@ -47,12 +56,13 @@ fn paint_area(page: &mut Bands, area: Area, tile: &Tile<'_>, mode: Mode)
     let (x, y) = (area.across.start, area.down.start);
     let columns = cut_length(x, area.across.length, page.width());
     let lines = cut_length(y, area.down.length, page.height());
+    let solid = tile.is_solid_black();
     for line in 0..lines {
         let pattern = DotRow {
             bits: tile.row(y + line),
             dots: usize::from(tile.width()),
         };
-        paint_line(page, x, y + line, columns, pattern, mode);
+        paint_line(page, x, y + line, columns, pattern, mode, solid);
     }
 }
 

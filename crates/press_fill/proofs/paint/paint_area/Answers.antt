@@ -6,7 +6,7 @@ use Rattle.press_bits.proofs.BandLemmas.{ready_within}
 use Rattle.press_bits.specs.Mark.{Row, repeated, painted, row_mark, box_mark}
 use Rattle.press_bits.proofs.MarkLemmas.{height-painted, painted_box_none, painted_box_row, painted_box_cut, IsAllBlack-replicate}
 use Rattle.press_pattern.specs.Tiling.{Tiling, tile_dot, tile_row}
-use Rattle.press_fill.proofs.FillLemmas.{repeated-tile_row}
+use Rattle.press_fill.proofs.FillLemmas.{repeated-tile_row, tile_dot-solid_black}
 use Rattle.press_fill.proofs.paint.paint_area.Goals as goal
 
 pub loop-line-init : goal.loop-line-init
@@ -33,6 +33,16 @@ paint_line-requires-clause-ready c =
 
     before : (y line lines : ℕ) → line < lines → int_le (pos (y + line) +ℤ pos 1) (pos y +ℤ pos lines) ≡ true
     before y line lines inside = grind (arith, ints)
+
+pub paint_line-requires-clause-solid : goal.paint_line-requires-clause-solid
+paint_line-requires-clause-solid c = λ solid i.
+    (λ k. repeated (record { bits = c.row.ensures.row k; dots = width k }) i)
+    ∙ repeated-tile_row c.args.tile.now i (c.args.area.down.start + c.loop-line.line)
+    ∙ ap (λ (tile : Tiling). tile_dot tile i (c.args.area.down.start + c.loop-line.line)) (c.is_solid_black-solid.ensures solid)
+    ∙ tile_dot-solid_black i (c.args.area.down.start + c.loop-line.line)
+  where
+    width : c.from.result ≡ c.args.tile.now.width
+    width = omega arith
 
 pub loop-line-preserved : goal.loop-line-preserved
 loop-line-preserved c =
