@@ -1,12 +1,13 @@
 -- Dots that are widened as numbers.
-use Rattle.std.proofs.Common.{◌≡◌, ℕ, zero, suc, ◌+◌, ◌-◌, ◌*◌, ◌/◌, ◌%◌, ◌^◌, ◌<◌, ◌≤◌, Bool, true, false, cond, refl, sym, ap, ◌∙◌, inl, inr, arith, ◌≢◌}
+use Rattle.std.proofs.Common.{◌≡◌, ℕ, zero, suc, ◌+◌, ◌-◌, ◌*◌, ◌/◌, ◌%◌, ◌^◌, ◌<◌, ◌≤◌, Bool, true, false, cond, List, get_or, map, refl, sym, ap, ◌∙◌, inl, inr, arith}
 use native.Mathlib.Numerals.{unary_clauses}
-use Rattle.std.specs.Prelude.{nat_eq, bit_and, bit_or, Some, None}
+use Rattle.std.specs.Prelude.{nat_eq, bit_or, Some, None}
 use Rattle.std.specs.Int.{bit_at}
-use Rattle.std.proofs.lemmas.Nat.{pow_pos, shr_high, mod_low, div-mul-add, div-add-mod', mod_below, div_below, mul-le, shl_whole, or_shifted}
-use Rattle.std.proofs.lemmas.Nat.Bits.{bit_at-lt, bit_at-suc, bit_at_lowest, shr_and_one, bit_at_cat_low, bit_at_cat_high}
+use Rattle.std.specs.List.{range_with_len}
+use Rattle.std.proofs.lemmas.List.FromFn.{get_or-map-range_with_len}
+use Rattle.std.proofs.lemmas.Nat.{shr_high, mod_low, div-mul-add, div-add-mod', mod_below, div_below, mul-le, shl_whole, or_shifted}
+use Rattle.std.proofs.lemmas.Nat.Bits.{bit_at-lt, bit_at-suc, bit_at_lowest, bit_at_cat_low, bit_at_cat_high}
 use Rattle.std.proofs.lemmas.Bool.{cases_lt}
-use Rattle.std.proofs.lemmas.Bool.Decides.{nat_tests}
 use Rattle.std.proofs.Math.Nat.{mul_comm, zero-div, mod-eq_of_lt, mul-add-div_right}
 use Rattle.press_bits.specs.Mark.{Row, row_dot, byte_dot, repeated}
 use Rattle.press_pattern.specs.Tiling.{byte_where}
@@ -50,22 +51,6 @@ number-add rule a (suc b) =
     ap (number_where rule) next
     ∙ ap (λ n. n * 2 + c) (number-add rule a b)
     ∙ double
-
--- so many dots that are alike
-pub number-same : (b : Bool) (n : ℕ) → number_where (λ _. b) n ≡ cond b (2 ^ n - 1) 0
-unfolding number_where
-number-same true zero = refl
-number-same false zero = refl
-number-same true (suc n) = omega (arith, number-same true n, pow_pos n)
-number-same false (suc n) = omega (arith, number-same false n)
-
--- one more dot that is widened
-pub number-widened : (byte size j : ℕ) → 1 ≤ size → number_where (wide_dot byte size) (j * size + size) ≡ number_where (wide_dot byte size) (j * size) * 2 ^ size + cond (byte_dot byte j) (2 ^ size - 1) 0
-number-widened byte size j some =
-    number-add (wide_dot byte size) (j * size) size
-    ∙ ap (λ n. number_where (wide_dot byte size) (j * size) * 2 ^ size + n)
-    (number-alike size (λ i. wide_dot byte size (j * size + i)) (λ _. byte_dot byte j) (λ i low. ap (byte_dot byte) (div-mul-add j size i low))
-    ∙ number-same (byte_dot byte j) size)
 
 -- a byte of a number
 pub number-byte_of : (rule : ℕ → Bool) (size m : ℕ) → m < size → number_where rule (8 * size) / 2 ^ (8 * (size - 1 - m)) % 256 ≡ byte_where (λ j. rule (8 * m + j))
@@ -185,42 +170,16 @@ eight-read source byte first reading forward once within small dots =
     ∙ (λ t. row_dot source.bits (place_from (sym forward t) (first + j) / sym once t % source.dots))))
     ∙ sym (number-byte (λ j. read_dot reading source (first + j)))
 
--- ---- a byte that is widened
+-- ---- a table of four dots
 
-pub number-none : (byte size : ℕ) → 0 ≡ number_where (wide_dot byte size) (0 * size)
-unfolding number_where
-number-none byte size =
-    let none : 0 ≡ 0 * size = omega arith in
-    ap (number_where (wide_dot byte size)) none
+-- for each four dots the number of them that are each there so many times
+abbrev pub fours : (times : ℕ) → List ℕ
+fours times = map (λ n. number_where (wide_dot (n * 16) times) (4 * times)) (range_with_len 0 16)
 
-pub is_white : (n : ℕ) → n ≢ 1 → nat_eq n 1 ≡ false
-is_white n other = grind (arith, nat_tests)
-
--- the dots that are put for one dot of the byte
-pub put_dots : (byte j size : ℕ) (black : Bool) (x : ℕ) → nat_eq (bit_and (byte / 2 ^ (7 - j)) 1) 1 ≡ black → x ≡ cond black (2 ^ size - 1) 0 → x ≡ cond (byte_dot byte j) (2 ^ size - 1) 0
-unfolding byte_dot
-put_dots byte j size black x is put =
-    put ∙ ap (λ b. cond b (2 ^ size - 1) 0) (sym is ∙ ap (λ n. nat_eq n 1) (shr_and_one byte (7 - j)))
-
-dots_fit : (b : Bool) (p : ℕ) → 0 < p → cond b (p - 1) 0 < p
-dots_fit true p some = omega (arith, some)
-dots_fit false p some = some
-
--- one more dot of the byte
-pub widened_step : (byte size j wide x : ℕ) → 1 ≤ size → size ≤ 8 → j < 4 → wide ≡ number_where (wide_dot byte size) (j * size) → x ≡ cond (byte_dot byte j) (2 ^ size - 1) 0 →
-    bit_or (wide * 2 ^ size % 18446744073709551616) x ≡ number_where (wide_dot byte size) ((j + 1) * size)
-widened_step byte size j wide x some most within is put =
-    let number : ℕ → ℕ = number_where (wide_dot byte size) in
-    let more : (j + 1) * size ≤ 8 * 8 = mul-le (j + 1) size 8 8 (omega (arith, within)) most in
-    let room : j * size + size ≤ 64 = omega (arith, more) in
-    let small : wide < 2 ^ (j * size) = rw is (number-below (wide_dot byte size) (j * size)) in
-    let fits : x < 2 ^ size = rw put (dots_fit (byte_dot byte j) (2 ^ size) (pow_pos size)) in
-    let next : j * size + size ≡ (j + 1) * size = omega arith in
-    ap (λ n. bit_or n x) (shl_whole wide (j * size) size 64 small room)
-    ∙ or_shifted wide size x fits
-    ∙ (λ t. is t * 2 ^ size + put t)
-    ∙ sym (number-widened byte size j some)
-    ∙ ap number next
+pub get_or-fours : (size times : ℕ) → size ≡ times → (n : ℕ) → n < 16 → get_or (fours times) n 0 ≡ number_where (wide_dot (n * 16) size) (4 * size)
+get_or-fours size times is n low =
+    get_or-map-range_with_len (λ k. number_where (wide_dot (k * 16) times) (4 * times)) 0 16 n n 0 low (omega arith)
+    ∙ ap (λ s. number_where (wide_dot (n * 16) s) (4 * s)) (sym is)
 
 -- ---- two times four dots
 
