@@ -93,7 +93,7 @@ fn split_word(text: &[u8]) -> (&[u8], &[u8])
 }
 
 /// What stands before the first equals sign, and after it; all and nothing where there is none.
-fn split_name(text: &[u8]) -> (&[u8], &[u8])
+pub fn split_name(text: &[u8]) -> (&[u8], &[u8])
     ensures name { result.0.now ≡ before_first is_equals text.now }
     ensures value { result.1.now ≡ after_first is_equals text.now }
 {

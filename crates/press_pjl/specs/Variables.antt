@@ -1,11 +1,13 @@
 -- The variables of the job language (PJL Technical Reference Manual, environment variables; which there are, and their
 -- values, are this profile's).
 use Rattle.std.specs.Prelude.{ℕ, ◌==◌, ◌&&◌, not, Bool, true, false, nat_le, if◌then◌else◌, List, [], ◌∷◌, length, Option, Some}
-use Rattle.std.specs.Prelude.{None, option_map, codes, decimal}
+use Rattle.std.specs.Prelude.{None, is_some, option_map, codes, decimal}
 use Rattle.std.specs.Char.{is_ascii_digit}
-use Rattle.std.specs.List.{list_all}
+use Rattle.std.specs.List.{after_first, before_first, list_all}
 use Rattle.press_units.specs.Value.{number_of}
 use Rattle.press_units.specs.Position.{resolutions}
+use Rattle.press_cmd.specs.Language.{is_equals}
+use Rattle.press_page.specs.Environment.{factory}
 use Rattle.press_page.specs.declared.defaults.Defaults.{Defaults}
 use Rattle.press_page.specs.declared.media.Binding.TheVariants.{LongEdge, ShortEdge}
 use Rattle.press_page.specs.declared.media.Orientation.TheVariants.{Portrait, Landscape}
@@ -95,3 +97,7 @@ assigned name value defaults = assigned_to (variable_named name) value defaults
 -- the text of the value of the variable of a name, if there is one
 abbrev pub value_text : (name : List ℕ) → Defaults → Option (List ℕ)
 value_text name defaults = option_map (λ variable. (entry_of variable).text defaults) (variable_named name)
+
+-- a text `NAME=VALUE` of a variable and a value that it knows
+abbrev pub is_assignment : List ℕ → Bool
+is_assignment text = is_some (assigned (before_first is_equals text) (after_first is_equals text) factory)

@@ -12,3 +12,4 @@ mod variable;
 pub use effect::{Facts, PjlEffect, ReplyBytes};
 pub use environment::PjlEnv;
 pub use reply::write_reply;
+pub use variable::is_assignment;

@@ -4,10 +4,11 @@ ghost use Rattle.std.specs.Prelude.{◌≡◌, ◌++◌, min, OnOk, IsTrue};
 ghost use Rattle.std.specs.List.{All, list_all};
 ghost use Rattle.std.specs.Char.{IsAsciiDigit, is_ascii_digit};
 ghost use Rattle.press_units.specs.Value.{number_of};
-ghost use Rattle.press_pjl.specs.Variables.{is_number, between, number_within, assigned};
+ghost use Rattle.press_pjl.specs.Variables.{is_number, between, number_within, assigned, is_assignment};
 
 use crate::named::{Named, find_named};
 use itoa::Buffer;
+use press_cmd::pjl;
 use press_page::{Binding, Defaults, MOST_COPIES, Orientation, PAGE_SIZES};
 use press_units::RESOLUTIONS;
 use std::alloc::AllocError;
@@ -158,4 +159,15 @@ pub(crate) fn assigned(name: &[u8], text: &[u8], values: Defaults) -> Option<Def
     ensures { result ≡ assigned name.now text.now values }
 {
     Variable::of(name)?.assign(text, values)
+}
+
+/// Whether a text `NAME=VALUE` names a variable and a value that it knows, without white space round the two: what a line `@PJL SET` or
+/// `@PJL DEFAULT` of it has effect by.
+///
+/// Source: PJL Technical Reference Manual, environment variables.
+pub fn is_assignment(text: &[u8]) -> bool
+    ensures { result ≡ is_assignment text.now }
+{
+    let (name, value) = pjl::split_name(text);
+    assigned(name, value, Defaults::factory()).is_some()
 }
