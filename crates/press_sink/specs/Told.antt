@@ -54,6 +54,11 @@ Delivers old delivery (Ok _) new =
 Delivers old delivery (Err sink_errors.SinkFault) new = (new.delivered ≡ old.delivered) × (old.faults < new.faults)
 Delivers old delivery (Err sink_errors.NoMemory) new = (new.delivered ≡ old.delivered) × (new.faults ≡ old.faults)
 
+-- What the sink took last, where it tells what it took, is this.
+abbrev pub TookLast : SheetsTold → Delivery → Type 0
+TookLast told delivery =
+    (before : Option (List Delivery)) × (told.delivered ≡ option_map (λ all. all ++ delivery ∷ []) before)
+
 -- A reply is written: known bytes grow by it, or the sink had a fault and they grow by a front of it, or memory ran out
 -- and they stay as they were.
 abbrev pub Replies : RepliesTold → List ℕ → Result (Unit {0}) ReplyError → RepliesTold → Type 0

@@ -1,6 +1,6 @@
 //! Where finished sheets and replies go (this profile).
 ghost use Rattle.std.specs.Prelude.{◌≡◌, ◌<◌, ℕ};
-ghost use Rattle.press_sink.specs.Told.{SheetsTold, RepliesTold, Delivers, Replies, most_faults};
+ghost use Rattle.press_sink.specs.Told.{SheetsTold, RepliesTold, Delivers, TookLast, Replies, most_faults};
 
 use crate::fault::{ReplyError, SinkError};
 use crate::sheet::Sheet;
@@ -23,6 +23,20 @@ pub trait SheetSink {
         requires { (told self.old).faults < most_faults }
         ensures { Delivers (told self.old)
             (record { tag = tag; sheet = sheet.now }) result (told self.new) };
+
+    /// Takes the sheet that it took last once more, under the same tag.
+    ///
+    /// # Errors
+    ///
+    /// Those of `deliver`.
+    fn deliver_again(&mut self, tag: u64, sheet: &Sheet) -> Result<(), SinkError>
+        requires faults { (told self.old).faults < most_faults }
+        requires last { TookLast (told self.old) (record { tag = tag; sheet = sheet.now }) }
+        ensures { Delivers (told self.old)
+            (record { tag = tag; sheet = sheet.now }) result (told self.new) }
+    {
+        self.deliver(tag, sheet)
+    }
 }
 
 /// Where replies go.
