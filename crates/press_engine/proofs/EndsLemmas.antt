@@ -1,6 +1,7 @@
 -- How steps of the code are put together.
 use Rattle.std.proofs.Common.{◌≡◌, ◌≢◌, ◌∙◌, ◌<◌, ◌-◌, arith, ℕ, zero, suc, Some, List, [], ◌∷◌, ◌++◌, length, drop, Bool, true, false, Result, Ok, Err, IfOk, OnOk, refl, sym, ap, subst, slice_index_or}
 use Rattle.std.specs.List.{remove}
+use Rattle.std.proofs.lemmas.Bool.{false≢true}
 use Rattle.std.proofs.lemmas.List.{append_assoc, append-nil}
 use Rattle.press_cmd.specs.Token.{Token}
 use Rattle.press_sink.specs.Sending.{Output, TookAll}
@@ -18,11 +19,11 @@ use Rattle.press_engine.specs.Table.{effect_on}
 use Rattle.press_engine.proofs.MachineLemmas.{run-stopped}
 use Rattle.press_engine.specs.declared.frame.Frame.{Frame}
 use Rattle.press_engine.specs.declared.machine.Machine.{Machine}
-use Rattle.press_engine.specs.Effects.{effect_of}
+use Rattle.press_engine.specs.Effects.{effect_of, is_done}
 use Rattle.press_engine.specs.Engine.{Performs, Sends}
 use Rattle.press_engine.specs.Machine.{Run, quiet, then_run, with_state, taken, levels as LEVELS}
 use Rattle.press_engine.specs.Stack as stack
-use Rattle.press_engine.specs.Stack.{source_in, begun_in_overlay, begun_finished, begun_outside, begins, step_outer, step_inner, begun_body, begun_close_with, Stepped, ended_by, end_of, pops}
+use Rattle.press_engine.specs.Stack.{source_in, begun_in_overlay, begun_finished, begun_outside, begins, step_outer, step_inner, begun_body, begun_only, begun_close_with, Stepped, ended_by, end_of, pops}
 use Rattle.press_engine.specs.declared.stepping.Begun.{Begun}
 use Rattle.press_engine.specs.Calls.{overlay_body}
 use Rattle.press_engine.specs.Outcome as rows
@@ -202,6 +203,22 @@ begins-from in_overlay levels command old now effect is_taken gives =
     ap (λ (machine : Machine). stack.begun in_overlay levels machine (effect_of now.state effect)) is_taken
     ∙ begun-state in_overlay levels now.state (taken command old) (effect_of now.state effect)
     ∙ ap (stack.begun in_overlay levels (taken command old)) gives
+
+-- an effect with which all is done begins nothing
+pub done-begins : (in_overlay : Bool) (more : ℕ) (machine : Machine) (effect : Effect) → is_done effect ≡ true →
+    begun_only (quiet machine) ≡ stack.begun in_overlay more machine (effect_of machine.state effect)
+done-begins true zero machine effects.Changes e = refl
+done-begins true (suc more) machine effects.Changes e = refl
+done-begins false zero machine effects.Changes e = refl
+done-begins false (suc more) machine effects.Changes e = refl
+done-begins true zero machine effects.Makes e = refl
+done-begins true (suc more) machine effects.Makes e = refl
+done-begins false zero machine effects.Makes e = refl
+done-begins false (suc more) machine effects.Makes e = refl
+done-begins in_overlay more machine (effects.GivesReply reply) e = absurd (false≢true e)
+done-begins in_overlay more machine (effects.Stays closer) e = absurd (false≢true e)
+done-begins in_overlay more machine (effects.Closes closer) e = absurd (false≢true e)
+done-begins in_overlay more machine (effects.Starts body end) e = absurd (false≢true e)
 
 pub stopped-for_memory : (stepped : Stepped) (tag : ℕ) (result : Result (Unit {0}) EngineError) (new : Machine) (still : List Frame) (told : Told) → result ≡ Err engine_errors.NoMemory → TakesStep stepped tag result new still told told
 stopped-for_memory stepped tag result new still told is =

@@ -1,12 +1,14 @@
 -- How far outputs go out, put together.
-use Rattle.std.proofs.Common.{◌≡◌, ◌≢◌, ◌∙◌, ◌<◌, ◌+◌, ◌-◌, ◌≤◌, suc, arith, ℕ, List, [], ◌∷◌, ◌++◌, Option, Result, Ok, Err, refl, sym, ap, subst}
+use Rattle.std.proofs.Common.{◌≡◌, ◌≢◌, ◌∙◌, ◌<◌, ◌+◌, ◌-◌, ◌≤◌, suc, arith, ℕ, List, [], ◌∷◌, ◌++◌, Option, None, Some, true, Result, Ok, Err, refl, sym, ap, subst}
+use Rattle.std.specs.Prelude.{nat_lt}
 use Rattle.std.proofs.KnownBytes.{Appends-nil}
+use Rattle.std.proofs.lemmas.Bool.Decides.{nat_tests}
 use Rattle.press_sink.specs.Sides.{Sides}
 use Rattle.press_sink.specs.declared.fault.SinkError.{SinkError}
 use Rattle.press_sink.specs.declared.fault.SinkError.TheVariants as sink_errors
 use Rattle.press_sink.specs.declared.fault.ReplyError.{ReplyError}
 use Rattle.press_sink.specs.declared.fault.ReplyError.TheVariants as reply_errors
-use Rattle.press_sink.specs.Told.{SheetsTold, RepliesTold, Told, both, most_faults, CanCount, Delivers, Replies}
+use Rattle.press_sink.specs.Told.{SheetsTold, RepliesTold, Told, both, most_faults, CanCount, Delivers, TookLast, Replies}
 use Rattle.press_sink.specs.Sending.{Output, Deliver, Reply, AtSheet, AtReply, ForMemory, Complete, TookAll, StoppedAtSheet, StoppedAtReply}
 use Rattle.press_sink.proofs.SendingLemmas.{told-nothing, TookAll-none, WentOut-then, WentOut-stopped}
 use Rattle.press_engine.specs.declared.fault.EngineError.{EngineError}
@@ -95,6 +97,14 @@ module _ (sheet : Sides) (tag done copies : ℕ) (count next : Option ℕ) (coun
   Sends-stopped_copy first result error before after below sends stops exits =
       let P : List Output → Type 0 = λ outputs. Sends tag outputs result before after in
       subst P (sym (one_more below)) (Sends-exit tag (copy_out sheet next) (copies_out sheet (copies - (done + 1)) next) first result error before after sends stops exits)
+
+-- behind a copy the sheet is what its sink took last
+pub TookLast-copy : (sheet : Sides) (tag : ℕ) (count : Option ℕ) (before after : Told) → TookAll tag (copy_out sheet count) before after → TookLast after.sheets (record { tag = tag; sheet = sheet })
+TookLast-copy sheet tag None before after took = (before.sheets.delivered, took.delivered)
+TookLast-copy sheet tag (Some since_job) before after took = (before.sheets.delivered, took.delivered)
+
+pub is_later : (n : ℕ) → nat_lt 0 n ≡ true → 0 < n
+is_later n test = grind (arith, nat_tests)
 
 -- no copy is left
 pub Sends-no_copy : (sheet : Sides) (tag done copies : ℕ) (count : Option ℕ) (told : Told) → copies ≤ done → Sends tag (copies_out sheet (copies - done) count) (Ok tt) told told

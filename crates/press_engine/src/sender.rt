@@ -1,8 +1,8 @@
 //! The one place that hands sheets and replies to the sinks.
 
-ghost use Rattle.std.specs.Prelude.{◌≡◌, ◌≢◌, [], ◌∷◌, Some, IsErrOf};
+ghost use Rattle.std.specs.Prelude.{◌≡◌, ◌≢◌, ◌<◌, [], ◌∷◌, Some, true, IsErrOf};
 ghost use Rattle.press_pjl.specs.Replies.{page_reply};
-ghost use Rattle.press_sink.specs.Told.{both, CanCount};
+ghost use Rattle.press_sink.specs.Told.{both, CanCount, Delivers, TookLast, most_faults};
 ghost use Rattle.press_sink.specs.Sending.{Deliver, Reply};
 ghost use Rattle.press_engine.specs.Engine.{Sends};
 ghost use Rattle.press_engine.specs.Outputs.{outputs_of, finished_of, copy_out, next_count};
@@ -79,28 +79,32 @@ fn send_copies<S: SheetSink, R: ReplySink>(
     ensures memory { IsErrOf result EngineError.NoMemory → finished_of (Some finished.now) ≢ [] }
 {
     let mut count = finished.since_job;
-    for _copy in 0..finished.copies {
+    for copy in 0..finished.copies {
         count = next_count(count);
-        send_copy(&finished.sheet, count, alloc, tag, sheets, replies)?;
+        let again = copy > 0;
+        send_copy(&finished.sheet, again, count, alloc, tag, sheets, replies)?;
     }
     Ok(())
 }
 
-/// Delivers a sheet, and its reply where there is one.
+/// Delivers a sheet, which may be the one that was delivered last, and its reply where there is one.
 fn send_copy<S: SheetSink, R: ReplySink>(
     sheet: &Sheet,
+    again: bool,
     count: Option<u64>,
     alloc: Global,
     tag: u64,
     sheets: &mut S,
     replies: &mut R,
 ) -> Result<(), EngineError>
-    requires { CanCount (both (S.told sheets.old) (R.told replies.old)) }
+    requires can_count { CanCount (both (S.told sheets.old) (R.told replies.old)) }
+    requires last { again ≡ true
+        → TookLast (S.told sheets.old) (record { tag = tag; sheet = sheet.now }) }
     ensures { Sends tag (copy_out sheet.now count) result
         (both (S.told sheets.old) (R.told replies.old))
         (both (S.told sheets.new) (R.told replies.new)) }
 {
-    deliver(sheet, tag, sheets, replies)?;
+    deliver(sheet, again, tag, sheets, replies)?;
     match count {
         None => Ok(()),
         Some(since_job) => reply_status(since_job, alloc, tag, sheets, replies),
@@ -127,19 +131,37 @@ fn reply_status<S: SheetSink, R: ReplySink>(
     reply(&bytes, tag, sheets, replies)
 }
 
-/// Delivers a sheet.
+/// Hands a sheet to a sink, which may have taken it last.
+fn hand<S: SheetSink>(sheet: &Sheet, again: bool, tag: u64, sheets: &mut S) -> Result<(), SinkError>
+    requires faults { (S.told sheets.old).faults < most_faults }
+    requires last { again ≡ true
+        → TookLast (S.told sheets.old) (record { tag = tag; sheet = sheet.now }) }
+    ensures { Delivers (S.told sheets.old)
+        (record { tag = tag; sheet = sheet.now }) result (S.told sheets.new) }
+{
+    if again {
+        sheets.deliver_again(tag, sheet)
+    } else {
+        sheets.deliver(tag, sheet)
+    }
+}
+
+/// Delivers a sheet, which may be the one that was delivered last.
 fn deliver<S: SheetSink, R: ReplySink>(
     sheet: &Sheet,
+    again: bool,
     tag: u64,
     sheets: &mut S,
     replies: &mut R,
 ) -> Result<(), EngineError>
-    requires { CanCount (both (S.told sheets.old) (R.told replies.old)) }
+    requires can_count { CanCount (both (S.told sheets.old) (R.told replies.old)) }
+    requires last { again ≡ true
+        → TookLast (S.told sheets.old) (record { tag = tag; sheet = sheet.now }) }
     ensures { Sends tag (Deliver sheet.now ∷ []) result
         (both (S.told sheets.old) (R.told replies.old))
         (both (S.told sheets.new) (R.told replies.new)) }
 {
-    match sheets.deliver(tag, sheet) {
+    match hand(sheet, again, tag, sheets) {
         Ok(()) => Ok(()),
         Err(SinkError::SinkFault) => Err(EngineError::SinkFault),
         Err(SinkError::NoMemory) => Err(EngineError::NoMemory),

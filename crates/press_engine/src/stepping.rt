@@ -356,6 +356,9 @@ impl Machine {
         let Ok(effect) = self.take_first(alloc, &mut frames[0]) else {
             return Err(EngineError::NoMemory);
         };
+        if effect.is_done() {
+            return self.end_bodies(alloc, frames, tag, sheets, replies);
+        }
         let Ok(it) = self.begin(alloc, in_overlay, levels, effect) else {
             return Err(EngineError::NoMemory);
         };
