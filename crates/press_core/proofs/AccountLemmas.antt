@@ -336,17 +336,19 @@ account-next jobs old new given happening seen found sheets more steps taken fai
 
 -- ---- what an account says
 
-pub is_given : (entry : Entry) (work : Work) (sheets : List Sides) (steps : ℕ) (failed : Bool) → IsKnown entry work sheets steps failed → AreGiven entry work sheets
+pub is_given : (entry : Entry) (work : Work) (sheets : List Sides) (steps : ℕ) (failed : Bool) → IsKnown entry work sheets steps failed → AreGiven entry work steps failed sheets
 is_given entry work sheets steps failed known = record {
   in_flight = λ flying. in_flight entry.begun (has_ended entry.status) work.place refl refl refl flying;
+  counted = known.counted;
   completed = known.completed;
   front = known.front;
   unbegun = known.unbegun;
 } where
   in_flight : (begun ended : Bool) (o : Option ℕ) → entry.begun ≡ begun → has_ended entry.status ≡ ended → work.place ≡ o → begun && not ended ≡ true
-      → (place : ℕ) × (work.place ≡ Some place) × AreFirst place work sheets
+      → (work.place ≡ Some steps) × AreFirst steps work sheets
   in_flight true false (Some place) is_begun is_open at flying =
-      (place, at, subst (λ n. AreFirst n work sheets) (ap (λ o. unwrap_or o 0) at) (known.is_open is_open).first)
+      let stands = known.is_open is_open in
+      (at ∙ ap Some (sym (stands.steps_are ∙ ap (λ o. unwrap_or o 0) at)), subst (λ n. AreFirst n work sheets) (sym stands.steps_are) stands.first)
   in_flight true false None is_begun is_open at flying = absurd (true≢false (sym is_begun ∙ (known.is_open is_open).begun ∙ ap is_some at))
   in_flight true true o is_begun ended at flying = absurd (true≢false (sym flying))
   in_flight false ended o is_begun is at flying = absurd (true≢false (sym flying))

@@ -178,12 +178,12 @@ run-from-new jobs law n happenings last run =
 
 -- ---- given sheets
 
-given-under : JobsHandOutTheWantedSheets → EachRowKeepsTheQueue → (happenings : List Happening) (last : World) (number : ℕ) → IsRun happenings last → GivenUnder happenings last number
+given-under : JobsHandOutTheWantedSheets → EachRowKeepsTheQueue → (happenings : List Happening) (last : World) (number : ℕ) → (run : IsRun happenings last) → GivenUnder (new_world run.engines) happenings last number
 given-under jobs law happenings last number run = record {
   given = λ seen is. let known = of seen is in is_given seen.entry seen.work _ _ _ known.1;
   entered = λ seen is. (of seen is).0;
   listed = account-listed (nat_le number last.queue.last) (entry_numbered number last.queue.entries) (lookup (nat_eq number) last.works) (last_seen number happenings) _ _ _ _ account;
-  never = λ is. (account-never (standing number last.queue last.works) _ _ _ _ (subst (λ o. Account (standing number last.queue last.works) o (entering number happenings) (handed_under number happenings) (steps_in number happenings) (met_fault number (new_world run.engines) happenings)) is account)).no_sheets;
+  never = λ is. let none = account-never (standing number last.queue last.works) _ _ _ _ (subst (λ o. Account (standing number last.queue last.works) o (entering number happenings) (handed_under number happenings) (steps_in number happenings) (met_fault number (new_world run.engines) happenings)) is account) in (none.no_sheets, none.no_steps);
 } where
   account : Account (standing number last.queue last.works) (last_seen number happenings) (entering number happenings) (handed_under number happenings) (steps_in number happenings) (met_fault number (new_world run.engines) happenings)
   account = run-from-new jobs law number happenings last run

@@ -45,10 +45,12 @@ pub record AreFirst (steps : ℕ) (work : Work) (sheets : List Sides) : Type 0 w
   pub within : steps ≤ length items
   pub sheets_are : sheets ≡ sheets_from 0 steps items
 
--- What was handed out for an entry: where it is in flight, the sheets of the steps that were taken of its job; where it is
+-- What was handed out for an entry, of whose job its turns took so many steps, and perhaps met a fault: where it is in flight, the sheets of
+-- these steps, behind which it stands in its job; and where no turn met a fault, whatever became of it, the sheets of these steps. Where it is
 -- completed, all sheets that are wanted. In each case they are the first of those, and there are none where it never began.
-pub record AreGiven (entry : Entry) (work : Work) (sheets : List Sides) : Type 0 where
-  pub in_flight : is_in_flight entry ≡ true → (place : ℕ) × (work.place ≡ Some place) × AreFirst place work sheets
+pub record AreGiven (entry : Entry) (work : Work) (steps : ℕ) (failed : Bool) (sheets : List Sides) : Type 0 where
+  pub in_flight : is_in_flight entry ≡ true → (work.place ≡ Some steps) × AreFirst steps work sheets
+  pub counted : failed ≡ false → AreFirst steps work sheets
   pub completed : entry.status ≡ Completed → sheets ≡ wanted_of work
   pub front : IsFront sheets (wanted_of work)
   pub unbegun : entry.begun ≡ false → sheets ≡ []

@@ -8,10 +8,10 @@ use Rattle.press_ticket.specs.Ticket.{JobTicket}
 use Rattle.press_writer.specs.Wanted.{wanted}
 use Rattle.press_core.specs.Engines.{RunsOnEngines}
 use Rattle.press_core.specs.Events.{Happening, IsRun, Leads}
-use Rattle.press_core.specs.History.{AreGiven, Seen, TakesInAll, entered_with, handed_under, last_seen, seen_in}
+use Rattle.press_core.specs.History.{AreGiven, Seen, TakesInAll, entered_with, handed_under, last_seen, met_fault, seen_in, steps_in}
 use Rattle.press_core.specs.Turns.{IsJobOf, sheets_from}
 use Rattle.press_core.specs.Work.{Work, IsPrintable, new_work}
-use Rattle.press_core.specs.World.{World, is_listed}
+use Rattle.press_core.specs.World.{World, is_listed, new_world}
 
 -- The sheets of all steps of a work's job are those that its ticket wants, where the ticket is printed with its images.
 abbrev pub JobsHandOutTheWantedSheets : Type 0
@@ -19,15 +19,17 @@ JobsHandOutTheWantedSheets =
     (work : Work) (items : List Run) → IsPrintable work.ticket work.images → IsJobOf work items
     → sheets_from 0 (length items) items ≡ wanted work.ticket work.images
 
--- In a run of events what was handed out under a number is what its entry says, as it was seen last: an entry of the list as it
--- stands there, one that left it as it stood before. It has the ticket and the images with which it entered. Under a number that
--- was never seen nothing was handed out.
-pub record GivenUnder (happenings : List Happening) (last : World) (number : ℕ) : Type 0 where
-  pub given : (seen : Seen) → last_seen number happenings ≡ Some seen → AreGiven seen.entry seen.work (handed_under number happenings)
+-- In a run of events from a first world what was handed out under a number is what its entry says, as it was seen last, with the steps that
+-- the answers to its turns tell in all, and whether one of them met a fault: an entry of the list as it stands there, one that left it as it
+-- stood before. It has the ticket and the images with which it entered. Under a number that was never seen nothing was handed out, and
+-- no step was taken.
+pub record GivenUnder (first : World) (happenings : List Happening) (last : World) (number : ℕ) : Type 0 where
+  pub given : (seen : Seen) → last_seen number happenings ≡ Some seen
+      → AreGiven seen.entry seen.work (steps_in number happenings) (met_fault number first happenings) (handed_under number happenings)
   pub entered : (seen : Seen) → last_seen number happenings ≡ Some seen
       → entered_with number happenings ≡ Some (seen.work.ticket, seen.work.images)
   pub listed : is_listed number last.queue ≡ true → last_seen number happenings ≡ seen_in number last
-  pub never : last_seen number happenings ≡ None → handed_under number happenings ≡ []
+  pub never : last_seen number happenings ≡ None → (handed_under number happenings ≡ []) × (steps_in number happenings ≡ 0)
 
 -- From a world of a run on, nothing is handed out under a number whose entry left the list, and it has no entry again.
 pub record StaysGone (after : List Happening) (last : World) (number : ℕ) : Type 0 where
@@ -36,7 +38,8 @@ pub record StaysGone (after : List Happening) (last : World) (number : ℕ) : Ty
 
 -- The law of given sheets: so it is in every run of events, under every number.
 pub record SheetsAreGiven : Type 0 where
-  pub under : (happenings : List Happening) (last : World) (number : ℕ) → IsRun happenings last → GivenUnder happenings last number
+  pub under : (happenings : List Happening) (last : World) (number : ℕ) → (run : IsRun happenings last)
+      → GivenUnder (new_world run.engines) happenings last number
   pub gone : (before after : List Happening) (mid last : World) (number : ℕ) → IsRun before mid → Leads mid after last
       → number ≤ mid.queue.last → is_listed number mid.queue ≡ false → StaysGone after last number
 
