@@ -2,6 +2,7 @@
 use Rattle.std.proofs.Common.{◌≡◌, ◌∙◌, ◌<◌, ◌+◌, ℕ, List, [], ◌∷◌, ◌++◌, length, take, drop, get_or, map, true, Option, Some, None, option_map, Result, Ok, Err, Vec, refl, sym, ap, subst}
 use Rattle.std.specs.List.{flat_map}
 use Rattle.std.proofs.lemmas.Grind.{flat_map-append}
+use Rattle.std.proofs.lemmas.List.Elements.{All-append, All-cons, All-nil}
 use Rattle.std.proofs.lemmas.List.{append_assoc, append-nil, map-append, take-append-drop, take_more}
 use Rattle.std.specs.declared.alloc.AllocError.{AllocError}
 use Rattle.std.specs.declared.alloc.Global.{Global}
@@ -14,11 +15,15 @@ use Rattle.press_core.specs.declared.turn.Turn.{Turn}
 use Rattle.press_core.specs.declared.turn.TurnError.{TurnError}
 use Rattle.press_core.specs.declared.turn.TurnError.TheVariants.{NoMemory}
 use Rattle.press_core.specs.Engines.{are_engines}
-use Rattle.press_core.specs.Events.{Event, Message, TurnOn, Operator, EventAnswer, Response, Turned, Nothing, Happening, Happens, IsRun, Leads, response_to}
+use Rattle.press_core.specs.Events.{Event, Message, TurnOn, Operator, EventAnswer, Response, Turned, Nothing, Happening, Happens, IsAnswered, IsRun, Leads, response_to}
 use Rattle.press_core.specs.Laws.{EntriesAreBounded, SheetsAreGiven}
 use Rattle.press_core.specs.Turns.{FaultsAfter, WereHandedOut}
 use Rattle.press_core.specs.World.{World, new_world}
 use Rattle.press_theorem.specs.Events.{FaultLeaves, HappenAll, HappenFromNew, HappenFromNewUpTo, HappenUpTo, line_of}
+
+-- the event of this happening has its answer
+abbrev has_answer : Happening → Type 0
+has_answer happening = IsAnswered happening.answer
 
 Leads-join : (world middle last : World) (happenings others : List Happening) → Leads world happenings middle → Leads middle others last → Leads world (happenings ++ others) last
 Leads-join world middle last [] others first second = subst (λ (w : World). Leads w others last) first second
@@ -40,17 +45,19 @@ HappenAll-none world told bytes = record {
   happenings = [];
   are = refl;
   leads = refl;
+  answered = All-nil has_answer;
   told = took-nothing told.delivered;
   no_fault = refl;
   responses = sym (append-nil bytes);
 }
 
 -- one event happened
-HappenAll-one : (world last : World) (event : Event) (answer : EventAnswer) (handed : List Delivery) (before after : SheetsTold) (old new : List ℕ) → Happens world event answer handed last → after.delivered ≡ option_map (λ all. all ++ handed) before.delivered → after.faults ≡ before.faults → new ≡ old ++ line_of answer → HappenAll world (event ∷ []) last before after old new
-HappenAll-one world last event answer handed before after old new happens told faults responses = record {
+HappenAll-one : (world last : World) (event : Event) (answer : EventAnswer) (handed : List Delivery) (before after : SheetsTold) (old new : List ℕ) → Happens world event answer handed last → IsAnswered answer → after.delivered ≡ option_map (λ all. all ++ handed) before.delivered → after.faults ≡ before.faults → new ≡ old ++ line_of answer → HappenAll world (event ∷ []) last before after old new
+HappenAll-one world last event answer handed before after old new happens answered told faults responses = record {
   happenings = record { event = event; answer = answer; handed = handed; next = last } ∷ [];
   are = refl;
   leads = (happens, refl);
+  answered = All-cons has_answer _ [] answered (All-nil has_answer);
   told = told ∙ ap (λ (sheets : List Delivery). option_map (λ all. all ++ sheets) before.delivered) (sym (append-nil handed));
   no_fault = faults;
   responses = responses ∙ ap (λ (line : List ℕ). old ++ line) (sym (append-nil (line_of answer)));
@@ -60,21 +67,22 @@ HappenAll-one world last event answer handed before after old new happens told f
 pub message-happened : (world last : World) (text : List ℕ) (images : List Page) (result : Result (Vec ℕ Global) AllocError) (response : Vec ℕ Global) (told : SheetsTold) (line old new : List ℕ) → result ≡ Ok response → Happens world (Message text images) (response_to result) [] last → line ≡ response.items → new ≡ old ++ (line ++ 10 ∷ []) → HappenAll world (Message text images ∷ []) last told told old new
 message-happened world last text images result response told line old new answer happens is appended =
     HappenAll-one world last (Message text images) (Response (Some response.items)) [] told told old new
-    (subst (λ (one : Result (Vec ℕ Global) AllocError). Happens world (Message text images) (response_to one) [] last) answer happens)
+    (subst (λ (one : Result (Vec ℕ Global) AllocError). Happens world (Message text images) (response_to one) [] last) answer happens) tt
     (took-nothing told.delivered) refl
     (appended ∙ ap (λ (bytes : List ℕ). old ++ (bytes ++ 10 ∷ [])) is)
 
 -- a turn was taken
 pub turn-happened : (world last : World) (engine most : ℕ) (result : Result Turn TurnError) (turn : Turn) (before after : SheetsTold) (bytes : List ℕ) → result ≡ Ok turn → ((handed : List Delivery) × Happens world (TurnOn engine most) (Turned result) handed last × WereHandedOut handed result before after) → HappenAll world (TurnOn engine most ∷ []) last before after bytes bytes
 turn-happened world last engine most result turn before after bytes answer taken =
-    HappenAll-one world last (TurnOn engine most) (Turned result) taken.0 before after bytes bytes taken.1 taken.2.told
+    HappenAll-one world last (TurnOn engine most) (Turned result) taken.0 before after bytes bytes taken.1
+    (subst (λ (one : Result Turn TurnError). IsAnswered (Turned one)) (sym answer) tt) taken.2.told
     (subst (λ (one : Result Turn TurnError). FaultsAfter one before.faults after.faults) answer taken.2.faults)
     (sym (append-nil bytes))
 
 -- the operator asked for something
 pub operator-happened : (world last : World) (command : OperatorCommand) (told : SheetsTold) (bytes : List ℕ) → Happens world (Operator command) Nothing [] last → HappenAll world (Operator command ∷ []) last told told bytes bytes
 operator-happened world last command told bytes happens =
-    HappenAll-one world last (Operator command) Nothing [] told told bytes bytes happens (took-nothing told.delivered) refl (sym (append-nil bytes))
+    HappenAll-one world last (Operator command) Nothing [] told told bytes bytes happens tt (took-nothing told.delivered) refl (sym (append-nil bytes))
 
 -- events, and then others
 pub HappenAll-then : (world middle last : World) (events others all : List Event) (before between after : SheetsTold) (old written new : List ℕ) → all ≡ events ++ others → HappenAll world events middle before between old written → HappenAll middle others last between after written new → HappenAll world all last before after old new
@@ -86,6 +94,7 @@ HappenAll-then world middle last events others all before between after old writ
       ∙ ap (λ (some : List Event). events ++ some) second.are
       ∙ sym is;
   leads = Leads-join world middle last first.happenings second.happenings first.leads second.leads;
+  answered = All-append has_answer first.happenings second.happenings first.answered second.answered;
   told =
       took-join before.delivered between.delivered after.delivered _ _ first.told second.told
       ∙ ap (λ (sheets : List Delivery). option_map (λ all. all ++ sheets) before.delivered) (sym (flat_map-append (λ (happening : Happening). happening.handed) first.happenings second.happenings));

@@ -1,6 +1,6 @@
 -- What happens to a press, one event after another.
 use Rattle.std.specs.Prelude.{◌≡◌, ℕ, List, [], ◌∷◌, ◌++◌, Some, map, option_map, unwrap_or, Err}
-use Rattle.std.specs.List.{flat_map}
+use Rattle.std.specs.List.{All, flat_map}
 use Rattle.press_pbm.specs.Spelling.{AppendsFront}
 use Rattle.press_queue.specs.EveryQueue.{IsQueue}
 use Rattle.press_sink.specs.Told.{SheetsTold}
@@ -8,7 +8,7 @@ use Rattle.press_core.specs.declared.turn.Turn.{Turn}
 use Rattle.press_core.specs.declared.turn.TurnError.{TurnError}
 use Rattle.press_core.specs.declared.turn.TurnError.TheVariants.{NoMemory}
 use Rattle.press_core.specs.Engines.{RunsOnEngines}
-use Rattle.press_core.specs.Events.{Event, Message, TurnOn, Operator, EventAnswer, Response, Turned, Nothing, Happening, Leads}
+use Rattle.press_core.specs.Events.{Event, Message, TurnOn, Operator, EventAnswer, Response, Turned, Nothing, Happening, IsAnswered, Leads}
 use Rattle.press_core.specs.Laws.{GivenUnder}
 use Rattle.press_core.specs.Turns.{WereHandedOut}
 use Rattle.press_core.specs.World.{World, new_world}
@@ -26,21 +26,22 @@ abbrev pub line_of : EventAnswer → List ℕ
 line_of (Response (Some bytes)) = bytes ++ 10 ∷ []
 line_of _ = []
 
--- The events happened one after another, from one world to another. The sink took all sheets that they handed out, in order, and had
--- no fault; and their responses were appended, each with a line feed.
+-- The events happened one after another, from one world to another, and each has its answer. The sink took all sheets that they handed
+-- out, in order, and had no fault; and their responses were appended, each with a line feed.
 pub record HappenAll (world : World) (events : List Event) (last : World) (before after : SheetsTold) (old new : List ℕ) : Type 0 where
   pub happenings : List Happening
   pub are : map (λ happening. happening.event) happenings ≡ events
   pub leads : Leads world happenings last
+  pub answered : All (λ happening. IsAnswered happening.answer) happenings
   pub told : after.delivered ≡ option_map (λ all. all ++ flat_map (λ happening. happening.handed) happenings) before.delivered
   pub no_fault : after.faults ≡ before.faults
   pub responses : new ≡ old ++ flat_map (λ happening. line_of happening.answer) happenings
 
 -- They happened one after another to a new press of so many engines. Under each number was handed out what its entry says, as it was
--- seen last; each entry that runs is on an engine of its own; and the queue is as every queue is.
+-- seen last, with the steps that its turns were answered; each entry that runs is on an engine of its own; and the queue is as every queue is.
 pub record HappenFromNew (engines : ℕ) (events : List Event) (last : World) (before after : SheetsTold) (old new : List ℕ) : Type 0 where
   pub happened : HappenAll (new_world engines) events last before after old new
-  pub given : (number : ℕ) → GivenUnder happened.happenings last number
+  pub given : (number : ℕ) → GivenUnder (new_world engines) happened.happenings last number
   pub on_engines : RunsOnEngines last.queue last.engines
   pub queue : IsQueue last.queue
 
@@ -70,6 +71,6 @@ pub record HappenUpTo (error : TurnError) (world : World) (events : List Event) 
 -- as where all happened, with the event that was stopped as the last of the run.
 pub record HappenFromNewUpTo (error : TurnError) (engines : ℕ) (events : List Event) (last : World) (before after : SheetsTold) (old new : List ℕ) : Type 0 where
   pub happened : HappenUpTo error (new_world engines) events last before after old new
-  pub given : (number : ℕ) → GivenUnder (happened.happened.happenings ++ happened.stopped ∷ []) last number
+  pub given : (number : ℕ) → GivenUnder (new_world engines) (happened.happened.happenings ++ happened.stopped ∷ []) last number
   pub on_engines : RunsOnEngines last.queue last.engines
   pub queue : IsQueue last.queue
