@@ -1,4 +1,5 @@
 mod DebuggerSteps
+mod DefaultsLemmas
 mod DebuggerLemmas
 mod EntryLines
 mod FilesLemmas

@@ -2,13 +2,15 @@
 use Rattle.std.proofs.Common.{◌≡◌, ◌∙◌, ℕ, List, [], ◌∷◌, ◌++◌, codes, true, false, Option, Some, None, option_map, Result, Ok, Err, OnOk, IfErr, refl, sym, ap, subst, inl, inr}
 use Rattle.std.specs.Io.KnownBytes.{Consumes, Appends}
 use Rattle.std.proofs.KnownBytes.{Appends-nil, Appends-trans, Consumes-nil, Consumes-trans}
+use Rattle.std.specs.List.{All}
 use Rattle.std.proofs.lemmas.List.{append_assoc, append-nil}
+use Rattle.std.proofs.lemmas.List.Elements.{All-append, All-cons, All-nil}
 use Rattle.press_asm.specs.Text.{lines_of}
 use Rattle.press_sink.specs.declared.sheet.Delivery.{Delivery}
 use Rattle.press_core.specs.declared.turn.Turn.{Turn}
 use Rattle.press_core.specs.declared.engines.BadEngines.{BadEngines}
 use Rattle.press_core.specs.Engines.{are_engines}
-use Rattle.press_core.specs.Events.{TurnOn, Turned, Happening, Happens, Leads}
+use Rattle.press_core.specs.Events.{TurnOn, Turned, Happening, Happens, IsAnswered, Leads}
 use Rattle.press_core.specs.Laws.{SheetsAreGiven}
 use Rattle.press_core.specs.World.{World, new_world}
 use Rattle.press_main.specs.declared.inputs.InputError.{InputError}
@@ -20,6 +22,10 @@ use Rattle.press_main.specs.EventLines.{EventLine, event_of_line}
 use Rattle.press_main.specs.LineReading.{GivesLine}
 use Rattle.press_main.specs.Sessions.{Inputs, answer_text, answer_to, answers_to, happenings_in, handed_in, turn_text, AreLinesOf, TakesEvent, TakesAsked, TakesLines, Plays, PlaysToItsEnd, StopsAtLine, Ends, StopsEnding, StopsListing, StopsPlaying, Stops}
 use Rattle.press_main.proofs.LineLemmas.{next-line, reads-no-more}
+
+-- the event of this happening has its answer
+abbrev has_answer : Happening → Type 0
+has_answer happening = IsAnswered happening.answer
 
 Leads-join : (world middle last : World) (happenings others : List Happening) → Leads world happenings middle → Leads middle others last → Leads world (happenings ++ others) last
 Leads-join world middle last [] others first second = subst (λ (w : World). Leads w others last) first second
@@ -53,7 +59,7 @@ AreLinesOf-append inputs (line ∷ lines) others [] more first second = absurd f
 -- no lines
 pub TakesLines-nothing : (inputs : Inputs) (world : World) (had : List Delivery) → TakesLines inputs [] world had world had []
 TakesLines-nothing inputs world had =
-    record { happenings = []; are = tt; leads = refl; handed = sym (append-nil had); answered = refl }
+    record { happenings = []; are = tt; leads = refl; handed = sym (append-nil had); happened = All-nil has_answer; answered = refl }
 
 -- lines, and then others
 pub TakesLines-then : (inputs : Inputs) (lines others : List (List ℕ)) (world middle last : World) (had between has : List Delivery) (answers more : List ℕ) → TakesLines inputs lines world had middle between answers → TakesLines inputs others middle between last has more → TakesLines inputs (lines ++ others) world had last has (answers ++ more)
@@ -65,6 +71,7 @@ TakesLines-then inputs lines others world middle last had between has answers mo
       second.handed ∙ ap (λ (all : List Delivery). all ++ handed_in (happenings_in second.happenings)) first.handed
       ∙ append_assoc had (handed_in (happenings_in first.happenings)) (handed_in (happenings_in second.happenings))
       ∙ sym (ap (λ (all : List Happening). had ++ handed_in all) (happenings-join first.happenings second.happenings) ∙ ap (λ (all : List Delivery). had ++ all) (handed-join (happenings_in first.happenings) (happenings_in second.happenings)));
+  happened = subst (All has_answer) (sym (happenings-join first.happenings second.happenings)) (All-append has_answer (happenings_in first.happenings) (happenings_in second.happenings) first.happened second.happened);
   answered = ap (λ (all : List ℕ). all ++ more) first.answered ∙ ap (λ (all : List ℕ). answers_to first.happenings ++ all) second.answered ∙ sym (answers-join first.happenings second.happenings);
 }
 
@@ -75,6 +82,7 @@ TakesLines-none inputs line world had answer none is = record {
   are = (none, tt);
   leads = refl;
   handed = sym (append-nil had);
+  happened = All-nil has_answer;
   answered = is ∙ sym (append-nil (answer_to None));
 }
 
@@ -89,6 +97,7 @@ TakesLines-event inputs line asked world next had has answer is taken =
       are = ((asked, is, taken.1), tt);
       leads = (taken.2.2, refl);
       handed = taken.2.3 ∙ ap (λ (all : List Delivery). had ++ all) (sym (append-nil handed));
+      happened = All-cons has_answer happening [] taken.2.5 (All-nil has_answer);
       answered = taken.2.4 ∙ sym (append-nil (answer_text its));
     }
 
@@ -236,7 +245,7 @@ IsPlayed-stops_ending inputs world had bytes left old held middle between writte
 
 -- a turn was taken, and this is its line
 pub turn-taken : (world next : World) (engine most : ℕ) (turn : Turn) (had has handed : List Delivery) (line answer : List ℕ) → Happens world (TurnOn engine most) (Turned (Ok turn)) handed next → has ≡ had ++ handed → line ≡ turn_text turn.entry turn.steps → answer ≡ line → TakesEvent (TurnOn engine most) world had next has answer
-turn-taken world next engine most turn had has handed line answer happens all is same = (Turned (Ok turn), handed, happens, all, same ∙ is)
+turn-taken world next engine most turn had has handed line answer happens all is same = (Turned (Ok turn), handed, happens, all, same ∙ is, tt)
 
 pub OnOk-lift : {X E : Type 0} (result : Result X E) (P Q : Type 0) → (P → Q) → OnOk result P → OnOk result Q
 OnOk-lift (Ok value) P Q f h = f h

@@ -12,7 +12,7 @@ use Rattle.clap.specs.declared.parser.matches.Found.{Found}
 use Rattle.clap.proofs.WalkLemmas.{first_value-rows, raw_values-rows}
 use Rattle.press_main.specs.declared.words.Request.{Request}
 use Rattle.press_main.specs.declared.words.Refusal.{Refusal}
-use Rattle.press_main.specs.declared.words.Refusal.TheVariants.{Words, NoName}
+use Rattle.press_main.specs.declared.words.Refusal.TheVariants.{Words}
 use Rattle.press_main.specs.View.{request_seen, IsForMemory}
 use Rattle.press_main.specs.Words.{Asked, asked, asked_by, asked_without, press_app}
 
@@ -48,13 +48,13 @@ asked-faulty words kind more fault = asked_with_words words more ∙ nothing (fa
   nothing (first ∷ faults) among = refl
 
 -- an answer by an option, where words ask for what it shows
-pub asked-ok : (words : List Text) (found : Option Request) (result : Result Request Refusal) → result ≡ ok_or found NoName → asked words ≡ option_map request_seen found → IfOk result (λ request. asked words ≡ Some (request_seen request))
-asked-ok words None result is asks = rw is tt
-asked-ok words (Some request) result is asks = rw is asks
+pub asked-ok : (words : List Text) (found : Option Request) (refusal : Refusal) (result : Result Request Refusal) → result ≡ ok_or found refusal → asked words ≡ option_map request_seen found → IfOk result (λ request. asked words ≡ Some (request_seen request))
+asked-ok words None refusal result is asks = rw is tt
+asked-ok words (Some request) refusal result is asks = rw is asks
 
-pub asked-err : (words : List Text) (found : Option Request) (result : Result Request Refusal) → result ≡ ok_or found NoName → asked words ≡ option_map request_seen found → IfErr result (λ refusal. IsForMemory refusal ⊎ (asked words ≡ None))
-asked-err words None result is asks = rw is (inr asks)
-asked-err words (Some request) result is asks = rw is tt
+pub asked-err : (words : List Text) (found : Option Request) (refusal : Refusal) (result : Result Request Refusal) → result ≡ ok_or found refusal → asked words ≡ option_map request_seen found → IfErr result (λ refusal. IsForMemory refusal ⊎ (asked words ≡ None))
+asked-err words None refusal result is asks = rw is (inr asks)
+asked-err words (Some request) refusal result is asks = rw is tt
 
 -- an answer that is the error of the command line
 pub asked-err-kinds : (words : List Text) (result : Result Request Refusal) (error : Error) → 1 < length words → HasKind (fault_of press_app words) error → IsErrAnd result (λ refusal. refusal ≡ Words error) → IfErr result (λ refusal. IsForMemory refusal ⊎ (asked words ≡ None))

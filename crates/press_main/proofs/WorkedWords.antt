@@ -3,18 +3,18 @@ use Rattle.std.specs.Prelude.{◌≡◌, [], ◌∷◌, Some, None, codes, refl}
 use Rattle.clap.proofs.OnLiterals.{clap_on_literals}
 use Rattle.press_main.specs.Words.{Standard, FileNamed, Listed, FilesBy, Answered, AsText, DebuggedOf, StreamTo, JobTo, asked}
 
-nothing : asked (codes "press" ∷ []) ≡ Some (record { source = Standard; made = Listed })
+nothing : asked (codes "press" ∷ []) ≡ Some (record { source = Standard; made = Listed [] })
 nothing = refl
 
-listing : asked (codes "press" ∷ codes "print" ∷ codes "--list" ∷ codes "-" ∷ []) ≡ Some (record { source = Standard; made = Listed })
+listing : asked (codes "press" ∷ codes "print" ∷ codes "--list" ∷ codes "-" ∷ []) ≡ Some (record { source = Standard; made = Listed [] })
 unfolding clap_on_literals
 listing = refl
 
-listing_with_template : asked (codes "press" ∷ codes "print" ∷ codes "a.pcl" ∷ codes "b" ∷ codes "--list" ∷ []) ≡ Some (record { source = FileNamed (codes "a.pcl"); made = Listed })
+listing_with_template : asked (codes "press" ∷ codes "print" ∷ codes "a.pcl" ∷ codes "b" ∷ codes "--list" ∷ []) ≡ Some (record { source = FileNamed (codes "a.pcl"); made = Listed [] })
 unfolding clap_on_literals
 listing_with_template = refl
 
-files : asked (codes "press" ∷ codes "print" ∷ codes "a.pcl" ∷ codes "page-%d.pbm" ∷ []) ≡ Some (record { source = FileNamed (codes "a.pcl"); made = FilesBy (codes "page-%d.pbm") })
+files : asked (codes "press" ∷ codes "print" ∷ codes "a.pcl" ∷ codes "page-%d.pbm" ∷ []) ≡ Some (record { source = FileNamed (codes "a.pcl"); made = FilesBy [] (codes "page-%d.pbm") })
 unfolding clap_on_literals
 files = refl
 
@@ -25,6 +25,34 @@ no_template = refl
 no_input : asked (codes "press" ∷ codes "print" ∷ []) ≡ None
 unfolding clap_on_literals
 no_input = refl
+
+-- with two defaults, each of which has a line in front of the stream
+with_defaults : asked (codes "press" ∷ codes "print" ∷ codes "--default" ∷ codes "PAPER=a4" ∷ codes "--default=COPIES=2" ∷ codes "a.pcl" ∷ codes "page-%d.pbm" ∷ [])
+    ≡ Some (record { source = FileNamed (codes "a.pcl"); made = FilesBy (codes "@PJL DEFAULT PAPER=a4\n@PJL DEFAULT COPIES=2\n@PJL RESET\n") (codes "page-%d.pbm") })
+unfolding clap_on_literals
+with_defaults = refl
+
+-- no variable, no value that it knows, no value at all, and white space
+no_variable : asked (codes "press" ∷ codes "print" ∷ codes "--default" ∷ codes "SIZE=A4" ∷ codes "--list" ∷ codes "a.pcl" ∷ []) ≡ None
+unfolding clap_on_literals
+no_variable = refl
+
+no_value : asked (codes "press" ∷ codes "debug" ∷ codes "--default" ∷ codes "COPIES=1000" ∷ codes "a.pcl" ∷ []) ≡ None
+unfolding clap_on_literals
+no_value = refl
+
+no_equals : asked (codes "press" ∷ codes "debug" ∷ codes "--default" ∷ codes "COPIES" ∷ codes "a.pcl" ∷ []) ≡ None
+unfolding clap_on_literals
+no_equals = refl
+
+white_space : asked (codes "press" ∷ codes "debug" ∷ codes "--default" ∷ codes "COPIES= 1" ∷ codes "a.pcl" ∷ []) ≡ None
+unfolding clap_on_literals
+white_space = refl
+
+debugging_with_a_default : asked (codes "press" ∷ codes "debug" ∷ codes "--default" ∷ codes "RESOLUTION=600" ∷ codes "a.pcl" ∷ [])
+    ≡ Some (record { source = Standard; made = DebuggedOf (codes "@PJL DEFAULT RESOLUTION=600\n@PJL RESET\n") (codes "a.pcl") })
+unfolding clap_on_literals
+debugging_with_a_default = refl
 
 assembling : asked (codes "press" ∷ codes "asm" ∷ codes "a" ∷ codes "b" ∷ []) ≡ Some (record { source = FileNamed (codes "a"); made = StreamTo (codes "b") })
 unfolding clap_on_literals
@@ -70,7 +98,7 @@ session_of_a_file : asked (codes "press" ∷ codes "press" ∷ codes "a" ∷ [])
 unfolding clap_on_literals
 session_of_a_file = refl
 
-debugging : asked (codes "press" ∷ codes "debug" ∷ codes "a" ∷ []) ≡ Some (record { source = Standard; made = DebuggedOf (codes "a") })
+debugging : asked (codes "press" ∷ codes "debug" ∷ codes "a" ∷ []) ≡ Some (record { source = Standard; made = DebuggedOf [] (codes "a") })
 unfolding clap_on_literals
 debugging = refl
 

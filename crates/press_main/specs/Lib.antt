@@ -1,6 +1,7 @@
 pub mod Assembly
 pub mod DebuggerLines
 pub mod Debugging
+pub mod Defaults
 pub mod EntryListing
 pub mod EntrySheets
 pub mod EventLines

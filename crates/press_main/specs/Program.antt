@@ -5,6 +5,7 @@ use Rattle.press_sink.specs.Outputs.{MadeOutput}
 use Rattle.press_main.specs.Words.{Source, Standard, FileNamed, Made, Listed, FilesBy, Answered, AsText, DebuggedOf, StreamTo, JobTo, Asked}
 use Rattle.press_main.specs.Assembly.{AssembledInto, StopsMaking, DisassembledTo, StopsDisassembling}
 use Rattle.press_main.specs.Debugging.{Debugs, StopsDebugging}
+use Rattle.press_main.specs.Defaults.{HoldsBehind, with_front}
 use Rattle.press_main.specs.Files.{PrintsFiles, DoesNothing}
 use Rattle.press_main.specs.Jobs.{MakesTheTicket, StopsMakingJob}
 use Rattle.press_main.specs.Listing.{PrintsListing}
@@ -42,12 +43,13 @@ pub record Debugging (status : ℕ) (stream had left old new : Option (List ℕ)
 -- What is asked for was made of what a reader had: its status, what standard output took, and the outputs that were made. Standard
 -- output takes nothing where an output is named, and no output is made where none is; the inputs are what they have by their names.
 abbrev pub Makes : Made → (inputs : Text → Option (List ℕ)) → ℕ → (had left old new : Option (List ℕ)) → (before after : Option (List MadeOutput)) → Type 0
-Makes Listed inputs status had left old new before after = PrintsListing status had left old new × (after ≡ before)
-Makes (FilesBy template) inputs status had left old new before after =
-    PrintsFiles template status had left old new before after ⊎ DoesNothing status had left old new before after
+Makes (Listed front) inputs status had left old new before after =
+    HoldsBehind front had left (λ had left. PrintsListing status had left old new) × (after ≡ before)
+Makes (FilesBy front template) inputs status had left old new before after =
+    HoldsBehind front had left (λ had left. PrintsFiles template status had left old new before after ⊎ DoesNothing status had left old new before after)
 Makes (Answered engines) inputs status had left old new before after = Playing engines status inputs had left old new × (after ≡ before)
 Makes AsText inputs status had left old new before after = Disassembling status had left old new × (after ≡ before)
-Makes (DebuggedOf name) inputs status had left old new before after = Debugging status (inputs name) had left old new × (after ≡ before)
+Makes (DebuggedOf front name) inputs status had left old new before after = Debugging status (with_front front (inputs name)) had left old new × (after ≡ before)
 Makes (StreamTo name) inputs status had left old new before after = Assembling name status had left before after × (new ≡ old)
 Makes (JobTo name images) inputs status had left old new before after = Writing name status had left (map inputs images) before after × (new ≡ old)
 

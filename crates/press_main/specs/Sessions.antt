@@ -1,13 +1,14 @@
 -- Sessions with a press: what its lines ask, what comes of them, and what is written.
 use Rattle.std.specs.Prelude.{◌≡◌, ◌⊎◌, ℕ, List, [], ◌∷◌, ◌++◌, map, IsTrue, MatchBool, Option, Some, None, Ok, Err, codes, ⊤}
 use Rattle.std.specs.Fmt.{decimal}
+use Rattle.std.specs.List.{All}
 use Rattle.std.specs.Io.KnownBytes.{Consumes, IsAtEnd, Appends}
 use Rattle.press_pbm.specs.Spelling.{AppendsFront}
 use Rattle.press_sink.specs.declared.sheet.Delivery.{Delivery}
 use Rattle.press_asm.specs.Text.{lines_of}
 use Rattle.press_core.specs.declared.engines.BadEngines.{BadEngines}
 use Rattle.press_core.specs.Engines.{are_engines}
-use Rattle.press_core.specs.Events.{Event, Message, TurnOn, Operator, Happening, Happens, EventAnswer, Response, Turned, Nothing, Leads}
+use Rattle.press_core.specs.Events.{Event, Message, TurnOn, Operator, Happening, Happens, EventAnswer, Response, Turned, Nothing, IsAnswered, Leads}
 use Rattle.press_core.specs.Laws.{GivenUnder}
 use Rattle.press_core.specs.World.{World, new_world}
 use Rattle.press_main.specs.declared.inputs.InputError.{InputError}
@@ -83,22 +84,23 @@ AreLinesOf inputs [] [] = ⊤
 AreLinesOf inputs (line ∷ lines) (happening ∷ happenings) = IsLineOf inputs line happening × AreLinesOf inputs lines happenings
 AreLinesOf inputs _ _ = ⊥
 
--- An event happened: what it handed out was delivered behind what had been, and this is its answer.
+-- An event happened, and has its answer: what it handed out was delivered behind what had been, and this is the answer's line.
 abbrev pub TakesEvent : Event → World → (had : List Delivery) → (next : World) → (has : List Delivery) → (answer : List ℕ) → Type 0
 TakesEvent event world had next has answer =
-    (its : EventAnswer) × (handed : List Delivery) × Happens world event its handed next × (has ≡ had ++ handed) × (answer ≡ answer_text its)
+    (its : EventAnswer) × (handed : List Delivery) × Happens world event its handed next × (has ≡ had ++ handed) × (answer ≡ answer_text its) × IsAnswered its
 
 -- So did the event that a line asks.
 abbrev pub TakesAsked : Inputs → EventLine → World → (had : List Delivery) → (next : World) → (has : List Delivery) → (answer : List ℕ) → Type 0
 TakesAsked inputs asked world had next has answer = (event : Event) × IsAsked inputs asked event × TakesEvent event world had next has answer
 
--- Lines were carried out, one after another, from one world to another: what their events handed out was delivered behind what had
--- been, and these are their answers.
+-- Lines were carried out, one after another, from one world to another, and each event has its answer: what their events handed out was
+-- delivered behind what had been, and these are their answers.
 pub record TakesLines (inputs : Inputs) (lines : List (List ℕ)) (world : World) (had : List Delivery) (next : World) (has : List Delivery) (answers : List ℕ) : Type 0 where
   pub happenings : List (Option Happening)
   pub are : AreLinesOf inputs lines happenings
   pub leads : Leads world (happenings_in happenings) next
   pub handed : has ≡ had ++ handed_in (happenings_in happenings)
+  pub happened : All (λ happening. IsAnswered happening.answer) (happenings_in happenings)
   pub answered : answers ≡ answers_to happenings
 
 -- All lines that a reader had, to its end, were carried out; their answers were written, and then the listing of all that was
@@ -203,7 +205,7 @@ delivered_by session = entry_deliveries_of (kept session.sheets)
 pub record Plays (engines : ℕ) (inputs : Inputs) (bytes left old new : Option (List ℕ)) : Type 0 where
   pub are : IsTrue (are_engines engines)
   pub played : PlaysToItsEnd inputs (new_world engines) [] bytes left old new
-  pub given : (number : ℕ) → GivenUnder (happenings_in played.takes.happenings) played.next number
+  pub given : (number : ℕ) → GivenUnder (new_world engines) (happenings_in played.takes.happenings) played.next number
 
 -- No press has so many engines, and nothing was read or written.
 abbrev pub DoesNotBegin : (bytes left old new : Option (List ℕ)) → SessionError → Type 0

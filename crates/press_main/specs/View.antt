@@ -9,7 +9,7 @@ use Rattle.press_main.specs.declared.words.Output.{Output}
 use Rattle.press_main.specs.declared.words.Output.TheVariants as outputs
 use Rattle.press_main.specs.declared.words.Request.{Request}
 use Rattle.press_main.specs.declared.words.Refusal.{Refusal}
-use Rattle.press_main.specs.declared.words.Refusal.TheVariants.{Words, NoName}
+use Rattle.press_main.specs.declared.words.Refusal.TheVariants.{Words, NoName, NoDefault}
 use Rattle.press_main.specs.Words.{Source, Standard, FileNamed, Made, Listed, FilesBy, Answered, AsText, DebuggedOf, StreamTo, JobTo, Asked}
 
 -- an input by the text of its name
@@ -19,11 +19,11 @@ source_seen (inputs.File name) = FileNamed name.now
 
 -- an output by its texts
 abbrev pub made_seen : Output → Made
-made_seen outputs.Listing = Listed
-made_seen (outputs.Files template) = FilesBy template.now
+made_seen (outputs.Listing front) = Listed front.items
+made_seen (outputs.Files front template) = FilesBy front.items template.now
 made_seen (outputs.Session engines) = Answered engines
 made_seen outputs.Text = AsText
-made_seen (outputs.Debugged name) = DebuggedOf name.now
+made_seen (outputs.Debugged front name) = DebuggedOf front.items name.now
 made_seen (outputs.Assembled name) = StreamTo name.now
 made_seen (outputs.Job name images) = JobTo name.now (map (λ image. image.now) images.items)
 
@@ -35,6 +35,7 @@ request_seen request = record { source = source_seen request.input; made = made_
 abbrev pub IsForMemory : Refusal → Type 0
 IsForMemory (Words error) = kind_of error ≡ OutOfMemory
 IsForMemory NoName = ⊥
+IsForMemory (NoDefault text) = ⊥
 
 -- the status after an error of the command line, by its kind
 abbrev pub status_of_kind : ErrorKind → ℕ
@@ -43,7 +44,8 @@ status_of_kind DisplayHelp = 0
 status_of_kind DisplayVersion = 0
 status_of_kind _ = 2
 
--- The status after a refusal: 0 after help, 1 where memory ran out, else 2.
+-- The status after a refusal: 0 after help or the version, 1 where memory ran out, else 2.
 abbrev pub status_of : Refusal → ℕ
 status_of (Words error) = status_of_kind (kind_of error)
 status_of NoName = 2
+status_of (NoDefault text) = 2

@@ -1,8 +1,11 @@
 -- What the words of the command line ask for.
 use Rattle.std.specs.Prelude.{ℕ, List, [], ◌∷◌, Option, Some, None, Bool, true, false, codes, option_map, option_and_then, unwrap_or, if◌then◌else◌}
+use Rattle.std.specs.List.{list_all}
 use Rattle.std.specs.Option.{option_map_or}
 use Rattle.std.specs.Str.{bytes_eq}
 use Rattle.clap.specs.Words.{App, Row, Rule, Text, new_app, new_rule, with_rule, with_subcommand, subcommand_of, first_of, all_of, fault_of}
+use Rattle.press_pjl.specs.Variables.{is_assignment}
+use Rattle.press_main.specs.Defaults.{front_of}
 use Rattle.press_main.specs.Lines.{number_word}
 use Rattle.press_main.specs.declared.words.Subcommand.{Subcommand}
 use Rattle.press_main.specs.declared.words.Subcommand.TheVariants.{Print, Asm, Disasm, Debug, Write, Press}
@@ -13,15 +16,16 @@ pub data Source : Type 0 where
   Standard : Source
   FileNamed : Text → Source
 
--- What is made of an input: of a stream a listing, files by this template, or its assembly text; of assembly text the file
--- of this name; of a ticket the file of this name, its job with the images of these files; of lines of events the answers of
--- a press with so many engines, and the listing of what it delivered; of lines of a debugger its answers, over the stream of this file.
+-- What is made of an input: of a stream, with these bytes in front of it, a listing, or files by this template; its assembly text; of
+-- assembly text the file of this name; of a ticket the file of this name, its job with the images of these files; of lines of events the
+-- answers of a press with so many engines, and the listing of what it delivered; of lines of a debugger its answers, over the stream of
+-- this file, with these bytes in front of it.
 pub data Made : Type 0 where
-  Listed : Made
-  FilesBy : Text → Made
+  Listed : (front : List ℕ) → Made
+  FilesBy : (front : List ℕ) (template : Text) → Made
   Answered : (engines : ℕ) → Made
   AsText : Made
-  DebuggedOf : Text → Made
+  DebuggedOf : (front : List ℕ) (name : Text) → Made
   StreamTo : Text → Made
   JobTo : (name : Text) (images : List Text) → Made
 
@@ -30,7 +34,11 @@ pub record Asked : Type 0 where
   pub source : Source
   pub made : Made
 
--- The words of `print`: the flag of a listing, the input, and the template.
+-- The option of a default, which may stand more than once.
+abbrev pub default_rule : Rule
+default_rule = record (new_rule (codes "default")) { long = Some (codes "default"); action = Some Append; value_names = 1 }
+
+-- The words of `print`: the flag of a listing, any number of defaults, the input, and the template.
 abbrev pub list_rule : Rule
 list_rule = record (new_rule (codes "list")) { long = Some (codes "list"); action = Some SetTrue }
 
@@ -38,7 +46,7 @@ abbrev pub needed_rule : Text → Rule
 needed_rule id = record (new_rule id) { required = true }
 
 abbrev pub print_app : App
-print_app = with_rule (with_rule (with_rule (new_app (codes "print")) list_rule) (needed_rule (codes "IN"))) (new_rule (codes "OUT"))
+print_app = with_rule (with_rule (with_rule (with_rule (new_app (codes "print")) list_rule) default_rule) (needed_rule (codes "IN"))) (new_rule (codes "OUT"))
 
 -- The words of `asm`: the input and the output.
 abbrev pub asm_app : App
@@ -48,9 +56,9 @@ asm_app = with_rule (with_rule (new_app (codes "asm")) (needed_rule (codes "IN")
 abbrev pub disasm_app : App
 disasm_app = with_rule (new_app (codes "disasm")) (needed_rule (codes "IN"))
 
--- The word of `debug`: the input.
+-- The words of `debug`: any number of defaults, and the input.
 abbrev pub debug_app : App
-debug_app = with_rule (new_app (codes "debug")) (needed_rule (codes "IN"))
+debug_app = with_rule (with_rule (new_app (codes "debug")) default_rule) (needed_rule (codes "IN"))
 
 -- The words of `write`: the ticket, the output, and any number of images.
 abbrev pub images_rule : Rule
@@ -66,10 +74,14 @@ engines_rule = record (new_rule (codes "engines")) { long = Some (codes "engines
 abbrev pub session_app : App
 session_app = with_rule (new_app (codes "press")) engines_rule
 
+-- The program without its subcommands: it has a version.
+abbrev pub program_app : App
+program_app = record { top = record (new_app (codes "press")).top { has_version = true }; subs = [] }
+
 -- The command line: the subcommands of the program.
 abbrev pub press_app : App
 press_app =
-    with_subcommand (with_subcommand (with_subcommand (with_subcommand (with_subcommand (with_subcommand (new_app (codes "press"))
+    with_subcommand (with_subcommand (with_subcommand (with_subcommand (with_subcommand (with_subcommand program_app
     print_app.top) asm_app.top) disasm_app.top) debug_app.top) write_app.top) session_app.top
 
 -- a flag is set where its value is `true`
@@ -80,9 +92,20 @@ is_set flag rows = option_map_or (λ value. bytes_eq value (codes "true")) (firs
 abbrev pub source_of : Text → Source
 source_of name = if bytes_eq name (codes "-") then Standard else FileNamed name
 
+-- the defaults, in the order of the words
+abbrev pub defaults_of : List Row → List Text
+defaults_of rows = unwrap_or (all_of (codes "default") rows) []
+
+-- what stands in front of the stream, where each default is one of the job language
+abbrev pub front_in : List Row → Option (List ℕ)
+front_in rows = if list_all is_assignment (defaults_of rows) then Some (front_of (defaults_of rows)) else None
+
 -- with the flag a listing, whatever the template; without it there has to be a template
+abbrev pub made_behind : List Row → (front : List ℕ) → Option Made
+made_behind rows front = if is_set (codes "list") rows then Some (Listed front) else option_map (FilesBy front) (first_of (codes "OUT") rows)
+
 abbrev pub made_of : List Row → Option Made
-made_of rows = if is_set (codes "list") rows then Some Listed else option_map FilesBy (first_of (codes "OUT") rows)
+made_of rows = option_and_then (made_behind rows) (front_in rows)
 
 -- the images that `write` names, in the order of the words
 abbrev pub images_of : List Row → List Text
@@ -106,11 +129,11 @@ abbrev pub disasm_asked : List Row → Option Asked
 disasm_asked rows = option_map (λ name. record { source = source_of name; made = AsText }) (first_of (codes "IN") rows)
 
 -- what `debug` asks for: the lines stand on standard input, so the stream stands in a file
-abbrev pub debug_of : Text → Option Asked
-debug_of name = if bytes_eq name (codes "-") then None else Some (record { source = Standard; made = DebuggedOf name })
+abbrev pub debug_of : (front : List ℕ) → Text → Option Asked
+debug_of front name = if bytes_eq name (codes "-") then None else Some (record { source = Standard; made = DebuggedOf front name })
 
 abbrev pub debug_asked : List Row → Option Asked
-debug_asked rows = option_and_then debug_of (first_of (codes "IN") rows)
+debug_asked rows = option_and_then (λ front. option_and_then (debug_of front) (first_of (codes "IN") rows)) (front_in rows)
 
 -- how many engines `press` asks for: one where nothing is said of them
 abbrev pub engines_of : List Row → Option ℕ
@@ -152,6 +175,6 @@ asked_without (fault ∷ faults) words = None
 -- What words ask for, the program's name among them: without any, the listing of standard input; nothing where they are
 -- refused.
 abbrev pub asked : List Text → Option Asked
-asked [] = Some (record { source = Standard; made = Listed })
-asked (program ∷ []) = Some (record { source = Standard; made = Listed })
+asked [] = Some (record { source = Standard; made = Listed [] })
+asked (program ∷ []) = Some (record { source = Standard; made = Listed [] })
 asked (program ∷ word ∷ words) = asked_without (fault_of press_app (program ∷ word ∷ words)) (program ∷ word ∷ words)

@@ -6,6 +6,7 @@ mod assembly;
 mod counted_read;
 mod debugger_lines;
 mod debugging;
+mod defaults;
 mod entry_sheets;
 mod event_lines;
 mod files;

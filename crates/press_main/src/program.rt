@@ -1,6 +1,9 @@
 //! What the words ask for, done.
-ghost use Rattle.std.specs.Prelude.{◌≡◌, ◌≢◌, map, IfOk};
+ghost use Rattle.std.specs.Prelude.{◌≡◌, ◌≢◌, ◌⊎◌, map, IfOk};
 ghost use Rattle.std.specs.String.{string_bytes};
+ghost use Rattle.press_main.specs.Defaults.{HoldsBehind, with_front};
+ghost use Rattle.press_main.specs.Files.{DoesNothing, PrintsFiles};
+ghost use Rattle.press_main.specs.Listing.{PrintsListing};
 ghost use Rattle.press_main.specs.Program.{Debugging, Makes, Performs, Runs, Writing};
 ghost use Rattle.press_main.specs.View.{made_seen, request_seen, status_of};
 ghost use Rattle.press_main.specs.Words.{asked};
@@ -122,12 +125,14 @@ fn make<I: NamedInputs, O: NamedOutputs + Drop, R: Read, W: Write + Drop, E: Wri
         (W.contents out) (W.contents result.out) (O.made outputs) (O.made result.outputs) }
 {
     match output {
-        Output::Listing => Finished {
-            status: print_list(alloc, reader, &mut out, err),
+        Output::Listing(front) => Finished {
+            status: list_behind(alloc, front, reader, &mut out, err),
             out,
             outputs,
         },
-        Output::Files(template) => print_files(alloc, outputs, reader, template, out, err),
+        Output::Files(front, template) => {
+            print_behind(alloc, outputs, front, reader, template, out, err)
+        }
         Output::Session(engines) => Finished {
             status: press_lines(alloc, inputs, *engines, reader, &mut out, err),
             out,
@@ -138,8 +143,8 @@ fn make<I: NamedInputs, O: NamedOutputs + Drop, R: Read, W: Write + Drop, E: Wri
             out,
             outputs,
         },
-        Output::Debugged(name) => Finished {
-            status: debug_file(alloc, inputs, name, reader, &mut out, err),
+        Output::Debugged(front, name) => Finished {
+            status: debug_file(alloc, inputs, front, name, reader, &mut out, err),
             out,
             outputs,
         },
@@ -156,23 +161,86 @@ fn make<I: NamedInputs, O: NamedOutputs + Drop, R: Read, W: Write + Drop, E: Wri
     }
 }
 
-/// Has a session with a debugger of the stream of the input of this name, by the lines that a reader has.
+/// Lists the sheets of the stream of these bytes and those that a reader has behind them.
+fn list_behind<R: Read, W: Write, E: Write>(
+    alloc: Global,
+    front: &[u8],
+    reader: &mut R,
+    out: &mut W,
+    err: &mut E,
+) -> u8
+    ensures { HoldsBehind front.now (R.remaining reader.old) (R.remaining reader.new)
+        (λ had left. PrintsListing result had left (W.contents out.old) (W.contents out.new)) }
+{
+    if front.is_empty() {
+        return print_list(alloc, reader, out, err);
+    }
+    let mut listed = front.chain(reader);
+    print_list(alloc, &mut listed, out, err)
+}
+
+/// Prints the stream of these bytes and those that a reader has behind them to files by a template.
+fn print_behind<O: NamedOutputs + Drop, R: Read, W: Write + Drop, E: Write>(
+    alloc: Global,
+    outputs: O,
+    front: &[u8],
+    reader: &mut R,
+    template: &str,
+    out: W,
+    err: &mut E,
+) -> Finished<W, O>
+    ensures { HoldsBehind front.now (R.remaining reader.old) (R.remaining reader.new)
+        (λ had left. PrintsFiles template.now result.status had left
+        (W.contents out) (W.contents result.out) (O.made outputs) (O.made result.outputs)
+        ⊎ DoesNothing result.status had left
+        (W.contents out) (W.contents result.out) (O.made outputs) (O.made result.outputs)) }
+{
+    if front.is_empty() {
+        return print_files(alloc, outputs, reader, template, out, err);
+    }
+    let mut stream = front.chain(reader);
+    print_files(alloc, outputs, &mut stream, template, out, err)
+}
+
+/// Has a session with a debugger of the stream of these bytes and those of the input of this name behind them, by the lines that a
+/// reader has.
 fn debug_file<I: NamedInputs, R: Read, W: Write, E: Write>(
     alloc: Global,
     inputs: &I,
+    front: &[u8],
     name: &str,
     reader: &mut R,
     out: &mut W,
     err: &mut E,
 ) -> u8
-    ensures { Debugging result (I.bytes inputs.now name.now)
+    ensures { Debugging result (with_front front.now (I.bytes inputs.now name.now))
         (R.remaining reader.old) (R.remaining reader.new)
         (W.contents out.old) (W.contents out.new) }
 {
     match inputs.open(name) {
-        Ok(mut input) => debug_lines(alloc, &mut input, reader, out, err),
+        Ok(mut input) => debug_behind(alloc, front, &mut input, reader, out, err),
         Err(_) => told(&InputError::ReadFault, err),
     }
+}
+
+/// The same of the stream of these bytes and those that `input` has behind them.
+fn debug_behind<I: Read, R: Read, W: Write, E: Write>(
+    alloc: Global,
+    front: &[u8],
+    input: &mut I,
+    reader: &mut R,
+    out: &mut W,
+    err: &mut E,
+) -> u8
+    ensures { Debugging result (with_front front.now (I.remaining input.old))
+        (R.remaining reader.old) (R.remaining reader.new)
+        (W.contents out.old) (W.contents out.new) }
+{
+    if front.is_empty() {
+        return debug_lines(alloc, input, reader, out, err);
+    }
+    let mut stream = front.chain(input);
+    debug_lines(alloc, &mut stream, reader, out, err)
 }
 
 /// Makes the output of this name of the ticket that a reader has, with the images of the inputs of these names.

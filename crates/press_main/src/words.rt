@@ -3,20 +3,26 @@ ghost use Rattle.std.specs.Prelude.{◌≡◌, ◌↔◌, ◌⊎◌, IfOk, IfErr
 ghost use Rattle.clap.specs.Words.{app_of, new_app, rule_of, new_rule, kind_of, first_of, rows_of, found_of, subcommand_of, subcommand_rows_of, fault_of, FailsBy};
 ghost use Rattle.clap.specs.declared.builder.command.Command.TheViews.{out-Command};
 ghost use Rattle.clap.specs.declared.error.kind.ErrorKind.TheVariants.{OutOfMemory};
-ghost use Rattle.press_main.specs.Words.{list_rule, needed_rule, images_rule, engines_rule, print_app, asm_app, disasm_app, debug_app, write_app, session_app, press_app, source_of, made_of, images_of, engines_of, print_asked, asm_asked, disasm_asked, debug_asked, job_asked, session_asked, subcommand_named, asked_of, asked_by, asked, is_set};
+ghost use Rattle.press_main.specs.Words.{list_rule, default_rule, needed_rule, images_rule, engines_rule, print_app, asm_app, disasm_app, debug_app, write_app, session_app, program_app, press_app, source_of, made_behind, made_of, images_of, defaults_of, front_in, engines_of, print_asked, asm_asked, disasm_asked, debug_of, debug_asked, job_asked, session_asked, subcommand_named, asked_of, asked_by, asked, is_set};
 ghost use Rattle.press_main.specs.View.{source_seen, made_seen, request_seen, status_of, IsForMemory};
 
+use crate::defaults::{are_assignments, front_of};
 use crate::lines::number_word;
 use clap::error::ErrorKind;
 use clap::{Arg, ArgAction, ArgMatches, Command, Error};
+use press_pjl::is_assignment;
 use press_units::NO_MEMORY;
 use std::alloc::{AllocError, Global};
 use std::fmt;
+
+/// The version of the program, and the kit that proved it.
+const VERSION: &str = "1.0.0 (proved by rattle-kit-13f)";
 
 /// An example of each subcommand, and each fault with what to do, for help.
 const AFTER_HELP: &str = "Examples:
   press < page.pcl
   press print page.pcl page-%d.pbm
+  press print --default RESOLUTION=600 page.pcl page-%d.pbm
   press disasm page.pcl > page.asm
   press asm page.asm changed.pcl
   press debug page.pcl < lines.txt
@@ -62,16 +68,16 @@ pub enum Input<'a> {
 /// What is made of the input.
 #[derive(Debug, Drop)]
 pub enum Output<'a> {
-    /// A listing of the sheets and the replies of a stream.
-    Listing,
-    /// A file for each side of a stream, by this template.
-    Files(&'a str),
+    /// A listing of the sheets and the replies of a stream, with these bytes in front of it.
+    Listing(Vec<u8>),
+    /// A file for each side of a stream, with these bytes in front of it, by this template.
+    Files(Vec<u8>, &'a str),
     /// The answers to lines of events, of a press with so many engines, and the listing of the sheets that it then delivered.
     Session(u64),
     /// The assembly text of a stream.
     Text,
-    /// The answers to the lines of a debugger of the stream of this file.
-    Debugged(&'a str),
+    /// The answers to the lines of a debugger of the stream of this file, with these bytes in front of it.
+    Debugged(Vec<u8>, &'a str),
     /// The file of this name, of the bytes of assembly text.
     Assembled(&'a str),
     /// The file of this name, of the job of a ticket with the images of these files.
@@ -88,11 +94,13 @@ pub struct Request<'a> {
 /// Why the words ask for nothing.
 #[derive(Debug, Drop)]
 pub enum Refusal {
-    /// The command line is refused, or asks for help; or memory ran out.
+    /// The command line is refused, or asks for help or the version; or memory ran out.
     Words(Error),
     /// A subcommand lacks what its words have to name: `print` a template, where no listing is asked for, `debug` a file, or
     /// `press` a number of engines.
     NoName,
+    /// This text is no `NAME=VALUE` of the job language.
+    NoDefault(String),
 }
 
 impl From<Error> for Refusal {
@@ -107,7 +115,7 @@ impl From<Error> for Refusal {
 }
 
 impl Refusal {
-    /// The status with which the program ends: 0 after help, 1 where memory ran out, else 2.
+    /// The status with which the program ends: 0 after help or the version, 1 where memory ran out, else 2.
     pub fn status(&self) -> u8
         ensures { result ≡ status_of self.now }
     {
@@ -131,6 +139,12 @@ impl fmt::Display for Refusal {
                 "usage: press print IN OUT, press print --list IN, press debug IN, \
                 where IN is a file and not -, or press press [--engines N], where N is a number"
             ),
+            Refusal::NoDefault(text) => writeln!(
+                f,
+                "error: --default {text} is no NAME=VALUE of the job language, as RESOLUTION=600: COPIES=1 to 999, \
+                PAPER=LETTER, LEGAL, A4, EXECUTIVE, LEDGER or A3, ORIENTATION=PORTRAIT or LANDSCAPE, \
+                DUPLEX=OFF or ON, BINDING=LONGEDGE or SHORTEDGE, RESOLUTION=300 or 600"
+            ),
         }
     }
 }
@@ -144,6 +158,18 @@ fn list_flag<'a>(alloc: Global) -> Arg<'a>
         .long("list")
         .action(ArgAction::SetTrue)
         .help("Lists the sheets and writes no file")
+}
+
+/// The option of a default.
+fn default_option<'a>(alloc: Global) -> Arg<'a>
+    ensures rule { rule_of result ≡ default_rule }
+    ensures local { result.global ≡ false }
+{
+    Arg::new(alloc, "default")
+        .long("default")
+        .value_name("NAME=VALUE")
+        .action(ArgAction::Append)
+        .help("Sets a default of the printer, as PAPER=A4 or RESOLUTION=600; again for more")
 }
 
 /// A word that has to be there.
@@ -173,6 +199,7 @@ fn print_command<'a>(alloc: Global) -> Result<Command<'a>, AllocError>
     Command::new(alloc, "print")
         .about("Prints a stream to a P4 file (raw PBM) for each side, or lists its sheets")
         .arg(list_flag(alloc))?
+        .arg(default_option(alloc))?
         .arg(needed_word(
             alloc,
             "IN",
@@ -222,6 +249,7 @@ fn debug_command<'a>(alloc: Global) -> Result<Command<'a>, AllocError>
     Command::new(alloc, "debug")
         .about("Steps through a stream, as the lines on standard input ask")
         .after_help(DEBUGGER_HELP)
+        .arg(default_option(alloc))?
         .arg(needed_word(
             alloc,
             "IN",
@@ -277,11 +305,12 @@ fn press_command<'a>(alloc: Global) -> Result<Command<'a>, AllocError>
         .arg(engines_option(alloc))
 }
 
-/// The program, with its help and no subcommand.
+/// The program, with its help, its version and no subcommand.
 fn program<'a>(alloc: Global) -> Command<'a>
-    ensures { app_of result ≡ new_app (codes "press") }
+    ensures { app_of result ≡ program_app }
 {
     Command::new(alloc, "press")
+        .version(VERSION)
         .about(
             "A digital press: it prints PJL and PCL 5 as bitmaps. Without a command it lists the \
              sheets of the stream on standard input",
@@ -331,16 +360,52 @@ fn input_named(name: &str) -> Input<'_>
     }
 }
 
-/// What the matches of `print` ask to be made.
+/// The defaults that matches name.
+#[tactic(auto, using(crate::proofs::WordsLemmas::values_by_rows))]
+fn defaults_of<'a>(alloc: Global, matches: &ArgMatches<'a>) -> Result<Vec<&'a str>, AllocError>
+    ensures { IfOk result (λ defaults.
+        map (λ text. text.now) defaults.items ≡ defaults_of (rows_of (found_of matches.now))) }
+{
+    match matches.get_strs("default") {
+        Some(defaults) => defaults.to_vec(alloc),
+        None => Ok(Vec::new(alloc)),
+    }
+}
+
+/// What stands in front of the stream, where each default that matches name is one of the job language.
+fn front_in(alloc: Global, matches: &ArgMatches<'_>) -> Result<Option<Vec<u8>>, AllocError>
+    ensures { IfOk result (λ front.
+        option_map (λ bytes. bytes.items) front ≡ front_in (rows_of (found_of matches.now))) }
+{
+    let defaults = defaults_of(alloc, matches)?;
+    if !are_assignments(&defaults) {
+        return Ok(None);
+    }
+    let front = front_of(alloc, &defaults)?;
+    Ok(Some(front))
+}
+
+/// What the matches of `print` ask to be made of a stream, with these bytes in front of it.
 #[tactic(auto, using(crate::proofs::WordsLemmas::value_by_rows))]
-fn output_of<'a>(matches: &ArgMatches<'a>) -> Option<Output<'a>>
-    ensures { option_map made_seen result ≡ made_of (rows_of (found_of matches.now)) }
+fn output_behind<'a>(front: Vec<u8>, matches: &ArgMatches<'a>) -> Option<Output<'a>>
+    ensures { option_map made_seen result ≡ made_behind (rows_of (found_of matches.now)) front.items }
 {
     if has_flag(matches, "list") {
-        return Some(Output::Listing);
+        return Some(Output::Listing(front));
     }
     let template = matches.get_str("OUT")?;
-    Some(Output::Files(template))
+    Some(Output::Files(front, template))
+}
+
+/// What the matches of `print` ask to be made.
+fn output_of<'a>(alloc: Global, matches: &ArgMatches<'a>) -> Result<Option<Output<'a>>, AllocError>
+    ensures { IfOk result (λ output.
+        option_map made_seen output ≡ made_of (rows_of (found_of matches.now))) }
+{
+    match front_in(alloc, matches)? {
+        Some(front) => Ok(output_behind(front, matches)),
+        None => Ok(None),
+    }
 }
 
 /// The images that the matches of `write` name.
@@ -379,15 +444,24 @@ fn job_request<'a>(
 
 /// What the matches of `print` ask for.
 #[tactic(auto, using(crate::proofs::WordsLemmas::value_by_rows))]
-fn print_request<'a>(matches: &ArgMatches<'a>) -> Option<Request<'a>>
-    ensures { option_map request_seen result ≡ print_asked (rows_of (found_of matches.now)) }
+fn print_request<'a>(
+    alloc: Global,
+    matches: &ArgMatches<'a>,
+) -> Result<Option<Request<'a>>, AllocError>
+    ensures { IfOk result (λ found. option_map request_seen found
+        ≡ print_asked (rows_of (found_of matches.now))) }
 {
-    let name = matches.get_str("IN")?;
-    let output = output_of(matches)?;
-    Some(Request {
+    let made = output_of(alloc, matches)?;
+    let Some(name) = matches.get_str("IN") else {
+        return Ok(None);
+    };
+    let Some(output) = made else {
+        return Ok(None);
+    };
+    Ok(Some(Request {
         input: input_named(name),
         output,
-    })
+    }))
 }
 
 /// What the matches of `asm` ask for.
@@ -415,19 +489,35 @@ fn disasm_request<'a>(matches: &ArgMatches<'a>) -> Option<Request<'a>>
     })
 }
 
-/// What the matches of `debug` ask for. The lines stand on standard input, so the stream does not.
-#[tactic(auto, using(crate::proofs::WordsLemmas::value_by_rows))]
-fn debug_request<'a>(matches: &ArgMatches<'a>) -> Option<Request<'a>>
-    ensures { option_map request_seen result ≡ debug_asked (rows_of (found_of matches.now)) }
+/// What `debug` asks for of a stream with these bytes in front of it. The lines stand on standard input, so the stream does not.
+fn debug_named(front: Vec<u8>, name: &str) -> Option<Request<'_>>
+    ensures { option_map request_seen result ≡ debug_of front.items name.now }
 {
-    let name = matches.get_str("IN")?;
     if name == "-" {
         return None;
     }
     Some(Request {
         input: Input::Standard,
-        output: Output::Debugged(name),
+        output: Output::Debugged(front, name),
     })
+}
+
+/// What the matches of `debug` ask for.
+#[tactic(auto, using(crate::proofs::WordsLemmas::value_by_rows))]
+fn debug_request<'a>(
+    alloc: Global,
+    matches: &ArgMatches<'a>,
+) -> Result<Option<Request<'a>>, AllocError>
+    ensures { IfOk result (λ found. option_map request_seen found
+        ≡ debug_asked (rows_of (found_of matches.now))) }
+{
+    let Some(front) = front_in(alloc, matches)? else {
+        return Ok(None);
+    };
+    match matches.get_str("IN") {
+        Some(name) => Ok(debug_named(front, name)),
+        None => Ok(None),
+    }
 }
 
 /// How many engines the matches of `press` ask for: one where they say nothing of them.
@@ -494,10 +584,10 @@ fn subcommand_request<'a>(
         ≡ asked_of subcommand (rows_of (found_of matches.now))) }
 {
     match subcommand {
-        Subcommand::Print => Ok(print_request(matches)),
+        Subcommand::Print => print_request(alloc, matches),
         Subcommand::Asm => Ok(asm_request(matches)),
         Subcommand::Disasm => Ok(disasm_request(matches)),
-        Subcommand::Debug => Ok(debug_request(matches)),
+        Subcommand::Debug => debug_request(alloc, matches),
         Subcommand::Write => job_request(alloc, matches),
         Subcommand::Press => Ok(session_request(matches)),
     }
@@ -544,10 +634,27 @@ pub fn request_of<'a>(alloc: Global, words: &'a [&'a str]) -> Result<Request<'a>
     if words.len() <= 1 {
         return Ok(Request {
             input: Input::Standard,
-            output: Output::Listing,
+            output: Output::Listing(Vec::new(alloc)),
         });
     }
     let matches = parse(alloc, words)?;
     let request = request_in(alloc, &matches)?;
-    request.ok_or(Refusal::NoName)
+    let refusal = refusal_of(alloc, &matches)?;
+    request.ok_or(refusal)
+}
+
+/// Why matches ask for nothing: the first default that is none of the job language, or a name that is missing.
+fn refusal_of(alloc: Global, matches: &ArgMatches<'_>) -> Result<Refusal, Error>
+    ensures { IfErr result (λ error. kind_of error ≡ OutOfMemory) }
+{
+    if let Some((_, values)) = matches.subcommand()
+        && let Some(defaults) = values.get_strs("default")
+    {
+        for text in defaults {
+            if !is_assignment(text.as_bytes()) {
+                return Ok(Refusal::NoDefault(String::from_str(alloc, text)?));
+            }
+        }
+    }
+    Ok(Refusal::NoName)
 }

@@ -2,10 +2,10 @@ use Rattle.std.proofs.Common.{refl}
 use Rattle.press_main.proofs.program.make.Goals as goal
 
 pub returns-in-Listing : goal.returns-in-Listing
-returns-in-Listing g c = rw c.in-Listing.is (c.print_list.ensures.printed, refl)
+returns-in-Listing g c = rw (c.in-Listing.is, ← c.deref.ensures.value) (c.list_behind.ensures, refl)
 
 pub returns-in-Files : goal.returns-in-Files
-returns-in-Files g c = rw c.in-Files.is c.print_files.ensures.prints
+returns-in-Files g c = rw (c.in-Files.is, ← c.deref-in-Files.ensures.value) c.print_behind.ensures
 
 pub returns-in-Session : goal.returns-in-Session
 returns-in-Session g c = rw c.in-Session.is (record { done = c.press_lines.ensures.plays; stops = c.press_lines.ensures.stops }, refl)
@@ -14,10 +14,10 @@ pub returns-in-Text : goal.returns-in-Text
 returns-in-Text g c = rw c.in-Text.is (record { done = c.disasm_bytes.ensures.disassembled; stops = c.disasm_bytes.ensures.stopped }, refl)
 
 pub returns-in-Debugged : goal.returns-in-Debugged
-returns-in-Debugged g c = rw c.in-Debugged.is (c.debug_file.ensures, refl)
+returns-in-Debugged g c = rw (c.in-Debugged.is, ← c.deref-in-Debugged.ensures.value) (c.debug_file.ensures, refl)
 
 pub returns-in-Assembled : goal.returns-in-Assembled
 returns-in-Assembled g c = rw c.in-Assembled.is (record { done = c.asm_file.ensures.assembled; stops = c.asm_file.ensures.refused }, refl)
 
 pub returns-in-Job : goal.returns-in-Job
-returns-in-Job g c = rw (c.in-Job.is, ← c.deref.ensures.value) (c.write_file.ensures, refl)
+returns-in-Job g c = rw (c.in-Job.is, ← c.deref-in-Job.ensures.value) (c.write_file.ensures, refl)

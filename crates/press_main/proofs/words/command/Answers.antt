@@ -1,19 +1,17 @@
-use Rattle.std.specs.Prelude.{codes}
 use Rattle.std.proofs.lemmas.Result.{IfOk-weaker}
-use Rattle.clap.specs.Words.{new_app, with_subcommand}
-use Rattle.press_main.specs.Words.{print_app, asm_app, disasm_app, debug_app, write_app, session_app}
+use Rattle.clap.specs.Words.{with_subcommand}
+use Rattle.press_main.specs.Words.{program_app, print_app, asm_app, disasm_app, debug_app, write_app, session_app}
 use Rattle.press_main.proofs.WordsLemmas.{subcommand_added}
 use Rattle.press_main.proofs.words.command.Goals as goal
 
 pub returns : goal.returns
 returns c =
-    let none = new_app (codes "press") in
-    let one = with_subcommand none print_app.top in
+    let one = with_subcommand program_app print_app.top in
     let two = with_subcommand one asm_app.top in
     let three = with_subcommand two disasm_app.top in
     let four = with_subcommand three debug_app.top in
     let five = with_subcommand four write_app.top in
-    let first = subcommand_added _ _ _ none print_app c.in_ok-subcommand.ensures c.in_ok-print_command.ensures.local c.program.ensures c.in_ok-print_command.ensures.app in
+    let first = subcommand_added _ _ _ program_app print_app c.in_ok-subcommand.ensures c.in_ok-print_command.ensures.local c.program.ensures c.in_ok-print_command.ensures.app in
     let second = subcommand_added _ _ _ one asm_app c.in_ok-subcommand-2.ensures c.in_ok-asm_command.ensures.local first c.in_ok-asm_command.ensures.app in
     let third = subcommand_added _ _ _ two disasm_app c.in_ok-subcommand-3.ensures c.in_ok-disasm_command.ensures.local second c.in_ok-disasm_command.ensures.app in
     let fourth = subcommand_added _ _ _ three debug_app c.in_ok-subcommand-4.ensures c.in_ok-debug_command.ensures.local third c.in_ok-debug_command.ensures.app in

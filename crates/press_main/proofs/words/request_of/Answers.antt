@@ -15,12 +15,16 @@ pub returns-in_err-request-clause-refused : goal.returns-in_err-request-clause-r
 returns-in_err-request-clause-refused c =
     asked-err-memory _ c.from_residual-in_err-request.result c.in_err-request.field-0.0 c.in_err-request.ensures.memory c.from_residual-in_err-request.ensures.1
 
+pub returns-in_err-refusal-clause-refused : goal.returns-in_err-refusal-clause-refused
+returns-in_err-refusal-clause-refused c =
+    asked-err-memory _ c.from_residual-in_err-refusal.result c.in_err-refusal.field-0.0 c.in_err-refusal.ensures c.from_residual-in_err-refusal.ensures.1
+
 pub returns-clause-ok : goal.returns-clause-ok
 returns-clause-ok c =
-    asked-ok _ c.in_ok-request.request _ c.ok_or.ensures.value
+    asked-ok _ c.in_ok-request.request c.in_ok-refusal.refusal _ c.ok_or.ensures.value
     (asked-matches _ _ _ (more_words _ c.if-words-le1.false) c.in_ok-matches.ensures.fault c.in_ok-matches.ensures.rows c.in_ok-request.ensures.ok)
 
 pub returns-clause-refused : goal.returns-clause-refused
 returns-clause-refused c =
-    asked-err _ c.in_ok-request.request _ c.ok_or.ensures.value
+    asked-err _ c.in_ok-request.request c.in_ok-refusal.refusal _ c.ok_or.ensures.value
     (asked-matches _ _ _ (more_words _ c.if-words-le1.false) c.in_ok-matches.ensures.fault c.in_ok-matches.ensures.rows c.in_ok-request.ensures.ok)

@@ -35,5 +35,6 @@ returns-clause-ok g c =
         rw (c.deref.ensures.value, c.deref-2.ensures.value) at c.in_ok-response.ensures,
         sym (append-nil (delivered_by old)),
         c.in_ok-line_of.ensures ∙ ap (λ (bytes : List ℕ). bytes ++ 10 ∷ []) c.deref-3.ensures.value,
+        tt,
       ),
     )
