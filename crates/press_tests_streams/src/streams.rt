@@ -15,13 +15,13 @@ const MARK: &[u8] = b"\x1B*p10x20Y\x1B*c1a1b0P";
 
 /// What a stream left: the engine, and how many sheets went out.
 #[derive(Drop)]
-struct CarriedOut {
-    engine: Engine,
-    sheets: usize,
+pub struct CarriedOut {
+    pub engine: Engine,
+    pub sheets: usize,
 }
 
 /// Carries the commands of a stream out, and keeps the sheets that go out.
-fn carry_into(
+pub fn carry_into(
     rt: &HostRuntime,
     engine: &mut Engine,
     stream: &[u8],
@@ -52,7 +52,7 @@ fn carry_out(rt: &HostRuntime, engine: &mut Engine, stream: &[u8]) -> Result<usi
 }
 
 /// What a stream leaves of an engine after power on.
-fn carried_out(rt: &HostRuntime, stream: &[u8]) -> Result<CarriedOut, Fail> {
+pub fn carried_out(rt: &HostRuntime, stream: &[u8]) -> Result<CarriedOut, Fail> {
     let mut engine = Engine::power_on(rt.alloc())?;
     let sheets = carry_out(rt, &mut engine, stream)?;
     Ok(CarriedOut { engine, sheets })
