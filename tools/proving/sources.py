@@ -1,0 +1,65 @@
+"""The crates as they stand when a run begins: their sources, what they stand on, and a sum of all that a proof of each reads."""
+
+import functools
+import hashlib
+import shutil
+from pathlib import Path
+
+PROGRAM = "press"
+PARTS = ("src", "specs", "proofs")
+LIST, HANDLES = "crates.txt", "HANDLES"
+KIT = "/opt/rattle/KIT-ID"
+
+
+class Unknown(Exception):
+    """A name that is no crate of the repository."""
+
+
+class Sources:
+    """A copy of the sources of some crates and of those below them, so that a run proves one state of the tree."""
+
+    def __init__(self, top, folder, names):
+        rows = [line.partition("#")[0] for line in (top / LIST).read_text().splitlines()]
+        rows = [row.partition(":") for row in rows if row.strip()]
+        self.rows = {name.strip(): uses.split() for name, _, uses in rows}
+        if unknown := [name for name in names if name not in self.rows]:
+            raise Unknown(unknown[0])
+        self.folder = folder
+        self.names = sorted({crate for name in names for crate in (*self.below(name), name)})
+        for name in self.names:
+            self.copy(top / "crates" / name, folder / name)
+        self.handles = (top / HANDLES).read_bytes()
+
+    @staticmethod
+    def copy(crate, to):
+        """Copies what stands beside out/: the sources, and what a program is run on."""
+        to.mkdir(parents=True)
+        for path in crate.iterdir():
+            if path.name in PARTS:
+                shutil.copytree(path, to / path.name)
+            elif path.is_file():
+                shutil.copyfile(path, to / path.name)
+
+    def uses(self, name):
+        """The crates of the repository that this one names."""
+        return [crate for crate in self.rows[name] if crate in self.rows]
+
+    @functools.cache
+    def below(self, name):
+        """All crates below this one."""
+        return frozenset(crate for used in self.uses(name) for crate in (*self.below(used), used))
+
+    @functools.cache
+    def lines(self, name):
+        """The lines of a crate: code, definitions and proofs."""
+        files = (path for part in PARTS for path in (self.folder / name / part).glob("**/*") if path.is_file())
+        return sum(path.read_bytes().count(b"\n") for path in files)
+
+    @functools.cache
+    def sum(self, name):
+        """A sum of all that the crate's proof reads: the kit, its row, its sources, and those of the crates below it."""
+        found = hashlib.sha256(repr((Path(KIT).read_text() if Path(KIT).exists() else "", self.rows[name])).encode())
+        for path in sorted(path for path in (self.folder / name).glob("**/*") if path.is_file()):
+            found.update(repr((str(path.relative_to(self.folder)), path.read_bytes())).encode())
+        found.update(repr([self.sum(crate) for crate in self.uses(name)]).encode())
+        return found.hexdigest()
