@@ -94,7 +94,10 @@ def transfer(engine, data):
         if block.rows == 0:
             state.seed = bytes(len(state.seed))
         for _ in range(block.rows):
+            before = state.y, state.row_count, state.seed
             transfer_row(engine, block.method, block.data)
+            if before == (state.y, state.row_count, state.seed):
+                break  # and so would each that follows leave all as it is
 
 
 def transfer_row(engine, method, data):
@@ -121,8 +124,8 @@ def paint_row(state, page, row):
         return
     width = row_width(state)
     column = column_of(state, state.raster_left)
-    bits = "".join(format(byte, "08b") for byte in row)[:width]
-    wide = "".join(bit * side for bit in bits)
+    bits = format(int.from_bytes(row, "big"), "0%db" % (8 * len(row)))[:width] if row else ""
+    wide = "".join(bit * side for bit in bits) if side > 1 else bits
     source = int(wide[::-1] or "0", 2) << column
     covered = ((1 << width * side) - 1) << column
     pattern = current_pattern(state)

@@ -32,8 +32,7 @@ def read(file):
     if len(file) < after:
         raise Refused(TRUNCATED)
     starts = range(header.end(), after, row_bytes)
-    rows = ["".join(format(byte, "08b") for byte in file[start:start + row_bytes])[:width]
-            for start in starts]
+    rows = [format(int.from_bytes(file[start:start + row_bytes], "big"), "0%db" % (8 * row_bytes))[:width] for start in starts]
     return width, rows, file[after:]
 
 
@@ -55,3 +54,14 @@ def bytes_of_rows(rows):
     row_bytes = (width + 7) // 8
     packed = [int(row.ljust(row_bytes * 8, "0"), 2).to_bytes(row_bytes, "big") for row in rows]
     return b"P4\n%d %d\n" % (width, len(rows)) + b"".join(packed)
+
+
+def bytes_of_side(side):
+    """The same of a page."""
+    width, height = side.width(), side.height()
+    row_bytes = (width + 7) // 8
+    marked = {}
+    for x, y in side.black_dots():
+        marked.setdefault(y, bytearray(row_bytes))[x // 8] |= 0x80 >> x % 8
+    blank = bytes(row_bytes)
+    return b"P4\n%d %d\n" % (width, height) + b"".join(marked.get(line, blank) for line in range(height))

@@ -4,6 +4,7 @@ A file that cannot be opened or read, an image that is no P4 file, or an engine 
 more is printed.
 """
 
+import os
 from pathlib import Path
 
 from . import pbm, table
@@ -28,7 +29,7 @@ def read_file(name, unreadable):
             return file.readall()
     except IsADirectoryError:
         raise FileFault(unreadable) from None
-    except OSError:
+    except (OSError, ValueError):  # a name with a byte 0 is no name
         raise FileFault(READ_FAULT) from None
 
 
@@ -77,6 +78,8 @@ class Lines:
 
     def answer(self, line):
         words = line.split(b" ")
+        if b"" in words:
+            return WHAT
         if words[0] == b"message" and len(words) > 1:
             return self.message(*words[1:])
         if words[0] == b"turn" and len(words) in self.lengths_of_turns():
@@ -99,7 +102,7 @@ class Lines:
         return self.press.message(text, images).decode()
 
     def path(self, name):
-        return self.folder / name.decode()
+        return self.folder / os.fsdecode(name)
 
     def listing(self):
         """A line a side, in the order of delivery; sheets are counted for each entry."""

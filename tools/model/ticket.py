@@ -161,7 +161,13 @@ def wanted(ticket, images):
             for sheet in wanted_page_sheets(ticket)]
 
 
-def side_dots(ticket, image):
+def side_lines(ticket, image):
+    """The columns of each line that has a black dot, as a page keeps them."""
     offset = ticket.size().portrait_offset
     _, rows = image
-    return {(offset + x, y) for y, row in enumerate(rows) for x, bit in enumerate(row) if bit == "1"}
+    return {y: int(row[::-1], 2) << offset for y, row in enumerate(rows) if "1" in row}
+
+
+def side_dots(ticket, image):
+    lines = side_lines(ticket, image)
+    return {(x, y) for y, columns in lines.items() for x, bit in enumerate(reversed(bin(columns)[2:])) if bit == "1"}

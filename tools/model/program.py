@@ -1,0 +1,173 @@
+"""What the program answers to the words of its command line: status, print, faults, and the files that it makes.
+
+Texts of help and of usage are not the model's: words that ask for help, or that are refused, have no answer here. A job that `write`
+makes is not told byte by byte: what stands in its file is the ticket and its images, whose sheets any job of them has.
+"""
+
+from pathlib import Path
+from typing import NamedTuple
+
+from . import asm, debug_lines, pbm, press, press_lines, runs, ticket
+from .engine import Deliver
+from .pages import listing
+from .press_lines import FileFault, read_file, read_image
+
+READ_FAULT = 304
+BAD_TEMPLATE, PAGE_FAULT, TEXT_FAULT, JOB_FAULT = 121, 301, 115, 614
+NUMBER = "%d"
+STANDARD_OUTPUT = "/dev/stdout"
+FULL = "/dev/full"  # can be opened, and takes no byte
+
+
+class NoAnswer(Exception):
+    """The words ask for help, or are refused: the model has no text for it."""
+
+
+class Answer(NamedTuple):
+    status: int
+    out: bytes
+    err: bytes
+    made: dict  # from the name of each file to what stands in it
+
+
+class Job(NamedTuple):
+    """What stands for the bytes of a job: whose sheets it has."""
+    ticket: ticket.Ticket
+    images: list
+
+
+class Fault(Exception):
+    def __init__(self, text):
+        super().__init__(text)
+        self.text = text
+
+
+class Program:
+    """A run in a folder, with this on standard input. `job_of` gives the job of an entry of a press."""
+
+    def __init__(self, folder, given, job_of=press.plain_job):
+        self.folder = Path(folder)
+        self.given = given
+        self.job_of = job_of
+        self.out = b""
+        self.made = {}
+
+    def answer(self, words):
+        """What is answered to these words; `{}` is a file of what is given on standard input."""
+        calls = {"print": self.print, "asm": self.asm, "disasm": self.disasm, "debug": self.debug, "write": self.write}
+        if words and words[0] == "press":
+            return self.press(words[1:])
+        if words and words[0] not in calls:
+            raise NoAnswer()
+        try:
+            calls[words[0]](words[1:]) if words else self.print(["--list", "-"])
+        except Fault as fault:
+            return Answer(1, self.out, b"fault %s\n" % fault.text.encode(), self.made)
+        except FileFault as fault:
+            return Answer(1, self.out, b"fault %d\n" % fault.number, self.made)
+        return Answer(0, self.out, b"", self.made)
+
+    def read(self, name):
+        if name in ("-", "{}"):
+            return self.given
+        return read_file(self.folder / name, READ_FAULT)
+
+    def opens(self, name):
+        if name not in ("-", "{}"):
+            path = self.folder / name
+            if not path.exists():
+                raise FileFault(READ_FAULT)
+
+    def make(self, name, content, fault):
+        """A file with this content, in place of an older one."""
+        if name == STANDARD_OUTPUT and isinstance(content, bytes):
+            self.out += content
+            return
+        path = self.folder / name
+        if not path.parent.is_dir() or path.is_dir() or str(path.resolve()) == FULL:
+            raise Fault(str(fault))
+        self.made[name] = content
+
+    def print(self, words):
+        names = [word for word in words if word != "--list"]
+        lists = len(names) < len(words)
+        if any(name.startswith("--") for name in names) or not (1 if lists else 2) <= len(names) <= 2 or len(words) - len(names) > 1:
+            raise NoAnswer()
+        self.opens(names[0])
+        if lists:
+            outcome = runs.run_stream(self.read(names[0]))
+            self.out += listing(outcome.sheets, outcome.replies)
+            return
+        if names[1].count(NUMBER) != 1:
+            raise Fault(str(BAD_TEMPLATE))
+        self.print_files(self.read(names[0]), names[1])
+
+    def print_files(self, stream, template):
+        """Each side goes into a file of its own, fronts before backs."""
+        sides = 0
+        for output in runs.run_stream(stream).engine.outputs:
+            if not isinstance(output, Deliver):
+                self.out += output.reply
+                continue
+            for _, side in output.sheet.sides():
+                sides += 1
+                self.make(template.replace(NUMBER, str(sides)), pbm.bytes_of_side(side), PAGE_FAULT)
+
+    def asm(self, words):
+        source, target = exactly(2, words)
+        self.make(target, self.assembled(self.read(source)), TEXT_FAULT)
+
+    def assembled(self, text):
+        """A line that is no UTF-8 is a bad one, like any other."""
+        lines = text.split(b"\n")
+        good = next((place for place, line in enumerate(lines) if not is_utf8(line)), len(lines))
+        try:
+            made = asm.assemble(b"\n".join(lines[:good]).decode())
+        except asm.BadText as bad:
+            raise Fault("%d line %d" % (bad.number, bad.line)) from None
+        if good < len(lines):
+            raise Fault("%d line %d" % (asm.BAD_LINE, good + 1))
+        return made
+
+    def disasm(self, words):
+        source, = exactly(1, words)
+        self.out += asm.disassemble(self.read(source)).encode()
+
+    def debug(self, words):
+        source, = exactly(1, words)
+        if source == "-" or source.startswith("--"):
+            raise NoAnswer()
+        self.out += debug_lines.DebugLines(self.read(source)).run(self.given).encode()
+
+    def write(self, words):
+        """Inputs are read and judged in the order of the words; then the images are; then the file is made."""
+        if len(words) < 2:
+            raise NoAnswer()
+        try:
+            read = ticket.read_ticket(self.read(words[0]))
+            images = [read_image(self.folder / name) for name in words[2:]]
+            ticket.check(read, images)
+        except ticket.Refused as refused:
+            raise Fault("%d%s" % (refused.number, f" key {refused.key}" if refused.key is not None else "")) from None
+        self.make(words[1], Job(read, images), JOB_FAULT)
+
+    def press(self, words):
+        words = words[0].split("=") if len(words) == 1 and words[0].startswith("--engines=") else words
+        if words and (len(words) != 2 or words[0] != "--engines" or press_lines.number_of(words[1].encode()) is None):
+            raise NoAnswer()
+        status, out, err = press_lines.played(words, self.given, self.folder, job_of=self.job_of)[0]
+        return Answer(status, out, err, {})
+
+
+def exactly(count, words):
+    if len(words) != count:
+        raise NoAnswer()
+    return words
+
+
+def is_utf8(line):
+    try:
+        line.decode()
+    except UnicodeDecodeError:
+        return False
+    return True

@@ -1,0 +1,1 @@
+"""What has an answer that stands in the repository, as rows that the model is asked."""
