@@ -22,6 +22,13 @@ TEXTS = [
     ("brk 1B2a70", b"\x1b*p"),
     ("pjl 40504A4C0A", b"@PJL\n"),
     ("par *p10X\n;\n;\n", b"\x1b*p10X"),
+    # the least and the greatest of each byte
+    ("ctl 00\nctl 1F", b"\x00\x1f"),
+    ("par !p1X\npar /p1X", b"\x1b!p1X\x1b/p1X"),
+    ("par *`1X\npar *~1X", b"\x1b*`1X\x1b*~1X"),
+    ("par *p1@\npar *p1^", b"\x1b*p1@\x1b*p1^"),
+    ("par %1@\npar %1^", b"\x1b%1@\x1b%1^"),
+    ("brk 41", b"A"),
 ]
 
 # texts, and the number and the line of their refusal
@@ -76,6 +83,14 @@ REFUSED = [
     ("pjl 4G", 401, 1),
     ("pjl 40504A4C0", 403, 1),
     ("pjl 40504A4C", 403, 1),
+    ("pjl 0C", 403, 1),
+    ("pjl 40504A4C0A0A", 403, 1),
+    ("pjl 40504A4C0A40504A4C0A", 403, 1),
+    ("par *\x7f1X", 402, 1),
+    (" ; no remark", 401, 1),
+    ("Ctl 0C", 401, 1),
+    ("par *p1\x5f", 401, 1),
+    ("foo\npar *p1.2.3X", 401, 1),
 ]
 
 # streams, their text, and the bytes that it assembles to, whose text is the same
@@ -114,11 +129,20 @@ CUT = [
     (b"@PJL ENTER LANGUAGE= \n@PJL\n", "pjl 40504A4C20454E544552204C414E47554147453D200A\npjl 40504A4C0A\n"),
     (b"@PJL ENTER LANGUAGE=PCL=\nA", "pjl 40504A4C20454E544552204C414E47554147453D50434C3D0A\nfor 41\n"),
     (b"@PJLENTER LANGUAGE=PCL\n@PJL\n", "pjl 40504A4C454E544552204C414E47554147453D50434C0A\npjl 40504A4C0A\n"),
+    (b"@PJL ENTER LANGUAGE=X\nA\x1b%-12345X@PJL\n",
+     "pjl 40504A4C20454E544552204C414E47554147453D580A\nfor 41\nuel\npjl 40504A4C0A\n"),
+    (b"@PJL ENTER FOO=PCL\n@PJL\n", "pjl 40504A4C20454E54455220464F4F3D50434C0A\npjl 40504A4C0A\n"),
+    (b"@PJL SET LANGUAGE=PCL\n@PJL\n", "pjl 40504A4C20534554204C414E47554147453D50434C0A\npjl 40504A4C0A\n"),
+    (b"A@PJL\n", "txt 41\ntxt 40\ntxt 50\ntxt 4A\ntxt 4C\nctl 0A\n"),
+    (b"A\n@PJL\n", "txt 41\nctl 0A\ntxt 40\ntxt 50\ntxt 4A\ntxt 4C\nctl 0A\n"),
     (b"@PJL ENTER LANGUAGE=X\n\x1b%-12345",
      "pjl 40504A4C20454E544552204C414E47554147453D580A\nfor 1B\nfor 25\nfor 2D\nfor 31\nfor 32\nfor 33\nfor 34\nfor 35\n"),
     # ends in lower case, and what breaks behind them
     (b"\x1b*p1x", "par *p1X\n"),
     (b"\x1b*p1x2", "par *p1X\nbrk 1B2A7032\n"),
+    (b"\x1b*p1xY", "par *p1X\npar *pY\n"),
+    (b"\x1b*p1x\x1b*p", "par *p1X\nbrk 1B2A70\n"),
+    (b"\x1b%1_", "brk 1B2531\ntxt 5F\n"),
     (b"\x1b*p1x_A", "par *p1X\ntxt 5F\ntxt 41\n"),
     (b"\x1b*p1x2\x7fA", "par *p1X\nbrk 1B2A7032\ntxt 7F\ntxt 41\n"),
     (b"\x1b*p1x\x1bE", "par *p1X\nesc E\n"),
@@ -128,6 +152,13 @@ CUT = [
     (b"\x1b*p1.2.3X", "brk 1B2A70312E32\ntxt 2E\ntxt 33\ntxt 58\n"),
     (b"\x1b*p+-1X", "brk 1B2A702B\ntxt 2D\ntxt 31\ntxt 58\n"),
     (b"\x1b*p.X\x1b*p5.X\x1b*p-.X\x1b*p+X", "par *p.X\npar *p5.X\npar *p-.X\npar *p+X\n"),
+    # the least and the greatest character, group and end, and what is past them
+    (b"\x1b0\x1b~\x1b\x7f", "esc 0\nesc ~\nbrk 1B\ntxt 7F\n"),
+    (b"\x1b!p1X\x1b/p1X", "par !p1X\npar /p1X\n"),
+    (b"\x1b*`1X\x1b*~1X", "par *`1X\npar *~1X\n"),
+    (b"\x1b*p1@\x1b*p1^", "par *p1@\npar *p1^\n"),
+    (b"\x1b*p1`2~3X", "par *p1@\npar *p2^\npar *p3X\n"),
+    (b"\x1b%1@\x1b%1^", "par %1@\npar %1^\n"),
     # the universal exit, and what is none
     (b"A\x1b%-12345X@PJL\n", "txt 41\nuel\npjl 40504A4C0A\n"),
     (b"A\x1b%-12345Y", "txt 41\npar %-12345Y\n"),

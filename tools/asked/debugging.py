@@ -13,6 +13,8 @@ KINDS = named(b"\x1b%-12345X@PJL SET COPIES=2\n@PJL ENTER LANGUAGE=X\nab\x1b%-12
 ABOVE = named(b"\x1b*p100x0y-5Y")
 # More than 64 commands.
 MANY = named(b"\x1bE\x1b&l0O" + b"\x0c" * 99)
+# A page that closes in a second macro, with an overlay that runs a macro: four bodies.
+DEEP = named(b"\x1b&f4y0X\x1b*p5X\x1b&f1X\x1b&f1y0X\x1b&f4y2X\x1b&f1x4X\x1b&f2y0X\x0c\x1b&f1X\x1b&f3y0X\x1b&f2y2X\x1b&f1x2X\x1b*p+7X")
 MOST = 18446744073709551615
 
 
@@ -51,6 +53,11 @@ STEPS = [
     asked(NESTED, ("break ctl 0c", "set 0"), ("break par *cP", "set 1"), ("break par *cP", "set 2"), ("go 99", f"break 1 {AT[14]}"),
           ("clear 1", "cleared 1"), ("go 99", f"break 2 {AT[19]}"), ("break uel", "set 1"), ("go 99", f"break 0 {AT[22]}"),
           ("go 99", f"break 1 {AT[23]}"), ("go 99", f"ended {AT[23]}")),
+    # step 20 starts macro 3, step 22 macro 2, step 23 the overlay under the page that its form feed closes, and step 25 macro 4
+    asked(DEEP, ("go 19", f"limit {state(19, 0, 0, 900)}"), *(("step", f"stepped {state(step, depth, x, 900)}")
+          for step, (depth, x) in enumerate([(1, 0), (1, 0), (2, 0), (3, 0), (3, 0), (4, 0), (0, 0), (0, 168), (0, 0)], 20))),
+    asked(DEEP, ("go 22", f"limit {state(22, 2, 0, 900)}"), ("over", f"stepped {state(26, 0, 0, 900)}")),
+    asked(DEEP, ("go 24", f"limit {state(24, 3, 0, 900)}"), ("over", f"stepped {state(26, 0, 0, 900)}")),
     asked(ABOVE, ("go 3", f"limit {state(3, 0, 2400, -120)}")),
     asked("empty", ("recent", []), ("go 5", f"ended {state(1, 0, 0, 900)}"), ("recent", "uel"), ("over", f"ended {state(1, 0, 0, 900)}")),
 ]
@@ -81,7 +88,7 @@ NO_LINES = [
     b"break par", b"break par *", b"break par *c", b"break par *cp", b"break par *c0P", b"break par *cP 00", b"break par *cP ", b"break par 0cP",
     b"break par %-12345X", b"break ctl", b"break ctl C", b"break ctl 00C", b"break ctl 0G", b"break ctl 1B", b"break ctl 20", b"break ctl 0C ",
     b"break txt", b"break txt 41", b"break brk", b"break brk 1B", b"break pjl", b"break for", b"break for 42", b"break uel ", b"break Uel", b"break 5",
-    b"turn 1", b"what?", b"; step", b"\xff", b"\0",
+    b"turn 1", b"stop uel", b"what?", b"; step", b"\xff", b"\0",
 ]
 # The last of them has no line feed behind it.
 REFUSED = [

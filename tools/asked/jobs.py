@@ -13,11 +13,11 @@ WHITE = b"\x1b*p0Y\x1b*r1S\x1b*r0A\x1b*r0C\x0c"
 FULL = b"\x1b*p0Y\x1b*r2400S\x1b*r0A\x1b*b1M\x1b*b4W\xff\xff\x2b\xff\x1b*b3M" + b"\x1b*b0W" * 3299 + b"\x1b*r0C\x0c"
 
 
-def job(*sheets, medium=2, sides=0, resolution=300):
-    """The job of these sheets, one copy of each, with the numbers of medium, sides and resolution. A sheet is its front and perhaps its
+def job(*sheets, medium=2, sides=0, resolution=300, copies=1):
+    """The job of these sheets, so many copies of each, with the numbers of medium, sides and resolution. A sheet is its front and perhaps its
     back."""
     start = b"@PJL SET RESOLUTION=%d\n\x1bE\x1b&l%dA\x1b&l0O\x1b&l%dS\x1b&l0E\x1b*t%dR" % (resolution, medium, sides, resolution)
-    pages = [b"\x1b&l1X" + b"".join(sheet) + (b"\x1b&a1G" if len(sheet) == 1 else b"") for sheet in sheets]
+    pages = [b"\x1b&l%dX" % copies + b"".join(sheet) + (b"\x1b&a1G" if len(sheet) == 1 else b"") for sheet in sheets]
     return EXIT + start + b"".join(pages) + b"\x1bE" + EXIT
 
 
@@ -47,6 +47,8 @@ TICKETS = [
     (asking(1, pages=2), "tall wide", "fault 612\n"),
     (TICKET, "tall", "fault 613\n"),
     (asking(1, pages=2), "dot tall", "fault 613\n"),
+    # as many images as pages, also where the set has fewer
+    (b'{"Amount":1,"JobID":"J","NPage":3,"RunList":[[0,0]],"Type":"DigitalPrinting","Version":"1.5"}', "dot", "fault 611\n"),
 ]
 
 # The text of each member of a ticket of three pages.
@@ -87,9 +89,9 @@ CHANGED = [
     ("Type", ['"Folding","Type":"DigitalPrinting"'], TAKEN),
     ("JobID", ['', '7', '""', '"a\\u007f"', '"a\\u001f"', '"\u00e9"', '"' + "x" * 64 + '"', '"J","JobID":""'],
      "fault 602 key JobID"),
-    ("JobID", ['"' + "x" * 63 + '"', '"","JobID":"J"'], TAKEN),
-    ("NPage", ['', '"3"', '3.0', '3e0', '-0', '18446744073709551616'], "fault 602 key NPage"),
-    ("NPage", ['0', '-3', '1000', '18446744073709551615', '3,"NPage":0'], "fault 604"),
+    ("JobID", ['"' + "x" * 63 + '"', '"","JobID":"J"', '"a b ~"'], TAKEN),
+    ("NPage", ['', '"3"', '3.0', '3e0', '-0', '18446744073709551616', '-9223372036854775809'], "fault 602 key NPage"),
+    ("NPage", ['0', '-3', '1000', '18446744073709551615', '-9223372036854775808', '3,"NPage":0'], "fault 604"),
     ("NPage", ['1', '999', '0,"NPage":3'], TAKEN),
     ("Amount", ["", "true", "1e2"], "fault 602 key Amount"),
     ("Amount", ['0', '-1', '10000', '2,"Amount":0'], "fault 605"),
@@ -98,7 +100,7 @@ CHANGED = [
                  "[" + "[0,0]," * 64 + "[0,0]]"], "fault 602 key RunList"),
     ("RunList", ["[[3,3]]", "[[0,-4]]"], "fault 604"),
     ("RunList", ["", "[[-3,2]]", '[],"RunList":[[0,0]]', "[" + "[0,0]," * 63 + "[0,0]]"], TAKEN),
-    ("Media", ['null', '"letter"', '"A4","Media":"B5"'], "fault 602 key Media"),
+    ("Media", ['null', '[]', '{}', '"letter"', '"A4","Media":"B5"'], "fault 602 key Media"),
     ("Media", ['"B5","Media":"A4"'], TAKEN),
     ("Sides", ['2', '"OneSided"', '"OneSidedFront","Sides":1'], "fault 602 key Sides"),
     ("Sides", ['1,"Sides":"OneSidedFront"'], TAKEN),
@@ -110,13 +112,27 @@ CHANGED = [
     ("Resolution", ['', '600', '450,"Resolution":600'], TAKEN),
 ]
 
+# Objects that are no JSON: strings without an end, with a control character, with escapes that are none or surrogates without a partner; a colon, a
+# comma, quotes that are missing; numbers that are none, or beyond all floats.
+NO_JSON = [b'{"A:1}', b'{"A\x01":1}', b'{"\\x":1}', b'{"\\u12G4":1}', b'{"\\ud800":1}', b'{"\\ud800\\u0041":1}', b'{"\\ud800\\ud800":1}', b'{"\\udc00":1}',
+           b'{"A" 1}', b'{A:1}', b'{"A":1 "B":1}', b'{"A":[1 2]}', b'{"A":01}', b'{"A":1.}', b'{"A":.5}', b'{"A":+1}', b'{"A":-}', b'{"A":1e999}', b'{"A":tru}',
+           b'{"A":1', b'\xef\xbb\xbf{}']
+
 # Texts that are no ticket, or tickets with several changes, and what is told first.
 FIRST = [
+    *((text, "fault 601") for text in NO_JSON),
+    (b' \t\r\n{ "A" : [ 1 , -1.5e-3 , true , null , {} ] } \n', "fault 602 key A"),
+    (b'{"\\u0041":1}', "fault 602 key A"),
+    (b'{"\\ud83d\\ude00":1}', "fault 602 key \U0001f600"),
+    (b'{"\\/\\"\\\\":1}', 'fault 602 key /"\\'),
     (b"{", "fault 601"),
     (b"", "fault 601"),
     (b"[]", "fault 601"),
     (b'"\xff"', "fault 601"),
     (b"{}", "fault 602 key Version"),
+    (ticket()[:-1] + b",}", "fault 601"),
+    (ticket() + b"{}", "fault 601"),
+    (b'{"\xff":1}', "fault 601"),
     (nested(126), "fault 602 key A"),
     (nested(127), "fault 601"),
     (ticket(Version="2", Amount='2,"amount":1'), "fault 602 key amount"),
@@ -158,6 +174,11 @@ PRINTED = [
     ({"Sides": "", "RunList": "[[0,2]]"}, job([DOT], [LINES], [WHITE])),
     ({"Sides": "", "RunList": "[[2,0]]"}, job([WHITE], [LINES], [DOT])),
     ({"Sides": "", "RunList": "[[-1,-3],[1,1]]"}, job([WHITE], [LINES], [DOT], [LINES])),
+    # a set begins on a front; collated, the sets stand one behind the other, and else the sheets do
+    ({"Amount": "2"}, job([DOT, LINES], [WHITE], [DOT, LINES], [WHITE], sides=1)),
+    ({"Amount": "2", "Collate": "false"}, job([DOT, LINES], [WHITE], sides=1, copies=2)),
+    ({"Amount": "2", "Collate": "", "Sides": ""}, job([DOT], [LINES], [WHITE], [DOT], [LINES], [WHITE])),
+    ({"Amount": "2", "Sides": ""}, job([DOT], [LINES], [WHITE], [DOT], [LINES], [WHITE])),
     ({"Sides": "", "RunList": "[[1,2],[0,1],[2,1]]"}, job([LINES], [WHITE], [DOT], [LINES], [WHITE], [LINES])),
 ]
 
@@ -222,6 +243,7 @@ IMAGES = [
     (b"P4 #\n#\r\n3 1 \xe0", "fault 614"),
     (b"P4 # 5 5\n3 # 7 #\n1\n\xe0", "fault 614"),
     (b"P4 3 1\r\n", "fault 614"),
+    (b"P4 3 1\n\xe0 and more", "fault 614"),
     (b"P4 8 1 #", "fault 614"),
     (b"P4 16384 1\n" + b"\x01" * 2048, "fault 612"),
     (b"P4 8 16384\n" + b"\x01" * 16384, "fault 613"),

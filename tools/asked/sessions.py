@@ -141,8 +141,28 @@ REFUSED = [
     ask("SubmitQueueEntry", 6, answer={"Fault": 602}, Ticket={}),
 ]
 
+# Messages of another kind, of another spelling, and of a ticket that is none.
+SPELLED = [
+    ask("status", 5),
+    ask("SubmitQueueEntry", 6, "dot", Ticket=[]),
+    ask("SubmitQueueEntry", 6, "dot", Ticket=json.loads(TICKET), Priority=50.0),
+    ask("SubmitQueueEntry", 25, "dot", Ticket=json.loads(TICKET), Priority=-1),
+    ask("HoldQueueEntry", 21, QueueEntryID="q1"),
+    ask("HoldQueueEntry", 21, QueueEntryID="1"),
+    ask("HoldQueueEntry", 21, QueueEntryID=""),
+    ask("HoldQueueEntry", 21, QueueEntryID="Q"),
+    ask("HoldQueueEntry", 21, QueueEntryID="Qx"),
+    ask("HoldQueueEntry", 21, QueueEntryID="Q\u0661"),
+    entry("SetQueueEntryPriority", 3, 21, Priority=101),
+    entry("SetQueueEntryPosition", 3, 21, Position=9),
+]
+
 # Texts that are no message, and messages without ID or type.
 FAULTY = [
+    # what an ID is answered as
+    message(b'{"ID":"a\\"\\\\\\/\\u00e9\\n\\u0001\\ud83d\\ude00","Type":"HoldQueue"}', '{"ReturnCode":0,"Type":"HoldQueue","refID":"a\\"\\\\/\u00e9\\n\\u0001\U0001f600"}'),
+    message(b'{"ID":1}', '{"ReturnCode":6,"Type":"","refID":""}'),
+    message(b'{"ID":1,"Type":"Status"}', '{"ReturnCode":6,"Type":"Status","refID":""}'),
     message(b"{", '{"ReturnCode":6,"Type":"","refID":""}'),
     message(b"[]", '{"ReturnCode":6,"Type":"","refID":""}'),
     message(b'{"Type":"Status"}', '{"ReturnCode":7,"Type":"Status","refID":""}'),
@@ -168,6 +188,37 @@ FULL = [(number, "Waiting", 50) for number in range(1, 65)]
 
 SESSIONS += [
     session(submit(1), submit(2), *REFUSED),
+    session(submit(1), submit(2), *SPELLED),
+    # a priority of which nothing is said
+    session(ask("SubmitQueueEntry", 0, "dot", answer={"QueueEntryID": "Q1"}, Ticket=json.loads(TICKET)), queue("Waiting", (1, "Waiting", 50))),
+    # the ticket and its images are judged before the queue is asked, and the status of an entry before what it is given
+    session(ask("CloseQueue", 0), ask("SubmitQueueEntry", 6, answer={"Fault": 602}, Ticket={}),
+            ask("SubmitQueueEntry", 6, answer={"Fault": 611}, Ticket=json.loads(TICKET))),
+    session(submit(1), turn(1, "Q1", 1), entry("SetQueueEntryPriority", 1, 22, Priority=101), entry("SetQueueEntryPosition", 1, 22, Position=9)),
+    # a full queue is held, or closed, before it is full
+    session(*(submit(number) for number in range(1, 65)), ask("HoldQueue", 0), queue("Held", *((number, "Waiting", 50) for number in range(1, 65))),
+            ask("ResumeQueue", 0), ask("CloseQueue", 0), queue("Closed", *((number, "Waiting", 50) for number in range(1, 65)))),
+    # a closed queue begins what waits; a turn of no steps begins nothing
+    session(submit(1), turn(0, "-", 0), queue("Waiting", (1, "Waiting", 50)), ask("CloseQueue", 0), turn(1, "Q1", 1)),
+    # an entry is put before the first of lower priority, wherever that stands, and behind its equals when its own priority is set again
+    session(submit(1), submit(2), submit(3, 40), entry("SetQueueEntryPosition", 3, 0, Position=0), submit(4),
+            queue("Waiting", (4, "Waiting", 50), (3, "Waiting", 40), (1, "Waiting", 50), (2, "Waiting", 50))),
+    session(submit(1), submit(2), entry("SetQueueEntryPriority", 1, 0, Priority=50), queue("Waiting", (2, "Waiting", 50), (1, "Waiting", 50))),
+    # the first of the list begins, though another has begun before; a resumed entry tells the sheets that it has delivered
+    session(submit(1), turn(15, "Q1", 15), entry("SuspendQueueEntry", 1, 0), submit(2, 60), entry("ResumeQueueEntry", 1, 0), turn(1, "Q2", 1),
+            operator("abort"), turn(1, "Q1", 1), device("Running", "Q1", 1), sheets=[SHEET]),
+    # the least and the greatest priority are set
+    session(submit(1), submit(2), entry("SetQueueEntryPriority", 1, 0, Priority=0), entry("SetQueueEntryPriority", 2, 0, Priority=100),
+            queue("Waiting", (2, "Waiting", 100), (1, "Waiting", 0))),
+    # three entries of one priority stand in their order
+    session(submit(1), submit(2), submit(3), submit(4, 60), queue("Waiting", (4, "Waiting", 60), *((number, "Waiting", 50) for number in (1, 2, 3)))),
+    # a pause holds when it is asked for again; an operator leaves what is suspended
+    session(submit(1), operator("pause"), operator("pause"), turn(1, "-", 0), operator("continue"), turn(1, "Q1", 1)),
+    session(submit(1), turn(1, "Q1", 1), entry("SuspendQueueEntry", 1, 0), operator("abort"), queue("Waiting", (1, "Suspended", 50))),
+    # an entry that is completed is not in flight
+    session(*(step for number in range(1, 7) for step in (submit(number), turn(1, f"Q{number}", 1), entry("SuspendQueueEntry", number, 0))),
+            submit(7), turn(ALL, "Q7", 19), submit(8), turn(1, "Q8", 1), entry("SuspendQueueEntry", 8, 0),
+            sheets=[SHEET.replace("Q1", "Q7")]),
     session(*FAULTY),
     session(*DEEP),
     # submissions are refused in order: closed, full, priority

@@ -34,6 +34,9 @@ STREAMS = [
      "ESC*c5G ESC*c16W [0000010000080008FFFFFFFFFFFFFFFF] ESC*c15W [000001000008000800000000000000] ESC*p0x0Y ESC*c2a1b4P FF"),
     ("a macro in a macro", "ESC*p0x0Y ESC&f1y0X ESC*c1a1b0P ESC*p+2X ESC&f3X ESC&f1X ESC&f3X FF"),
     ("an overlay on two pages", "ESC&f2y0X ESC*c4a1b0P FF ESC&f1X ESC&f4X FF FF"),
+    ("a page that closes in a macro in a macro, under an overlay that runs a macro",
+     "ESC&f4y0X ESC*c7a7b0P ESC&f1X ESC&f3y0X ESC*c9a9b0P ESC&f4y2X ESC*p+1X ESC&f1X ESC&f2y0X ESC*p20x20Y ESC*c4a4b0P FF ESC*p+5X ESC&f1X "
+     "ESC&f1y0X ESC&f2y2X ESC*p+3X ESC&f1X ESC&f3y4X ESC*p100x100Y ESC*c3a2b0P ESC&f1y2X FF"),
     ("rows on a turned page", "ESC&l1O ESC*t75R ESC*r1A ESC*b3W [FF00FF] ESC*b3W [0F0F0F] ESC*rC FF"),
     ("sides of two sheets, three copies each", "ESC&l1S ESC&l3X ESC*c9a9b0P FF FF FF"),
 ]
@@ -57,6 +60,13 @@ ROWS = [
     Row("messages that are refused", ["press"], b"message examples/messages/hold-1.json\nturn 1\nwhat\nturn\n"),
     Row("a debugger", ["debug", "examples/streams/letterhead-and-stamps.pcl"], b"go 20\nstep\nover\nover\ngo 100\nstep\ngo 1000\n"),
     Row("lines of a debugger", ["debug", "examples/streams/small-box.pcl"], b"break par *cP\nclear 0\nclear 0\nrecent\nfoo\n"),
+    # more than 300 bytes are read and more than 400 written, of which each read and write then moves one
+    Row("many sheets and replies that are listed", LIST, ESC + b"*p1x1Y" + b"<" * 300 + FORM_FEED * 14 + EXIT + b"@PJL ECHO one\n"),
+    Row("many replies beside no file", ["print", "-", "page-%d.pbm"], EXIT + b"@PJL ECHO one two three four five\n" * 13),
+    Row("much data that is assembled", ["asm", "-", "stream"], b"par *b410W " + b"41" * 410 + b"\n"),
+    Row("many commands that are told", ["disasm", "-"], b"A" * 310),
+    Row("many lines of a session", ["press"], b"message examples/messages/queue-status.json\n" + b"pause\nwhat\n" * 50),
+    Row("many lines of a debugger", ["debug", "examples/streams/letterhead-and-stamps.pcl"], b"step\n" * 62),
     Row("a queue that is told", ["press"], SUBMISSION + b"message examples/messages/queue-status.json\nabort\n"),
 ]
 
@@ -69,5 +79,5 @@ def read_faults(row):
 def write_faults(row):
     """What is told where a write fails: standard output, or the file that the words make."""
     if row.words[0] == "print" and "--list" not in row.words:
-        return {"301", "302"}
+        return {"301"} if FORM_FEED in row.given else {"302"}
     return {"asm": {"115"}, "write": {"614"}}.get(row.words[0], {"output"})
