@@ -9,6 +9,7 @@ class Finding(NamedTuple):
     number: Optional[int]
     sentence: str
     advice: str
+    harmless: bool = False   # whether what is printed is the same without it
 
     def text(self):
         shown = "" if self.number is None or self.number == REFUSED_WORDS else f" ({self.number})"

@@ -1,4 +1,4 @@
-"""Sixty mistakes: words, what stands on standard input and in files, and what `tools/why` has to say of each.
+"""Mistakes: words, what stands on standard input and in files, and what `tools/why` has to say of each.
 
 The number is that of the fault that the program tells, 2 where it refuses the words, and 0 where it ends well and yet prints nothing,
 or something else than was meant. What is said first has to have each of the texts. A file of None is a folder.
@@ -6,7 +6,7 @@ or something else than was meant. What is said first has to have each of the tex
 
 from typing import NamedTuple
 
-from model import table
+from model import defaults, table
 
 TICKET = b'{"Amount":1,"JobID":"J","NPage":1,"Type":"DigitalPrinting","Version":"1.5"}'
 DOT = b"P4 1 1\n\x80"
@@ -56,7 +56,7 @@ def debugged(lines, *said):
 
 WORDS = [
     Mistake("prnt in.pcl", 2, ("prnt", "Did you mean print?")),
-    Mistake("print", 2, ("IN is missing", "press print [--list] IN [OUT]")),
+    Mistake("print", 2, ("IN is missing", "press print [--list] [--default NAME=VALUE].. IN [OUT]")),
     Mistake("print in.pcl", 2, ("OUT is missing", "page-%d.pbm")),
     Mistake("print a b c", 2, ("c is one too many",)),
     Mistake("print --all in.pcl", 2, ("--all is no option of print",)),
@@ -172,5 +172,13 @@ NEWER = {
         played(b"turn 5 x\n", "line 1 is none of a session", "turn N [ENGINE]"),
     ],
 }
+# What only a program can be asked that takes defaults.
+DEFAULTS = [
+    Mistake("print --list --default RESOLUTION=700 in.pcl", 2, ("--default asks for RESOLUTION=700", "as RESOLUTION=600"), {"in.pcl": b"\x0c"}),
+    Mistake("print --list --default RETRO=1 in.pcl", 2, ("--default asks for RETRO=1", "The variables are COPIES"), {"in.pcl": b"\x0c"}),
+    Mistake("print --list in.pcl --default", 2, ("--default is the last word",), {"in.pcl": b"\x0c"}),
+    Mistake("print --list --default RESOLUTION=600 in.pcl", 0, ("sends ESC*t180R", "75, 100, 150, 200, 300 or 600"),
+            {"in.pcl": b"\x1b*t180R\x1b*r0A\x1b*b1W\xff\x0c"}),
+]
 MISTAKES = [*WORDS, *FILES, *TEXTS, *TICKETS, *IMAGES, *STREAMS, *SESSIONS, *DEBUGGERS,
-            *(mistake for group, some in NEWER.items() if table.includes(table.BUILT, group) for mistake in some)]
+            *(DEFAULTS if defaults.BUILT else []), *(mistake for group, some in NEWER.items() if table.includes(table.BUILT, group) for mistake in some)]

@@ -2,6 +2,7 @@
 
 import os
 
+from model import defaults
 from model.press import BAD_ENGINES, MOST_ENGINES
 from seen import program
 
@@ -32,7 +33,7 @@ def judge_print(request, _chosen):
         check_template(request.names[1])
     shown = "standard input" if name == "-" else name
     stream = files.read_input(name, "IN")
-    found, printed = streams.looked_at(shown, stream)
+    found, printed = streams.looked_at(shown, stream, defaults.front(request.defaults))
     if printed and not request.listed:
         size = sum(copies * (HEADER_BYTES + side.height() * ((side.width() + 7) // 8)) for side, _, _, copies in printed)
         files.check_output(request.names[1].replace("%d", "1"), NOT_MADE, size)

@@ -45,7 +45,7 @@ def findings(script, engines, chosen=program.PROGRAM):
                           "Engines are counted from 0; --engines N asks for more of them")
             return
         answer = next(answers, b"")
-        if answer == b"what?":
+        if answer == b"what?" or (words[0] == b"message" and not all(words)):
             yield Finding(None, f"{shown} is none of a session: {line.decode(errors='replace')[:60]!r}", advice_for(line))
         elif words[0] == b"message":
             yield from refusals(f"{shown}, {words[1].decode(errors='replace')}", answer, *asked)

@@ -1,79 +1,107 @@
-"""Why a stream prints nothing, or a blank page. None of this is a fault: the status is 0."""
+"""Why a stream prints nothing, or a blank page, or other dots than were meant. None of this is a fault: the status is 0."""
 
-from model import pjl
-from model.commands import Broken, Foreign, PjlLine, Text
 from seen import happenings
 
 from . import kinds
 from .finding import Finding, counted
+from .untraced import AS_PCL, Group, Judge
 
 READS = "the press reads PCL and PJL"
-AS_PCL = "Print it through a driver for PCL 5 (Ghostscript: -sDEVICE=ljet4), which sends raster graphics"
+WHITE = ("has rows there, and none of their dots is black", "Look at what made it: the picture is white, or cut elsewhere")
+UNMARKED = ("has nothing there that marks: no row, no rectangle, no text", "Look at what made it")
+BLANK_FRONT = ("asks for a blank front by ESC&a2G", "Send a page for the front, or leave ESC&a2G out")
+HIDDEN = ("has dots there that white ones replace", "Look at the patterns and transparencies: ESC*v#T, ESC*v#N, ESC*v#O")
 
 
-def looked_at(shown, stream):
+def looked_at(shown, stream, front=b""):
     """The findings on a stream that is read to its end, the weightiest first; and its sides."""
     if not stream:
         return [Finding(None, f"{shown} is empty, and an empty stream prints no sheet", "Look at what made it")], []
     kind = kinds.kind_of(stream)
     if kind and kind != "a print stream":
         return [Finding(None, f"{shown} is {kind}; {READS}", AS_PCL)], []
-    run = happenings.Run(stream)
-    sides = run.sides()
-    found = []
+    run = happenings.Run(stream, front=front, together=True)
+    judge = Judge(run)
+    met = judge.groups(run.happenings)
+    causes = list(blanks(judge, met))
+    found = [Finding(None, f"{shown} {which}: it {cause}" if cause else f"{shown} {which}", advice) for which, cause, advice, _ in causes]
+    used = {(group.reason, group.key) for _, _, _, group in causes if group}
+    found += [Finding(None, f"{shown} {cause}", group.advised(judge), group.reason.harmless)
+              for group in met if (group.reason, group.key) not in used and (cause := group.told(judge))]
+    return found + list(still_open(shown, run)), run.sides()
+
+
+def blanks(judge, met):
+    """For each cause of a blank side, and of no sheet: what is blank, the cause, what to do, and its group, if it has one."""
+    sides = judge.run.sides()
     if not sides:
-        found.append(nothing(shown, run))
-    elif not any(side.count_black() for side, _, _, _ in sides):
-        blank = "it is blank" if len(sides) == 1 else "all are blank"
-        found.append(Finding(None, f"{shown} prints {counted(len(sides), 'side')}, and {blank}", "What was passed over follows"))
-    return found + list(passed_over(shown, run)), sides
+        yield nothing(judge, met)
+        return
+    causes, on_pages = {}, judge.on_pages()
+    resolutions = [group for group in met if group.reason.name == "resolution"]
+    for place, page in enumerate(judge.run.page_of_side()):
+        if not sides[place][0].count_black():
+            group = cause_of_page(judge, page, on_pages.get(page, []), resolutions)
+            key = (group.reason, group.key) if isinstance(group, Group) else group
+            causes.setdefault(key, []).append((place, group))
+    every = len(causes) == 1 and len(next(iter(causes.values()))) == len(sides)
+    for some in causes.values():
+        which = f"prints {counted(len(sides), 'side')}, and {blank_ones([place for place, _ in some], every)}"
+        if isinstance(some[0][1], Group):
+            group = some[0][1]._replace(some=list({id(each): each for _, group in some for each in group.some}.values()))
+            yield which, group.told(judge), group.advised(judge), group
+        else:
+            yield which, *some[0][1], None
 
 
-def nothing(shown, run):
-    recorded = sum(happening.how == "recorded" for happening in run.happenings)
-    if recorded == len(run.happenings) - 1 and recorded:
-        return Finding(None, f"{shown} prints no sheet: all of it is recorded in a macro that is not ended",
-                       "End it by ESC&f1X, and run it")
-    return Finding(None, f"{shown} prints no sheet: nothing marks a page, and no form feed closes one",
-                   "A page comes out where a form feed or a reset closes it; a reset closes a page that has a mark")
+def blank_ones(places, every):
+    """The sides that are blank, in words."""
+    if every:
+        return "it is blank" if len(places) == 1 else "all are blank"
+    some = ", ".join(str(place + 1) for place in places[:6]) + (" .." if len(places) > 6 else "")
+    return f"side {some} is blank" if len(places) == 1 else f"the sides {some} are blank"
 
 
-def passed_over(shown, run):
-    """What has no effect, by reason."""
-    foreign = [each for each in run.happenings if isinstance(each.placed.command, Foreign)]
-    if foreign:
-        language = language_before(run, foreign[0].placed.offset)
-        yield Finding(None, f"{shown} enters the language {language}, and {counted(len(foreign), 'byte')} from byte "
-                      f"{foreign[0].placed.offset:,} on are skipped; {READS}", AS_PCL)
-    text = [each for each in run.happenings if isinstance(each.placed.command, Text) and each.how == "no row"]
-    if text:
-        yield Finding(None, f"{shown} has {counted(len(text), 'byte')} of text from byte {text[0].placed.offset:,} on, and text leaves "
-                      "no marks", "Send it as raster graphics; the shapes of a printer's fonts are its maker's")
-    plot = [each for each in run.happenings if each.how == "HP-GL/2"]
-    if plot:
-        yield Finding(None, f"{shown} enters HP-GL/2, and {counted(len(plot), 'command')} from byte {plot[0].placed.offset:,} on are "
-                      "skipped", "Send it as raster graphics; ESC%0A leaves HP-GL/2")
-    yield from other_reasons(shown, run)
+def cause_of_page(judge, page, on_page, resolutions):
+    """What it is that a blank page comes of: a group of the table, or what is said of it, and what to do. The last resolution before it that is
+    none may be of an earlier page."""
+    if page is None:
+        return BLANK_FRONT
+    rows, black, lost = (sum(map(count, on_page)) for count in (
+        lambda each: each.sent.rows, lambda each: each.sent.black, lambda each: each.sent.lost()))
+    earlier = [group for group in resolutions if group.some[0].page <= page]
+    for group in earlier[-1:] + judge.groups(on_page):
+        if group.reason.blanks and is_likely(group.reason.name, rows, black, lost):
+            return group
+    if black:
+        return HIDDEN
+    return WHITE if rows else UNMARKED
 
 
-def language_before(run, offset):
-    lines = [each.placed.command.line for each in run.happenings
-             if isinstance(each.placed.command, PjlLine) and each.placed.offset < offset]
-    return next(language for line in reversed(lines) if (language := pjl.language_of_line(line))).decode("ascii", "replace")
+def is_likely(name, rows, black, lost):
+    """Whether a reason that a page met may have blanked it: a resolution where dots are lost, a value where rows are not all white."""
+    if name == "resolution":
+        return lost > 0
+    if name in ("value", "time"):
+        return rows == 0
+    return True
 
 
-def other_reasons(shown, run):
-    broken = [each for each in run.happenings if isinstance(each.placed.command, Broken)]
-    if broken:
-        bytes_of = broken[0].placed.command.broken
-        what = "an escape sequence" if bytes_of[:1] == b"\x1b" else "a PJL line"
-        yield Finding(None, f"{shown} has {what} at byte {broken[0].placed.offset:,} that does not go on, and it is ignored",
-                      "A PJL line ends with a line feed and has at most 4,096 bytes, a value field at most 32"
-                      + (f"; {len(broken):,} pieces are ignored" if len(broken) > 1 else ""))
-    empty = [each for each in run.happenings if each.row and each.row.startswith("*cP") and each.how == "row" and not each.marks]
-    if empty:
-        yield Finding(None, f"{shown} has a fill at byte {empty[0].placed.offset:,} that marks nothing",
-                      "Its rectangle has no size, lies outside the page, or its pattern does not exist")
-    unknown = sum(each.how == "no row" and not isinstance(each.placed.command, (Text, Foreign, Broken)) for each in run.happenings)
-    if unknown:
-        yield Finding(None, f"{shown} has {counted(unknown, 'command')} that this press does not carry out", "tools/explain names each")
+def nothing(judge, met):
+    """The same where no sheet comes out."""
+    every = judge.run.happenings
+    recorded = sum(happening.how == "recorded" for happening in every)
+    if recorded == len(every) - 1 and recorded:
+        return "prints no sheet", "records all in a macro that is not ended", "End it by ESC&f1X, and run it", None
+    for group in met:
+        if group.reason.blanks and (cause := group.told(judge)):
+            return "prints no sheet", cause, group.advised(judge), group
+    return ("prints no sheet: nothing marks a page, and no form feed closes one", None,
+            "A page comes out where a form feed or a reset closes it; a reset closes a page that has a mark", None)
+
+
+def still_open(shown, run):
+    """The last page, where nothing in the stream closes it."""
+    if run.end.closes:
+        yield Finding(None, f"{shown} ends while a page with marks is open; it comes out here, by the exit that the press adds",
+                      "A printer may wait for a form feed: end the stream by ESC E")

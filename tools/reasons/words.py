@@ -3,7 +3,7 @@
 import difflib
 from typing import NamedTuple
 
-from model import table
+from model import defaults, pjl, table
 from model.press_lines import number_of
 
 from .finding import REFUSED_WORDS, Found
@@ -18,7 +18,10 @@ USAGES = {
     "press": [],
 }
 OPTIONS = {"print": "--list"} | ({"press": "--engines N"} if table.includes(table.BUILT, "engines") else {})
-HELP = ("-h", "--help", "help")
+HELP = ("-h", "--help", "help", "-V", "--version")
+
+
+WITH_DEFAULTS = ("print", "debug") if defaults.BUILT else ()
 
 
 class Request(NamedTuple):
@@ -26,10 +29,12 @@ class Request(NamedTuple):
     names: list
     listed: bool = False
     engines: int = 1
+    defaults: tuple = ()   # words NAME=VALUE
 
 
 def usage(what):
-    words = " ".join(["press", what, *([f"[{OPTIONS[what]}]"] if what in OPTIONS else []), *USAGES[what]])
+    options = ([f"[{OPTIONS[what]}]"] if what in OPTIONS else []) + ([f"[{defaults.OPTION} NAME=VALUE].."] if what in WITH_DEFAULTS else [])
+    words = " ".join(["press", what, *options, *USAGES[what]])
     return f"Write: {words}"
 
 
@@ -38,7 +43,7 @@ def refuse(sentence, advice):
 
 
 def request_of(words):
-    """The request of the words, or None where help is asked for."""
+    """The request of the words, or None where help or the version is asked for."""
     for word in words:
         if any(0xDC80 <= ord(character) <= 0xDCFF for character in word):
             refuse(f"The word {word!r} is no UTF-8 text", "Rename the file, or name it by another path")
@@ -70,8 +75,32 @@ def engines_of(rest):
     return 1, rest
 
 
+def pair_of(word):
+    return [part.decode() for part in defaults.pair_of(word)]
+
+
+def defaults_of(what, rest):
+    """The defaults that the words ask for, and the words without them."""
+    asked, others, place = [], [], 0
+    while place < len(rest) and rest[place] != "--":
+        word, place = rest[place], place + 1
+        if word == defaults.OPTION:
+            asked += rest[place:place + 1] or refuse(f"{word} is the last word", usage(what))
+            place += 1
+        elif word.startswith(defaults.OPTION + "="):
+            asked.append(word.partition("=")[2])
+        else:
+            others.append(word)
+    try:
+        return tuple(map("=".join, map(pair_of, asked))), others + rest[place:]
+    except defaults.Refused as refused:
+        refuse(f"{defaults.OPTION} asks for {refused}, and the job language has no such variable, or not with this value",
+               "The variables are " + ", ".join(name.decode() for name in pjl.FACTORY) + ", as RESOLUTION=600")
+
+
 def request_of_rest(what, rest):
     names, listed, options = [], False, True
+    chosen, rest = defaults_of(what, rest) if what in WITH_DEFAULTS else ((), rest)
     engines, rest = engines_of(rest) if what == "press" and what in OPTIONS else (1, rest)
     for word in rest:
         if options and word == "--":
@@ -86,7 +115,7 @@ def request_of_rest(what, rest):
         else:
             names.append(word)
     check_count(what, names, listed)
-    return Request(what, names, listed, engines)
+    return Request(what, names, listed, engines, chosen)
 
 
 def check_count(what, names, listed):

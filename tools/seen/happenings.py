@@ -3,19 +3,29 @@
 The places of the cursor, the fields and the marks are those of `model`, the press in Python that is compared with the program.
 """
 
+import re
 from typing import NamedTuple, Optional
 
 from model import commands, engine, marks, pages, table
 from model.engine import Deliver, Reply
 
+from . import sent
+
 FIELDS_OF_NOTHING = ()
 
 
+TEXT = re.compile(rb"[^\x00-\x1f]+")
+
+
 class Placed(NamedTuple):
-    """A command, and the bytes of the file that it takes."""
+    """A command, and the bytes of the file that it takes; of bytes of text or of another language that stand together the first, and all."""
     offset: int
     length: int
     command: tuple
+
+    def count(self):
+        """How many commands it stands for."""
+        return self.length if isinstance(self.command, (commands.Text, commands.Foreign)) else 1
 
 
 class Mark(NamedTuple):
@@ -44,6 +54,8 @@ class Happening(NamedTuple):
     step: int
     depth: int
     resolution: int          # behind it, in dots per inch
+    before: dict             # the fields before it
+    sent: sent.Sent          # by it and the bodies that it runs, and what of that falls beside the page
 
 
 def placed_commands(stream):
@@ -57,6 +69,37 @@ def placed_commands(stream):
     each = (len(stream) - place) // max(1, len(rest))
     for number, command in enumerate(rest):
         yield Placed(place + number * each, each, command)
+
+
+def placed_together(stream):
+    """The same, with one for bytes of text, or of another language, that stand together; but for text behind data that was taken."""
+    mode, place, alone = commands.EXIT, 0, False
+    while (found := commands.head(mode, stream, place)) is not None:
+        command, after, mode = found
+        if isinstance(command, commands.Foreign):
+            after = max(after, end_of_foreign(stream, place))
+        elif isinstance(command, commands.Text) and not alone:
+            after = TEXT.match(stream, place).end()
+        yield Placed(place, after - place, command)
+        alone = takes_data(command) or (alone and isinstance(command, commands.Text))
+        place = after
+    rest = commands.closing(mode, stream[place:])
+    each = (len(stream) - place) // max(1, len(rest))
+    for number, command in enumerate(rest):
+        yield Placed(place + number * each, each, command)
+
+
+def end_of_foreign(stream, place):
+    """Where the next universal exit begins; at the end of the stream a part of one, which is closed by itself."""
+    end = stream.find(commands.UNIVERSAL_EXIT, place)
+    if end >= 0:
+        return end
+    part = next((size for size in range(len(commands.UNIVERSAL_EXIT) - 1, 0, -1) if stream.endswith(commands.UNIVERSAL_EXIT[:size])), 0)
+    return len(stream) - part
+
+
+def takes_data(command):
+    return isinstance(command, commands.Param) and bool(command.data) and table.row_of(command) is None
 
 
 class WatchedPage(pages.Bitmap):
@@ -81,6 +124,15 @@ class WatchedEngine(engine.Engine):
         super().__init__(rows)
         self.boxes = {}    # of the command that runs, by the number of the page
         self.closed = []
+        self.watcher = sent.Watcher()
+        self.sent = sent.NOTHING
+
+    def run(self, command):
+        """Each command comes by here, those of bodies too."""
+        state = self.state
+        if state.defining is None and not state.hpgl:
+            self.sent = self.sent.plus(self.watcher.of(state, command))
+        yield from super().run(command)
 
     def page_to_mark(self):
         state = self.state
@@ -114,22 +166,43 @@ class WatchedEngine(engine.Engine):
 
 
 class Run:
-    """The happenings of a stream, its sheets, and which page of these each closed page is."""
+    """The happenings of a stream, its sheets, and which page of these each closed page is. What stands in front of it sets the defaults."""
 
-    def __init__(self, stream, rows=table.BUILT_ROWS):
+    def __init__(self, stream, rows=table.BUILT_ROWS, front=b"", together=False):
+        self.stream = stream
         self.engine = WatchedEngine(rows)
         self.fields = self.engine.state.view()
         self.sheet_count = 0
         self.sheets = []      # the distinct ones, with their copies
-        self.happenings = [self.carry_out(placed) for placed in placed_commands(stream)]
+        self.front = [self.carry_out(placed) for placed in placed_commands(front)]
+        every = placed_together(stream) if together else placed_commands(stream)
+        self.happenings = [happening for placed in every for happening in self.happenings_of(placed)]
         self.end = self.carry_out(Placed(len(stream), 0, commands.Uel()))
+
+    def happenings_of(self, placed):
+        """Those of a command; bytes that stand together are passed over at once, unless they are recorded."""
+        if placed.count() == 1:
+            yield self.carry_out(placed)
+        elif self.engine.state.defining is None:
+            yield self.pass_over(placed)
+        else:
+            for number in range(placed.length):
+                byte = self.stream[placed.offset + number]
+                yield self.carry_out(Placed(placed.offset + number, 1, type(placed.command)(byte)))
+
+    def pass_over(self, placed):
+        """Bytes that have no row, and change nothing but the number of steps."""
+        running, state = self.engine, self.engine.state
+        running.taken += placed.count()
+        return Happening(placed, None, self.how(placed.command, None), None, FIELDS_OF_NOTHING, (), 0, (), b"", 0, len(running.closed),
+                         self.cursor_dot(), (state.x, state.y), running.taken, 0, state.resolution, self.fields, sent.NOTHING)
 
     def carry_out(self, placed):
         """Runs a command; the last one of a stream is the universal exit that the press adds."""
         running = self.engine
         state, row = running.state, table.row_of(placed.command)
-        how, recorded_in = self.how(placed.command, row), state.defining
-        running.boxes, before, open_page, depth = {}, running.taken, len(running.closed), 0
+        how, recorded_in, fields = self.how(placed.command, row), state.defining, self.fields
+        running.boxes, running.sent, before, open_page, depth = {}, sent.NOTHING, running.taken, len(running.closed), 0
         for _ in running.run(placed.command):
             depth = max(depth, running.depth)
         outputs, running.outputs = running.outputs, []
@@ -138,7 +211,7 @@ class Run:
             placed, row and row.name, how, recorded_in if how == "recorded" else None, self.changes(),
             tuple(running.physical_boxes()), len(running.closed) - open_page, self.numbered(outputs), replies,
             running.taken - before - 1, len(running.closed), self.cursor_dot(), (state.x, state.y), running.taken, depth,
-            state.resolution)
+            state.resolution, fields, running.sent)
 
     def how(self, command, row):
         state = self.engine.state
@@ -149,9 +222,10 @@ class Run:
         return "row" if row else "no row"
 
     def changes(self):
-        before, self.fields = self.fields, self.engine.state.view()
-        if before == self.fields:
+        before, fields = self.fields, self.engine.state.view()
+        if before == fields:
             return FIELDS_OF_NOTHING
+        self.fields = fields
         return tuple((name, before[name], value) for name, value in self.fields.items() if before[name] != value)
 
     def numbered(self, outputs):
@@ -180,6 +254,11 @@ class Run:
         """For each page in the order in which they closed, the number of its side among those that went out."""
         places = {id(side): place for place, (side, _, _, _) in enumerate(self.sides())}
         return [places.get(id(page)) for page in self.engine.closed]
+
+    def page_of_side(self):
+        """For each side that went out, the number of its page among those that closed; None where no page was open."""
+        places = {id(page): number for number, page in enumerate(self.engine.closed)}
+        return [places.get(id(side)) for side, _, _, _ in self.sides()]
 
 
 def with_pattern_ids(some):

@@ -44,7 +44,9 @@ PARAMS = {
     "&uD": Named("Unit of Measure", "PCL unit per inch"),
     "&lA": Named("Page Size", values=SIZES),
     "&lP": Named("Page Length", "line"),
-    "&lH": Named("Paper (Media) Source", values={0: "eject the page"}),
+    "&lH": Named("Paper (Media) Source", values={
+        0: "eject the page", 1: "main source", 2: "manual feed", 3: "manual envelope feed", 4: "alternate source", 5: "optional source",
+        6: "envelope feeder", 7: "any source"}),
     "&lO": Named("Logical Page Orientation",
                  values={0: "portrait", 1: "landscape", 2: "reverse portrait", 3: "reverse landscape"}),
     "&aP": Named("Print Direction", "degree"),
@@ -126,11 +128,20 @@ PARAMS = {
     "*cX": Named("Picture Frame Horizontal Size", "decipoint"), "*cY": Named("Picture Frame Vertical Size", "decipoint"),
     "*cT": Named("Set Picture Frame Anchor Point"),
     "*cK": Named("HP-GL/2 Plot Horizontal Size", "inch"), "*cL": Named("HP-GL/2 Plot Vertical Size", "inch"),
+    # Paper, and how an ink is laid
+    "&fI": Named("Custom Paper Width", "decipoint"), "&fJ": Named("Custom Paper Length", "decipoint"),
+    "*oM": Named("Print Quality"), "*oQ": Named("Raster Graphics Shingling"), "*oD": Named("Raster Graphics Depletion"),
+    "*rQ": Named("Raster Graphics Quality"), "*bS": Named("Seed Row Source"), "*bX": Named("Raster X Offset"),
+    "*oW": Named("Driver Configuration", "byte"), "*gW": Named("Configure Raster Data", "byte"),
+    "&kW": Named("Text Print Direction (of a DeskJet)"),
     # Status
     "*sT": Named("Set Status Readback Location Type"), "*sU": Named("Set Status Readback Location Unit"),
     "*sI": Named("Inquire Status Readback Entity"), "*sM": Named("Free Memory Space"), "*sX": Named("Echo"),
     "&bW": Named("Configuration (I/O)", "byte"),
 }
+
+# Those with an end W that HP gives data, and the planes and transparent data.
+PARAMS_WITH_DATA = {key for key, known in PARAMS.items() if known.unit == "byte"}
 
 
 def letters(command):

@@ -8,6 +8,8 @@ from pathlib import Path
 
 from model.asm import line_of_command
 
+from reasons.untraced import Judge
+
 from . import happenings, png, remarks
 
 TEMPLATE = Path(__file__).with_name("show.html")
@@ -49,7 +51,7 @@ def commands_of(run):
 def data_of(run, printed, who, size):
     """All that the page shows, as one value."""
     every, texts = commands_of(run)
-    side_of_page = run.side_of_page() + [None]
+    side_of_page, judge = run.side_of_page() + [None], Judge(run)
     marks = [[number, side_of_page[mark.page], mark.left, mark.top, mark.right, mark.bottom]
              for number, (happening, _) in enumerate(every) for mark in happening.marks]
     return {
@@ -57,7 +59,7 @@ def data_of(run, printed, who, size):
                  f"{remarks.plural(sum(side.copies for side in printed), 'side')}; pages printed by {who}",
         "pages": [page_of(number, side) for number, side in enumerate(printed)],
         "text": texts,
-        "remark": [remarks.told(happening, pattern_id) for happening, pattern_id in every],
+        "remark": [remarks.told(happening, pattern_id, judge.because(happening)) for happening, pattern_id in every],
         "offset": [happening.placed.offset for happening, _ in every],
         "flags": [flags_of(happening) for happening, _ in every],
         "page": [side_of_page[happening.page] for happening, _ in every],

@@ -2,6 +2,7 @@
 
 from model import patterns, pjl
 from model.commands import Broken, Control, Escape, Foreign, Param, PjlLine, Text, Uel, kind
+from model.values import POSITIONS_PER_INCH
 
 from . import names
 
@@ -29,6 +30,25 @@ def readable(data, most=60):
     """Bytes as text, what is no printable ASCII as \\xHH, cut where it is long."""
     text = "".join(chr(byte) if 32 <= byte <= 126 and byte != 92 else "\\x%02X" % byte for byte in data[:most])
     return text + (f".. ({len(data)} bytes)" if len(data) > most else "")
+
+
+POSITIONS = {"x", "y", "vmi", "hmi", "rectangle_width", "rectangle_height", "left_margin", "right_margin", "top_margin", "text_length"}
+PLACES = {"x", "y"}
+UNITS = {"raster_resolution": "dots per inch", "resolution": "dots per inch", "unit": "per inch", "source_width": "raster dots",
+         "source_height": "raster rows"}
+SPELLED_CONTROLS = {0x08: "BS", 0x09: "HT", 0x0A: "LF", 0x0C: "FF", 0x0D: "CR"}
+
+
+def spelled(command):
+    """A command as a driver's author writes it, without its data; empty for what is no command of PCL."""
+    if isinstance(command, Param):
+        group = "" if command.group is None else chr(command.group)
+        return f"ESC{chr(command.character)}{group}{command.field.decode()}{chr(command.end)}"
+    if isinstance(command, Escape):
+        return f"ESC {chr(command.byte)}"
+    if isinstance(command, Control):
+        return SPELLED_CONTROLS.get(command.control, "")
+    return "ESC%-12345X" if isinstance(command, Uel) else ""
 
 
 def plural(count, unit):
@@ -94,13 +114,21 @@ def variables(before, after):
                      for (name, old), (_, new) in zip(before, after) if old != new)
 
 
-def change(name, before, after):
-    return f"{FIELDS[name]} {shown_field(name, before)} to {shown_field(name, after)}"
+def change(name, before, after, resolution):
+    return f"{FIELDS[name]} {shown_field(name, before)} to {shown_field(name, after)}{unit_of(name, before, after, resolution)}"
+
+
+def unit_of(name, before, after, resolution):
+    """The unit of a field's number; of a place how many dots it went, of a length how many dots it has."""
+    if name in POSITIONS:
+        dots = (after - before if name in PLACES else after) * resolution / POSITIONS_PER_INCH
+        return f" (1/7200 inch, {dots:g} {'dot' if abs(dots) == 1 else 'dots'})"
+    return f" ({UNITS[name]})" if name in UNITS and after is not None else ""
 
 
 def changes_of(happening):
     """The changes of the fields, the least surprising ones left out where a reset brings many."""
-    told = [change(*each) for each in happening.changes if each[0] not in SILENT]
+    told = [change(*each, happening.resolution) for each in happening.changes if each[0] not in SILENT]
     for name, before, after in happening.changes:
         if name in ("pjl_current", "pjl_default"):
             told.append(("PJL default " if name == "pjl_default" else "PJL ") + variables(before, after))
@@ -108,14 +136,12 @@ def changes_of(happening):
 
 
 def definition_of(command, run_before):
-    """What a pattern's definition does: it is no field that shows."""
+    """What a pattern's definition does, for it is no field that shows; nothing where it is refused."""
     try:
         tile = patterns.tile_of_data(command.data)
-    except patterns.BadHeader:
-        return "no effect: its data begins with no header of a pattern"
-    except patterns.ShortData:
-        return "no effect: its data ends before its last row"
-    return f"defines pattern {run_before}, {len(tile[0])} by {len(tile)} dots"
+    except (patterns.BadHeader, patterns.ShortData):
+        return []
+    return [f"defines pattern {run_before}, {len(tile[0])} by {len(tile)} dots"]
 
 
 def deeds(happening, pattern_id):
@@ -132,7 +158,7 @@ def deeds(happening, pattern_id):
     if happening.bodies > 0:
         told.append(f"runs {plural(happening.bodies, 'recorded command')}")
     if isinstance(happening.placed.command, Param) and happening.row == "*cW":
-        told.append(definition_of(happening.placed.command, pattern_id))
+        told += definition_of(happening.placed.command, pattern_id)
     told += changes_of(happening)
     if happening.replies:
         told.append(f'replies "{readable(happening.replies, 200)}"')
@@ -143,19 +169,19 @@ NOTHING = {Text: "no row: text leaves no marks", Foreign: "skipped, up to the ne
            Broken: "no row: ignored"}
 
 
-def effect_of(happening, pattern_id=0):
-    """What a command does here, as a part of a sentence."""
+def effect_of(happening, pattern_id=0, because=""):
+    """What a command does here, as a part of a sentence; `because` is why it leaves no trace, or less of one than was meant."""
     command = happening.placed.command
     if happening.how == "recorded":
         return f"recorded, in macro {happening.recorded_in}"
     if happening.how == "HP-GL/2":
         return "ignored: HP-GL/2 is on"
     if happening.how == "no row":
-        return NOTHING.get(type(command), "no row: ignored")
+        return f"no row: {because}" if because else NOTHING.get(type(command), "no row: ignored")
     told = deeds(happening, pattern_id)
-    if not told and isinstance(command, PjlLine):
+    if not told and not because and isinstance(command, PjlLine):
         return line_without_change(command)
-    return "; ".join(told) or "changes nothing"
+    return "; ".join(told or ["changes nothing"]) + (f": {because}" if because and not told else f"; {because}" if because else "")
 
 
 def line_without_change(command):
@@ -163,18 +189,37 @@ def line_without_change(command):
     if language is not None:
         skipped = "" if language == b"PCL" else ", which is skipped up to the next universal exit"
         return f"enters the language {readable(language)}{skipped}"
+    read = pjl.read_line(command.line)
+    if read is None or read.word == b"COMMENT":
+        return "a remark: changes nothing"
+    pair = pjl.assignment(read.rest)
+    if read.word in (b"SET", b"DEFAULT") and pair is not None and pjl.listed_value(*pair):
+        return f"changes nothing: {readable(pair[0])} is {readable(pair[1])} already"
     return "changes nothing"
 
 
-def told(happening, pattern_id=0):
+def told(happening, pattern_id=0, because=""):
     """Name, value and effect, in one line of text."""
     command = happening.placed.command
-    return f"{name_of(command)}{value_of(command)}: {effect_of(happening, pattern_id)}"
+    return f"{name_of(command)}{value_of(command)}: {effect_of(happening, pattern_id, because)}"
 
 
-def remark(happening, pattern_id=0):
-    """The same, with the place in the file."""
-    return f"at {happening.placed.offset}: {told(happening, pattern_id)}"
+def remark(happening, pattern_id=0, because=""):
+    """The same, with the place in the file, and the command as it is spelled in PCL."""
+    word = spelled(happening.placed.command)
+    return f"at {happening.placed.offset}{', ' + word if word else ''}: {told(happening, pattern_id, because)}"
+
+
+def of_run(happenings, data, because=""):
+    """The remark on several commands, one after another, that are passed over for one reason, and whose bytes are these."""
+    first, last, count = happenings[0], happenings[-1], sum(happening.placed.count() for happening in happenings)
+    if first.how == "HP-GL/2":
+        what, effect = plural(count, "command"), "ignored: HP-GL/2 is on"
+    elif isinstance(first.placed.command, Foreign):
+        what, effect = f"{plural(count, 'byte')} of another language", NOTHING[Foreign]
+    else:
+        what, effect = f"{plural(count, 'byte')} of text", effect_of(first, 0, because)
+    return f'at {first.placed.offset} to {last.placed.offset + last.placed.length - 1}: {what}, "{readable(data)}": {effect}'
 
 
 def tally(happenings):
@@ -184,8 +229,8 @@ def tally(happenings):
         command = happening.placed.command
         shown = kind(command) if isinstance(command, (Param, Escape, Control)) else COMMANDS[type(command)]
         count, with_row = kinds.get(shown, (0, 0))
-        kinds[shown] = (count + 1, with_row + (happening.row is not None))
+        kinds[shown] = (count + happening.placed.count(), with_row + (happening.row is not None))
     taken = sum(with_row for _, with_row in kinds.values())
-    yield f"{plural(len(happenings), 'command')}, {taken} with a row of the command table"
+    yield f"{plural(sum(count for count, _ in kinds.values()), 'command')}, {taken} with a row of the command table"
     for shown, (count, with_row) in sorted(kinds.items(), key=lambda item: (-item[1][0], item[0])):
         yield f"{count:7} {shown}{'' if with_row else ', no row'}"

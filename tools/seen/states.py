@@ -18,7 +18,7 @@ def check(run, stream, chosen=program.PROGRAM):
     """Fails where the program's states are others; answers whether it was asked. Each `over` goes behind one command of the stream."""
     if not has_debugger(chosen):
         return False
-    every = [*run.happenings, run.end]
+    every = [*run.front, *run.happenings, run.end]
     with tempfile.TemporaryDirectory() as folder:
         path = Path(folder) / "stream"
         path.write_bytes(stream)

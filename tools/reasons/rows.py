@@ -1,0 +1,111 @@
+"""A row for each reason of the table: a stream in which a command meets it, and what `why` and `explain` have to say of it.
+
+The stream is printed, and where its pages are blank the first that `why` says is of them. The name is that of the reason in
+`untraced.REASONS`, or what is said of a page beside the table.
+"""
+
+from typing import NamedTuple
+
+UEL = b"\x1b%-12345X"
+DOT = b"\x1b*c1a1b0P"
+PICTURE = b"\x1b*t300R\x1b*r0A\x1b*b1W\xf0\x1b*rC"
+
+
+class Row(NamedTuple):
+    reason: str
+    stream: bytes
+    said: tuple          # by `why`, in one finding
+    explained: str = ""  # by `explain`, in a line
+    first: bool = False  # whether it is the first finding: the cause of a blank page, or of none
+
+
+ROWS = [
+    # A value that the row does not name
+    Row("resolution", b"\x1b*t600R\x1b*r0A\x1b*b2W\xff\xff\x1b*rC\x0c",
+        ("sends ESC*t600R at byte 0", "stay at 75", "8 times as wide", "RESOLUTION=600"), "has rows of 75, 100, 150 or 300, so they stay at 75"),
+    Row("resolution", b"\x1b*p2300X\x1b*t600R\x1b*r1A\x1b*b120W" + bytes(100) + b"\xff" * 20 + b"\x1b*rC\x0c",
+        ("prints 1 side, and it is blank: it sends ESC*t600R at byte 8", "RESOLUTION=600"), "160 dots of 160 past the right edge are dropped", True),
+    Row("resolution", b"\x1b*t180R" + PICTURE[7:] + b"\x0c", ("sends ESC*t180R at byte 0", "2.4 times", "75, 100, 150 or 300 dots per inch"),
+        "so they stay at 75"),
+    Row("resolution", UEL + b"@PJL SET RESOLUTION=600\n\x1b*t180R\x1b*r0A\x1b*b1W\xf0\x0c", ("sends ESC*t180R", "200, 300 or 600"), ""),
+    Row("method", b"\x1b*r0A\x1b*b9m1W\x00\x0c", ("it is blank: it sends ESC*b9M at byte 5", "methods are 0, 1, 2, 3 and 5", "read by method 0"),
+        "the compression methods are 0, 1, 2, 3 and 5", True),
+    Row("value", b"\x1b&u75D" + DOT + b"\x0c", ("sends ESC&u75D at byte 0", "from 96 to 7200", "the unit of measure stays 300"),
+        "changes nothing: a unit of measure is a divisor of 7200"),
+    Row("value", b"\x1b&l0A" + DOT + b"\x0c", ("sends ESC&l0A at byte 0", "26 A4", "the page size stays Letter"), "so the page size stays Letter"),
+    Row("value", b"\x1b*c9P\x0c", ("it is blank: it sends ESC*c9P", "the fills are 0 to 5, and 9 is none"), "the fills are 0 to 5", True),
+    Row("value", b"\x1b&a-1L\x1b&k900H\x1b&l99D" + DOT + b"\x0c", ("sends ESC&k900H", "0 to 840", "the HMI stays 720"), "so the left margin stays 0"),
+    Row("time", b"\x1b*r0A\x1b*t300R\x1b*b1W\xf0\x0c", ("sends ESC*t300R at byte 5", "raster graphics is on"), "takes this before its start alone"),
+    Row("time", DOT + b"\x1b*b9Y\x0c", ("sends ESC*b9Y", "raster graphics is off"), "rows are passed over within it alone"),
+    Row("time", b"\x1b&f7Y\x1b&f3X\x0c", ("it is blank: it sends ESC&f3X at byte 5", "there is no macro 7"), "there is no macro 7", True),
+    Row("time", b"\x1b*r0A\x1b*r1A\x1b*b1W\xf0\x0c", ("sends ESC*r1A at byte 5", "on already"), "raster graphics is on already"),
+    Row("time", b"\x1b*c5G\x1b*v4T" + DOT + b"\x0c", ("sends ESC*v4T", "no such pattern under the ID 5"), "no such pattern under the ID 5"),
+    Row("time", b"\x1b&f0S" * 21 + DOT + b"\x0c", ("sends ESC&f0S at byte 100", "20 places are pushed"), "20 places are pushed"),
+    Row("pattern", b"\x1b*c5G\x1b*c4W\x00\x00\x01\x00\x1b*c4P\x0c", ("sends ESC*c4W at byte 5", "no header of a pattern"), "its data begins with no header of a pattern"),
+    Row("time", DOT + b"\x1b&f1S\x0c", ("sends ESC&f1S", "no place was pushed"), "no place was pushed"),
+    # An end W carries data
+    Row("data that is taken", b"\x1b&k1W\x1b*b2M\x1b*r0A\x1b*b2W\x00\xf0\x0c",
+        ("sends ESC&k1W at byte 0", "the 1 byte behind it (1B) was taken", "ESC*b2M is lost"), "so the 1 byte behind it (1B) was taken"),
+    Row("what is left of a command", b"\x1b&k1W\x1b*b2M" + DOT + b"\x0c", ("sends ESC&k1W",), "it is left of a command whose first bytes were taken"),
+    # Planes and colours
+    Row("planes", b"\x1b*r-3U\x1b*r0A\x1b*b1V\xff\x1b*b1V\xff\x1b*b1W\x00\x0c",
+        ("it is blank: it sends ESC*r-3U at byte 0, and 2 commands like it (ESC*b#V)", "one plane, of black, and not 3"), "a plane of colour is not carried out", True),
+    Row("planes", b"\x1b*v6W\x00\x03\x00\x08\x08\x08" + PICTURE + b"\x0c", ("sends ESC*v#W", "each bit of a row is a dot"), "colours of pixels are not carried out"),
+    Row("planes", b"\x1b*g8W\x02\x03\x01\x2c\x01\x2c\x00\x02" + PICTURE + b"\x0c", ("sends ESC*g#W", "one plane, of black, and not 3"), "and not 3"),
+    Row("colours", b"\x1b*v90A\x1b*v0I" + PICTURE + b"\x0c", ("sends ESC*v90A at byte 0, and 1 command like it (ESC*v0I)", "black alone"), "this press has black alone"),
+    # Registration, scaling, sizes, handling
+    Row("registration", b"\x1b&l-180U" + DOT + b"\x0c", ("sends ESC&l-180U", "75 dots right of where", "PageOffset[-18 0]"), "the picture stands 75 dots right of where a printer puts it"),
+    Row("registration", b"\x1b&l36Z" + DOT + b"\x0c", ("sends ESC&l36Z", "15 dots above where"), "15 dots above where a printer puts it"),
+    Row("top margin", b"\x1b&l0E\x1b&l0L" + DOT + b"\x0c", ("sends ESC&l0L at byte 5", "top margin to half an inch", "150 dots below"),
+        "what follows stands 150 dots below where the margin before it put it"),
+    Row("scaling", b"\x1b*t720h720V" + PICTURE + b"\x0c", ("sends ESC*t720H at byte 0, and 1 command like it (ESC*t720V)", "not scaled"), "rows are not scaled"),
+    Row("direction", b"\x1b&a90P" + DOT + b"\x0c", ("sends ESC&a90P", "print direction"), "the print direction is not carried out"),
+    Row("size by dots", b"\x1b&f6120i7920J" + DOT + b"\x0c", ("sends ESC&f6120I", "one of six sizes"), "none by its width and length"),
+    Row("page length", b"\x1b&l84P" + DOT + b"\x0c", ("sends ESC&l84P", "the page size stays Letter"), "a page length chooses no paper here"),
+    Row("presentation", b"\x1b&l1O\x1b*r3F" + PICTURE + b"\x0c", ("sends ESC*r3F", "turned by a quarter"), "rows turn with the page here"),
+    Row("handling", b"\x1b&l66P" + DOT + b"\x0c", ("sends ESC&l66P", "it moves no dot"), "it moves no dot"),
+    Row("handling", b"\x1b*r0F\x1b&l0M" + DOT + b"\x0c", ("sends ESC*r0F at byte 0, and 1 command like it (ESC&l0M)", "it moves no dot"), "it moves no dot"),
+    Row("unknown", b"\x1b.Y\x1b(1@" + DOT + b"\x0c", ("sends ESC.Y at byte 0", "ignored"), "no row: ignored"),
+    Row("steps of text", b"\t\x08" + DOT + b"\x0c", ("sends HT at byte 0, and 1 command like it (BS)", "cursor of text"), "it moves the cursor of text"),
+    Row("control", b"\x00\x0f" + DOT + b"\x0c", ("sends Null at byte 0, and 1 command like it (Shift In)", "moves no dot"), "it marks nothing"),
+    # Text, fonts, other languages
+    Row("text", b"Dear Sir\x0c", ("it is blank: it has 8 bytes of text from byte 0 on",), 'at 0 to 7: 8 bytes of text, "Dear Sir": no row: text leaves no marks', True),
+    Row("fonts", b"\x1b(0U\x1b(s10H" + DOT + b"\x0c", ("sends ESC(0U at byte 0, and 1 command like it (ESC(s10H)", "fonts are left out"), "fonts are left out"),
+    Row("HP-GL/2", b"\x1b%0BIN;SP1;\x1b%0A\x0c", ("it is blank: it enters HP-GL/2, and 7 commands from byte 4 on are skipped",),
+        'at 4 to 10: 7 commands, "IN;SP1;": ignored: HP-GL/2 is on', True),
+    Row("another language", UEL + b"@PJL ENTER LANGUAGE=PCLXL\n) HP-PCL XL;2;0\n" + UEL,
+        ("prints no sheet: it enters the language PCLXL, and 16 bytes",), "16 bytes of another language", True),
+    # The job language
+    Row("PJL variable", UEL + b"@PJL SET ECONOMODE=OFF\n@PJL SET DENSITY=5\n" + DOT + b"\x0c",
+        ("sets 2 PJL variables that this press does not have", "ECONOMODE, DENSITY"), "ECONOMODE is no variable of this press"),
+    Row("PJL value", UEL + b"@PJL SET RESOLUTION=1200\n" + DOT + b"\x0c", ("1200 is none of the values of RESOLUTION", "RESOLUTION is 300 or 600"),
+        "1200 is none of the values of RESOLUTION, which stays 300"),
+    Row("PJL command", UEL + b"@PJL DMINFO ASCIIHEX=00\n" + DOT + b"\x0c", ("DMINFO is no PJL command",), "DMINFO is no PJL command of this press"),
+    # What is cut, and dots that are lost
+    Row("a row that is cut", b"\x1b*r0A\x1b*b100W\xff\xff", ("prints no sheet: it has", "ends within the data of ESC*b100W, which has 2 of 100 bytes"),
+        "which has 2 of 100 bytes", True),
+    Row("broken", b"\x1b*p10\x0c", ("it is blank: it has an escape sequence at byte 0 that does not go on",), "no row: ignored", True),
+    Row("dots beside the page", b"\x1b*p2390X\x1b*t300R\x1b*r1A\x1b*b2W\xff\xff\x0c", ("loses 6 of the 16 black dots", "6 past the right edge"),
+        "6 dots of 16 past the right edge are dropped"),
+    Row("dots beside the page", b"\x1b*p9999Y\x1b*t300R\x1b*r1A\x1b*b2W\xff\xff\x0c", ("it is blank: it loses 16 of the 16 black dots", "16 past the lower edge"),
+        "16 dots of 16 past the lower edge are dropped", True),
+    Row("dots beside the page", b"\x1b*p2400X\x1b*c100a9b0P\x0c", ("loses 225 of the 900 black dots", "225 past the right edge"), "past the right edge"),
+    Row("rows past the raster height", b"\x1b*t300R\x1b*r1T\x1b*r0A\x1b*b1W\xf0\x1b*b1W\xf0\x0c", ("has 1 row past the raster height of 1",),
+        "the raster height is 1 row, and it stands past them"),
+    Row("a fill of nothing", b"\x1b*c0P\x0c", ("it is blank: it has a fill at byte 0 that marks nothing",), "it marks nothing", True),
+    Row("a front without its back", b"\x1b&l1S" + DOT + b"\x0c\x1b&l2A" + DOT + b"\x0c" + DOT + b"\x0c",
+        ("has 1 front that goes out alone, without a back, in duplex, the first by ESC&l2A", "pages follow"), "the front before it goes out alone"),
+    Row("a front without its back", b"\x1b&l1S" + DOT + b"\x0c\x1bE" + DOT + b"\x0c", ("the first by ESC E",), "the front before it goes out alone"),
+    Row("handling", b"\x1b&l1S" + DOT + b"\x0c\x1bE" + UEL + b"\x1b*r0F" + DOT + b"\x0c", ("sends ESC*r0F",), "ESC E: Printer Reset: sheet 1 goes out", True),
+]
+# What is said of a page or of the end beside the table.
+BESIDE = [
+    Row("white rows", b"\x1b*r0A\x1b*b1W\x00\x0c", ("it is blank: it has rows there, and none of their dots is black",), "", True),
+    Row("nothing that marks", b"\x1bE\x0c", ("it is blank: it has nothing there that marks",), "", True),
+    Row("white over black", b"\x1b*c9a9b0P\x1b*c1P\x0c", ("it is blank: it has dots there that white ones replace",), "", True),
+    Row("a blank front", b"\x1b&l1S\x1b&a2G" + DOT + b"\x0c", ("prints 2 sides, and side 1 is blank: it asks for a blank front",), "", True),
+    Row("a page that is open", DOT, ("ends while a page with marks is open",), "the page closes"),
+    Row("a macro that is open", b"\x1b&f0X" + DOT, ("prints no sheet: it records all in a macro that is not ended",), "recorded, in macro 0", True),
+    Row("some blank pages", DOT + b"\x0c\x0cDear\x0c", ("prints 3 sides, and side 2 is blank: it has nothing there that marks",), "", True),
+    Row("no sheet", b"\x1b*p10x10Y\x1b*c5a5B", ("prints no sheet: nothing marks a page",), "", True),
+]

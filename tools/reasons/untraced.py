@@ -1,0 +1,499 @@
+"""Why a command of a stream leaves no trace, or less of one than was meant, and what to do: one table for `explain` and `why`.
+
+A reason is met by a happening, or is not; a happening has the first reason of the table that it meets. Those that leave a page blank
+stand first, the likeliest before the others. `because` is a part of a sentence behind the command; `told` is one of all the happenings
+that met a reason for one thing (their key), behind the name of the stream.
+"""
+
+import bisect
+import itertools
+from typing import Callable, NamedTuple, Union
+
+from model import commands, defaults, pages, patterns, table
+from model.commands import Broken, Control, Foreign, Param, PjlLine, Text, Uel
+from model.engine import is_reset
+from model.values import POSITIONS_PER_INCH
+from seen import names, remarks
+from seen.sent import letters
+
+from . import groups, job_lines, named_values
+from .finding import counted
+
+LASER = "a LaserJet's driver does so (Ghostscript: -sDEVICE=ljet4 -r300)"
+AS_PCL = "Print it through a driver for PCL 5 (Ghostscript: -sDEVICE=ljet4 -r300), which sends raster graphics"
+BLACK = "Have the driver send black and white, in one plane: " + LASER
+RESOLUTIONS = {resolution: ", ".join(map(str, some[:-1])) + f" or {some[-1]}" for resolution, some in table.RASTER_RESOLUTIONS.items()}
+FINEST = 600
+
+
+class Reason(NamedTuple):
+    name: str
+    met: Callable                    # of judge and happening: the key of what it is met for, or None
+    because: Callable                # of judge and happening
+    advice: Union[str, Callable]     # the same
+    told: Callable = groups.sends    # of judge, the happenings of one key, and the reason
+    blanks: bool = False             # whether a page may be blank by it
+    harmless: bool = False           # whether no dot depends on it
+
+    def advised(self, judge, happening):
+        return self.advice if isinstance(self.advice, str) else self.advice(judge, happening)
+
+
+class Group(NamedTuple):
+    """The happenings that met one reason for one thing."""
+    reason: Reason
+    key: object
+    some: list
+
+    def told(self, judge):
+        """A sentence behind the name of the stream, or None for nothing."""
+        return self.reason.told(judge, self.some, self.reason)
+
+    def advised(self, judge):
+        return self.reason.advised(judge, self.some[0])
+
+
+def has_no_row(happening, kind_of):
+    return happening.how == "no row" and isinstance(happening.placed.command, kind_of)
+
+
+def with_row(happening, key):
+    return happening.how == "row" and letters(happening.placed.command) == key
+
+
+def number(happening):
+    return happening.placed.command.value().whole()
+
+
+def spelled(happening):
+    return remarks.spelled(happening.placed.command)
+
+
+def of_letters(some, grave=lambda _: True, together=True):
+    """Meets the commands without a row that are spelled so, all for one thing or each for its value."""
+    def met(_, happening):
+        if has_no_row(happening, Param) and letters(happening.placed.command) in some and grave(happening):
+            return "all" if together else spelled(happening)
+        return None
+    return met
+
+
+# Resolution, methods, planes
+
+def other_resolution(_, happening):
+    if not with_row(happening, "*tR") or number(happening) in table.RASTER_RESOLUTIONS[happening.before["resolution"]]:
+        return None
+    return spelled(happening)
+
+
+def because_of_resolution(_, happening):
+    page, held, asked = happening.before["resolution"], happening.before["raster_resolution"], number(happening)
+    size = f", and the picture comes out {asked / held:g} times as wide and high" if asked > 0 and asked != held else ""
+    return f"a page of {page} dots per inch has rows of {RESOLUTIONS[page]}, so they stay at {held}{size}"
+
+
+def resolution_advice(_, happening):
+    if number(happening) not in table.RASTER_RESOLUTIONS[FINEST]:
+        return f"Have the driver send {RESOLUTIONS[happening.before['resolution']]} dots per inch (Ghostscript: -r300)"
+    word = f"RESOLUTION={FINEST}"
+    if defaults.BUILT:
+        return f"This printer was not told {FINEST}: say {defaults.OPTION} {word}, or have the driver send 300 (Ghostscript: -r300)"
+    return (f"This printer was not told {FINEST}: put the line @PJL SET {word} before it, or have the driver send 300 (Ghostscript: -r300); "
+            f"tools/explain, tools/show and tools/pictures take {defaults.OPTION} {word}")
+
+
+def other_method(_, happening):
+    if not with_row(happening, "*bM") or number(happening) in (0, 1, 2, 3, 5):
+        return None
+    return spelled(happening)
+
+
+def because_of_method(_, happening):
+    return f"the compression methods are 0, 1, 2, 3 and 5, so rows are read by method {happening.before['method']}, as other dots than were meant"
+
+
+def colour(_, happening):
+    if not has_no_row(happening, Param):
+        return None
+    key = letters(happening.placed.command)
+    if (key == "*rU" and number(happening) in (1, -1)) or (key == "*gW" and planes_of(happening) == 1):
+        return None
+    return {"*bV": "planes", "*rU": "planes", "*gW": "planes", "*vW": "pixels"}.get(key)
+
+
+def planes_of(happening):
+    """The planes that a configuration of raster data has: its second byte."""
+    data = happening.placed.command.data
+    return data[1] if len(data) > 1 else 1
+
+
+def because_of_colour(_, happening):
+    key = letters(happening.placed.command)
+    if key == "*rU":
+        return f"this press has one plane, of black, and not {abs(number(happening))}"
+    if key == "*gW":
+        return f"this press has one plane, of black, and not {planes_of(happening)}"
+    if key == "*bV":
+        return "a plane of colour is not carried out; the plane that ESC*b#W ends a row with is printed alone, as black"
+    return "colours of pixels are not carried out: each bit of a row is a dot"
+
+
+# Data that is taken
+
+def takes_data(_, happening):
+    command = happening.placed.command
+    if not has_no_row(happening, Param) or command.end != ord("W") or not command.data or letters(command) in names.PARAMS_WITH_DATA:
+        return None
+    return spelled(happening)
+
+
+def because_of_data(judge, happening):
+    data = happening.placed.command.data
+    cost = " ".join(map(remarks.spelled, judge.cost_of(happening))) or "what begins there"
+    bytes_of = f" ({data.hex(' ').upper()})" if len(data) <= 8 else ""
+    were = "was" if len(data) == 1 else "were"
+    return f"here an end W carries data, so the {counted(len(data), 'byte')} behind it{bytes_of} {were} taken, and {cost} is lost"
+
+
+def remains(judge, happening):
+    return "remains" if has_no_row(happening, (Text, Control)) and judge.is_left_over(happening) else None
+
+
+# Dots beside the page, and rectangles
+
+def loses(_, happening):
+    return "dots" if happening.sent.lost() and happening.how == "row" else None
+
+
+def because_of_loss(_, happening):
+    sent = happening.sent
+    parts = [f"{counted(count, 'dot')} of {sent.black:,} past the {side} edge" for count, side in ((sent.right, "right"), (sent.below, "lower")) if count]
+    return " and ".join(parts) + " are dropped"
+
+
+def comes_late(_, happening):
+    return "rows" if happening.sent.late else None
+
+
+def fills_nothing(_, happening):
+    if not with_row(happening, "*cP") or happening.marks or happening.sent.lost() or not named_values.NAMED["*cP"].takes(
+            happening.placed.command.value(), happening.before):
+        return None
+    return "fills"
+
+
+# Values and times
+
+def other_value(_, happening):
+    key = letters(happening.placed.command)
+    if not key or happening.how != "row" or named_values.names_value(key, happening.placed.command.value(), happening.before):
+        return None
+    return spelled(happening)
+
+
+def because_of_value(_, happening):
+    named = named_values.NAMED[letters(happening.placed.command)]
+    if not named.field:
+        return f"{named.which}, and {number(happening)} is none of these"
+    stays = remarks.shown_field(named.field, happening.before[named.field])
+    return f"{named.which}, so the {remarks.FIELDS[named.field]} stays {stays}"
+
+
+def wrong_time(_, happening):
+    return spelled(happening) if because_of_time(None, happening) else None
+
+
+def because_of_time(_, happening):
+    """What is in the way of a command whose value is right."""
+    if happening.how != "row" or happening.changes or happening.marks or happening.closes or not letters(happening.placed.command):
+        return ""
+    key, before = letters(happening.placed.command), happening.before
+    if key in ("*tR", "*rS", "*rT") and before["raster_on"] and is_other(happening):
+        return "raster graphics is on, and takes this before its start alone"
+    if key == "*rA" and before["raster_on"]:
+        return "raster graphics is on already, and goes on where it is"
+    if key == "*vT" and number(happening) > 1 and before["current_pattern"] != (KINDS[number(happening)], before["pattern_id"]):
+        return f"there is no such pattern under the ID {before['pattern_id']}"
+    if key == "&fS" and number(happening) == 0 and len(before["stack"]) == table.STACK_PLACES:
+        return f"{table.STACK_PLACES} places are pushed, and there is room for no more"
+    if key == "*bY" and not before["raster_on"] and number(happening) >= 1:
+        return "raster graphics is off, and rows are passed over within it alone"
+    if key == "&fS" and number(happening) == 1 and not before["stack"]:
+        return "no place was pushed"
+    if key == "&fX" and number(happening) in (2, 3) and not happening.bodies:
+        return f"there is no macro {before['macro_id']}, or it is empty or too deep"
+    return ""
+
+
+KINDS = {2: patterns.SHADING, 3: patterns.HATCH, 4: patterns.USER}
+
+
+def refuses_pattern(_, happening):
+    return "pattern" if with_row(happening, "*cW") and because_of_pattern(None, happening) else None
+
+
+def because_of_pattern(_, happening):
+    """What is wrong with the data of a pattern."""
+    try:
+        patterns.tile_of_data(happening.placed.command.data)
+    except patterns.BadHeader:
+        return "its data begins with no header of a pattern"
+    except patterns.ShortData:
+        return "its data ends before its last row"
+    return ""
+
+
+def is_other(happening):
+    field = {"*tR": "raster_resolution", "*rS": "source_width", "*rT": "source_height"}[letters(happening.placed.command)]
+    return happening.before[field] != number(happening)
+
+
+# What breaks, and fronts
+
+def is_cut(judge, happening):
+    return "cut" if has_no_row(happening, Broken) and judge.is_last(happening) and cut_data(happening) else None
+
+
+def cut_data(happening):
+    """The command at the end that wants more data than there is: as it is spelled, how many bytes it has, and wants."""
+    return groups.cut_command(happening.placed.command.broken)
+
+
+def because_of_cut(_, happening):
+    word, has, wants = cut_data(happening)
+    return f"the stream ends within the data of {word}, which has {has:,} of {counted(wants, 'byte')}, and it is not carried out"
+
+
+def loses_its_back(judge, happening):
+    """A front that a command of the same job sends out, and no end of a job or page side selection that asks for it."""
+    if not happening.before["duplex"] or not happening.sheets or happening.how != "row":
+        return None
+    within = letters(happening.placed.command) in ("&lA", "&lS") or is_reset(happening.placed.command) and not judge.ends_a_job(happening)
+    return "fronts" if within and judge.goes_out_alone(happening) and judge.pages_follow(happening) else None
+
+
+# Settings
+
+def registration(_, happening):
+    key = letters(happening.placed.command)
+    dots = happening.placed.command.value().tenthousandths * happening.resolution / 7200000
+    side = {"&lU": ("left", "right"), "&lZ": ("above", "below")}[key]
+    if not dots:
+        return "registration is not carried out; at 0 it moves nothing"
+    return (f"registration is not carried out, so the picture stands {abs(dots):g} dots {side[dots < 0]}"
+            f"{' of' if key == '&lU' else ''} where a printer puts it")
+
+
+def registration_advice(judge, _):
+    """How Ghostscript moves a picture by what the first commands of each edge ask for, in points."""
+    points = {"&lU": 0, "&lZ": 0}
+    for each in reversed(judge.run.happenings):
+        if has_no_row(each, Param) and letters(each.placed.command) in points:
+            points[letters(each.placed.command)] = each.placed.command.value().tenthousandths / 100000
+    offset = " ".join(f"{value:g}" for value in points.values())
+    return f"Have the driver move its picture by as much itself (Ghostscript: -c '<</PageOffset[{offset}]>>setpagedevice' -f FILE), or send neither"
+
+
+def moves(happening):
+    return happening.placed.command.value().tenthousandths != 0
+
+
+def other_length(_, happening):
+    """A page length that is not that of the page, as lines of VMI."""
+    if not has_no_row(happening, Param) or letters(happening.placed.command) != "&lP" or number(happening) < 1:
+        return None
+    before = happening.before
+    size = pages.SIZES[before["size"]]
+    tall = size.width if pages.is_landscape(before["orientation"]) else size.height
+    lines = tall * POSITIONS_PER_INCH // (size.resolution * before["vmi"]) if before["vmi"] else 0
+    return spelled(happening) if number(happening) != lines else None
+
+
+def turns_rows(_, happening):
+    meets = has_no_row(happening, Param) and letters(happening.placed.command) == "*rF" and number(happening) == 3
+    return "rows" if meets and pages.is_landscape(happening.before["orientation"]) else None
+
+
+def margin_is_put_back(_, happening):
+    return "margin" if with_row(happening, "&lL") and any(name == "top_margin" for name, _, _ in happening.changes) else None
+
+
+def because_of_margin(_, happening):
+    before, after = next((before, after) for name, before, after in happening.changes if name == "top_margin")
+    dots = (after - before) * happening.resolution / POSITIONS_PER_INCH
+    return (f"a change of perforation skip sets the top margin to half an inch, so what follows stands {abs(dots):g} dots "
+            f"{'below' if dots > 0 else 'above'} where the margin before it put it")
+
+
+FONTS = {"&kS", "&pX", "&dD", "&d@", "*cD", "*cE", "*cF", "*cR", "*cS", "&tP", "&nW", "&sC", "(X", ")X", "(@", ")@", "(fW"}
+
+
+def font(_, happening):
+    if not has_no_row(happening, Param):
+        return None
+    command = happening.placed.command
+    return "fonts" if command.character in b"()" or letters(command) in FONTS else None
+
+
+COLOURS = {"*vS", "*vA", "*vB", "*vC", "*vI", "*pP", "*tJ", "*mW", "*iW"}
+HANDLING = {"&lG", "&lM", "&lT", "&lP", "*oM", "*oQ", "*oD", "*rQ", "*bS", "*bX", "*oW", "*gW", "&rF", "*rF", "&bW", "*rU", "*sM"}
+
+
+BACKSPACE, TAB = 0x08, 0x09
+
+
+def control(*some):
+    """Meets these control characters, or where none are named every one without a row."""
+    def met(_, happening):
+        meets = has_no_row(happening, Control) and (not some or happening.placed.command.control in some)
+        return "controls" if meets else None
+    return met
+
+
+def unknown(_, happening):
+    if happening.how != "no row" or isinstance(happening.placed.command, (Text, Foreign, Broken, PjlLine)):
+        return None
+    return "all"
+
+
+REASONS = [
+    Reason("another language", lambda judge, each: judge.language(each) if has_no_row(each, Foreign) else None,
+           lambda *_: "skipped, up to the next universal exit", AS_PCL, groups.language, True),
+    Reason("resolution", other_resolution, because_of_resolution, resolution_advice, blanks=True),
+    Reason("planes", colour, because_of_colour, BLACK, groups.first_of_many, True),
+    Reason("method", other_method, because_of_method, "Have the driver compress by one of these: " + LASER, blanks=True),
+    Reason("dots beside the page", loses, because_of_loss,
+           "Look at the resolution of its rows, where they begin, and at the page size: what is past the edge of the page, or of a row, is dropped",
+           groups.lost, True),
+    Reason("data that is taken", takes_data, because_of_data, "Leave it out: " + LASER, blanks=True),
+    Reason("what is left of a command", remains, lambda *_: "it is left of a command whose first bytes were taken as data",
+           "", groups.silent),
+    Reason("HP-GL/2", lambda _, each: "plot" if each.how == "HP-GL/2" else None, lambda *_: "HP-GL/2 is on",
+           "Send it as raster graphics; ESC%0A leaves HP-GL/2", groups.plot, True),
+    Reason("text", lambda _, each: "text" if has_no_row(each, Text) else None, lambda *_: "text leaves no marks",
+           "Send it as raster graphics; the shapes of a printer's fonts are its maker's", groups.text, True),
+    Reason("a fill of nothing", fills_nothing, lambda *_: "it marks nothing",
+           "Its rectangle has no size, lies outside the page, or its pattern does not exist", groups.fills, True),
+    Reason("pattern", refuses_pattern, because_of_pattern, "It is 00 00 01 00, height and width of 16 bits each, and the rows", blanks=True),
+    Reason("rows past the raster height", comes_late, lambda _, each: f"the raster height is {counted(each.before['source_height'], 'row')}, and it stands past them",
+           "Have the driver send ESC*r#T with the rows that the picture has, or leave it out", groups.late, True),
+    Reason("a row that is cut", is_cut, because_of_cut, "It was cut: copy or make it again", groups.plain, True),
+    Reason("broken", lambda _, each: "broken" if has_no_row(each, Broken) else None, lambda *_: "ignored",
+           "A PJL line ends with a line feed and has at most 4,096 bytes, a value field at most 32", groups.broken, True),
+    Reason("value", other_value, because_of_value, "Have the driver send a value that the row names", blanks=True),
+    Reason("time", wrong_time, because_of_time, "Have the driver send it where it is taken, or leave it out", blanks=True),
+    Reason("a front without its back", loses_its_back, lambda *_: "the front before it goes out alone, and has no back",
+           "Send this before the first page of a leaf, or not at all within the job", groups.fronts),
+    Reason("registration", of_letters({"&lU", "&lZ"}, moves, False), registration, registration_advice),
+    Reason("top margin", margin_is_put_back, because_of_margin, "Have the driver send ESC&l#L before ESC&l#E"),
+    Reason("scaling", of_letters({"*tH", "*tV"}), lambda *_: "rows are not scaled; they have the size of their resolution",
+           "Have the driver send a raster resolution that fits", groups.first_of_many),
+    Reason("direction", of_letters({"&aP"}, moves, False), lambda *_: "the print direction is not carried out", "Turn the page: ESC&l#O"),
+    Reason("page length", other_length, lambda _, each: f"a page length chooses no paper here, so the page size stays {each.before['size']}",
+           f"Have the driver send ESC&l#A: {named_values.SIZES}"),
+    Reason("presentation", turns_rows, lambda *_: "rows turn with the page here (mode 0), so the picture stands turned by a quarter",
+           "Have the driver send ESC*r0F and rows in the direction of the page, or portrait"),
+    Reason("size by dots", of_letters({"&fI", "&fJ"}), lambda *_: "a page has one of six sizes, and none by its width and length",
+           f"Have the driver send ESC&l#A: {named_values.SIZES}", groups.first_of_many),
+    Reason("PJL variable", job_lines.other_variable, job_lines.because_of_variable, job_lines.VARIABLES, groups.variables, harmless=True),
+    Reason("PJL value", job_lines.other_value, job_lines.because_of_value, job_lines.value_advice, groups.plain),
+    Reason("PJL command", job_lines.other_word, job_lines.because_of_word, job_lines.WORDS, groups.plain, harmless=True),
+    Reason("fonts", font, lambda *_: "fonts are left out, and text leaves no marks", "Send text as raster graphics", groups.first_of_many),
+    Reason("steps of text", control(BACKSPACE, TAB), lambda *_: "it moves the cursor of text, which is left out, and none here",
+           "Have the driver move by ESC*p#X", groups.first_of_many),
+    Reason("control", control(), lambda *_: "it marks nothing, and moves no dot", "Nothing is to be done", groups.first_of_many, harmless=True),
+    Reason("colours", of_letters(COLOURS), lambda *_: "this press has black alone", BLACK, groups.first_of_many),
+    Reason("handling", of_letters(HANDLING), lambda *_: "this press does not carry it out, and it moves no dot", "Nothing is to be done", groups.first_of_many,
+           harmless=True),
+    Reason("unknown", unknown, lambda *_: "ignored", "tools/explain says where each stands", groups.first_of_many),
+]
+BY_NAME = {reason.name: reason for reason in REASONS}
+
+
+class Judge:
+    """The reasons that the happenings of a run meet."""
+
+    def __init__(self, run):
+        self.run = run
+        self.found = {}
+        self.languages = job_lines.languages(run)
+        self.left_over = [self.rest_of_cost(each) for each in run.happenings if takes_data(self, each)]
+
+    def reason_of(self, happening):
+        """A reason and its key, or None; it is asked for again."""
+        place = id(happening)
+        if place not in self.found:
+            self.found[place] = self.find_reason(happening)
+        return self.found[place]
+
+    def find_reason(self, happening):
+        if happening.how == "recorded":
+            return None
+        for reason in REASONS:
+            key = reason.met(self, happening)
+            if key is not None:
+                return reason, key
+        return None
+
+    def because(self, happening):
+        """Why it leaves no trace, or less of one than was meant; empty where it does what it says."""
+        found = self.reason_of(happening)
+        return found[0].because(self, happening) if found else ""
+
+    def groups(self, happenings):
+        """Those that met a reason, by reason and key, in the order of the table."""
+        found = {}
+        for happening in happenings:
+            if (met := self.reason_of(happening)) is not None:
+                found.setdefault((REASONS.index(met[0]), met[1]), []).append(happening)
+        ordered = sorted(found.items(), key=lambda item: (item[0][0], item[1][0].placed.offset))
+        return [Group(REASONS[place], key, some) for (place, key), some in ordered]
+
+    def on_pages(self):
+        """For each page, in the order in which they close, the happenings while it is open."""
+        some, open_page = {}, 0
+        for happening in self.run.happenings:
+            some.setdefault(open_page, []).append(happening)
+            open_page = happening.page
+        return some
+
+    def language(self, happening):
+        """The language that the last line before it entered."""
+        return self.languages[bisect.bisect_left(self.languages, (happening.placed.offset,)) - 1][1]
+
+    def cost_of(self, happening):
+        """The commands that begin in the data that was taken, as they would be read there."""
+        return self.read_over(happening)[0]
+
+    def rest_of_cost(self, happening):
+        placed = happening.placed
+        return range(placed.offset + placed.length, self.read_over(happening)[1])
+
+    def read_over(self, happening):
+        placed, stream = happening.placed, self.run.stream
+        end = placed.offset + placed.length
+        place, mode, found = end - len(placed.command.data), commands.PCL, []
+        while place < end and (head := commands.head(mode, stream, place)) is not None:
+            command, place, mode = head
+            found.append(command)
+        return found, max(end, place)
+
+    def is_left_over(self, happening):
+        return any(happening.placed.offset in some for some in self.left_over)
+
+    def is_last(self, happening):
+        return happening is self.run.happenings[-1]
+
+    def ends_a_job(self, happening):
+        """Whether a universal exit comes next."""
+        following = itertools.dropwhile(lambda each: each is not happening, self.run.happenings)
+        return any(isinstance(each.placed.command, Uel) for each in itertools.islice(following, 1, 2))
+
+    def goes_out_alone(self, happening):
+        """Whether a sheet without a back goes out by it."""
+        numbers = {number for number, _ in happening.sheets}
+        return any(sheet.back is None for sheet, number, _ in self.run.sheets if number in numbers)
+
+    def pages_follow(self, happening):
+        """Whether another sheet goes out behind it."""
+        return self.run.sheets[-1][1] > happening.sheets[-1][0]
