@@ -14,6 +14,8 @@ DOTS = [bytes(byte >> (7 - bit) & 1 for bit in range(8)) for byte in range(256)]
 SPACE = rb"(?:[ \t\n\v\f\r]|#[^\n\r]*[\n\r])"
 HEADER = re.compile(rb"P4" + SPACE + rb"+(\d+)" + SPACE + rb"+(\d+)(?:#[^\n\r]*)?[ \t\n\v\f\r]")
 MOST_IN_A_BYTE = 255
+INVERTED = bytes(255 - byte for byte in range(256))   # a PNG's 1 is white
+METRES_PER_INCH = 0.0254
 FRAME = 128
 PAPER = 255
 GAP = 8
@@ -104,15 +106,26 @@ def contact_sheet(pictures):
     return rows + [blank[:1] * len(rows[0])] * GAP
 
 
+def chunk(name, data):
+    return struct.pack(">I", len(data)) + name + data + struct.pack(">I", zlib.crc32(name + data))
+
+
+def file_of(width, height, depth, data, about=b""):
+    """A grey PNG of rows that begin with the byte of their filter, 0."""
+    head = struct.pack(">IIBBBBB", width, height, depth, 0, 0, 0, 0)
+    return b"\x89PNG\r\n\x1a\n" + chunk(b"IHDR", head) + about + chunk(b"IDAT", zlib.compress(data, 9)) + chunk(b"IEND", b"")
+
+
 def png(rows):
     """The bytes of a grey PNG with these rows."""
+    return file_of(len(rows[0]), len(rows), 8, b"".join(b"\0" + row for row in rows))
 
-    def chunk(name, data):
-        return struct.pack(">I", len(data)) + name + data + struct.pack(">I", zlib.crc32(name + data))
 
-    head = struct.pack(">IIBBBBB", len(rows[0]), len(rows), 8, 0, 0, 0, 0)
-    data = zlib.compress(b"".join(b"\0" + row for row in rows), 9)
-    return b"\x89PNG\r\n\x1a\n" + chunk(b"IHDR", head) + chunk(b"IDAT", data) + chunk(b"IEND", b"")
+def png_of_dots(width, rows, resolution):
+    """A PNG of all dots, one bit each; the rows are bytes, 1 black, and the resolution is in dots per inch."""
+    per_metre = round(resolution / METRES_PER_INCH)
+    data = b"".join(b"\0" + row.translate(INVERTED) for row in rows)
+    return file_of(width, len(rows), 1, data, chunk(b"pHYs", struct.pack(">IIB", per_metre, per_metre, 1)))
 
 
 def rows_of(data):
