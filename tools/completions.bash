@@ -1,14 +1,19 @@
 # Completions for bash: source tools/completions.bash
 _press() {
   local word="${COMP_WORDS[COMP_CWORD]}" first="${COMP_WORDS[1]}" place="$COMP_CWORD"
+  local defaults="RESOLUTION=600 PAPER=A4 PAPER=LETTER PAPER=LEGAL PAPER=EXECUTIVE PAPER=LEDGER PAPER=A3 DUPLEX=ON COPIES=2 ORIENTATION=LANDSCAPE BINDING=SHORTEDGE"
   if [ "$first" = --try ]; then
     first="${COMP_WORDS[2]}"
     place=$((place - 1))
   fi
   if [ "$place" -eq 1 ]; then
-    mapfile -t COMPREPLY < <(compgen -W "--try print asm disasm debug write press help --help" -- "$word")
+    mapfile -t COMPREPLY < <(compgen -W "--try print asm disasm debug write press help --help --version" -- "$word")
+  elif [ "${COMP_WORDS[COMP_CWORD-1]}" = --default ]; then
+    mapfile -t COMPREPLY < <(compgen -W "$defaults" -- "$word")
   elif [ "$first" = print ] && [[ "$word" == -* ]]; then
-    mapfile -t COMPREPLY < <(compgen -W "--list" -- "$word")
+    mapfile -t COMPREPLY < <(compgen -W "--list --default" -- "$word")
+  elif [ "$first" = debug ] && [[ "$word" == -* ]]; then
+    mapfile -t COMPREPLY < <(compgen -W "--default" -- "$word")
   elif [ "$first" = press ] && [ "${COMP_WORDS[COMP_CWORD-1]}" = --engines ]; then
     mapfile -t COMPREPLY < <(compgen -W "1 2 3 4" -- "$word")
   elif [ "$first" = press ] && [[ "$word" == -* ]]; then

@@ -84,11 +84,6 @@ one_more text rest out new number line after some_ front back s added = record {
   spelled = added.2.2 ∙ ap (λ x. x ++ all_bytes added.2.0) s.spelled ∙ sym (bytes-append s.commands added.2.0);
 }
 
-pub all_done : (text rest out : List ℕ) (number : ℕ) → length rest ≡ 0 → IsSoFar text rest out number → Assembles text out
-all_done text [] out number none s =
-    record { commands = s.commands; give = subst (λ (x : List (List ℕ)). LinesGive x s.commands) (sym (s.cut ∙ append-nil s.before)) s.give; spelled = s.spelled }
-all_done text (b ∷ rest) out number none s = absurd (omega arith)
-
 first_fault : (text rest out : List ℕ) (number : ℕ) (line after : List ℕ) (P : List ℕ → Type 0) → 0 < length rest → line ≡ before_first is_feed rest → after ≡ after_first is_feed rest
     → IsSoFar text rest out number → P line → IsFirst text (number + 1) P
 first_fault text rest out number line after P some_ front back s fault = record {

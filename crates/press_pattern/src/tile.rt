@@ -2,6 +2,7 @@
 
 ghost use Rattle.std.specs.Prelude.{◌≡◌, ℕ, ◌+◌, ◌*◌, ◌/◌, ◌^◌, ◌<◌, ◌≤◌, Bool, length, take, IfOk, IsTrue};
 ghost use Rattle.press_bits.specs.Lines.{bytes_per_line};
+ghost use Rattle.press_pattern.specs.Solid.{solid_black};
 ghost use Rattle.press_pattern.specs.Tiling.{IsWhiteTile, tile_row, tile_dot, byte_where, dots_from, transposed};
 
 use press_bits::DotRow;
@@ -110,6 +111,13 @@ impl<'a> Tile<'a> {
     {
         let bits = self.rows;
         DotRow { bits, dots: 0 }.is_white()
+    }
+
+    /// Whether it is the tile of solid black.
+    pub fn is_solid_black(&self) -> bool
+        ensures { IsTrue result → self.now ≡ solid_black }
+    {
+        self.width == 8 && self.height == 1 && self.rows[0] == 0xFF
     }
 
     /// The byte of eight dots of a column, from line `first` on; white below the last line.
