@@ -1,12 +1,18 @@
-"""What the proof of each crate took when it was last proved here: a small table, which the order of the next run stands on."""
+"""What the proof of each crate took when it was last proved here: a small table, which the order of the next run stands on.
+
+Before the first run the table is proving/measured.json, of a machine with four processors; a crate that is in neither is reckoned by its lines.
+"""
 
 import dataclasses
 import json
+from pathlib import Path
+
+MEASURED = Path(__file__).resolve().parent / "measured.json"
 
 SECONDS_A_LINE = 0.06          # of a crate that was not measured here
 SECONDS_AT_LEAST = 15          # what the prover reads before it begins
 BYTES_AT_LEAST = 1_000_000_000
-BYTES_A_LINE, BYTES_A_LINE_BELOW = 500_000, 60_000
+BYTES_A_LINE, BYTES_A_LINE_BELOW = 200_000, 40_000
 MORE_FOR_A_JOB = 0.6           # of a crate's memory, for each job but the first
 
 
@@ -25,12 +31,19 @@ class Measures:
 
     def __init__(self, path, given):
         self.path, self.given = path, given
+        self.table = self.read(MEASURED) | self.read(path)
+
+    @staticmethod
+    def read(path):
         try:
-            self.table = {name: Measure(**row) for name, row in json.loads(path.read_text()).items()}
+            return {name: Measure(**row) for name, row in json.loads(path.read_text()).items()}
         except (OSError, ValueError, TypeError):
-            self.table = {}
+            return {}
 
     def note(self, name, measure):
+        """Puts the measure of a crate into the table of this checkout; one that took up kept work says little, and is left out."""
+        if name in self.table and measure.processor_seconds < self.table[name].processor_seconds / 2:
+            return
         self.table[name] = measure
         written = self.path.with_suffix(".new")
         rows = ",\n".join(f'"{crate}": {json.dumps(dataclasses.asdict(row))}' for crate, row in sorted(self.table.items()))
