@@ -37,12 +37,18 @@ class Plan:
         """Whether no crate that is not proved yet has a longer way: what waits for this one ends last."""
         return all(self.way(name) >= self.way(other) for other in [*self.running, *self.open()])
 
+    def is_alone(self, name):
+        """Whether nothing else can be proved before this one is: all that is not proved yet stands on it."""
+        return all(name == other or name in self.given.below(other) for other in [*self.running, *self.open()])
+
     def jobs_for(self, name):
         """How many jobs a crate gets now, none where it has to wait. The urgent one waits for memory alone, and leaves one job to the others,
-        which give way to it."""
+        which give way to it; where there are no others it gets all."""
         free = self.jobs - sum(jobs for jobs, _ in self.running.values())
         used = sum(self.measures.memory(other, jobs) for other, (jobs, _) in self.running.items())
-        share = self.jobs - 1 if self.is_urgent(name) else free // max(1, len(self.ready()))
+        share = free // max(1, len(self.ready()))
+        if self.is_urgent(name):
+            share = self.jobs if self.is_alone(name) else self.jobs - 1
         jobs = 1 if self.given.lines(name) < LARGE else max(1, share)
         while jobs > 1 and used + self.measures.memory(name, jobs) > self.memory:
             jobs -= 1
