@@ -1,14 +1,17 @@
 -- Rows of dots that are painted along a line, one word after another.
-use Rattle.std.proofs.Common.{◌≡◌, ℕ, ◌+◌, ◌-◌, ◌*◌, ◌/◌, ◌^◌, ◌<◌, ◌≤◌, ◌⊎◌, Bool, true, false, ◌&&◌, List, sym, ap, ◌∙◌, inl, inr, arith}
+use Rattle.std.proofs.Common.{◌≡◌, ℕ, ◌+◌, ◌-◌, ◌*◌, ◌/◌, ◌%◌, ◌^◌, ◌<◌, ◌≤◌, ◌⊎◌, Bool, true, false, ◌&&◌, List, length, replicate, get_or, take, drop, sym, ap, ◌∙◌, inl, inr, arith}
 use Rattle.std.specs.Prelude.{nat_lt, nat_le}
 use Rattle.std.proofs.lemmas.Bool.{cases_lt}
 use Rattle.std.proofs.lemmas.Bool.Decides.{nat_tests}
+use Rattle.std.proofs.lemmas.List.{get_or-replicate, length-replicate, length-take, length-drop}
+use borrow.Rule.Slice.PartMut.{put_mid}
 use Rattle.press_bits.specs.DotRows.{mixed_dot}
-use Rattle.press_bits.specs.Mark.{row_dot}
+use Rattle.press_bits.specs.Mark.{row_dot, byte_dot}
 use Rattle.press_bits.specs.Words.{word_dot}
 use Rattle.press_bits.specs.declared.mode.Mode.{Mode}
+use Rattle.press_bits.proofs.ByteLemmas.{byte_dot-ones, row_dot-of_byte}
 use Rattle.press_bits.proofs.MixLemmas.{mixed_when, not_mixed}
-use Rattle.press_bits.proofs.WordLemmas.{shifted_right}
+use Rattle.press_bits.proofs.WordLemmas.{shifted_right, put_at, put_elsewhere}
 
 -- The dots from `from` on and before `to` are painted, the others not.
 abbrev pub IsPaintedBetween : (old new : List ℕ) → Mode → (source tile : ℕ → Bool) → (from to : ℕ) → Type 0
@@ -21,12 +24,11 @@ before_test from to p before = grind (arith, nat_tests)
 past_test : (from to p : ℕ) → to ≤ p → (nat_le from p && nat_lt p to) ≡ false
 past_test from to p past = grind (arith, nat_tests)
 
+within_test : (from to p : ℕ) → from ≤ p → p < to → (nat_le from p && nat_lt p to) ≡ true
+within_test from to p reached before = grind (arith, nat_tests)
+
 reached_of : (from to p : ℕ) → (nat_le from p && nat_lt p to) ≡ true → from ≤ p
 reached_of from to p test = grind (arith, nat_tests)
-
--- a dot of a run is one of its source
-pub in_run : (skip at count dots p : ℕ) → skip + count ≤ dots → (nat_le at p && nat_lt p (at + count)) ≡ true → skip + (p - at) < dots
-in_run skip at count dots p enough test = grind (arith, nat_tests)
 
 pub painted_none : (old : List ℕ) (mode : Mode) (source tile : ℕ → Bool) (from to : ℕ) → to ≤ from → IsPaintedBetween old old mode source tile from to
 painted_none old mode source tile from to none p = sym (not_mixed _ mode (source p) (tile p) (row_dot old p) (no_dot from to p none))
@@ -89,3 +91,39 @@ painted_word old new mode source tile index from to dots through mask before aft
         ∙ ap (λ q. mixed_dot (nat_le from q && nat_lt q to) mode (word_dot (dots / 2 ^ (from - 8 * index)) j) (word_dot (through / 2 ^ (from - 8 * index)) j) (row_dot old q)) (sym place)
         ∙ mixed_when (nat_le from p && nat_lt p to) mode (word_dot (dots / 2 ^ (from - 8 * index)) j) (source p) (word_dot (through / 2 ^ (from - 8 * index)) j) (tile p) (row_dot old p)
         (λ t. late dots p j source place low (reached_of from to p t) sources) (λ t. late through p j tile place low (reached_of from to p t) tiles)
+
+-- a black dot through a black one
+black_dot : (inside : Bool) (mode : Mode) (source pattern before : Bool) → inside ≡ true → source ≡ true → pattern ≡ true → true ≡ mixed_dot inside mode source pattern before
+black_dot inside mode source pattern before within black through = λ i. mixed_dot (sym within i) mode (sym black i) (sym through i) before
+
+-- whole bytes are filled with black dots
+pub painted_bytes : (rows bytes : List ℕ) (mode : Mode) (source tile : ℕ → Bool) (from first last : ℕ) → from ≡ 8 * first → first ≤ last → last ≤ length rows →
+    bytes ≡ replicate (length (take (last - first) (drop first rows))) 255 →
+    ((p : ℕ) → from ≤ p → p < 8 * last → source p ≡ true) → ((p : ℕ) → tile p ≡ true) →
+    IsPaintedBetween rows (put_mid first (last - first) rows bytes) mode source tile from (8 * last)
+painted_bytes rows bytes mode source tile from first last begin onward room is black through p =
+    elim (cases_lt p from) [
+      | inl before ↦
+          put_elsewhere rows bytes first (last - first) long within p (inl (omega arith)) ∙ sym (not_mixed _ mode (source p) (tile p) (row_dot rows p) (before_test from (8 * last) p before))
+      | inr reached ↦ elim (cases_lt p (8 * last)) [
+        | inl left ↦
+            sym (row_dot-of_byte (put_mid first (last - first) rows bytes) (first + (p / 8 - first)) p (omega arith))
+            ∙ ap (λ b. byte_dot b (p % 8)) (put_at rows bytes first (last - first) long within (p / 8 - first) (omega arith) ∙ full (p / 8 - first) (omega arith))
+            ∙ byte_dot-ones (p % 8)
+            ∙ black_dot _ mode (source p) (tile p) (row_dot rows p) (within_test from (8 * last) p reached left) (black p reached left) (through p)
+        | inr past ↦
+            put_elsewhere rows bytes first (last - first) long within p (inr (omega arith)) ∙ sym (not_mixed _ mode (source p) (tile p) (row_dot rows p) (past_test from (8 * last) p past))
+      ]
+    ]
+  where
+    count : length (take (last - first) (drop first rows)) ≡ last - first
+    count = omega (arith, length-take (last - first) (drop first rows), length-drop first rows)
+
+    long : length bytes ≡ last - first
+    long = ap length is ∙ length-replicate {A = ℕ} (length (take (last - first) (drop first rows))) 255 ∙ count
+
+    within : first + (last - first) ≤ length rows
+    within = omega arith
+
+    full : (i : ℕ) → i < last - first → get_or bytes i 0 ≡ 255
+    full i low = ap (λ (all : List ℕ). get_or all i 0) is ∙ get_or-replicate (length (take (last - first) (drop first rows))) i 255 0 (omega (arith, count))

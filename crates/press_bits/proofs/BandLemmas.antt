@@ -5,16 +5,16 @@ use Rattle.std.specs.declared.alloc.AllocError.{AllocError}
 use Rattle.std.proofs.Math.ListN.{get_or-map}
 use Rattle.std.proofs.lemmas.Bool.{cases_eq, cases_lt, true≢false}
 use Rattle.std.proofs.lemmas.Bool.Decides.{nat_tests}
-use Rattle.std.proofs.lemmas.List.{length-replicate, length-take, length-drop, length-set, get_or-set_same, get_or-set_other}
+use Rattle.std.proofs.lemmas.List.{length-replicate, length-take, length-drop, take-take, drop-take, take-replicate, drop-replicate, length-set, get_or-set_same, get_or-set_other}
 use Rattle.press_bits.specs.Page.{HasNoDotOutside, black_at, black_in_line, blank, is_page_size}
 use Rattle.press_bits.specs.DotRule.{dot_after}
 use Rattle.press_bits.specs.Mark.{IsWhite, Row, effect_at, painted, row_dot, repeated, row_mark}
 use Rattle.press_bits.specs.declared.mode.Mode.{Mode}
 use Rattle.press_bits.specs.DotRows.{mixed_dot}
-use Rattle.press_bits.specs.Lines.{bytes_per_line, IsPageLine}
+use Rattle.press_bits.specs.Lines.{bytes_per_line, ArePageLines, IsPageLine}
 use Rattle.std.specs.List.{count_by, range_with_len}
 use Rattle.std.proofs.lemmas.Int.{ints}
-use Rattle.std.proofs.Math.Nat.{zero-add}
+use Rattle.std.proofs.Math.Nat.{zero-add, mul-le-mul_right}
 use Rattle.press_bits.proofs.CountLemmas.{count_padded, count-line}
 use Rattle.press_bits.proofs.PageLemmas.{blank_is, width-page_where, height-page_where, page_where-HasNoDotOutside, black_at-page_where, page_where_alike}
 use Rattle.press_bits.proofs.DotRowsLemmas.{row_dot-replicate_zero}
@@ -317,6 +317,49 @@ line_missing w h y b bands band bytes size here gone has inside is =
   where
     no_bytes : (n : ℕ) → nat_lt 0 n ≡ false → n ≡ 0
     no_bytes n test = grind (arith, nat_tests)
+
+-- where a line of a band lies in its page
+in_its_band : (k n : ℕ) → n < 64 → ((64 * k + n) / 64 ≡ k) × ((64 * k + n) % 64 ≡ n)
+in_its_band k n low = (omega arith, omega arith)
+
+-- the lines of a band that is there
+pub band_there : (w h k b count : ℕ) (bands : List (List ℕ)) (band bytes : List ℕ) → b ≡ bytes_per_line w → band ≡ band_at bands k → length band ≡ 64 * b → HasBands w h bands → count ≡ min 64 (h - 64 * k) →
+    bytes ≡ take (count * b) band → ArePageLines (page_of_bands w h bands) (64 * k) count bytes
+band_there w h k b count bands band bytes size here whole has left is = record {
+  long = ap length is ∙ omega (arith, length-take (count * b) band, whole, mul-le-mul_right b most) ∙ ap (λ m. count * m) (sym wide);
+  lines = λ n low.
+      let place = in_its_band k n (omega arith) in
+      line_there w h (64 * k + n) b bands band _ size (here ∙ ap (band_at bands) (sym place.0)) whole has (omega arith)
+      ((λ i. take (wide i) (drop (n * wide i) (is i)))
+      ∙ ap (take b) (ap (λ m. drop (n * b) (take m band)) (rest n low) ∙ drop-take (n * b) (count * b - n * b) band)
+      ∙ take-take b (count * b - n * b) (drop (n * b) band) (omega (arith, line_before b n count low))
+      ∙ ap (λ m. take b (drop (m * b) band)) (sym place.1));
+}
+  where
+    most : count ≤ 64
+    most = omega arith
+
+    wide : bytes_per_line (page_of_bands w h bands).width ≡ b
+    wide = ap bytes_per_line (width-page_of_bands w h bands) ∙ sym size
+
+    rest : (n : ℕ) → n < count → count * b ≡ n * b + (count * b - n * b)
+    rest n low = omega (arith, line_before b n count low)
+
+-- the lines of a band that is not there
+pub band_missing : (w h k b count : ℕ) (bands : List (List ℕ)) (band bytes : List ℕ) → b ≡ bytes_per_line w → band ≡ band_at bands k → is_there band ≡ false → HasBands w h bands → count ≡ min 64 (h - 64 * k) →
+    bytes ≡ replicate (count * b) 0 → ArePageLines (page_of_bands w h bands) (64 * k) count bytes
+band_missing w h k b count bands band bytes size here gone has left is = record {
+  long = ap length is ∙ length-replicate {A = ℕ} (count * b) 0 ∙ ap (λ m. count * m) (sym wide);
+  lines = λ n low.
+      let place = in_its_band k n (omega arith) in
+      line_missing w h (64 * k + n) b bands band _ size (here ∙ ap (band_at bands) (sym place.0)) gone has (omega arith)
+      ((λ i. take (wide i) (drop (n * wide i) (is i)))
+      ∙ ap (take b) (drop-replicate (n * b) (count * b) 0)
+      ∙ take-replicate b (count * b - n * b) 0 (omega (arith, line_before b n count low)));
+}
+  where
+    wide : bytes_per_line (page_of_bands w h bands).width ≡ b
+    wide = ap bytes_per_line (width-page_of_bands w h bands) ∙ sym size
 
 -- no dot of a line is black whose band is not there
 pub none_black : (w h y : ℕ) (bands : List (List ℕ)) (band : List ℕ) → band ≡ band_at bands (y / 64) → is_there band ≡ false → HasBands w h bands → y < h → 0 ≡ black_in_line (page_of_bands w h bands) y

@@ -52,6 +52,18 @@ impl Band {
         })
     }
 
+    /// A white band of so many bytes, in the memory of this one.
+    pub(crate) fn whitened(self, count: usize) -> Result<Self, AllocError>
+        ensures { IfOk result (λ band. band ≡ replicate count 0) }
+    {
+        let mut bytes = self.bytes;
+        if bytes.len() != count {
+            bytes.resize(count, 0)?;
+        }
+        bytes.fill(0);
+        Ok(Band { bytes })
+    }
+
     /// An equal band.
     pub(crate) fn copy(&self) -> Result<Self, AllocError>
         ensures { IfOk result (λ band. band ≡ self.now) }
@@ -79,7 +91,6 @@ impl Band {
         requires long { 8 ≤ length self.old }
         requires small { length self.old < 2 ^ 40 }
         requires enough { stroke.now.run.skip + stroke.now.run.count ≤ stroke.now.source.dots }
-        requires pattern { 1 ≤ stroke.now.pattern.dots }
         ensures long { length self.new ≡ length self.old }
         ensures dots { IsPaintedAlong self.old self.new line stroke.now }
     {

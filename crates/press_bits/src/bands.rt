@@ -1,11 +1,11 @@
 //! Pages of dots that stand in bands of sixty-four lines. A band that is not there is white.
 #![tactic(auto)]
 
-ghost use Rattle.std.specs.Prelude.{◌≡◌, ℕ, ◌<◌, ◌≤◌, ◌+◌, ◌*◌, ◌≢◌, ◌↔◌, ◌⊎◌, [], replicate, length, take, drop, min, pos, true, false, vec_len, MatchOption, IfOk, IsTrue, OnOk, OnErr};
+ghost use Rattle.std.specs.Prelude.{◌≡◌, ℕ, ◌<◌, ◌≤◌, ◌+◌, ◌-◌, ◌*◌, ◌≢◌, ◌↔◌, ◌⊎◌, [], replicate, length, take, min, pos, true, false, vec_len, MatchOption, IfOk, IsTrue, OnOk, OnErr};
 ghost use Rattle.std.specs.List.{range_with_len, sum_by};
 ghost use Rattle.press_bits.specs.Page.{HasNoDotOutside, black_at, black_in_line, blank, count_black, is_page_size};
 ghost use Rattle.press_bits.specs.Mark.{IsSolid, IsWhite, painted, row, row_mark, column_mark};
-ghost use Rattle.press_bits.specs.Lines.{bytes_per_line, IsPageLine};
+ghost use Rattle.press_bits.specs.Lines.{bytes_per_line, ArePageLines, IsPageLine};
 ghost use Rattle.press_bits.specs.Bands.{AreReady, StaysReady, band_at, band_lines, is_there};
 
 use crate::band::Band;
@@ -15,6 +15,7 @@ use crate::down::paint_down;
 use crate::making::make_bands;
 use crate::mode::Mode;
 use crate::painting::run_within;
+use crate::repeats::Repeats;
 use crate::stroke::{Column, Stroke};
 use std::alloc::{AllocError, Global};
 use std::marker::Model;
@@ -26,14 +27,19 @@ pub const MAX_SIDE: u32 = 16_384;
 pub const WIDEST_ROW: usize = MAX_SIDE as usize / 8;
 
 /// How many lines a band has.
-pub(crate) const BAND: usize = 64;
+pub const BAND_LINES: u32 = 64;
 
-/// A page of black and white dots. Contracts see its dots, and which of its bands are there.
+/// How many lines a band has.
+pub(crate) const BAND: usize = BAND_LINES as usize;
+
+/// A page of black and white dots. Contracts see its dots, and which of its bands are there, and not the bands of another page
+/// that it may be made of.
 #[derive(Drop)]
 pub struct Bands {
     width: u32,
     height: u32,
     bands: Vec<Band>,
+    spare: Vec<Band>,
 }
 
 impl Model for Bands {
@@ -62,18 +68,6 @@ fn front(bytes: &[u8], count: usize) -> &[u8]
     ensures { result.now ≡ take count bytes.now }
 {
     &bytes[..count]
-}
-
-/// The bytes of a line of a band.
-fn line_in(band: &Band, line: usize, count: usize) -> &[u8]
-    requires whole { length band.now ≡ band_lines * count }
-    requires within { line < band_lines }
-    requires small { count ≤ WIDEST_ROW }
-    ensures { result.now ≡ take count (drop (line * count) band.now) }
-{
-    let bytes = band.bytes();
-    let start = line * count;
-    &bytes[start..start + count]
 }
 
 /// The column or the line of a page, of which there are `side`, at which a place lies, if it lies on the page.
@@ -139,6 +133,7 @@ impl Bands {
             width,
             height,
             bands,
+            spare: Vec::new(alloc),
         })
     }
 
@@ -155,7 +150,15 @@ impl Bands {
             width: self.width,
             height: self.height,
             bands: copied(alloc, &self.bands)?,
+            spare: Vec::new(alloc),
         })
+    }
+
+    /// Bands that are made from now on take the memory of those of another page.
+    pub(crate) fn reuse(&mut self, other: Bands)
+        ensures { self.new ≡ self.old }
+    {
+        self.spare = other.bands;
     }
 
     /// How many dots a line has.
@@ -199,11 +202,24 @@ impl Bands {
         ensures { IsPageLine self.now.page y result.now }
     {
         let count = line_bytes(self.width);
-        let band = &self.bands[y as usize / BAND];
+        let start = y as usize % BAND * count;
+        &self.band(y / BAND_LINES)[start..start + count]
+    }
+
+    /// The bytes of the lines of a band, one after the other: of 64 lines, or of as many as are left; they are 0 where the band
+    /// is not there.
+    pub(crate) fn band(&self, index: u32) -> &[u8]
+        requires { band_lines * index < self.now.page.height }
+        ensures { ArePageLines self.now.page (band_lines * index)
+            (min band_lines (self.now.page.height - band_lines * index)) result.now }
+    {
+        let lines = BAND_LINES.min(self.height - BAND_LINES * index);
+        let count = lines as usize * line_bytes(self.width);
+        let band = &self.bands[index as usize];
         if !band.is_there() {
-            return front(&[0; WIDEST_ROW], count);
+            return front(&[0; BAND * WIDEST_ROW], count);
         }
-        line_in(band, y as usize % BAND, count)
+        front(band.bytes(), count)
     }
 
     /// How many dots of a line are black.
@@ -274,7 +290,14 @@ impl Bands {
         let size = BAND * line_bytes(self.width);
         let alloc = *self.bands.allocator();
         let end = (run.first + run.count - 1) / BAND + 1;
-        make_bands(&mut self.bands, alloc, run.first / BAND, end, size)
+        make_bands(
+            &mut self.bands,
+            &mut self.spare,
+            alloc,
+            run.first / BAND,
+            end,
+            size,
+        )
     }
 
     /// Paints a row of source dots through a row of a pattern: source dot 0 at column `x` of line `y`, and the others to its
@@ -325,7 +348,7 @@ impl Bands {
         let stroke = Stroke {
             run,
             source,
-            pattern,
+            through: Repeats::of(pattern),
             mode,
             solid,
         };
@@ -365,7 +388,7 @@ impl Bands {
         let stroke = Stroke {
             run,
             source,
-            pattern,
+            through: Repeats::of(pattern),
             mode,
             solid: false,
         };

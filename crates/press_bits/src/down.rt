@@ -79,11 +79,10 @@ pub(crate) fn paint_down(bands: &mut Vec<Band>, column: Column, stroke: &Stroke<
         → 64 * k < stroke.now.run.first + stroke.now.run.count
         → length (band_at bands.old.items k) ≡ 64 * column.bytes }
     requires enough { stroke.now.run.skip + stroke.now.run.count ≤ stroke.now.source.dots }
-    requires pattern { 1 ≤ stroke.now.pattern.dots }
     ensures { PaintedDown bands.old.items bands.new.items
         (λ n. row_dot stroke.now.source.bits.now
         (stroke.now.run.skip + (n - stroke.now.run.first)))
-        (repeated (row stroke.now.pattern)) stroke.now.mode column.bytes column.place
+        (repeated (row stroke.now.through.pattern)) stroke.now.mode column.bytes column.place
         stroke.now.run.first (stroke.now.run.first + stroke.now.run.count) }
 {
     let run = stroke.run;

@@ -16,7 +16,7 @@ mod stroke;
 mod word;
 
 pub use band::white_bytes;
-pub use bands::{Bands, MAX_SIDE, WIDEST_ROW};
+pub use bands::{BAND_LINES, Bands, MAX_SIDE, WIDEST_ROW};
 pub use bitmap::{Bitmap, BlankError};
 pub use dot_row::DotRow;
 pub use lanes::lanes_from;

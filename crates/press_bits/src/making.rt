@@ -1,15 +1,32 @@
 //! Bands of a page that are made where they are not there.
 #![tactic(auto)]
 
-ghost use Rattle.std.specs.Prelude.{◌≡◌, ◌<◌, ◌≤◌, ◌+◌, vec_len};
+ghost use Rattle.std.specs.Prelude.{◌≡◌, ◌<◌, ◌≤◌, ◌+◌, replicate, vec_len, IfOk};
 ghost use Rattle.press_bits.specs.Bands.{MakesBands};
 
 use crate::band::Band;
 use std::alloc::{AllocError, Global};
+use std::mem;
+
+/// A white band, in the memory of the spare one of its number, where there is one.
+fn white_band(
+    spare: &mut Vec<Band>,
+    alloc: Global,
+    index: usize,
+    count: usize,
+) -> Result<Band, AllocError>
+    ensures { IfOk result (λ band. band ≡ replicate count 0) }
+{
+    if index >= spare.len() {
+        return Band::white(alloc, count);
+    }
+    mem::replace(&mut spare[index], Band::missing(alloc)).whitened(count)
+}
 
 /// Makes a band that is not there.
 fn make_band(
     bands: &mut Vec<Band>,
+    spare: &mut Vec<Band>,
     alloc: Global,
     index: usize,
     count: usize,
@@ -21,13 +38,14 @@ fn make_band(
     if bands[index].is_there() {
         return Ok(());
     }
-    bands[index] = Band::white(alloc, count)?;
+    bands[index] = white_band(spare, alloc, index, count)?;
     Ok(())
 }
 
-/// Makes those of the bands from `first` on and before `end` that are not there.
+/// Makes those of the bands from `first` on and before `end` that are not there, in the memory of spare ones as far as it goes.
 pub(crate) fn make_bands(
     bands: &mut Vec<Band>,
+    spare: &mut Vec<Band>,
     alloc: Global,
     first: usize,
     end: usize,
@@ -38,7 +56,7 @@ pub(crate) fn make_bands(
     ensures { MakesBands bands.old.items bands.new.items first end count result }
 {
     for index in first..end {
-        make_band(bands, alloc, index, count)?;
+        make_band(bands, spare, alloc, index, count)?;
     }
     Ok(())
 }

@@ -1,12 +1,11 @@
 //! Rows of dots that are mixed into the bytes of a page, sixty-four dots at a time.
 ghost use Rattle.std.specs.Prelude.{◌≡◌, ℕ, ◌+◌, ◌-◌, ◌*◌, ◌/◌, ◌%◌, ◌^◌, ◌<◌, ◌≤◌, ◌⊎◌, ◌&&◌, ◌||◌, not, nat_le, nat_lt, min, true, pos, ◌+ℤ◌, length};
-ghost use Rattle.press_bits.specs.Mark.{row, byte_dot, repeated};
+ghost use Rattle.press_bits.specs.Mark.{byte_dot};
 ghost use Rattle.press_bits.specs.Words.{word_dot};
-ghost use Rattle.press_bits.specs.Ranges.{IsBlackened, IsPaintedAlong, IsPaintedFrom, IsStampedDown};
+ghost use Rattle.press_bits.specs.Ranges.{IsPaintedAlong, IsPaintedFrom, IsStampedDown};
 
 use crate::dot_bytes::is_dot_black;
 use crate::mode::Mode;
-use crate::repeats::{front_word, repeated_word};
 use crate::stroke::{Column, Run, Stamp, Stroke};
 use crate::word::{mixed_word, put_word, word_at, word_from};
 
@@ -55,72 +54,56 @@ fn mask_word(part: Part) -> u64
     (u64::MAX >> (part.from - start)) & (u64::MAX << (start + 64 - part.to))
 }
 
-/// Paints the dots of a part of a stroke that lies in the line that begins at byte `line`, through the pattern of which this is
-/// the front.
+/// Paints the dots of a part of a stroke that lies in the line that begins at byte `line`.
 #[inline(always)]
-fn paint_word(
-    rows: &mut [u8],
-    part: Part,
-    line: usize,
-    stroke: &Stroke<'_, '_>,
-    front: u64,
-    divides: bool,
-)
+fn paint_word(rows: &mut [u8], part: Part, line: usize, stroke: &Stroke<'_, '_>)
     requires room { part.index + 8 ≤ length rows.old }
     requires small { length rows.old < 2 ^ 40 }
     requires begun { 8 * line + stroke.now.run.first ≤ part.from }
     requires left { part.to ≤ 8 * line + stroke.now.run.first + stroke.now.run.count }
     requires enough { stroke.now.run.skip + stroke.now.run.count ≤ stroke.now.source.dots }
-    requires pattern { 1 ≤ stroke.now.pattern.dots }
-    requires front { (j : ℕ) → j < 64
-        → word_dot front j ≡ repeated (row stroke.now.pattern) j }
-    requires divides { divides ≡ true → 64 % stroke.now.pattern.dots ≡ 0 }
     ensures { IsPaintedFrom rows.old rows.new line stroke.now part.from part.to }
 {
-    let Stroke {
-        run,
-        source,
-        pattern,
-        mode,
-        ..
-    } = *stroke;
+    let run = stroke.run;
     let shift = part.from - 8 * part.index;
     let first = run.skip + (part.from - (8 * line + run.first));
-    let dots = word_from(source.bits, first);
-    let through = repeated_word(pattern, front, divides, part.from - 8 * line);
+    let dots = word_from(stroke.source.bits, first);
+    let through = stroke.through.word(part.from - 8 * line);
     let before = word_at(rows, part.index);
     let mask = mask_word(part);
-    let after = mixed_word(before, dots >> shift, through >> shift, mask, mode);
+    let after = mixed_word(before, dots >> shift, through >> shift, mask, stroke.mode);
     put_word(rows, part.index, after);
 }
 
-/// Blackens the dots from dot `from` on and before dot `to`, one after the other.
-fn blacken_dots(rows: &mut [u8], from: usize, to: usize)
-    requires onward { from ≤ to }
-    requires within { to ≤ 8 * length rows.old }
-    ensures { IsBlackened rows.old rows.new from to }
-{
-    for dot in from..to {
-        rows[dot / 8] |= 0x80 >> (dot % 8);
-    }
-}
-
-/// Blackens the dots from dot `from` on and before dot `to`: those of whole bytes at once.
-fn blacken(rows: &mut [u8], from: usize, to: usize)
-    requires onward { from ≤ to }
-    requires within { to ≤ 8 * length rows.old }
+/// Paints dots of a stroke from dot `from` on that lie before dot `end`, and says before which: those that stand in the same eight
+/// bytes, or of a solid one all that fill whole bytes.
+#[inline(always)]
+fn paint_next(
+    rows: &mut [u8],
+    line: usize,
+    stroke: &Stroke<'_, '_>,
+    from: usize,
+    end: usize,
+) -> usize
+    requires some { from < end }
+    requires within { end ≤ 8 * length rows.old }
+    requires long { 8 ≤ length rows.old }
     requires small { length rows.old < 2 ^ 40 }
-    ensures { IsBlackened rows.old rows.new from to }
+    requires begun { 8 * line + stroke.now.run.first ≤ from }
+    requires left { end ≤ 8 * line + stroke.now.run.first + stroke.now.run.count }
+    requires enough { stroke.now.run.skip + stroke.now.run.count ≤ stroke.now.source.dots }
+    ensures onward { from < result }
+    ensures within { result ≤ end }
+    ensures painted { IsPaintedFrom rows.old rows.new line stroke.now from result }
 {
-    let first = from.div_ceil(8);
-    let last = to / 8;
-    if last < first {
-        blacken_dots(rows, from, to);
-        return;
+    if stroke.solid && from % 8 == 0 && from + 8 <= end {
+        rows[from / 8..end / 8].fill(0xFF);
+        return 8 * (end / 8);
     }
-    blacken_dots(rows, from, 8 * first);
-    rows[first..last].fill(0xFF);
-    blacken_dots(rows, 8 * last, to);
+    let index = (from / 8).min(rows.len() - 8);
+    let to = (8 * index + 64).min(end);
+    paint_word(rows, Part { index, from, to }, line, stroke);
+    to
 }
 
 /// Paints a run of source dots, through a pattern, into the line that begins at byte `line`.
@@ -129,25 +112,12 @@ pub(crate) fn paint_across(rows: &mut [u8], line: usize, stroke: &Stroke<'_, '_>
     requires long { 8 ≤ length rows.old }
     requires small { length rows.old < 2 ^ 40 }
     requires enough { stroke.now.run.skip + stroke.now.run.count ≤ stroke.now.source.dots }
-    requires pattern { 1 ≤ stroke.now.pattern.dots }
     ensures { IsPaintedAlong rows.old rows.new line stroke.now }
 {
-    if stroke.solid {
-        let from = 8 * line + stroke.run.first;
-        blacken(rows, from, from + stroke.run.count);
-        return;
-    }
-    let front = front_word(stroke.pattern);
-    let divides = 64 % stroke.pattern.dots == 0;
-    let last = rows.len() - 8;
     let mut from = 8 * line + stroke.run.first;
     let end = from + stroke.run.count;
     while from < end {
-        let index = (from / 8).min(last);
-        let to = (8 * index + 64).min(end);
-        let part = Part { index, from, to };
-        paint_word(rows, part, line, stroke, front, divides);
-        from = to;
+        from = paint_next(rows, line, stroke, from, end);
     }
 }
 

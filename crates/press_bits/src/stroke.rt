@@ -4,6 +4,7 @@ ghost use Rattle.press_bits.specs.Mark.{IsSolid, row};
 
 use crate::dot_row::DotRow;
 use crate::mode::Mode;
+use crate::repeats::Repeats;
 
 /// The dots of a row that lie on a page, along one side of it: `count` of them from dot `skip` of the row on, which lies at
 /// place `first`.
@@ -15,15 +16,15 @@ pub(crate) struct Run {
 }
 
 /// A run of the dots of a source row that is painted through a row of a pattern; a solid one has black dots alone.
-#[derive(Clone, Copy, Debug)]
+#[derive(Clone, Copy)]
 pub(crate) struct Stroke<'s, 'p> {
     pub(crate) run: Run,
     pub(crate) source: DotRow<'s>,
-    pub(crate) pattern: DotRow<'p>,
+    pub(crate) through: Repeats<'p>,
     pub(crate) mode: Mode,
     pub(crate) solid: bool,
     ghost small: { source.dots < 2 ^ 64 },
-    ghost black: { solid ≡ true → IsSolid (row source) (row pattern) },
+    ghost black: { solid ≡ true → IsSolid (row source) (row through.pattern) },
 }
 
 /// A column of dots, `place` dots from the left edge of lines that have `bytes` bytes each.

@@ -1,7 +1,8 @@
 use Rattle.std.proofs.Common.{◌≡◌, ℕ, ◌*◌, ◌<◌, Bool, List, true, length, sym, ap, ◌∙◌, subst, arith, pos, ◌+ℤ◌, w64}
 use Rattle.std.proofs.lemmas.Int.{to_z-of_z}
 use Rattle.press_bits.specs.Page.{HasNoDotOutside}
-use Rattle.press_bits.specs.Mark.{painted, row, column_mark}
+use Rattle.press_bits.specs.Mark.{painted, row, repeated, column_mark}
+use Rattle.press_bits.specs.declared.dot_row.DotRow.{DotRow}
 use Rattle.press_bits.specs.Lines.{bytes_per_line}
 use Rattle.press_bits.specs.declared.mode.Mode.{Mode}
 use Rattle.press_bits.specs.Bands.{BandedPage, is_there, band_at, PaintedDown}
@@ -45,8 +46,9 @@ paint_down-requires-clause-there c = λ k from before.
     ap (λ j. is_there (band_at c.self.inside.bands.items j)) (sym inside.2) ∙ band_ready c.self.inside.width c.self.inside.height c.self.inside.bands.items c.args.self.now (line_of k c.run_within-run.result.first) c.self.view_is (c.requires.ready (line_of k c.run_within-run.result.first) at.0 at.1 high) in
     there_long c.self.inside.width c.self.inside.height c.self.inside.bands.items k c.self.invariant few some ∙ ap (λ n. 64 * n) (sym c.line_bytes.ensures)
 
-laid : (w : ℕ) (bytes : ℕ) (old new : List (List ℕ)) (source tile : ℕ → Bool) (mode : Mode) (column first end : ℕ) → bytes ≡ bytes_per_line w → PaintedDown old new source tile mode bytes column first end → PaintedDown old new source tile mode (bytes_per_line w) column first end
-laid w bytes old new source tile mode column first end is down = subst (λ b. PaintedDown old new source tile mode b column first end) is down
+laid : (w : ℕ) (bytes : ℕ) (old new : List (List ℕ)) (source tile through : ℕ → Bool) (mode : Mode) (column first end : ℕ) → bytes ≡ bytes_per_line w → tile ≡ through → PaintedDown old new source tile mode bytes column first end → PaintedDown old new source through mode (bytes_per_line w) column first end
+laid w bytes old new source tile through mode column first end is same down =
+    subst (λ b. PaintedDown old new source through mode b column first end) is (subst (λ t. PaintedDown old new source t mode bytes column first end) same down)
 
 pub returns-clause-painted : goal.returns-clause-painted
 returns-clause-painted c =
@@ -56,13 +58,13 @@ returns-clause-painted c =
     c.run_within-run.ensures.first
     (c.in-Some.ensures.0 ∙ to_z-of_z w64 c.args.x c.ranges.x)
     c.run_within-run.ensures.count
-    (laid c.self.inside.width _ _ _ _ _ c.args.mode _ _ _ c.line_bytes.ensures c.paint_down.ensures)
+    (laid c.self.inside.width _ _ _ _ _ _ c.args.mode _ _ _ c.line_bytes.ensures (ap (λ (given : DotRow). repeated (row given)) c.of.ensures) c.paint_down.ensures)
     ∙ ap (λ (s : BandedPage). painted s.page (column_mark c.args.x c.args.y (row c.args.source) (row c.args.pattern) c.args.mode)) c.self.view_is
 
 pub invariant_of-self : goal.invariant_of-self
 invariant_of-self c =
     down_has c.self.inside.width c.self.inside.height c.self.inside.bands.items c.paint_down.new.bands.items _ _ c.args.mode _ _ _ c.in-Some.ensures.1 c.self.invariant
-    (laid c.self.inside.width _ _ _ _ _ c.args.mode _ _ _ c.line_bytes.ensures c.paint_down.ensures)
+    (laid c.self.inside.width _ _ _ _ _ _ c.args.mode _ _ _ c.line_bytes.ensures (ap (λ (given : DotRow). repeated (row given)) c.of.ensures) c.paint_down.ensures)
 
 pub returns-clause-ready : goal.returns-clause-ready
 returns-clause-ready c =

@@ -2,13 +2,13 @@ use Rattle.std.proofs.Common.{◌-◌, inl, inr, ap, ◌∙◌, arith}
 use Rattle.std.proofs.lemmas.Bool.{cases_lt}
 use Rattle.press_bits.specs.Mark.{row, row_dot}
 use Rattle.press_bits.proofs.RepeatLemmas.{repeated-first, IsPeriod-dots, IsPeriod-twice, behind}
-use Rattle.press_bits.proofs.repeats.front_word.Goals as goal
+use Rattle.press_bits.proofs.repeats.Repeats.of.Goals as goal
 
 pub loop-known-init : goal.loop-known-init
 loop-known-init c = record {
   some = c.requires;
   period = IsPeriod-dots (row c.args.pattern);
-  dots = λ j within before. c.word_from-word.ensures j within ∙ ap (row_dot c.args.pattern.bits.now) (omega arith) ∙ repeated-first (row c.args.pattern) j before;
+  dots = λ j within before. c.word_from-front.ensures j within ∙ ap (row_dot c.args.pattern.bits.now) (omega arith) ∙ repeated-first (row c.args.pattern) j before;
 }
 
 pub loop-known-preserved : goal.loop-known-preserved
@@ -17,13 +17,13 @@ loop-known-preserved c = record {
   period = IsPeriod-twice (row c.args.pattern) c.loop-known.known c.loop-known.invariant.period;
   dots = λ j within before.
       elim (cases_lt j c.loop-known.known) [
-        | inl front ↦ c.joined-word.ensures.front j front ∙ c.loop-known.invariant.dots j within front
+        | inl front ↦ c.joined-front.ensures.front j front ∙ c.loop-known.invariant.dots j within front
         | inr rest ↦
-            c.joined-word.ensures.rest j rest within
-            ∙ behind (row c.args.pattern) c.loop-known.word c.loop-known.known (j - c.loop-known.known) j c.loop-known.invariant.period (omega arith)
+            c.joined-front.ensures.rest j rest within
+            ∙ behind (row c.args.pattern) c.loop-known.front c.loop-known.known (j - c.loop-known.known) j c.loop-known.invariant.period (omega arith)
             (c.loop-known.invariant.dots (j - c.loop-known.known) (omega arith) (omega arith))
       ];
 }
 
-pub returns : goal.returns
-returns c = λ j within. c.loop-known.invariant.dots j within (omega arith)
+pub invariant_of-result-clause-dots : goal.invariant_of-result-clause-dots
+invariant_of-result-clause-dots c = λ j within. c.loop-known.invariant.dots j within (omega arith)
