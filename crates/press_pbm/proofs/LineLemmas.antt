@@ -1,15 +1,15 @@
 -- The bytes of a line, from its dots.
-use Rattle.std.proofs.Common.{inl, inr, ◌≡◌, ℕ, ◌+◌, ◌-◌, ◌*◌, ◌/◌, ◌%◌, ◌<◌, ◌≤◌, zero, suc, Bool, true, false, List, ◌++◌, get_or, map, refl, sym, ap, ◌∙◌, arith, subst, append_assoc}
+use Rattle.std.proofs.Common.{inl, inr, ◌≡◌, ℕ, ◌+◌, ◌-◌, ◌*◌, ◌/◌, ◌%◌, ◌<◌, ◌≤◌, ◌⊎◌, min, zero, suc, Bool, true, false, List, ◌++◌, take, drop, get_or, map, refl, sym, ap, ◌∙◌, arith, subst, append_assoc, take-append-drop}
 use Rattle.std.specs.Prelude.{nat_eq, if◌then◌else◌}
 use Rattle.std.specs.Int.{bit_at}
 use Rattle.std.specs.List.{fold, flat_map, range_with_len}
-use Rattle.std.proofs.lemmas.List.{same_lists, get_or_default}
+use Rattle.std.proofs.lemmas.List.{same_lists, get_or_default, nil_from_length, length-take, length-drop, get_or-take, get_or-drop, get_or_past, drop-drop}
 use Rattle.std.proofs.lemmas.List.FromFn.{length-map-range_with_len, get_or-map-range_with_len}
 use Rattle.std.proofs.lemmas.Bool.{cases_lt}
 use Rattle.std.proofs.lemmas.Nat.Bits.{bit_at-suc, bit_at_lowest, bit_at-lt, same_from_bits_below}
 use Rattle.press_bits.specs.Page.{Page, black_at, HasNoDotOutside}
 use Rattle.press_bits.specs.Mark.{row_dot, byte_dot}
-use Rattle.press_bits.specs.Lines.{bytes_per_line, IsPageLine}
+use Rattle.press_bits.specs.Lines.{bytes_per_line, ArePageLines, IsPageLine}
 use Rattle.press_pbm.specs.Spelling.{byte_of_dots, line_bytes}
 
 -- a dot as a binary digit
@@ -116,14 +116,69 @@ IsPageLine-line_bytes page y bytes none small is =
     dot : (x : ℕ) → row_dot bytes x ≡ black_at page x y
     dot x = elim (cases_lt x page.width) [ inl left ↦ is.dots x left | inr right ↦ is.padding x right ∙ white_right page x y none right ]
 
--- the line at hand and those below it
-pub lines_from : (line : ℕ → List ℕ) (y height : ℕ) → y < height →
-    flat_map line (range_with_len y (height - y)) ≡ line y ++ flat_map line (range_with_len (y + 1) (height - (y + 1)))
-lines_from line y height below = let next : height - y ≡ suc (height - (y + 1)) = omega arith in ap (λ n. flat_map line (range_with_len y n)) next
+-- lines that stand one after the other are what the page's dots make
+pub ArePageLines-line_bytes : (page : Page) (count y : ℕ) (bytes : List ℕ) → HasNoDotOutside page → ((i : ℕ) → get_or bytes i 0 < 256) → ArePageLines page y count bytes → bytes ≡ flat_map (line_bytes page) (range_with_len y count)
+ArePageLines-line_bytes page zero y bytes none small are = nil_from_length bytes (are.long ∙ omega arith)
+ArePageLines-line_bytes page (suc count) y bytes none small are =
+    let b : ℕ = bytes_per_line page.width in
+    let begin : 0 * b ≡ 0 = omega arith in
+    let line : y + 0 ≡ y = omega arith in
+    let first : take b bytes ≡ line_bytes page y =
+    IsPageLine-line_bytes page y (take b bytes) none (λ i. small_front i (cases_lt i b))
+    (subst (λ k. IsPageLine page y (take b (drop k bytes))) begin (subst (λ k. IsPageLine page k (take b (drop (0 * b) bytes))) line (are.lines 0 (omega arith)))) in
+    let others : ArePageLines page (y + 1) count (drop b bytes) = record {
+      long = length-drop b bytes ∙ omega (arith, are.long, more count b);
+      lines = λ n low.
+          let next : y + suc n ≡ y + 1 + n = omega arith in
+          let place : b + n * b ≡ suc n * b = sym (more n b) in
+          subst (λ k. IsPageLine page k (take b (drop (n * b) (drop b bytes)))) next
+          (subst (λ rest. IsPageLine page (y + suc n) (take b rest)) (sym (drop-drop (n * b) b bytes ∙ ap (λ k. drop k bytes) place)) (are.lines (suc n) (omega arith)));
+    } in
+    sym (take-append-drop b bytes)
+    ∙ (λ i. first i ++ ArePageLines-line_bytes page count (y + 1) (drop b bytes) none (λ i. omega (arith, get_or-drop b bytes i 0, small (b + i))) others i)
+  where
+    more : (n b : ℕ) → suc n * b ≡ b + n * b
+    more n b = omega arith
 
--- a line that comes next behind others
-pub lines_grow : (line : ℕ → List ℕ) (all done bytes : List ℕ) (y height : ℕ) → y < height → bytes ≡ line y → all ≡ done ++ flat_map line (range_with_len y (height - y)) →
-    all ≡ (done ++ bytes) ++ flat_map line (range_with_len (y + 1) (height - (y + 1)))
-lines_grow line all done bytes y height below is split =
-    let rest : List ℕ = flat_map line (range_with_len (y + 1) (height - (y + 1))) in
-    split ∙ ap (λ l. done ++ l) (lines_from line y height below) ∙ ap (λ l. done ++ (l ++ rest)) (sym is) ∙ sym (append_assoc done bytes rest)
+    small_front : (i : ℕ) → (i < bytes_per_line page.width) ⊎ (bytes_per_line page.width ≤ i) → get_or (take (bytes_per_line page.width) bytes) i 0 < 256
+    small_front i (inl before) = omega (arith, get_or-take (bytes_per_line page.width) bytes i 0 before, small i)
+    small_front i (inr past) = omega (arith, get_or_past (take (bytes_per_line page.width) bytes) i 0 (omega (arith, length-take (bytes_per_line page.width) bytes)))
+
+-- some lines, and those below them
+lines_split : (line : ℕ → List ℕ) (count rest y : ℕ) → flat_map line (range_with_len y (count + rest)) ≡ flat_map line (range_with_len y count) ++ flat_map line (range_with_len (y + count) rest)
+lines_split line zero rest y = λ i. flat_map line (range_with_len (begin y i) (none rest i))
+  where
+    begin : (y : ℕ) → y ≡ y + 0
+    begin y = omega arith
+
+    none : (rest : ℕ) → 0 + rest ≡ rest
+    none rest = omega arith
+lines_split line (suc count) rest y =
+    ap (λ n. flat_map line (range_with_len y n)) (more count rest)
+    ∙ ap (λ l. line y ++ l) (lines_split line count rest (y + 1) ∙ ap (λ n. flat_map line (range_with_len (y + 1) count) ++ flat_map line (range_with_len n rest)) (next y count))
+    ∙ sym (append_assoc (line y) (flat_map line (range_with_len (y + 1) count)) (flat_map line (range_with_len (y + suc count) rest)))
+  where
+    more : (count rest : ℕ) → suc count + rest ≡ suc (count + rest)
+    more count rest = omega arith
+
+    next : (y count : ℕ) → y + 1 + count ≡ y + suc count
+    next y count = omega arith
+
+-- the lines of a band that come next behind others
+pub lines_grow : (line : ℕ → List ℕ) (all done bytes : List ℕ) (k height : ℕ) → 64 * k < height → bytes ≡ flat_map line (range_with_len (64 * k) (min 64 (height - 64 * k))) →
+    all ≡ done ++ flat_map line (range_with_len (64 * k) (height - 64 * k)) → all ≡ (done ++ bytes) ++ flat_map line (range_with_len (64 * (k + 1)) (height - 64 * (k + 1)))
+lines_grow line all done bytes k height below is split =
+    let rest : List ℕ = flat_map line (range_with_len (64 * (k + 1)) (height - 64 * (k + 1))) in
+    let whole : height - 64 * k ≡ min 64 (height - 64 * k) + (height - 64 * (k + 1)) = omega arith in
+    split
+    ∙ ap (λ n. done ++ flat_map line (range_with_len (64 * k) n)) whole
+    ∙ ap (λ l. done ++ l) (lines_split line (min 64 (height - 64 * k)) (height - 64 * (k + 1)) (64 * k)
+    ∙ (λ i. sym is i ++ behind (cases_lt (64 * (k + 1)) height) i))
+    ∙ sym (append_assoc done bytes rest)
+  where
+    behind : (64 * (k + 1) < height) ⊎ (height ≤ 64 * (k + 1)) →
+        flat_map line (range_with_len (64 * k + min 64 (height - 64 * k)) (height - 64 * (k + 1))) ≡ flat_map line (range_with_len (64 * (k + 1)) (height - 64 * (k + 1)))
+    behind (inl more) = let next : 64 * k + min 64 (height - 64 * k) ≡ 64 * (k + 1) = omega arith in ap (λ n. flat_map line (range_with_len n (height - 64 * (k + 1)))) next
+    behind (inr last) =
+        let none : height - 64 * (k + 1) ≡ 0 = omega arith in
+        ap (λ n. flat_map line (range_with_len (64 * k + min 64 (height - 64 * k)) n)) none ∙ sym (ap (λ n. flat_map line (range_with_len (64 * (k + 1)) n)) none)

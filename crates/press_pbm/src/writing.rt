@@ -7,7 +7,7 @@ ghost use Rattle.press_pbm.specs.Spelling.{header_of, line_bytes, file_of, Appen
 
 use crate::fault::WritePbmError;
 use itoa::Buffer;
-use press_bits::Bitmap;
+use press_bits::{BAND_LINES, Bitmap};
 use std::io::{self, ErrorKind, Write};
 
 /// The most writes of one list of bytes.
@@ -61,12 +61,13 @@ fn write_header<W: Write>(bitmap: &Bitmap, output: &mut W) -> Result<(), WritePb
     write_bytes(output, b"\n")
 }
 
+/// Writes the lines of a bitmap, those of a band at once.
 fn write_lines<W: Write>(bitmap: &Bitmap, output: &mut W) -> Result<(), WritePbmError>
     ensures { Writes result (W.contents output.old) (W.contents output.new)
         (flat_map (line_bytes bitmap.now) (range_with_len 0 bitmap.now.height)) }
 {
-    for y in 0..bitmap.height() {
-        write_bytes(output, bitmap.line(y))?;
+    for index in 0..bitmap.height().div_ceil(BAND_LINES) {
+        write_bytes(output, bitmap.band(index))?;
     }
     Ok(())
 }

@@ -106,7 +106,7 @@ fn fails_at(alloc: Global, page: &Bitmap, call: u64, front: usize) -> bool {
 fn each_write_may_fail(rt: HostRuntime) -> Result<(), Fail> {
     let mut input = NINE_BY_TWO;
     let page = read_pbm(rt.alloc(), &mut input)?;
-    for (call, front) in [0, 3, 4, 5, 6, 7, 9].into_iter().enumerate() {
+    for (call, front) in [0, 3, 4, 5, 6, 7].into_iter().enumerate() {
         assert!(rt;
             fails_at(rt.alloc(), &page, call as u64, front),
             "write {call}"
@@ -119,7 +119,7 @@ fn each_write_may_fail(rt: HostRuntime) -> Result<(), Fail> {
 fn a_fuse_that_is_not_reached_passes_all_on(rt: HostRuntime) -> Result<(), Fail> {
     let mut input = NINE_BY_TWO;
     let page = read_pbm(rt.alloc(), &mut input)?;
-    let mut output = FuseWrite::new(Vec::new(rt.alloc()), 7);
+    let mut output = FuseWrite::new(Vec::new(rt.alloc()), 6);
     write_pbm(&page, &mut output)?;
     output.flush()?;
     assert_eq!(rt; output.into_inner().as_slice(), NINE_BY_TWO);
