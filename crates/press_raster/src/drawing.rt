@@ -1,7 +1,7 @@
 //! Rows of raster graphics that are drawn one below the other (PCL 5 Printer Language Technical Reference Manual, Raster
 //! Graphics, Transfer Raster Data by Row and Set Compression Method commands).
 
-ghost use Rattle.std.specs.Prelude.{◌≡◌, ◌≤◌, ◌<◌, ◌-◌, ◌^◌, ℕ, false, true, length, min, pos, replicate, Some, IfOk, OnOk};
+ghost use Rattle.std.specs.Prelude.{◌≡◌, ◌≤◌, ◌<◌, ◌-◌, ◌^◌, ℕ, false, true, length, min, pos, replicate, Some, OnOk, OnErr};
 ghost use Rattle.press_bits.specs.Lines.{bytes_per_line};
 ghost use Rattle.press_bits.specs.Page.{longest_side};
 ghost use Rattle.press_cursor.specs.Cursor.{moved_y};
@@ -11,13 +11,14 @@ ghost use Rattle.press_rows.specs.Row.{fitted};
 ghost use Rattle.press_raster.specs.Across.{HasRoom, page_frame};
 ghost use Rattle.press_raster.specs.Drawing.{IsSetUp, RowsReady, drawn_by, last_line, layout, line_of, lines_of_row};
 ghost use Rattle.press_raster.specs.Drawing.{one_row_on, setup_of};
+ghost use Rattle.press_raster.specs.Graphics.{is_below_height};
 ghost use Rattle.press_raster.specs.Rows.{with_item, with_items};
-ghost use Rattle.press_raster.specs.Settings.{row_height};
+ghost use Rattle.press_raster.specs.Settings.{items_of, row_height};
 
 use crate::raster::{MOST_ROWS, RasterPosition, RowData, RowPlace, is_within};
-use crate::settings::RasterSettings;
-use crate::strip::{Across, Scratch, bytes_for, paint_across};
-use press_bits::{Bands, DotRow, MAX_SIDE, white_bytes};
+use crate::settings::{RasterSettings, RowCoding};
+use crate::strip::{Across, Scratch, bytes_for, make_room, paint_across, paint_strip};
+use press_bits::{Bands, DotRow, MAX_SIDE};
 use press_cursor::Cursor;
 use press_page::PageEnv;
 use press_pattern::Ink;
@@ -97,12 +98,7 @@ impl RowSetup {
     /// # Errors
     ///
     /// Where memory ran out; no dot changes.
-    pub(crate) fn ready(
-        &self,
-        page: &mut Bands,
-        cursor: &Cursor,
-        rows: usize,
-    ) -> Result<(), AllocError>
+    fn ready(&self, page: &mut Bands, cursor: &Cursor, rows: usize) -> Result<(), AllocError>
         requires most { rows ≤ longest_side }
         requires within { self.now.across.columns
             ≤ (page_frame self.now.across.orientation page.old.page).width - self.now.across.left }
@@ -130,55 +126,52 @@ impl RowSetup {
     }
 }
 
-/// Raster graphics whose rows are drawn, and room for a row.
+/// Raster graphics whose rows are drawn, and room for a row. The room is kept from one transfer to the next.
 #[derive(Drop)]
 pub(crate) struct Drawing {
-    position: RasterPosition,
-    seed: Vec<u8>,
+    pub(crate) position: RasterPosition,
+    pub(crate) seed: Vec<u8>,
     row: Vec<u8>,
     scratch: Scratch,
 }
 
 impl Drawing {
-    /// Raster graphics that stands so, with this seed row, and room for rows.
+    /// Where nothing is drawn yet, without room.
+    pub(crate) fn new(alloc: Global) -> Self {
+        Drawing {
+            position: RasterPosition { left: 0, rows: 0 },
+            seed: Vec::new(alloc),
+            row: Vec::new(alloc),
+            scratch: Scratch::new(alloc),
+        }
+    }
+
+    /// Begins where raster graphics stands so, with this seed row, and makes room for rows.
     ///
     /// # Errors
     ///
     /// Where memory ran out.
-    pub(crate) fn new(
-        alloc: Global,
+    pub(crate) fn begin(
+        &mut self,
         position: RasterPosition,
         seed: &[u8],
         setup: &RowSetup,
         ink: &Ink<'_>,
-    ) -> Result<Self, AllocError>
+    ) -> Result<(), AllocError>
         requires { setup.now.dots < 2 ^ 32 }
-        ensures position { IfOk result (λ drawing. drawing.position ≡ position) }
-        ensures seed { IfOk result (λ drawing. drawing.seed.items
+        ensures position { OnOk result (self.new.position ≡ position) }
+        ensures seed { OnOk result (self.new.seed.items
             ≡ fitted (bytes_per_line setup.now.dots) seed.now) }
-        ensures row { IfOk result (λ drawing. length drawing.row.items
-            ≡ bytes_per_line setup.now.dots) }
-        ensures room { IfOk result (λ drawing. HasRoom setup.now.across ink.now drawing.scratch) }
+        ensures row { OnOk result (length self.new.row.items ≡ bytes_per_line setup.now.dots) }
+        ensures room { OnOk result (HasRoom setup.now.across ink.now self.new.scratch) }
     {
         let width = bytes_for(setup.dots);
-        let row = white_bytes(alloc, width)?;
-        let mut before = white_bytes(alloc, width)?;
-        decode(Method::Unencoded, seed, &row, &mut before);
-        Ok(Drawing {
-            position,
-            seed: before,
-            row,
-            scratch: Scratch::new(alloc, setup.across, ink)?,
-        })
-    }
-
-    /// Where raster graphics stands, and its seed row.
-    pub(crate) fn into_parts(self) -> (RasterPosition, Vec<u8>)
-        ensures position { result.0 ≡ self.position }
-        ensures seed { result.1.items ≡ self.seed.items }
-    {
-        let Drawing { position, seed, .. } = self;
-        (position, seed)
+        make_room(&mut self.row, width)?;
+        make_room(&mut self.seed, width)?;
+        self.scratch.fit(setup.across, ink)?;
+        decode(Method::Unencoded, seed, &self.row, &mut self.seed);
+        self.position = position;
+        Ok(())
     }
 
     /// The row that was decoded is the seed row now, and counts. Says whether that changes something.
@@ -200,6 +193,14 @@ impl Drawing {
         true
     }
 
+    /// Whether the next row has effect.
+    fn takes_row(&self, setup: &RowSetup) -> bool
+        ensures { result
+            ≡ is_below_height setup.now.settings.source_height self.now.position.rows }
+    {
+        is_within(setup.settings.source_height, self.position.rows)
+    }
+
     /// Draws a row, if it has effect, and says whether the same row again may change something.
     fn draw_row(
         &mut self,
@@ -219,7 +220,7 @@ impl Drawing {
         ensures layout { layout page.new ≡ layout page.old }
         ensures setup { IsSetUp setup.now ink.now (layout page.old) self.new }
     {
-        if !is_within(setup.settings.source_height, self.position.rows) {
+        if !self.takes_row(setup) {
             return false;
         }
         decode(row.method, row.bytes, &self.seed, &mut self.row);
@@ -231,6 +232,40 @@ impl Drawing {
         let moved = setup.move_down(cursor);
         let taken = self.take_row();
         painted || moved || taken
+    }
+
+    /// Draws a row, if it has effect, and makes the lines ready that it needs.
+    ///
+    /// # Errors
+    ///
+    /// Where memory ran out; no dot changes, and the cursor stays.
+    fn draw_one(
+        &mut self,
+        page: &mut Bands,
+        cursor: &mut Cursor,
+        setup: &RowSetup,
+        ink: &Ink<'_>,
+        row: RowData<'_>,
+    ) -> Result<(), AllocError>
+        requires setup { IsSetUp setup.now ink.now (layout page.old) self.old }
+        ensures item { OnOk result (drawn_by self.new page.new cursor.new
+            ≡ with_item setup.now.environment setup.now.settings ink.now
+            (drawn_by self.old page.old cursor.old) (Some (row.entry.method, row.entry.bytes.now))) }
+        ensures same_page { OnErr result (page.new.page ≡ page.old.page) }
+        ensures same_cursor { OnErr result (cursor.new ≡ cursor.old) }
+    {
+        if !self.takes_row(setup) {
+            return Ok(());
+        }
+        decode(row.method, row.bytes, &self.seed, &mut self.row);
+        let bits = &self.row;
+        let dots = setup.dots;
+        let source = DotRow { bits, dots };
+        let line = setup.line(cursor);
+        paint_strip(page, setup.across, line, source, ink, &mut self.scratch)?;
+        setup.move_down(cursor);
+        self.take_row();
+        Ok(())
     }
 
     /// Draws so many rows with the same data. Where a row changes nothing more, neither does one behind it.
@@ -260,7 +295,7 @@ impl Drawing {
     }
 
     /// Draws what blocks stand for, a run after another.
-    pub(crate) fn draw_blocks(
+    fn draw_blocks(
         &mut self,
         page: &mut Bands,
         cursor: &mut Cursor,
@@ -290,10 +325,44 @@ impl Drawing {
             }
         }
     }
+
+    /// Draws what the data of a transfer stands for, and makes the lines ready that it needs.
+    ///
+    /// # Errors
+    ///
+    /// Where memory ran out; no dot changes, and the cursor stays.
+    pub(crate) fn draw(
+        &mut self,
+        page: &mut Bands,
+        cursor: &mut Cursor,
+        setup: &RowSetup,
+        ink: &Ink<'_>,
+        bytes: &[u8],
+    ) -> Result<(), AllocError>
+        requires setup { IsSetUp setup.now ink.now (layout page.old) self.old }
+        ensures items { OnOk result (drawn_by self.new page.new cursor.new
+            ≡ with_items setup.now.environment setup.now.settings ink.now
+            (items_of setup.now.settings.coding bytes.now)
+            (drawn_by self.old page.old cursor.old)) }
+        ensures same_page { OnErr result (page.new.page ≡ page.old.page) }
+        ensures same_cursor { OnErr result (cursor.new ≡ cursor.old) }
+    {
+        match setup.settings.coding {
+            RowCoding::By(method) => {
+                self.draw_one(page, cursor, setup, ink, RowData { method, bytes })
+            }
+            RowCoding::Adaptive => {
+                let rows = count_rows(Blocks::new(bytes));
+                setup.ready(page, cursor, rows)?;
+                self.draw_blocks(page, cursor, setup, ink, Blocks::new(bytes));
+                Ok(())
+            }
+        }
+    }
 }
 
 /// How many rows there are in blocks, at most as many as a page has lines.
-pub(crate) fn count_rows(mut blocks: Blocks<'_>) -> usize
+fn count_rows(mut blocks: Blocks<'_>) -> usize
     ensures count { result ≡ min longest_side (count_rows blocks.entry) }
 {
     let most = MAX_SIDE as usize;

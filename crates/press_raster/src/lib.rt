@@ -3,7 +3,6 @@
 
 mod along;
 mod backward;
-mod decoding;
 mod drawing;
 mod raster;
 mod reading;

@@ -4,22 +4,20 @@ ghost use Rattle.std.specs.Prelude.{◌≡◌, ◌<◌, ◌^◌, false, true, No
 ghost use Rattle.std.specs.List.{list_any};
 ghost use Rattle.press_raster.specs.Graphics.{raster_position, started, moved_down, is_below_height, takes_row, takes_rows, passed};
 ghost use Rattle.press_raster.specs.Settings.{items_of};
-ghost use Rattle.press_raster.specs.Rows.{drawn, with_row, drawn_rows};
-ghost use Rattle.press_raster.specs.Transfer.{row_corner, page_with_row, transferred};
-ghost use Rattle.press_raster.specs.declared.settings.RowCoding.TheVariants.{Adaptive};
+ghost use Rattle.press_raster.specs.Rows.{drawn, drawn_rows};
+ghost use Rattle.press_raster.specs.Transfer.{row_corner};
 
-use crate::decoding::decoded;
-use crate::drawing::{Drawing, RowSetup, count_rows};
+use crate::drawing::{Drawing, RowSetup};
 use crate::settings::{RasterSettings, RowCoding};
-use crate::strip::{Across, bytes_for, paint_strip};
-use press_bits::{Bands, Bitmap, DotRow};
+use press_bits::{Bands, Bitmap};
 use press_cursor::{Cursor, CursorPosition};
-use press_page::{Dot, Media, PageEnv};
+use press_page::{Dot, PageEnv};
 use press_pattern::Ink;
 use press_rows::{Blocks, Method, Run};
 use press_units::{GREATEST_VALUE, Pos};
 use std::alloc::{AllocError, Global};
 use std::marker::Model;
+use std::mem;
 
 /// The most rows that are counted: the greatest value.
 pub(crate) const MOST_ROWS: u32 = GREATEST_VALUE;
@@ -49,12 +47,6 @@ impl RowPlace {
     {
         let cursor = CursorPosition { x: left, y: self.y };
         self.environment.cursor_dot(cursor)
-    }
-
-    fn media(&self) -> Media
-        ensures { result ≡ self.now.environment.media }
-    {
-        self.environment.media
     }
 }
 
@@ -119,11 +111,13 @@ fn blocks_have_white_seed(mut blocks: Blocks<'_>) -> bool
     false
 }
 
-/// Raster graphics, off or on. Contracts see, where it is on, where its rows begin, how many there were, and the seed row.
+/// Raster graphics, off or on. Contracts see, where it is on, where its rows begin, how many there were, and the seed row, and
+/// not what is kept to draw rows with.
 #[derive(Drop)]
 pub struct Raster {
     position: Option<RasterPosition>,
     seed: Vec<u8>,
+    drawing: Drawing,
 }
 
 impl Model for Raster {
@@ -145,6 +139,7 @@ impl Raster {
         Raster {
             position: None,
             seed: Vec::new(alloc),
+            drawing: Drawing::new(alloc),
         }
     }
 
@@ -159,6 +154,7 @@ impl Raster {
         Ok(Raster {
             position: self.position,
             seed: self.seed.clone()?,
+            drawing: Drawing::new(*self.seed.allocator()),
         })
     }
 
@@ -268,92 +264,11 @@ impl Raster {
             self.pass(settings, data);
             return Ok(());
         }
-        match settings.coding {
-            RowCoding::By(method) => {
-                let bytes = data;
-                let row = RowData { method, bytes };
-                self.transfer_row(page, environment, cursor, settings, ink, row)
-            }
-            RowCoding::Adaptive => self.transfer_blocks(
-                page.bands(),
-                environment,
-                cursor,
-                settings,
-                ink,
-                data,
-            ),
-        }
+        self.draw_rows(page.bands(), environment, cursor, settings, ink, data)
     }
 
-    /// Transfers a row by a method.
-    fn transfer_row(
-        &mut self,
-        page: &mut Bitmap,
-        environment: &PageEnv,
-        cursor: &mut Cursor,
-        settings: RasterSettings,
-        ink: &Ink<'_>,
-        row: RowData<'_>,
-    ) -> Result<(), AllocError>
-        requires { takes_row settings self.old ≡ true }
-        ensures row { OnOk result (drawn self.new page.new cursor.new ≡ with_row environment.now
-            settings ink.now row.entry.method row.entry.bytes.now
-            (drawn self.old page.old cursor.old)) }
-        ensures same_page { OnErr result (page.new ≡ page.old) }
-        ensures same_raster { OnErr result (self.new ≡ self.old) }
-        ensures same_cursor { OnErr result (cursor.new ≡ cursor.old) }
-    {
-        let place = RowPlace {
-            environment: *environment,
-            y: cursor.y(),
-        };
-        self.paint_row(page, &place, settings, ink, row)?;
-        let height = i64::from(settings.resolution.row_height());
-        cursor.move_y(Pos(height), true, environment.logical_page());
-        Ok(())
-    }
-
-    /// Paints a row by a method, which is the seed row then.
-    fn paint_row(
-        &mut self,
-        page: &mut Bitmap,
-        place: &RowPlace,
-        settings: RasterSettings,
-        ink: &Ink<'_>,
-        row: RowData<'_>,
-    ) -> Result<(), AllocError>
-        requires near { unsigned_abs place.now.y < 2 ^ 33 }
-        requires taken { takes_row settings self.old ≡ true }
-        ensures painted { OnOk result (page.new ≡ page_with_row place.now settings ink.now
-            row.entry.method row.entry.bytes.now self.old page.old) }
-        ensures seed { OnOk result (self.new
-            ≡ transferred place.now settings row.entry.method row.entry.bytes.now self.old) }
-        ensures same_page { OnErr result (page.new ≡ page.old) }
-        ensures same_raster { OnErr result (self.new ≡ self.old) }
-    {
-        let Some(position) = self.position else {
-            return Ok(());
-        };
-        let media = place.media();
-        let size = settings.resolution.dot_size(media.resolution);
-        let corner = place.corner(position.left);
-        let alloc = *self.seed.allocator();
-        let dots = settings.dots_of_row(media.logical_width(), position.left);
-        let bits = decoded(alloc, row.method, row.bytes, &self.seed, bytes_for(dots))?;
-        let source = DotRow { bits: &bits, dots };
-        let bands = page.bands();
-        let across = Across::new(bands, media.orientation, corner.x, size, dots);
-        paint_strip(bands, alloc, across, corner.y, source, ink)?;
-        self.seed = bits;
-        self.position = Some(RasterPosition {
-            rows: position.rows.saturating_add(1).min(MOST_ROWS),
-            ..position
-        });
-        Ok(())
-    }
-
-    /// Transfers the rows of adaptive data.
-    fn transfer_blocks(
+    /// Draws the rows of a transfer, one of which has effect.
+    fn draw_rows(
         &mut self,
         page: &mut Bands,
         environment: &PageEnv,
@@ -362,8 +277,7 @@ impl Raster {
         ink: &Ink<'_>,
         data: &[u8],
     ) -> Result<(), AllocError>
-        requires taken { takes_rows settings «data».now self.old ≡ true }
-        requires adaptive { settings.coding ≡ Adaptive }
+        requires { takes_rows settings «data».now self.old ≡ true }
         ensures rows { OnOk result (drawn self.new page.new.page cursor.new
             ≡ drawn_rows environment.now settings ink.now «data».now
             (drawn self.old page.old.page cursor.old)) }
@@ -374,15 +288,11 @@ impl Raster {
         let Some(position) = self.position else {
             return Ok(());
         };
-        let alloc = *self.seed.allocator();
         let setup = RowSetup::new(page, environment, settings, position.left);
-        let mut drawing = Drawing::new(alloc, position, &self.seed, &setup, ink)?;
-        let rows = count_rows(Blocks::new(data));
-        setup.ready(page, cursor, rows)?;
-        drawing.draw_blocks(page, cursor, &setup, ink, Blocks::new(data));
-        let (position, seed) = drawing.into_parts();
-        self.position = Some(position);
-        self.seed = seed;
+        self.drawing.begin(position, &self.seed, &setup, ink)?;
+        self.drawing.draw(page, cursor, &setup, ink, data)?;
+        self.position = Some(self.drawing.position);
+        mem::swap(&mut self.seed, &mut self.drawing.seed);
         Ok(())
     }
 }

@@ -1,6 +1,6 @@
 //! Strips of the frame whose lines have the same dots.
 
-ghost use Rattle.std.specs.Prelude.{◌≡◌, ℕ, ◌+◌, ◌-◌, ◌*◌, ◌/◌, ◌≤◌, ◌<◌, ◌^◌, ◌⊎◌, length, min, true, false, IfOk, OnOk, OnErr};
+ghost use Rattle.std.specs.Prelude.{◌≡◌, ℕ, ◌+◌, ◌-◌, ◌*◌, ◌/◌, ◌≤◌, ◌<◌, ◌^◌, ◌⊎◌, length, min, true, false, OnOk, OnErr};
 ghost use Rattle.press_bits.specs.Lines.{bytes_per_line};
 ghost use Rattle.press_bits.specs.Mark.{painted, row, row_dot};
 ghost use Rattle.press_bits.specs.Page.{HasNoDotOutside};
@@ -12,7 +12,7 @@ ghost use Rattle.press_raster.specs.Mark.{strip_mark, raster_mark};
 
 use crate::along::{frame, is_backward, paint_along};
 use crate::reading::Reading;
-use press_bits::{Bands, DotRow, white_bytes};
+use press_bits::{Bands, DotRow};
 use press_page::{Dot, Orientation};
 use press_pattern::{Ink, Tile};
 use std::alloc::{AllocError, Global};
@@ -298,6 +298,20 @@ impl Across {
     }
 }
 
+/// Has so many bytes stand there, whichever.
+///
+/// # Errors
+///
+/// Where memory ran out.
+pub(crate) fn make_room(bytes: &mut Vec<u8>, count: usize) -> Result<(), AllocError>
+    ensures { OnOk result (length bytes.new.items ≡ count) }
+{
+    if bytes.len() != count {
+        bytes.resize(count, 0)?;
+    }
+    Ok(())
+}
+
 /// Room for what is read of rows before it is painted: the dots along a line of the page, and those of a line of a tile.
 #[derive(Drop)]
 pub(crate) struct Scratch {
@@ -306,25 +320,81 @@ pub(crate) struct Scratch {
 }
 
 impl Scratch {
-    /// Room for rows that lie so across the frame.
+    /// No room yet.
+    pub(crate) fn new(alloc: Global) -> Self {
+        Scratch {
+            dots: Vec::new(alloc),
+            tile: Vec::new(alloc),
+        }
+    }
+
+    /// Makes room for rows that lie so across the frame.
     ///
     /// # Errors
     ///
     /// Where memory ran out.
-    pub(crate) fn new(alloc: Global, across: Across, ink: &Ink<'_>) -> Result<Self, AllocError>
-        ensures { IfOk result (λ scratch. HasRoom across ink.now scratch) }
+    pub(crate) fn fit(&mut self, across: Across, ink: &Ink<'_>) -> Result<(), AllocError>
+        ensures { OnOk result (HasRoom across ink.now self.new) }
     {
-        let dots = across.room_for(across.columns as usize);
-        let tile = across.room_for(usize::from(ink.tile.width()));
-        Ok(Scratch {
-            dots: white_bytes(alloc, dots)?,
-            tile: white_bytes(alloc, tile)?,
-        })
+        make_room(&mut self.dots, across.room_for(across.columns as usize))?;
+        make_room(
+            &mut self.tile,
+            across.room_for(usize::from(ink.tile.width())),
+        )
     }
 }
 
-/// Paints a raster row from a line of the frame on, each of its dots so many dots wide and high, and says whether it may
-/// mark the page. Dots outside the page are dropped. Takes no memory.
+/// Paints a raster row that crosses the frame from a line on, each of its dots so many dots wide and high. Dots outside the page
+/// are dropped. Takes no memory.
+fn paint_wide(
+    page: &mut Bands,
+    across: Across,
+    line: u32,
+    source: DotRow<'_>,
+    ink: &Ink<'_>,
+    scratch: &mut Scratch,
+)
+    requires some { 1 ≤ across.columns }
+    requires columns { across.columns ≡ covered_columns across.orientation
+        page.old.page.width page.old.page.height across.left across.size source.dots }
+    requires ready { AcrossReady across page.old line across.size }
+    requires room { HasRoom across ink.now scratch.old }
+    ensures painted { page.new.page ≡ painted page.old.page (raster_mark across.orientation
+        page.old.page (record { x = across.left; y = line }) across.size
+        (row source.entry) ink.now) }
+    ensures ready { page.new.ready ≡ page.old.ready }
+    ensures room { HasRoom across ink.now scratch.new }
+{
+    let dots = across.columns as usize;
+    let corner = Dot {
+        x: across.left,
+        y: line,
+    };
+    let orientation = across.orientation;
+    let size = across.size as usize;
+    if across.is_direct() {
+        let bits = source.bits;
+        let source = DotRow { bits, dots };
+        paint_lines(page, orientation, corner, size, source, ink, &mut []);
+        return;
+    }
+    let backward = is_backward(orientation);
+    spread(source, size, backward, dots, &mut scratch.dots);
+    let bits = &scratch.dots;
+    let source = DotRow { bits, dots };
+    paint_lines(
+        page,
+        orientation,
+        corner,
+        size,
+        source,
+        ink,
+        &mut scratch.tile,
+    );
+}
+
+/// Paints a raster row from a line of the frame on, as `paint_wide` does, and says whether it may mark the page: a white row may
+/// not where white is transparent, nor one beside the page.
 pub(crate) fn paint_across(
     page: &mut Bands,
     across: Across,
@@ -347,52 +417,27 @@ pub(crate) fn paint_across(
     if across.marks_nothing(page, line, source, ink) {
         return false;
     }
-    let dots = across.columns as usize;
-    let corner = Dot {
-        x: across.left,
-        y: line,
-    };
-    let orientation = across.orientation;
-    let size = across.size as usize;
-    if across.is_direct() {
-        let bits = source.bits;
-        let source = DotRow { bits, dots };
-        paint_lines(page, orientation, corner, size, source, ink, &mut []);
-        return true;
-    }
-    let backward = is_backward(orientation);
-    spread(source, size, backward, dots, &mut scratch.dots);
-    let bits = &scratch.dots;
-    let source = DotRow { bits, dots };
-    paint_lines(
-        page,
-        orientation,
-        corner,
-        size,
-        source,
-        ink,
-        &mut scratch.tile,
-    );
+    paint_wide(page, across, line, source, ink, scratch);
     true
 }
 
-/// Paints a raster row from a line of the frame on, each of its dots so many dots wide and high. Dots outside the page are
-/// dropped. A row that marks nothing makes no line ready.
+/// Paints a raster row from a line of the frame on, as `paint_across` does, and makes the lines ready that it needs: none where
+/// it marks nothing.
 ///
 /// # Errors
 ///
-/// Where memory ran out; the page is then as it was.
+/// Where memory ran out; no dot changes.
 pub(crate) fn paint_strip(
     page: &mut Bands,
-    alloc: Global,
     across: Across,
     line: u32,
     source: DotRow<'_>,
     ink: &Ink<'_>,
+    scratch: &mut Scratch,
 ) -> Result<(), AllocError>
     requires columns { across.columns ≡ covered_columns across.orientation
         page.old.page.width page.old.page.height across.left across.size source.dots }
-    requires most { across.size ≤ 8 }
+    requires room { HasRoom across ink.now scratch.old }
     ensures painted { OnOk result (page.new.page ≡ painted page.old.page
         (raster_mark across.orientation page.old.page (record { x = across.left; y = line })
         across.size (row source.entry) ink.now)) }
@@ -402,7 +447,6 @@ pub(crate) fn paint_strip(
         return Ok(());
     }
     across.ready(page, line, across.size)?;
-    let mut scratch = Scratch::new(alloc, across, ink)?;
-    paint_across(page, across, line, source, ink, &mut scratch);
+    paint_wide(page, across, line, source, ink, scratch);
     Ok(())
 }

@@ -6,7 +6,7 @@ use Rattle.press_raster.specs.Along.{is_backward, dots_along}
 use Rattle.press_raster.specs.Mark.{strip_mark}
 use Rattle.press_raster.proofs.AcrossLemmas.{covered_end, is_direct-true}
 use Rattle.press_raster.proofs.StripLemmas.{frame_of, painted_raster}
-use Rattle.press_raster.proofs.strip.paint_across.Goals as goal
+use Rattle.press_raster.proofs.strip.paint_wide.Goals as goal
 
 whole : (i : ℕ) → i ≡ i / 1
 whole i = omega arith
