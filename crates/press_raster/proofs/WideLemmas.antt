@@ -13,12 +13,8 @@ use Rattle.press_bits.specs.Mark.{Row, row_dot, byte_dot, repeated}
 use Rattle.press_pattern.specs.Tiling.{byte_where}
 use Rattle.press_pattern.proofs.ByteLemmas.{bit_of, byte_dot-byte_where}
 use Rattle.press_raster.specs.Reading.{place_from, read_dot, number_where, wide_dot, IsOnce}
-use Rattle.press_raster.proofs.ReadingLemmas.{bit_of_test}
+use Rattle.press_raster.proofs.ReadingLemmas.{bit_of_test, number-byte}
 use Rattle.press_raster.specs.declared.reading.Reading.{Reading}
-
-pub number-byte : (rule : ℕ → Bool) → byte_where rule ≡ number_where rule 8
-unfolding byte_where number_where
-number-byte rule = refl
 
 bit_step : (b : Bool) (n p : ℕ) → n < p → n * 2 + cond b 1 0 < p * 2
 bit_step true n p below = omega (arith, below)

@@ -2,7 +2,6 @@
 #![tactic(auto)]
 
 mod along;
-mod backward;
 mod drawing;
 mod raster;
 mod reading;

@@ -5,7 +5,7 @@ use Rattle.press_raster.specs.Reading.{read_dot}
 use Rattle.press_raster.proofs.reading.Reading.read_backward.Given as goal
 
 -- the bytes so far
-abbrev pub invariant-loop-block : goal.invariant-loop-block
-invariant-loop-block l =
+abbrev pub invariant-loop-word : goal.invariant-loop-word
+invariant-loop-word l =
     (length l.out ≡ length l.fn.out)
-    × ((k : ℕ) → k < 16 * l.block → get_or l.out k 0 ≡ byte_where (λ j. read_dot l.fn.self (row l.source) (8 * k + j)))
+    × ((k : ℕ) → k < 8 * l.word → get_or l.out k 0 ≡ byte_where (λ j. read_dot l.fn.self (row l.source) (8 * k + j)))
