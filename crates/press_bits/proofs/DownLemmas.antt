@@ -1,20 +1,21 @@
 -- Columns of dots that are painted down the bands of a page, one band after another.
-use Rattle.std.proofs.Common.{◌≡◌, ◌≢◌, ℕ, ◌+◌, ◌-◌, ◌*◌, ◌/◌, ◌%◌, ◌^◌, ◌<◌, ◌≤◌, ◌⊎◌, min, Bool, true, false, not, ◌&&◌, ◌||◌, List, [], ◌∷◌, length, set, refl, sym, ap, ◌∙◌, subst, inl, inr, arith}
+use Rattle.std.proofs.Common.{◌≡◌, ◌≢◌, ℕ, ◌+◌, ◌-◌, ◌*◌, ◌/◌, ◌%◌, ◌^◌, ◌<◌, ◌≤◌, ◌⊎◌, min, Bool, true, false, ◌&&◌, ◌||◌, List, [], ◌∷◌, length, set, replicate, refl, sym, ap, ◌∙◌, subst, inl, inr, arith}
 use Rattle.std.specs.Prelude.{nat_lt, nat_le, nat_eq, if◌then◌else◌, ℤ, pos, ◌+ℤ◌}
 use Rattle.std.proofs.Math.Nat.{mul-le-mul_right}
-use Rattle.std.proofs.lemmas.Bool.{cases_eq, cases_lt}
+use Rattle.std.proofs.lemmas.Bool.{cases_eq, cases_lt, true≢false}
 use Rattle.std.proofs.lemmas.Bool.Decides.{nat_tests}
-use Rattle.std.proofs.lemmas.List.{length-set, get_or-set_same, get_or-set_other}
+use Rattle.std.proofs.lemmas.List.{length-set, get_or-set_same, get_or-set_other, get_or-replicate}
 use Rattle.press_bits.specs.Page.{black_at}
 use Rattle.press_bits.specs.DotRule.{dot_after}
 use Rattle.press_bits.specs.DotRule.DotEffect.{MadeWhite, Unchanged}
-use Rattle.press_bits.specs.Mark.{Row, effect_at, painted, row_dot, repeated, column_mark}
+use Rattle.press_bits.specs.Mark.{Row, byte_dot, effect_at, painted, row_dot, repeated, column_mark}
 use Rattle.press_bits.specs.declared.mode.Mode.{Mode}
-use Rattle.press_bits.specs.DotRows.{mixed_dot}
+use Rattle.press_bits.specs.DotRows.{mixed_dot, stamped_dot}
 use Rattle.press_bits.specs.Lines.{bytes_per_line}
-use Rattle.press_bits.specs.Bands.{band_at, line_dot, page_of_bands, HasBands, PaintedDown}
+use Rattle.press_bits.specs.Bands.{band_at, line_dot, page_of_bands, HasBands, PaintedDown, StampedDown}
 use Rattle.press_bits.proofs.MarkLemmas.{painted_by_effects, row_lands, effect_at-column_mark, mixed_effect}
-use Rattle.press_bits.proofs.MixLemmas.{mixed_when, not_mixed}
+use Rattle.press_bits.proofs.ByteLemmas.{row_dot-of_byte}
+use Rattle.press_bits.proofs.MixLemmas.{not_mixed, not_stamped, stamped_when}
 use Rattle.press_bits.proofs.PaintLemmas.{within_line}
 use Rattle.press_bits.proofs.BandLemmas.{width-page_of_bands, height-page_of_bands, no_dot_outside, black_at-page_of_bands}
 
@@ -28,13 +29,13 @@ small_band bands k band bytes is long narrow = omega (arith, ap length is, long,
 none_yet : (t : Bool) (first n : ℕ) → ((t && nat_le first n) && nat_lt n first) ≡ false
 none_yet t first n = grind (arith, nat_tests)
 
-pub down_none : (old : List (List ℕ)) (source tile : ℕ → Bool) (mode : Mode) (bytes column first end : ℕ) → end ≡ first → PaintedDown old old source tile mode bytes column first end
-down_none old source tile mode bytes column first end none = record {
+pub down_none : (old : List (List ℕ)) (black kept : ℕ → Bool) (bytes column first end : ℕ) → end ≡ first → StampedDown old old black kept bytes column first end
+down_none old black kept bytes column first end none = record {
   same_length = refl;
   sizes = λ k. refl;
   dots = λ n c _.
-      sym (ap (λ e. mixed_dot ((nat_eq c column && nat_le first n) && nat_lt n e) mode (source n) (tile n) (line_dot bytes old c n)) none
-      ∙ not_mixed _ mode (source n) (tile n) (line_dot bytes old c n) (none_yet (nat_eq c column) first n));
+      sym (ap (λ e. stamped_dot ((nat_eq c column && nat_le first n) && nat_lt n e) (black n) (kept n) (line_dot bytes old c n)) none
+      ∙ not_stamped _ (black n) (kept n) (line_dot bytes old c n) (none_yet (nat_eq c column) first n));
 }
 
 same_before : (t : Bool) (first n d e : ℕ) → n < d → d ≤ e → ((t && nat_le first n) && nat_lt n d) ≡ ((t && nat_le first n) && nat_lt n e)
@@ -49,28 +50,28 @@ not_yet t first n end later = grind (arith, nat_tests)
 same_behind : (t : Bool) (first at n end : ℕ) → first ≤ at → at ≤ n → ((t && nat_le at n) && nat_lt n end) ≡ ((t && nat_le first n) && nat_lt n end)
 same_behind t first at n end from behind = grind (arith, nat_tests)
 
--- lines that are painted below those that are painted
-pub down_then : (old bands bands' : List (List ℕ)) (source tile : ℕ → Bool) (mode : Mode) (bytes column first at end : ℕ) → first ≤ at → at ≤ end →
-    PaintedDown old bands source tile mode bytes column first at → PaintedDown bands bands' source tile mode bytes column at end → PaintedDown old bands' source tile mode bytes column first end
-down_then old bands bands' source tile mode bytes column first at end from later above below = record {
+-- lines that are stamped below those that are stamped
+pub down_then : (old bands bands' : List (List ℕ)) (black kept : ℕ → Bool) (bytes column first at end : ℕ) → first ≤ at → at ≤ end →
+    StampedDown old bands black kept bytes column first at → StampedDown bands bands' black kept bytes column at end → StampedDown old bands' black kept bytes column first end
+down_then old bands bands' black kept bytes column first at end from later above below = record {
   same_length = below.same_length ∙ above.same_length;
   sizes = λ k. below.sizes k ∙ above.sizes k;
   dots = dot;
 }
   where
     dot : (n c : ℕ) → c < 8 * bytes → line_dot bytes bands' c n
-        ≡ mixed_dot ((nat_eq c column && nat_le first n) && nat_lt n end) mode (source n) (tile n) (line_dot bytes old c n)
+        ≡ stamped_dot ((nat_eq c column && nat_le first n) && nat_lt n end) (black n) (kept n) (line_dot bytes old c n)
     dot n c low =
         elim (cases_lt n at) [
           | inl before ↦
               below.dots n c low
-              ∙ not_mixed _ mode (source n) (tile n) (line_dot bytes bands c n) (not_begun (nat_eq c column) at n end before)
+              ∙ not_stamped _ (black n) (kept n) (line_dot bytes bands c n) (not_begun (nat_eq c column) at n end before)
               ∙ above.dots n c low
-              ∙ ap (λ t. mixed_dot t mode (source n) (tile n) (line_dot bytes old c n)) (same_before (nat_eq c column) first n at end before later)
+              ∙ ap (λ t. stamped_dot t (black n) (kept n) (line_dot bytes old c n)) (same_before (nat_eq c column) first n at end before later)
           | inr behind ↦
               below.dots n c low
-              ∙ (λ i. mixed_dot (same_behind (nat_eq c column) first at n end from behind i) mode (source n) (tile n)
-              ((above.dots n c low ∙ not_mixed _ mode (source n) (tile n) (line_dot bytes old c n) (not_yet (nat_eq c column) first n at behind)) i))
+              ∙ (λ i. stamped_dot (same_behind (nat_eq c column) first at n end from behind i) (black n) (kept n)
+              ((above.dots n c low ∙ not_stamped _ (black n) (kept n) (line_dot bytes old c n) (not_yet (nat_eq c column) first n at behind)) i))
         ]
 
 in_band_test : (t : Bool) (k from end first count n : ℕ) → n / 64 ≡ k → 64 * k + first ≡ from → 64 * k + first + count ≡ end →
@@ -93,15 +94,15 @@ begun_of t from n end test = grind (arith, nat_tests)
 ended_of : (t : Bool) (from n end : ℕ) → ((t && nat_le from n) && nat_lt n end) ≡ true → n < end
 ended_of t from n end test = grind (arith, nat_tests)
 
--- a part of the lines is painted into its band
-module _ (bands : List (List ℕ)) (band : List ℕ) (mode : Mode) (source tile part_source part_tile : ℕ → Bool) where
+-- a part of the lines is stamped into its band
+module _ (bands : List (List ℕ)) (band : List ℕ) (black kept part_black part_kept : ℕ → Bool) where
   pub down_band : (bytes column from end k part_first part_count : ℕ) → k < length bands →
       64 * k + part_first ≡ from → 64 * k + part_first + part_count ≡ end → end ≤ 64 * k + 64 →
       length band ≡ length (band_at bands k) →
-      ((m : ℕ) → part_first ≤ m → m < part_first + part_count → (part_source m ≡ source (64 * k + m)) × (part_tile m ≡ tile (64 * k + m))) →
+      ((m : ℕ) → part_first ≤ m → m < part_first + part_count → (part_black m ≡ black (64 * k + m)) × (part_kept m ≡ kept (64 * k + m))) →
       ((m c : ℕ) → c < 8 * bytes → row_dot band (8 * (m * bytes) + c)
-      ≡ mixed_dot ((nat_eq c column && nat_le part_first m) && nat_lt m (part_first + part_count)) mode (part_source m) (part_tile m) (row_dot (band_at bands k) (8 * (m * bytes) + c))) →
-      PaintedDown bands (set bands k band) source tile mode bytes column from end
+      ≡ stamped_dot ((nat_eq c column && nat_le part_first m) && nat_lt m (part_first + part_count)) (part_black m) (part_kept m) (row_dot (band_at bands k) (8 * (m * bytes) + c))) →
+      StampedDown bands (set bands k band) black kept bytes column from end
   down_band bytes column from end k part_first part_count there begin stop most long alike laid = record {
     same_length = length-set bands k band;
     sizes = λ j. elim (cases_eq j k) [
@@ -112,80 +113,85 @@ module _ (bands : List (List ℕ)) (band : List ℕ) (mode : Mode) (source tile 
   }
     where
       here_dot : (n c : ℕ) → c < 8 * bytes → n / 64 ≡ k → line_dot bytes (set bands k band) c n
-          ≡ mixed_dot ((nat_eq c column && nat_le from n) && nat_lt n end) mode (source n) (tile n) (line_dot bytes bands c n)
+          ≡ stamped_dot ((nat_eq c column && nat_le from n) && nat_lt n end) (black n) (kept n) (line_dot bytes bands c n)
       here_dot n c low here =
           let p : ℕ = 8 * (n % 64 * bytes) + c in
           let test : Bool = (nat_eq c column && nat_le from n) && nat_lt n end in
           let place : 64 * k + n % 64 ≡ n = omega (arith, here) in
-          let both : test ≡ true → (part_source (n % 64) ≡ source (64 * k + n % 64)) × (part_tile (n % 64) ≡ tile (64 * k + n % 64)) =
+          let both : test ≡ true → (part_black (n % 64) ≡ black (64 * k + n % 64)) × (part_kept (n % 64) ≡ kept (64 * k + n % 64)) =
           λ t. (let behind : from ≤ n = begun_of (nat_eq c column) from n end t in
           let before : n < end = ended_of (nat_eq c column) from n end t in
           alike (n % 64) (omega (arith, behind, here, begin)) (omega (arith, before, here, stop))) in
           ap (λ j. row_dot (band_at (set bands k band) j) p) here
           ∙ ap (λ (one : List ℕ). row_dot one p) (get_or-set_same bands k band [] there)
           ∙ laid (n % 64) c low
-          ∙ (λ i. mixed_dot (in_band_test (nat_eq c column) k from end part_first part_count n here begin stop i) mode (part_source (n % 64)) (part_tile (n % 64)) (row_dot (band_at bands (sym here i)) p))
-          ∙ mixed_when test mode (part_source (n % 64)) (source n) (part_tile (n % 64)) (tile n) (line_dot bytes bands c n) (λ t. (both t).0 ∙ ap source place) (λ t. (both t).1 ∙ ap tile place)
+          ∙ (λ i. stamped_dot (in_band_test (nat_eq c column) k from end part_first part_count n here begin stop i) (part_black (n % 64)) (part_kept (n % 64)) (row_dot (band_at bands (sym here i)) p))
+          ∙ stamped_when test (part_black (n % 64)) (black n) (part_kept (n % 64)) (kept n) (line_dot bytes bands c n) (λ t. (both t).0 ∙ ap black place) (λ t. (both t).1 ∙ ap kept place)
 
       dot : (n c : ℕ) → c < 8 * bytes → line_dot bytes (set bands k band) c n
-          ≡ mixed_dot ((nat_eq c column && nat_le from n) && nat_lt n end) mode (source n) (tile n) (line_dot bytes bands c n)
+          ≡ stamped_dot ((nat_eq c column && nat_le from n) && nat_lt n end) (black n) (kept n) (line_dot bytes bands c n)
       dot n c low =
           elim (cases_eq (n / 64) k) [
             | inl here ↦ here_dot n c low here
             | inr apart ↦
                 ap (λ (one : List ℕ). row_dot one (8 * (n % 64 * bytes) + c)) (get_or-set_other bands k (n / 64) band [] apart)
-                ∙ sym (not_mixed _ mode (source n) (tile n) (line_dot bytes bands c n) (off_band_test (nat_eq c column) k from end n apart (omega (arith, begin)) most))
+                ∙ sym (not_stamped _ (black n) (kept n) (line_dot bytes bands c n) (off_band_test (nat_eq c column) k from end n apart (omega (arith, begin)) most))
           ]
 
-white_mixed : (t : Bool) (mode : Mode) (pattern before : Bool) → mode.source_opaque ≡ false → mixed_dot t mode false pattern before ≡ before
-white_mixed true mode pattern before transparent = ap (λ o. dot_after (if o then MadeWhite else Unchanged) before) transparent
-white_mixed false mode pattern before transparent = refl
-
--- white source dots that are transparent change no line
-pub down_white : (bands : List (List ℕ)) (source tile : ℕ → Bool) (mode : Mode) (bytes column first end : ℕ) → mode.source_opaque ≡ false →
-    ((n : ℕ) → first ≤ n → n < end → source n ≡ false) → PaintedDown bands bands source tile mode bytes column first end
-down_white bands source tile mode bytes column first end transparent white = record {
+-- where all dots are kept, no line changes
+pub down_kept : (bands : List (List ℕ)) (black kept : ℕ → Bool) (bytes column first end : ℕ) → ((n : ℕ) → first ≤ n → n < end → black n ≡ false) → ((n : ℕ) → first ≤ n → n < end → kept n ≡ true) →
+    StampedDown bands bands black kept bytes column first end
+down_kept bands black kept bytes column first end no_black all_kept = record {
   same_length = refl;
   sizes = λ k. refl;
   dots = λ n c _.
-      sym (mixed_when ((nat_eq c column && nat_le first n) && nat_lt n end) mode (source n) false (tile n) (tile n) (line_dot bytes bands c n)
-      (λ t. white n (begun_of (nat_eq c column) first n end t) (ended_of (nat_eq c column) first n end t)) (λ _. refl)
-      ∙ white_mixed _ mode (tile n) (line_dot bytes bands c n) transparent);
+      let test : Bool = (nat_eq c column && nat_le first n) && nat_lt n end in
+      sym (stamped_when test (black n) false (kept n) true (line_dot bytes bands c n)
+      (λ t. no_black n (begun_of (nat_eq c column) first n end t) (ended_of (nat_eq c column) first n end t))
+      (λ t. all_kept n (begun_of (nat_eq c column) first n end t) (ended_of (nat_eq c column) first n end t))
+      ∙ still test (line_dot bytes bands c n));
 }
+  where
+    still : (t before : Bool) → stamped_dot t false true before ≡ before
+    still true true = refl
+    still true false = refl
+    still false before = refl
 
 -- ---- what a run does, in two rows
 
--- a dot that is made black of white, and one that stays black, together do what was done to them
-pub changed_and_black : (t : Bool) (mode : Mode) (source pattern before : Bool) →
-    mixed_dot true (record { source_opaque = false; pattern_opaque = true }) (mixed_dot t mode source pattern false || not (mixed_dot t mode source pattern true)) (mixed_dot t mode source pattern false) before
-    ≡ mixed_dot t mode source pattern before
-changed_and_black t mode source pattern before = go t mode.source_opaque mode.pattern_opaque source pattern
-  where
-    go : (t so po source pattern : Bool) →
-        mixed_dot true (record { source_opaque = false; pattern_opaque = true }) (mixed_dot t (record { source_opaque = so; pattern_opaque = po }) source pattern false || not (mixed_dot t (record { source_opaque = so; pattern_opaque = po }) source pattern true)) (mixed_dot t (record { source_opaque = so; pattern_opaque = po }) source pattern false) before
-        ≡ mixed_dot t (record { source_opaque = so; pattern_opaque = po }) source pattern before
-    go false so po source pattern = refl
-    go true so po true true = refl
-    go true so true true false = refl
-    go true so false true false = refl
-    go true true po false pattern = refl
-    go true false po false pattern = refl
+by_white : (opaque before : Bool) →
+    ((before && dot_after (if opaque then MadeWhite else Unchanged) true) || dot_after (if opaque then MadeWhite else Unchanged) false) ≡ dot_after (if opaque then MadeWhite else Unchanged) before
+by_white true true = refl
+by_white true false = refl
+by_white false true = refl
+by_white false false = refl
 
--- where white changes nothing, a dot that is made black is all that is done
-pub black_alone : (t : Bool) (mode : Mode) (source pattern before : Bool) → mode.source_opaque ≡ false → mode.pattern_opaque ≡ false →
-    mixed_dot true (record { source_opaque = false; pattern_opaque = false }) (mixed_dot t mode source pattern false) (mixed_dot t mode source pattern false) before
-    ≡ mixed_dot t mode source pattern before
-black_alone t mode source pattern before no_source no_pattern =
-    subst (λ (m : Mode). mixed_dot true (record { source_opaque = false; pattern_opaque = false }) (mixed_dot t m source pattern false) (mixed_dot t m source pattern false) before ≡ mixed_dot t m source pattern before)
-    (λ i. record { source_opaque = sym no_source i; pattern_opaque = sym no_pattern i }) (go t source pattern)
-  where
-    go : (t source pattern : Bool) →
-        mixed_dot true (record { source_opaque = false; pattern_opaque = false }) (mixed_dot t (record { source_opaque = false; pattern_opaque = false }) source pattern false) (mixed_dot t (record { source_opaque = false; pattern_opaque = false }) source pattern false) before
-        ≡ mixed_dot t (record { source_opaque = false; pattern_opaque = false }) source pattern before
-    go false source pattern = refl
-    go true true true = refl
-    go true true false = refl
-    go true false pattern = refl
+no_white : (opaque : Bool) → opaque ≡ false → true ≡ dot_after (if opaque then MadeWhite else Unchanged) true
+no_white opaque none = sym (ap (λ o. dot_after (if o then MadeWhite else Unchanged) true) none)
+
+neither : (a b : Bool) → (a || b) ≡ false → (a ≡ false) × (b ≡ false)
+neither true b none = absurd (true≢false none)
+neither false b none = (refl, none)
+
+-- what is done to a white dot and to a black one says what is done to any
+of_both : (t : Bool) (mode : Mode) (source pattern before : Bool) → ((before && mixed_dot t mode source pattern true) || mixed_dot t mode source pattern false) ≡ mixed_dot t mode source pattern before
+of_both false mode source pattern true = refl
+of_both false mode source pattern false = refl
+of_both true mode true true true = refl
+of_both true mode true true false = refl
+of_both true mode true false before = by_white mode.pattern_opaque before
+of_both true mode false pattern before = by_white mode.source_opaque before
+
+-- a row whose bytes are all the same
+pub row_dot-alike : (count b n : ℕ) → n < 8 * count → row_dot (replicate count b) n ≡ byte_dot b (n % 8)
+row_dot-alike count b n within = sym (row_dot-of_byte (replicate count b) (n / 8) n refl) ∙ ap (λ k. byte_dot k (n % 8)) (get_or-replicate count (n / 8) b 0 (omega arith))
+
+-- a black dot stays black where no white makes white
+pub stays_black : (t : Bool) (mode : Mode) (source pattern : Bool) → (mode.source_opaque || mode.pattern_opaque) ≡ false → true ≡ mixed_dot t mode source pattern true
+stays_black false mode source pattern none = refl
+stays_black true mode true true none = refl
+stays_black true mode true false none = no_white mode.pattern_opaque (neither mode.source_opaque mode.pattern_opaque none).1
+stays_black true mode false pattern none = no_white mode.source_opaque (neither mode.source_opaque mode.pattern_opaque none).0
 
 -- a row that a run is painted into
 pub across : (rows old bits : List ℕ) (pattern : Row) (mode : Mode) (first count skip : ℕ) →
@@ -196,11 +202,11 @@ across rows old bits pattern mode first count skip laid p =
     let here : p - 8 * 0 ≡ p = omega arith in
     laid p ∙ (λ i. mixed_dot (nat_le (same i) p && nat_lt p (same i + count)) mode (row_dot bits (skip + (p - same i))) (repeated pattern (here i)) (row_dot old p))
 
-alike_parts : (q t t' : Bool) (mode mode' : Mode) (s p s' p' before : Bool) → (t ≡ true → mixed_dot true mode s p before ≡ mixed_dot t' mode' s' p' before) → (t ≡ false → t' ≡ false) →
-    mixed_dot (q && t) mode s p before ≡ mixed_dot (q && t') mode' s' p' before
-alike_parts false t t' mode mode' s p s' p' before alike off = refl
-alike_parts true true t' mode mode' s p s' p' before alike off = alike refl
-alike_parts true false t' mode mode' s p s' p' before alike off = sym (ap (λ u. mixed_dot u mode' s' p' before) (off refl))
+as_painted : (q t u black kept : Bool) (mode : Mode) (source pattern before : Bool) → (t ≡ true → black ≡ mixed_dot u mode source pattern false) → (t ≡ true → kept ≡ mixed_dot u mode source pattern true) → (t ≡ false → u ≡ false) →
+    stamped_dot (q && t) black kept before ≡ mixed_dot (q && u) mode source pattern before
+as_painted false t u black kept mode source pattern before blackens keeps off = refl
+as_painted true true u black kept mode source pattern before blackens keeps off = (λ i. (before && keeps refl i) || blackens refl i) ∙ of_both u mode source pattern before
+as_painted true false u black kept mode source pattern before blackens keeps off = sym (ap (λ t. mixed_dot t mode source pattern before) (off refl))
 
 joined_tests : (q a b : Bool) → ((q && a) && b) ≡ (q && (a && b))
 joined_tests true a b = refl
@@ -218,19 +224,19 @@ from_test first n end test = (begun first n end test, left first n end test)
 off_both : (from first n end to : ℕ) → from ≤ first → end ≤ to → (nat_le from n && nat_lt n to) ≡ false → (nat_le first n && nat_lt n end) ≡ false
 off_both from first n end to begun later off = grind (arith, nat_tests)
 
--- lines that are painted by dots which do what those of a run do
-pub down_as : (old new : List (List ℕ)) (s t source tile : ℕ → Bool) (m mode : Mode) (bytes column from to first end : ℕ) → from ≤ first → end ≤ to →
-    ((n : ℕ) (before : Bool) → from ≤ n → n < to → mixed_dot true m (s n) (t n) before ≡ mixed_dot (nat_le first n && nat_lt n end) mode (source n) (tile n) before) →
-    PaintedDown old new s t m bytes column from to → PaintedDown old new source tile mode bytes column first end
-down_as old new s t source tile m mode bytes column from to first end begun later alike laid = record {
+-- lines that are stamped by rows in which a run was painted
+pub down_as : (old new : List (List ℕ)) (black kept source tile : ℕ → Bool) (mode : Mode) (bytes column from to first end : ℕ) → from ≤ first → end ≤ to →
+    ((n : ℕ) → from ≤ n → n < to → black n ≡ mixed_dot (nat_le first n && nat_lt n end) mode (source n) (tile n) false) →
+    ((n : ℕ) → from ≤ n → n < to → kept n ≡ mixed_dot (nat_le first n && nat_lt n end) mode (source n) (tile n) true) →
+    StampedDown old new black kept bytes column from to → PaintedDown old new source tile mode bytes column first end
+down_as old new black kept source tile mode bytes column from to first end begun later blackens keeps laid = record {
   same_length = laid.same_length;
   sizes = laid.sizes;
   dots = λ n c low.
-      let before : Bool = line_dot bytes old c n in
       laid.dots n c low
-      ∙ ap (λ u. mixed_dot u m (s n) (t n) (line_dot bytes old c n)) (joined_tests (nat_eq c column) (nat_le from n) (nat_lt n to))
-      ∙ alike_parts (nat_eq c column) (nat_le from n && nat_lt n to) (nat_le first n && nat_lt n end) m mode (s n) (t n) (source n) (tile n) (line_dot bytes old c n)
-      (λ test. alike n (line_dot bytes old c n) (from_test from n to test).0 (from_test from n to test).1) (off_both from first n end to begun later)
+      ∙ ap (λ u. stamped_dot u (black n) (kept n) (line_dot bytes old c n)) (joined_tests (nat_eq c column) (nat_le from n) (nat_lt n to))
+      ∙ as_painted (nat_eq c column) (nat_le from n && nat_lt n to) (nat_le first n && nat_lt n end) (black n) (kept n) mode (source n) (tile n) (line_dot bytes old c n)
+      (λ test. blackens n (from_test from n to test).0 (from_test from n to test).1) (λ test. keeps n (from_test from n to test).0 (from_test from n to test).1) (off_both from first n end to begun later)
       ∙ ap (λ u. mixed_dot u mode (source n) (tile n) (line_dot bytes old c n)) (sym (joined_tests (nat_eq c column) (nat_le first n) (nat_lt n end)));
 }
 

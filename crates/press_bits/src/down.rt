@@ -1,72 +1,64 @@
 //! Columns of dots that are painted down the bands of a page, eight lines at a time.
 #![tactic(auto)]
 
-ghost use Rattle.std.specs.Prelude.{◌≡◌, ℕ, ◌<◌, ◌≤◌, ◌+◌, ◌-◌, ◌*◌, ◌/◌, ◌^◌, ◌||◌, not, false, length, vec_len};
+ghost use Rattle.std.specs.Prelude.{◌≡◌, ℕ, ◌<◌, ◌≤◌, ◌+◌, ◌-◌, ◌*◌, ◌/◌, ◌&&◌, nat_le, nat_lt, length, vec_len};
 ghost use Rattle.press_bits.specs.Mark.{row, row_dot, repeated};
-ghost use Rattle.press_bits.specs.Bands.{band_at, PaintedDown};
+ghost use Rattle.press_bits.specs.Bands.{band_at, PaintedDown, StampedDown};
+ghost use Rattle.press_bits.specs.DotRows.{mixed_dot};
 
 use crate::band::Band;
 use crate::bands::WIDEST_ROW;
-use crate::mode::Mode;
-use crate::painting::paint_across;
+use crate::painting::{eight_alike, paint_across};
 use crate::stroke::{Column, Stamp, Stroke};
 
-/// Where white dots of source and pattern change nothing.
-const TRANSPARENT: Mode = Mode {
-    source_opaque: false,
-    pattern_opaque: false,
-};
-
-/// Where white dots of the source change nothing, and those of the pattern make white.
-const OPAQUE_PATTERN: Mode = Mode {
-    source_opaque: false,
-    pattern_opaque: true,
-};
-
-/// Source dots that are painted through as many pattern dots, eight in each byte.
-#[derive(Clone, Copy, Debug)]
-struct Stamps<'a> {
-    source: &'a [u8],
-    tile: &'a [u8],
-    mode: Mode,
-}
-
-/// Paints the stamps from `from` on and before `to` down a column of bands: each dot on the line of its number.
+/// Stamps the dots of two rows from byte `from` on and before byte `to` down a column of bands, each on the line of its number:
+/// those that become black, and those that are kept where they do not.
 #[inline(always)]
-fn stamp_bands(bands: &mut Vec<Band>, column: Column, from: usize, to: usize, stamps: Stamps<'_>)
+fn stamp_bands(
+    bands: &mut Vec<Band>,
+    column: Column,
+    from: usize,
+    to: usize,
+    black: &[u8],
+    kept: &[u8],
+)
     requires onward { from ≤ to }
-    requires source { to ≤ length stamps.source.now }
-    requires tile { to ≤ length stamps.tile.now }
+    requires black { to ≤ length black.now }
+    requires kept { to ≤ length kept.now }
     requires within { to ≤ 8 * vec_len bands.old }
     requires there { (k : ℕ) → from / 8 ≤ k → 8 * k < to
         → length (band_at bands.old.items k) ≡ 64 * column.bytes }
-    requires transparent { stamps.mode.source_opaque ≡ false }
-    ensures { PaintedDown bands.old.items bands.new.items (row_dot stamps.entry.source.now)
-        (row_dot stamps.entry.tile.now) stamps.entry.mode column.bytes column.place (8 * from) (8 * to) }
+    ensures { StampedDown bands.old.items bands.new.items (row_dot black.now) (row_dot kept.now)
+        column.bytes column.place (8 * from) (8 * to) }
 {
     for index in from..to {
-        let source = stamps.source[index];
-        if source != 0 {
-            let stamp = Stamp {
-                source,
-                tile: stamps.tile[index],
-                mode: stamps.mode,
-            };
+        let stamp = Stamp {
+            black: black[index],
+            kept: kept[index],
+        };
+        if !stamp.keeps_all() {
             bands[index / 8].stamp(column, 8 * (index % 8), stamp);
         }
     }
 }
 
-/// The dots that are black in one row, or white in another.
-fn changed_dots(black: &[u8; WIDEST_ROW], kept: &[u8; WIDEST_ROW]) -> [u8; WIDEST_ROW]
-    ensures { (n : ℕ) → n < 8 * WIDEST_ROW
-        → row_dot result n ≡ (row_dot black.now n || not (row_dot kept.now n)) }
+/// What a stroke leaves of the widest row, whose dots are all black, or all white.
+fn row_after(stroke: &Stroke<'_, '_>, black: bool) -> [u8; WIDEST_ROW]
+    requires small { stroke.now.run.first + stroke.now.run.count ≤ 8 * WIDEST_ROW }
+    requires enough { stroke.now.run.skip + stroke.now.run.count ≤ stroke.now.source.dots }
+    ensures long { length result ≡ WIDEST_ROW }
+    ensures dots { (n : ℕ) → n < 8 * WIDEST_ROW → row_dot result n ≡ mixed_dot
+        (nat_le stroke.now.run.first n && nat_lt n (stroke.now.run.first + stroke.now.run.count))
+        stroke.now.mode
+        (row_dot stroke.now.source.bits.now (stroke.now.run.skip + (n - stroke.now.run.first)))
+        (repeated (row stroke.now.through.pattern) n) black }
 {
-    let mut changed = [0; WIDEST_ROW];
-    for index in 0..WIDEST_ROW {
-        changed[index] = black[index] | !kept[index];
+    let mut row = [eight_alike(black); WIDEST_ROW];
+    if black && !stroke.mode.whitens() {
+        return row;
     }
-    changed
+    paint_across(&mut row, 0, stroke);
+    row
 }
 
 /// Paints a run of source dots, through a pattern, down a column of bands. What they do is found in two rows first: the dots
@@ -85,27 +77,9 @@ pub(crate) fn paint_down(bands: &mut Vec<Band>, column: Column, stroke: &Stroke<
         (repeated (row stroke.now.through.pattern)) stroke.now.mode column.bytes column.place
         stroke.now.run.first (stroke.now.run.first + stroke.now.run.count) }
 {
-    let run = stroke.run;
-    let from = run.first / 8;
-    let to = (run.first + run.count - 1) / 8 + 1;
-    let mut black = [0; WIDEST_ROW];
-    paint_across(&mut black, 0, stroke);
-    if stroke.mode.source_opaque || stroke.mode.pattern_opaque {
-        let mut kept = [0xFF; WIDEST_ROW];
-        paint_across(&mut kept, 0, stroke);
-        let changed = changed_dots(&black, &kept);
-        let stamps = Stamps {
-            source: &changed,
-            tile: &black,
-            mode: OPAQUE_PATTERN,
-        };
-        stamp_bands(bands, column, from, to, stamps);
-    } else {
-        let stamps = Stamps {
-            source: &black,
-            tile: &black,
-            mode: TRANSPARENT,
-        };
-        stamp_bands(bands, column, from, to, stamps);
-    }
+    let from = stroke.run.first / 8;
+    let to = (stroke.run.first + stroke.run.count - 1) / 8 + 1;
+    let black = row_after(stroke, false);
+    let kept = row_after(stroke, true);
+    stamp_bands(bands, column, from, to, &black, &kept);
 }

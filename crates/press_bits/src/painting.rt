@@ -1,11 +1,11 @@
 //! Rows of dots that are mixed into the bytes of a page, sixty-four dots at a time.
 ghost use Rattle.std.specs.Prelude.{◌≡◌, ℕ, ◌+◌, ◌-◌, ◌*◌, ◌/◌, ◌%◌, ◌^◌, ◌<◌, ◌≤◌, ◌⊎◌, ◌&&◌, ◌||◌, not, nat_le, nat_lt, min, true, pos, ◌+ℤ◌, length};
 ghost use Rattle.press_bits.specs.Mark.{byte_dot};
+ghost use Rattle.press_bits.specs.DotRows.{stamped_dot};
 ghost use Rattle.press_bits.specs.Words.{word_dot};
 ghost use Rattle.press_bits.specs.Ranges.{IsPaintedAlong, IsPaintedFrom, IsStampedDown};
 
 use crate::dot_bytes::is_dot_black;
-use crate::mode::Mode;
 use crate::stroke::{Column, Run, Stamp, Stroke};
 use crate::word::{mixed_word, put_word, word_at, word_from};
 
@@ -121,26 +121,13 @@ pub(crate) fn paint_across(rows: &mut [u8], line: usize, stroke: &Stroke<'_, '_>
     }
 }
 
-/// Which of eight dots become black, and which white, where eight source dots meet eight pattern dots.
-fn made(source: u8, pattern: u8, mode: Mode) -> (u8, u8)
-    ensures black { (j : ℕ) → j < 8
-        → byte_dot result.0 j ≡ (byte_dot source j && byte_dot pattern j) }
-    ensures white { (j : ℕ) → j < 8 → byte_dot result.1 j
-        ≡ ((mode.source_opaque && not (byte_dot source j))
-        || (mode.pattern_opaque && (byte_dot source j && not (byte_dot pattern j)))) }
-{
-    let source_white = eight_alike(mode.source_opaque) & !source;
-    let pattern_white = eight_alike(mode.pattern_opaque) & (source & !pattern);
-    (source & pattern, source_white | pattern_white)
-}
-
-/// Eight dots of a page, of which those under the mask become black, or white.
-fn stamped(before: u8, mask: u8, black: bool, white: bool) -> u8
+/// Eight dots of a page, of which those under the mask become black, or are kept, or become white.
+fn stamped(before: u8, mask: u8, black: bool, kept: bool) -> u8
     ensures { (j : ℕ) → j < 8 → byte_dot result j
-        ≡ ((byte_dot before j && not (byte_dot mask j && white)) || (byte_dot mask j && black)) }
+        ≡ stamped_dot (byte_dot mask j) black kept (byte_dot before j) }
 {
     let set = mask & eight_alike(black);
-    let clear = mask & eight_alike(white);
+    let clear = mask & !eight_alike(kept);
     (before & !clear) | set
 }
 
@@ -153,15 +140,10 @@ pub(crate) fn stamp_down(rows: &mut [u8], column: Column, first: usize, count: u
     ensures { IsStampedDown rows.old rows.new column first count stamp }
 {
     let mask = 0x80 >> (column.place % 8);
-    let (black, white) = made(stamp.source, stamp.tile, stamp.mode);
     let mut index = first * column.bytes + column.place / 8;
     for i in 0..count {
-        rows[index] = stamped(
-            rows[index],
-            mask,
-            is_dot_black(black, i),
-            is_dot_black(white, i),
-        );
+        let (black, kept) = (is_dot_black(stamp.black, i), is_dot_black(stamp.kept, i));
+        rows[index] = stamped(rows[index], mask, black, kept);
         index += column.bytes;
     }
 }

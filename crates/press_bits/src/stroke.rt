@@ -36,10 +36,19 @@ pub(crate) struct Column {
     ghost inside: { place < 8 * bytes },
 }
 
-/// Eight source dots that are painted through as many pattern dots.
+/// What becomes of eight dots: those that become black, and those that are kept where they do not.
 #[derive(Clone, Copy, Debug)]
 pub(crate) struct Stamp {
-    pub(crate) source: u8,
-    pub(crate) tile: u8,
-    pub(crate) mode: Mode,
+    pub(crate) black: u8,
+    pub(crate) kept: u8,
+}
+
+impl Stamp {
+    /// Whether all dots are kept.
+    pub(crate) fn keeps_all(self) -> bool
+        ensures black { result ≡ true → self.black ≡ 0 }
+        ensures kept { result ≡ true → self.kept ≡ 255 }
+    {
+        self.black == 0 && self.kept == 0xFF
+    }
 }
