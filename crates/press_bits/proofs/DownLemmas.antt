@@ -2,7 +2,7 @@
 use Rattle.std.proofs.Common.{◌≡◌, ◌≢◌, ℕ, ◌+◌, ◌-◌, ◌*◌, ◌/◌, ◌%◌, ◌^◌, ◌<◌, ◌≤◌, ◌⊎◌, min, Bool, true, false, ◌&&◌, ◌||◌, List, [], ◌∷◌, length, set, replicate, refl, sym, ap, ◌∙◌, subst, inl, inr, arith}
 use Rattle.std.specs.Prelude.{nat_lt, nat_le, nat_eq, if◌then◌else◌, ℤ, pos, ◌+ℤ◌}
 use Rattle.std.proofs.Math.Nat.{mul-le-mul_right}
-use Rattle.std.proofs.lemmas.Bool.{cases_eq, cases_lt, true≢false}
+use Rattle.std.proofs.lemmas.Bool.{cases_eq, cases_lt}
 use Rattle.std.proofs.lemmas.Bool.Decides.{nat_tests}
 use Rattle.std.proofs.lemmas.List.{length-set, get_or-set_same, get_or-set_other, get_or-replicate}
 use Rattle.press_bits.specs.Page.{black_at}
@@ -15,7 +15,7 @@ use Rattle.press_bits.specs.Lines.{bytes_per_line}
 use Rattle.press_bits.specs.Bands.{band_at, line_dot, page_of_bands, HasBands, PaintedDown, StampedDown}
 use Rattle.press_bits.proofs.MarkLemmas.{painted_by_effects, row_lands, effect_at-column_mark, mixed_effect}
 use Rattle.press_bits.proofs.ByteLemmas.{row_dot-of_byte}
-use Rattle.press_bits.proofs.MixLemmas.{not_mixed, not_stamped, stamped_when}
+use Rattle.press_bits.proofs.MixLemmas.{neither, not_mixed, not_stamped, stamped_when}
 use Rattle.press_bits.proofs.PaintLemmas.{within_line}
 use Rattle.press_bits.proofs.BandLemmas.{width-page_of_bands, height-page_of_bands, no_dot_outside, black_at-page_of_bands}
 
@@ -168,10 +168,6 @@ by_white false false = refl
 
 no_white : (opaque : Bool) → opaque ≡ false → true ≡ dot_after (if opaque then MadeWhite else Unchanged) true
 no_white opaque none = sym (ap (λ o. dot_after (if o then MadeWhite else Unchanged) true) none)
-
-neither : (a b : Bool) → (a || b) ≡ false → (a ≡ false) × (b ≡ false)
-neither true b none = absurd (true≢false none)
-neither false b none = (refl, none)
 
 -- what is done to a white dot and to a black one says what is done to any
 of_both : (t : Bool) (mode : Mode) (source pattern before : Bool) → ((before && mixed_dot t mode source pattern true) || mixed_dot t mode source pattern false) ≡ mixed_dot t mode source pattern before

@@ -1,6 +1,6 @@
 -- The dots of words, and how many of them are black.
-use Rattle.std.proofs.Common.{◌≡◌, ℕ, ◌+◌, ◌-◌, ◌*◌, ◌/◌, ◌%◌, ◌^◌, ◌<◌, ◌≤◌, ◌⊎◌, zero, suc, true, false, not, ◌&&◌, ◌||◌, List, [], ◌∷◌, length, take, drop, get_or, refl, sym, ap, ◌∙◌, inl, inr, count_ones, w64, arith}
-use Rattle.std.specs.Prelude.{nat_lt, nat_le, nat_eq, bit_and, bit_or}
+use Rattle.std.proofs.Common.{◌≡◌, ℕ, ◌+◌, ◌-◌, ◌*◌, ◌/◌, ◌%◌, ◌^◌, ◌<◌, ◌≤◌, ◌⊎◌, zero, suc, Bool, true, false, not, ◌&&◌, ◌||◌, List, [], ◌∷◌, length, take, drop, get_or, refl, sym, ap, ◌∙◌, inl, inr, count_ones, w64, arith}
+use Rattle.std.specs.Prelude.{nat_lt, nat_le, nat_eq, bit_and, bit_or, if◌then◌else◌}
 use Rattle.std.specs.Int.{bit_at, bit_not, to_be_bytes, from_be_bytes}
 use Rattle.std.specs.List.{range_with_len, count_by}
 use Rattle.std.proofs.Math.Nat.{div-add-mod}
@@ -10,13 +10,15 @@ use Rattle.std.proofs.lemmas.List.{get_or_past, get_or-take, get_or-drop, get_or
 use Rattle.std.proofs.lemmas.Nat.{ones_cat, be_bytes_8, and_le_l, pow_pos}
 use Rattle.std.proofs.lemmas.Nat.Bits.{bit_at_and, bit_at_or, bit_at_not, bit_at_ones, bit_at-zero, bit_at-lt, bit_at_above, bit_at_cat_low, bit_at_cat_high}
 use borrow.Rule.Slice.PartMut.{put_mid}
+use Rattle.press_bits.specs.DotRule.{dot_after}
+use Rattle.press_bits.specs.DotRule.DotEffect.{MadeWhite, Unchanged}
 use Rattle.press_bits.specs.DotRows.{mixed_dot}
 use Rattle.press_bits.specs.Mark.{row_dot, byte_dot}
 use Rattle.press_bits.specs.Words.{word_dot}
 use Rattle.press_bits.specs.declared.mode.Mode.{Mode}
 use Rattle.press_bits.proofs.ByteLemmas.{bit_at-shr, low_bits, and_test, or_test, not_test, row_dot-of_byte}
 use Rattle.press_bits.proofs.CountLemmas.{byte_more}
-use Rattle.press_bits.proofs.MixLemmas.{mixed_is, or_false}
+use Rattle.press_bits.proofs.MixLemmas.{mixed_is, or_false, or_true, neither}
 
 -- ---- the eight bytes of a word
 
@@ -160,6 +162,21 @@ mixed_words before source pattern mask so po j mode within small_source small_pa
     (word_dot-and before (bit_not w64 white) j ∙ ap (λ t. word_dot before j && t) (word_dot-not white j small within ∙ ap not whitened)) i
     || (word_dot-and mask (bit_and source pattern) j ∙ ap (λ t. word_dot mask j && t) (word_dot-and source pattern j)) i)
     ∙ mixed_is mode.source_opaque mode.pattern_opaque (word_dot mask j) (word_dot source j) (word_dot pattern j) (word_dot before j)
+
+-- where white changes nothing, the black dots are laid over the others
+pub blackened_words : (before source pattern mask j : ℕ) (mode : Mode) → (mode.source_opaque || mode.pattern_opaque) ≡ false →
+    word_dot (bit_or before (bit_and mask (bit_and source pattern))) j ≡ mixed_dot (word_dot mask j) mode (word_dot source j) (word_dot pattern j) (word_dot before j)
+blackened_words before source pattern mask j mode none =
+    word_dot-or before (bit_and mask (bit_and source pattern)) j
+    ∙ ap (λ t. word_dot before j || t) (word_dot-and mask (bit_and source pattern) j ∙ ap (λ t. word_dot mask j && t) (word_dot-and source pattern j))
+    ∙ laid_over (word_dot mask j) (word_dot source j) (word_dot pattern j) (word_dot before j) mode (neither mode.source_opaque mode.pattern_opaque none).0 (neither mode.source_opaque mode.pattern_opaque none).1
+  where
+    laid_over : (inside source pattern before : Bool) (mode : Mode) → mode.source_opaque ≡ false → mode.pattern_opaque ≡ false →
+        (before || (inside && (source && pattern))) ≡ mixed_dot inside mode source pattern before
+    laid_over false source pattern before mode no_source no_pattern = or_false before
+    laid_over true true true before mode no_source no_pattern = or_true before
+    laid_over true true false before mode no_source no_pattern = or_false before ∙ sym (ap (λ o. dot_after (if o then MadeWhite else Unchanged) before) no_pattern)
+    laid_over true false pattern before mode no_source no_pattern = or_false before ∙ sym (ap (λ o. dot_after (if o then MadeWhite else Unchanged) before) no_source)
 
 -- ---- words that are shifted
 

@@ -75,8 +75,30 @@ fn paint_word(rows: &mut [u8], part: Part, line: usize, stroke: &Stroke<'_, '_>)
     put_word(rows, part.index, after);
 }
 
-/// Paints dots of a stroke from dot `from` on that lie before dot `end`, and says before which: those that stand in the same eight
-/// bytes, or of a solid one all that fill whole bytes.
+/// Paints so many words of sixty-four dots of a stroke, from a byte on.
+#[inline(always)]
+fn paint_words(rows: &mut [u8], first: usize, words: usize, line: usize, stroke: &Stroke<'_, '_>)
+    requires room { first + 8 * words ≤ length rows.old }
+    requires small { length rows.old < 2 ^ 40 }
+    requires begun { 8 * line + stroke.now.run.first ≤ 8 * first }
+    requires left { 8 * first + 64 * words
+        ≤ 8 * line + stroke.now.run.first + stroke.now.run.count }
+    requires enough { stroke.now.run.skip + stroke.now.run.count ≤ stroke.now.source.dots }
+    ensures { IsPaintedFrom rows.old rows.new line stroke.now (8 * first) (8 * first + 64 * words) }
+{
+    for word in 0..words {
+        let index = first + 8 * word;
+        let part = Part {
+            index,
+            from: 8 * index,
+            to: 8 * index + 64,
+        };
+        paint_word(rows, part, line, stroke);
+    }
+}
+
+/// Paints dots of a stroke from dot `from` on that lie before dot `end`, and says before which: whole words where it begins with a
+/// byte, and else those in the same eight bytes.
 #[inline(always)]
 fn paint_next(
     rows: &mut [u8],
@@ -96,14 +118,20 @@ fn paint_next(
     ensures within { result ≤ end }
     ensures painted { IsPaintedFrom rows.old rows.new line stroke.now from result }
 {
-    if stroke.solid && from % 8 == 0 && from + 8 <= end {
-        rows[from / 8..end / 8].fill(0xFF);
-        return 8 * (end / 8);
+    let first = from / 8;
+    let words = (end - from) / 64;
+    if from % 8 != 0 || words == 0 {
+        let index = first.min(rows.len() - 8);
+        let to = (8 * index + 64).min(end);
+        paint_word(rows, Part { index, from, to }, line, stroke);
+        return to;
     }
-    let index = (from / 8).min(rows.len() - 8);
-    let to = (8 * index + 64).min(end);
-    paint_word(rows, Part { index, from, to }, line, stroke);
-    to
+    if stroke.solid {
+        rows[first..first + 8 * words].fill(0xFF);
+    } else {
+        paint_words(rows, first, words, line, stroke);
+    }
+    from + 64 * words
 }
 
 /// Paints a run of source dots, through a pattern, into the line that begins at byte `line`.

@@ -91,9 +91,12 @@ pub(crate) fn mixed_word(before: u64, source: u64, pattern: u64, mask: u64, mode
     ensures { (j : ℕ) → j < 64 → word_dot result j ≡ mixed_dot (word_dot mask j) mode
         (word_dot source j) (word_dot pattern j) (word_dot before j) }
 {
+    let black = mask & (source & pattern);
+    if !mode.whitens() {
+        return before | black;
+    }
     let source_white = alike(mode.source_opaque) & !source;
     let pattern_white = alike(mode.pattern_opaque) & (source & !pattern);
     let white = mask & (source_white | pattern_white);
-    let black = mask & (source & pattern);
     (before & !white) | black
 }
