@@ -1,5 +1,6 @@
 //! Worked pages: blank ones, lines, columns and bands.
 use press_bits::{Bitmap, BlankError, DotRow, MAX_SIDE, Mode, WIDEST_ROW};
+use std::alloc::Global;
 use std::process::Abort;
 use std::test::Fail;
 
@@ -118,5 +119,35 @@ fn bands_are_ready_where_they_were_made(rt: HostRuntime) -> Result<(), Fail> {
     bands.ready(-5, 6)?;
     assert!(rt; bands.are_ready(-5, 133));
     assert!(rt; !bands.are_ready(-5, 134));
+    Ok(())
+}
+
+/// A page of ten dots by as many lines as it is high, all black.
+fn black_page(alloc: Global, height: u32) -> Result<Bitmap, Fail> {
+    let mut page = Bitmap::blank(alloc, 10, height)?;
+    let row = DotRow {
+        bits: &[0xFF, 0xFF],
+        dots: 16,
+    };
+    for y in 0..height {
+        page.paint_row(0, i64::from(y), row, DotRow::black(), TRANSPARENT)?;
+    }
+    Ok(page)
+}
+
+/// Whether one mark in the memory of a black page leaves eight black dots and the bytes of a line.
+fn is_clean(alloc: Global, width: u32, height: u32) -> Result<bool, Fail> {
+    let mut page = Bitmap::blank(alloc, width, 130)?;
+    page.reuse(black_page(alloc, height)?);
+    page.paint_row(1, 129, DotRow::black(), DotRow::black(), TRANSPARENT)?;
+    let clean = page.height() > 129 && page.line(129).starts_with(&[0x7F, 0x80]);
+    Ok(clean && page.count_black() == 8)
+}
+
+#[test]
+fn a_page_is_made_in_the_memory_of_another(rt: HostRuntime) -> Result<(), Fail> {
+    for (width, height) in [(10, 130), (10, 64), (90, 130), (9, 130)] {
+        assert!(rt; is_clean(rt.alloc(), width, height)?, "{width} by {height}");
+    }
     Ok(())
 }
