@@ -2,7 +2,6 @@ pub mod ChangeLemmas
 pub mod DepthLaws
 pub mod EndsLemmas
 pub mod ItemsLemmas
-pub mod MachineLemmas
 pub mod PlaceLemmas
 pub mod Runs
 pub mod SendsLemmas
@@ -10,6 +9,8 @@ pub mod StackLaws
 pub mod StackLemmas
 pub mod StepLemmas
 pub mod TraceLaws
+pub mod ValueLemmas
+pub mod WholeLemmas
 pub mod WorkedJobs
 pub mod WorkedStreams
 pub mod WorkedMacros

@@ -1,5 +1,5 @@
 -- How far outputs go out, put together.
-use Rattle.std.proofs.Common.{◌≡◌, ◌≢◌, ◌∙◌, ◌<◌, ◌+◌, ◌-◌, ◌≤◌, suc, arith, ℕ, List, [], ◌∷◌, ◌++◌, Option, None, Some, true, Result, Ok, Err, refl, sym, ap, subst}
+use Rattle.std.proofs.Common.{◌≡◌, ◌≢◌, ◌∙◌, ◌<◌, ◌+◌, ◌-◌, ◌≤◌, zero, suc, arith, ℕ, List, [], ◌∷◌, ◌++◌, length, drop, Option, None, Some, true, Result, Ok, Err, refl, sym, ap, subst}
 use Rattle.std.specs.Prelude.{nat_lt}
 use Rattle.std.proofs.KnownBytes.{Appends-nil}
 use Rattle.std.proofs.lemmas.Bool.Decides.{nat_tests}
@@ -14,7 +14,8 @@ use Rattle.press_sink.proofs.SendingLemmas.{told-nothing, TookAll-none, WentOut-
 use Rattle.press_engine.specs.declared.fault.EngineError.{EngineError}
 use Rattle.press_engine.specs.declared.fault.EngineError.TheVariants as engine_errors
 use Rattle.press_engine.specs.Engine.{Sends}
-use Rattle.press_engine.specs.Outputs.{copy_out, next_count, copies_out}
+use Rattle.press_engine.specs.Outputs.{copy_out, next_count, copies_out, outputs_of, all_outputs}
+use Rattle.press_engine.specs.declared.effect.Sent.{Sent}
 
 -- all of the outputs went out, and then others so far
 pub Sends-then : (tag : ℕ) (outputs others : List Output) (result : Result (Unit {0}) EngineError) (before between after : Told) → TookAll tag outputs before between → Sends tag others result between after → Sends tag (outputs ++ others) result before after
@@ -128,3 +129,23 @@ some-before (output ∷ outputs) others some nothing = cc
 pub some-behind : (outputs others : List Output) → others ≢ [] → outputs ++ others ≢ []
 some-behind [] others some nothing = some nothing
 some-behind (output ∷ outputs) others some nothing = cc
+
+-- where a part of what goes out is not empty, the whole is not
+pub all_outputs-some : (sent : List Sent) (done : ℕ) (part : Sent) (rest : List Sent) → drop done sent ≡ part ∷ rest → outputs_of part ≢ [] → all_outputs sent ≢ []
+all_outputs-some [] zero part rest left some nothing = absurd cc
+all_outputs-some [] (suc done) part rest left some nothing = absurd cc
+all_outputs-some (one ∷ sent) zero part rest left some nothing =
+    let P : List Sent → Type 0 = λ these. all_outputs these ≢ [] in
+    subst P (sym left) (some-before (outputs_of part) (all_outputs rest) some) nothing
+all_outputs-some (one ∷ sent) (suc done) part rest left some nothing = some-behind (outputs_of one) (all_outputs sent) (all_outputs-some sent done part rest left some) nothing
+
+-- all parts went out
+pub Sends-all : (tag done : ℕ) (sent : List Sent) (told : Told) → length sent ≤ done → Sends tag (all_outputs (drop done sent)) (Ok tt) told told
+Sends-all tag zero [] told past = TookAll-none tag told
+Sends-all tag (suc done) [] told past = TookAll-none tag told
+Sends-all tag zero (one ∷ sent) told past = absurd (omega arith)
+Sends-all tag (suc done) (one ∷ sent) told past = Sends-all tag done sent told (omega arith)
+
+pub front-none : (outputs others : List Output) → outputs ++ others ≡ [] → outputs ≡ []
+front-none [] others none = refl
+front-none (output ∷ outputs) others none = cc

@@ -10,7 +10,7 @@ use Rattle.press_engine.specs.Outcome.{Effect, Changes, Makes, GivesReply, Stays
 use Rattle.press_engine.specs.Machine.{Run, then_run, with_state, taken, run_in_overlay, levels, source_at}
 use Rattle.press_engine.specs.Table.{effect_on}
 use Rattle.press_engine.specs.Trace.{last_machine, with_end, trace_each, trace_effect_in_overlay, trace_in_overlay, close_items_with, trace_finished, trace_carry_out, trace_at}
-use Rattle.press_engine.specs.Stack.{items_at, items_in, end_of, ends_in, outwards, owed, Begun, begun_in_overlay, begun_close_with, begun_finished, begun_outside, begins, Stepped, ended_by, pops, step_outer, step_inner}
+use Rattle.press_engine.specs.Stack.{items_at, items_in, end_of, ends_in, outwards, owed, begun_in_overlay, begun_close_with, begun_finished, begun_outside, begins, Stepped, ended_by, pops, step_outer, step_inner}
 
 begun-in_overlay : (more : ℕ) (before machine : Machine) (effect : Effect) → trace_effect_in_overlay (trace_in_overlay more) machine effect ≡ outwards (begun_in_overlay more machine effect).started ((begun_in_overlay more machine effect).item ∷ []) before
 begun-in_overlay more before machine (Changes state) = refl

@@ -1,5 +1,5 @@
 -- Bodies that run, one in the other.
-use Rattle.std.proofs.Common.{◌≡◌, ◌≢◌, ◌⊎◌, ◌∙◌, ◌<◌, ◌≤◌, ◌+◌, arith, ℕ, zero, suc, List, [], ◌∷◌, ◌++◌, length, Option, Some, None, Bool, true, false, inl, inr, refl, sym, ap, subst}
+use Rattle.std.proofs.Common.{◌≢◌, ◌⊎◌, ◌<◌, ◌≤◌, ◌+◌, arith, ℕ, zero, suc, List, [], ◌∷◌, ◌++◌, length, Option, Some, None, Bool, true, false, inl, inr, refl}
 use Rattle.press_cmd.specs.Token.{Token}
 use Rattle.press_engine.specs.declared.effect.Closer.{Closer}
 use Rattle.press_engine.specs.declared.effect.Source.TheVariants.{Stream}
@@ -113,7 +113,3 @@ begun-wants false (suc more) machine effect some = wants-outside more machine ef
 
 pub inner-wants : (in_overlay : Bool) (more : ℕ) (command : Token) (machine : Machine) → ((begins in_overlay more command machine).item.outputs ≢ []) ⊎ ((begins in_overlay more command machine).started ≢ []) → TakesMemory (effect_on (source_in in_overlay more) command machine.state)
 inner-wants in_overlay more command machine some = begun-wants in_overlay more (taken command machine) (effect_on (source_in in_overlay more) command machine.state) some
-
-pub started-none : (frames still : List Frame) (item : Run) → still ≡ (pops frames item).frames → still ≢ [] → frames ≢ []
-started-none [] still item is some = absurd (some is)
-started-none (frame ∷ frames) still item is some = λ (none : frame ∷ frames ≡ []). cc

@@ -1,12 +1,13 @@
 -- What a step says of the bodies that run, of the command that it took, and of memory.
-use Rattle.std.proofs.Common.{◌≡◌, ◌≢◌, ◌⊎◌, ◌∙◌, ◌≤◌, arith, ℕ, zero, suc, List, [], ◌∷◌, ◌++◌, Option, Some, None, IsSome, Bool, true, false, option_to_list, if◌then◌else◌, Result, Ok, Err, IsErr, inl, inr, refl, sym, ap, subst}
-use Rattle.std.specs.Result.{is_err}
+use Rattle.std.proofs.Common.{◌≡◌, ◌≢◌, ◌⊎◌, ◌∙◌, arith, ℕ, zero, suc, List, [], ◌∷◌, ◌++◌, Option, Some, None, Bool, true, false, if◌then◌else◌, Result, Ok, Err, IsErr, Vec, inl, inr, refl, sym, subst}
+use Rattle.std.specs.declared.alloc.Global.{Global}
 use Rattle.std.proofs.lemmas.List.{append-nil}
 use Rattle.press_cmd.specs.Token.{Token}
+use Rattle.press_sink.specs.Sending.{Output}
 use Rattle.press_cmd.specs.Kinds.{kind_of}
 use Rattle.press_cmd.specs.declared.variant.Kind.{Kind}
-use Rattle.press_sink.specs.Told.{Told}
 use Rattle.press_engine.specs.declared.effect.Closer.{Closer}
+use Rattle.press_engine.specs.declared.effect.Sent.{Sent}
 use Rattle.press_engine.specs.declared.effect.Source.TheVariants.{Stream}
 use Rattle.press_engine.specs.declared.fault.EngineError.{EngineError}
 use Rattle.press_engine.specs.declared.frame.Frame.{Frame}
@@ -15,14 +16,13 @@ use Rattle.press_engine.specs.declared.frame.FrameEnd.TheVariants as ends_by
 use Rattle.press_engine.specs.declared.machine.Last.{Last}
 use Rattle.press_engine.specs.declared.machine.Last.TheVariants as lasts
 use Rattle.press_engine.specs.declared.machine.Machine.{Machine}
-use Rattle.press_engine.specs.declared.state.State.{State}
 use Rattle.press_engine.specs.Calls.{overlay_body}
-use Rattle.press_engine.specs.Engine.{Sends, IsOfKind, TakesItem, TakesMemory}
+use Rattle.press_engine.specs.Engine.{IsOfKind, StepsTo, TakesMemory}
 use Rattle.press_engine.specs.Machine.{Run, then_run, with_state, taken, last_of, levels as LEVELS}
 use Rattle.press_engine.specs.Outcome.{Effect, Changes, Makes, GivesReply, Stays, Closes, Starts}
 use Rattle.press_engine.specs.Stack as stack
 use Rattle.press_engine.specs.Stack.{source_in, end_by, end_of, begun_in_overlay, begun_outside, begun_finished, begun_close_with, begins, ended_by, pops, Stepped, step_outer, step_inner, owed, Gives, IsNested, IsSound, IsOverlayEnd, EndsOverlay}
-use Rattle.press_engine.specs.Stepping.{GivesItem, used_up}
+use Rattle.press_engine.specs.Stepping.{stepped_of, used_up}
 use Rattle.press_engine.specs.Table.{effect_on, is_recorded}
 use Rattle.press_engine.proofs.ItemsLemmas.{ready-of, step-ready}
 use Rattle.press_engine.proofs.StackLemmas.{pops-nested, begins-nested, outer-wants, inner-wants}
@@ -107,27 +107,12 @@ some-last (lasts.Recorded one) kind of_kind = λ (nothing : lasts.Recorded one �
 pub taken-last : (command : Token) (machine : Machine) (last : Last) → last ≡ last_of command machine.state → last ≢ lasts.Nothing
 taken-last command machine last is = some-last last (kind_of command) (last-kind command machine last is)
 
--- A step of the code gives the first of the items that were owed.
-module _ (owing : List Run) (stepped : Stepped) (gives : Gives stepped owing) (tag : ℕ) (new : Machine) (still : List Frame) (before after : Told) where
-  pub item-given : (kind : Kind) → IsOfKind new.last kind → still ≡ stepped.frames → new ≡ stepped.item.machine → Sends tag stepped.item.outputs (Ok tt) before after → GivesItem owing tag (Ok kind) new still before after
-  item-given kind of_kind runs moves sends =
-      let P : Machine → Type 0 = λ machine. IsOfKind machine.last kind in
-      record {
-        item = stepped.item;
-        others = owed stepped.frames stepped.item.machine;
-        due = gives;
-        left = (subst P moves of_kind, moves, (λ i. owed (sym runs i) stepped.item.machine));
-        sends = sends;
-      }
-
-  pub item-stopped : (error : EngineError) → still ≡ [] → Sends tag stepped.item.outputs (Err error) before after → GivesItem owing tag (Err error) new still before after
-  item-stopped error none sends = record {
-    item = stepped.item;
-    others = owed stepped.frames stepped.item.machine;
-    due = gives;
-    left = none;
-    sends = sends;
-  }
+-- a step of the code gives the first of the items that were owed
+pub steps-to : (owing : List Run) (stepped : Stepped) (kind : Kind) (sent : Vec Sent Global) (new : Machine) (still : List Frame) → Gives stepped owing → stepped_of new sent.items still ≡ stepped → IsOfKind new.last kind → StepsTo owing (record { kind = kind; sent = sent }) new still
+steps-to owing stepped kind sent new still gives is of_kind = record {
+  kind = of_kind;
+  owes = gives ∙ (λ i. (sym is i).item ∷ owed (sym is i).frames (sym is i).item.machine);
+}
 
 -- the bodies between two steps
 pub sound-outer : (command : Token) (machine : Machine) (still : List Frame) → still ≡ (step_outer command machine).frames → IsSound still
@@ -149,25 +134,6 @@ sound-inner frame command rest outer frames still machine all nested is =
       nested = subst IsNested (sym is) (pops-nested (begin.started ++ (record frame { body = rest } ∷ outer)) begin.item started);
     }
 
--- an engine whose step gave an item
-pub item-taken : (owing : List Run) (tag : ℕ) (result : Result Kind EngineError) (machine : Machine) (still : List Frame) (failed : Bool) (before after : Told) → failed ≡ is_err result → GivesItem owing tag result machine still before after → TakesItem owing tag result (if failed then None else Some machine) (if failed then [] else still) before after
-item-taken owing tag (Ok kind) machine still true before after is gives = absurd cc
-item-taken owing tag (Ok kind) machine still false before after is gives = record {
-  item = gives.item;
-  others = gives.others;
-  due = gives.due;
-  left = (gives.left.0, (λ i. Some (gives.left.1 i)), gives.left.2);
-  sends = gives.sends;
-}
-item-taken owing tag (Err error) machine still true before after is gives = record {
-  item = gives.item;
-  others = gives.others;
-  due = gives.due;
-  left = (refl, refl);
-  sends = gives.sends;
-}
-item-taken owing tag (Err error) machine still false before after is gives = absurd cc
-
 -- an answer tells one error
 pub same_error : {X : Type 0} (result : Result X EngineError) (one other : EngineError) → result ≡ Err one → result ≡ Err other → one ≡ other
 same_error result one other p q = cc
@@ -184,15 +150,6 @@ used-none (command ∷ rest) is = absurd cc
 
 pub ends-overlay : (frames rest : List Frame) (frame : Frame) → frames ≡ frame ∷ rest → used_up frame.body ≡ true → IsOverlayEnd frame.end ⊎ EndsOverlay rest → EndsOverlay frames
 ends-overlay frames rest frame is used ends = subst EndsOverlay (sym is) (used-none frame.body used, ends)
-
--- a body was started
-pub some-started : (started : Option Frame) → IsSome started → option_to_list started ≢ []
-some-started None some = absurd cc
-some-started (Some frame) some = λ (none : frame ∷ [] ≡ []). cc
-
-pub started-or-overlay : (started : Option Frame) (frames all : List Frame) → all ≡ option_to_list started ++ frames → EndsOverlay all → (option_to_list started ≢ []) ⊎ EndsOverlay frames
-started-or-overlay None frames all is ends = inr (subst EndsOverlay is ends)
-started-or-overlay (Some frame) frames all is ends = inl (some-started (Some frame) refl)
 
 -- where the rest of a step of the stream may take memory, so may the command
 pub outer-memory : (command : Token) (machine : Machine) (one : stack.Begun) (frames : List Frame) → one ≡ begins false LEVELS command machine → frames ≡ [] → (one.item.outputs ≢ []) ⊎ (one.started ≢ []) ⊎ EndsOverlay frames → TakesMemory (effect_on Stream command machine.state)
@@ -213,3 +170,59 @@ inner-memory frame command rest outer frames machine one is all (inr (inl some))
     let P : stack.Begun → Type 0 = λ this. this.started ≢ [] in
     inl (inner-wants frame.in_overlay frame.levels command machine (inr (subst P is some)))
 inner-memory frame command rest outer frames machine one is all (inr (inr ends)) = inr (subst EndsOverlay all ends)
+
+-- Where something goes out in a step, its beginning lets it out, or an overlay ends.
+append-some : (one other : List Output) → one ++ other ≢ [] → (one ≢ []) ⊎ (other ≢ [])
+append-some [] other some = inr some
+append-some (output ∷ one) other some = inl (λ (none : output ∷ one ≡ []). cc)
+
+end-sends : (end : FrameEnd) (depth : ℕ) (machine : Machine) → (end_by end depth machine).outputs ≢ [] → IsOverlayEnd end
+end-sends (ends_by.Macro end) depth machine some = absurd (some refl)
+end-sends (ends_by.Close closer kept place) depth machine some = tt
+
+over-end : (frame : Frame) (frames : List Frame) (item : Run) → frame.body ≡ [] → (item.outputs ≢ []) ⊎ ((end_of frame item.machine).outputs ≢ []) → (item.outputs ≢ []) ⊎ EndsOverlay (frame ∷ frames)
+over-end frame frames item used (inl some) = inl some
+over-end frame frames item used (inr some) = inr (used, inl (end-sends frame.end frame.depth item.machine some))
+
+over-rest : (frame : Frame) (frames : List Frame) (item : Run) → frame.body ≡ [] → (item.outputs ++ (end_of frame item.machine).outputs ≢ []) ⊎ EndsOverlay frames → (item.outputs ≢ []) ⊎ EndsOverlay (frame ∷ frames)
+over-rest frame frames item used (inl some) = over-end frame frames item used (append-some item.outputs (end_of frame item.machine).outputs some)
+over-rest frame frames item used (inr ends) = inr (used, inr ends)
+
+ended-sends : (body : List Token) (frames : List Frame) (frame : Frame) → frame.body ≡ body → ((item : Run) → (pops frames item).item.outputs ≢ [] → (item.outputs ≢ []) ⊎ EndsOverlay frames) → (item : Run) → (ended_by body frames frame (pops frames) item).item.outputs ≢ [] → (item.outputs ≢ []) ⊎ EndsOverlay (frame ∷ frames)
+ended-sends [] frames frame used outer item some = over-rest frame frames item used (outer (then_run item.outputs (end_of frame item.machine)) some)
+ended-sends (command ∷ rest) frames frame used outer item some = inl some
+
+pub pops-sends : (frames : List Frame) (item : Run) → (pops frames item).item.outputs ≢ [] → (item.outputs ≢ []) ⊎ EndsOverlay frames
+pops-sends [] item some = inl some
+pops-sends (frame ∷ frames) item some = ended-sends frame.body frames frame refl (pops-sends frames) item some
+
+-- of a command of the stream, and inside a body
+started-ends : (started : List Frame) → EndsOverlay started → started ≢ []
+started-ends [] ends = absurd ends
+started-ends (frame ∷ started) ends = λ (none : frame ∷ started ≡ []). cc
+
+of-outer : (command : Token) (machine : Machine) → ((begins false LEVELS command machine).item.outputs ≢ []) ⊎ EndsOverlay (begins false LEVELS command machine).started → TakesMemory (effect_on Stream command machine.state)
+of-outer command machine (inl some) = outer-wants command machine (inl some)
+of-outer command machine (inr ends) = outer-wants command machine (inr (started-ends (begins false LEVELS command machine).started ends))
+
+pub outer-sends : (command : Token) (machine : Machine) → (step_outer command machine).item.outputs ≢ [] → TakesMemory (effect_on Stream command machine.state)
+outer-sends command machine some =
+    let begin = begins false LEVELS command machine in
+    of-outer command machine (pops-sends begin.started begin.item some)
+
+ends-append : (started frames : List Frame) → EndsOverlay (started ++ frames) → (started ≢ []) ⊎ EndsOverlay frames
+ends-append [] frames ends = inr ends
+ends-append (frame ∷ started) frames ends = inl (λ (none : frame ∷ started ≡ []). cc)
+
+started-too : (frame : Frame) (command : Token) (frames : List Frame) (machine : Machine) → ((begins frame.in_overlay frame.levels command machine).started ≢ []) ⊎ EndsOverlay frames → TakesMemory (effect_on (source_in frame.in_overlay frame.levels) command machine.state) ⊎ EndsOverlay frames
+started-too frame command frames machine (inl some) = inl (inner-wants frame.in_overlay frame.levels command machine (inr some))
+started-too frame command frames machine (inr ends) = inr ends
+
+of-inner : (frame : Frame) (command : Token) (frames : List Frame) (machine : Machine) → ((begins frame.in_overlay frame.levels command machine).item.outputs ≢ []) ⊎ EndsOverlay ((begins frame.in_overlay frame.levels command machine).started ++ frames) → TakesMemory (effect_on (source_in frame.in_overlay frame.levels) command machine.state) ⊎ EndsOverlay frames
+of-inner frame command frames machine (inl some) = inl (inner-wants frame.in_overlay frame.levels command machine (inl some))
+of-inner frame command frames machine (inr ends) = started-too frame command frames machine (ends-append (begins frame.in_overlay frame.levels command machine).started frames ends)
+
+pub inner-sends : (frame : Frame) (command : Token) (rest : List Token) (outer : List Frame) (machine : Machine) → (step_inner frame command rest outer machine).item.outputs ≢ [] → TakesMemory (effect_on (source_in frame.in_overlay frame.levels) command machine.state) ⊎ EndsOverlay (record frame { body = rest } ∷ outer)
+inner-sends frame command rest outer machine some =
+    let begin = begins frame.in_overlay frame.levels command machine in
+    of-inner frame command (record frame { body = rest } ∷ outer) machine (pops-sends (begin.started ++ (record frame { body = rest } ∷ outer)) begin.item some)

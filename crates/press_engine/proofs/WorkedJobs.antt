@@ -1,7 +1,7 @@
 -- Worked streams with lines of the job language, computed on the definitions: what goes out from power on.
 use Prim.Native.Char.{code}
 use Prim.Native.String.{String}
-use Rattle.std.proofs.Common.{◌≡◌, ℕ, ◌-◌, ◌*◌, List, [], ◌∷◌, ◌++◌, replicate, Some, None, true, false, refl}
+use Rattle.std.proofs.Common.{◌≡◌, ℕ, ◌-◌, ◌*◌, List, [], ◌∷◌, ◌++◌, replicate, Some, None, refl}
 use Rattle.std.specs.Fmt.{digits}
 use Rattle.std.specs.Prelude.{codes}
 use Rattle.press_bits.specs.Page.{Page, blank}
@@ -18,7 +18,7 @@ use Rattle.press_rows.specs.Blocks.{items}
 use Rattle.press_rows.specs.DeltaRow.{deltas, replacements, laid_over}
 use Rattle.press_rows.specs.Row.{raster_row}
 use Rattle.press_sink.specs.Sending.{Output, Deliver, Reply}
-use Rattle.press_engine.specs.Machine.{Run, power_on, run_all, run_each, run_at}
+use Rattle.press_engine.specs.Machine.{power_on, run_all, run_each, run_at}
 
 -- a line, with its line feed
 abbrev line : String → Token

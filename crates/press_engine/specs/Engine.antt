@@ -1,5 +1,5 @@
 -- The engine as callers see it.
-use Rattle.std.specs.Prelude.{◌≡◌, ◌≢◌, ◌⊎◌, ℕ, pos, false, Option, Some, None, List, [], ◌∷◌, Result, Ok, Err, OnOk, MatchResult, if◌then◌else◌}
+use Rattle.std.specs.Prelude.{◌≡◌, ◌≢◌, ◌⊎◌, ℕ, pos, false, Option, Some, None, List, [], ◌∷◌, Result, Ok, Err, MatchResult, if◌then◌else◌}
 use Rattle.std.specs.Borrow.{Bor}
 use Rattle.press_cmd.specs.Token.{Token}
 use Rattle.press_cmd.specs.declared.variant.Kind.{Kind}
@@ -8,6 +8,7 @@ use Rattle.press_macros.specs.Macros.{defining}
 use Rattle.press_raster.specs.Graphics.{raster_position}
 use Rattle.press_sink.specs.Told.{Told}
 use Rattle.press_sink.specs.Sending.{Output, Complete, AtSheet, AtReply, ForMemory, WentOut}
+use Rattle.press_engine.specs.declared.effect.StepOutput.{StepOutput}
 use Rattle.press_engine.specs.declared.engine.Engine.{Engine}
 use Rattle.press_engine.specs.declared.fault.EngineError.{EngineError}
 use Rattle.press_engine.specs.declared.fault.EngineError.TheVariants as engine_errors
@@ -19,6 +20,7 @@ use Rattle.press_engine.specs.declared.view.View.{View}
 use Rattle.press_engine.specs.declared.state.State.{State}
 use Rattle.press_engine.specs.Outcome.{Outcome, Effect, Changes, Makes, GivesReply, Stays, Closes, Starts, is_marked}
 use Rattle.press_engine.specs.Closing.{after_close}
+use Rattle.press_engine.specs.Outputs.{all_outputs}
 use Rattle.press_engine.specs.Table.{effect_on}
 use Rattle.press_engine.specs.Machine.{Run, run}
 use Rattle.press_engine.specs.Stack.{owed, source_in, EndsOverlay}
@@ -39,12 +41,6 @@ Sends tag outputs (Err engine_errors.SinkFault) before after = WentOut tag outpu
 Sends tag outputs (Err engine_errors.ReplyFault) before after = WentOut tag outputs AtReply before after
 Sends tag outputs (Err engine_errors.NoMemory) before after = WentOut tag outputs ForMemory before after
 Sends tag outputs (Err engine_errors.Failed) before after = ⊥
-
--- A run was carried out. Where all went well, the new machine is the run's; and its outputs went out as far as the answer
--- says.
-pub record Performs (run : Run) (tag : ℕ) (result : Result (Unit {0}) EngineError) (new : Machine) (before after : Told) : Type 0 where
-  pub left : OnOk result (new ≡ run.machine)
-  pub sends : Sends tag run.outputs result before after
 
 -- A command was handed to an engine with this machine. Where all went well, the new machine is the command's, and its
 -- outputs went out; else the engine has failed, and the outputs went out as far as the answer says.
@@ -115,6 +111,23 @@ InnerTakesMemory bodies machine =
 abbrev pub InnerNeedsMemory : Option Machine → List Frame → Type 0
 InnerNeedsMemory None bodies = ⊥
 InnerNeedsMemory (Some machine) bodies = InnerTakesMemory bodies machine
+
+-- What was owed is the new machine with what went out in the step, and then what is still owed.
+pub record StepsTo (owing : List Run) (step : StepOutput) (new : Machine) (still : List Frame) : Type 0 where
+  pub kind : IsOfKind new.last step.kind
+  pub owes : owing ≡ record { machine = new; outputs = all_outputs step.sent.items } ∷ owed still new
+
+-- the same of an engine, which has not failed
+pub record Steps (old : Option Machine) (owing : Machine → List Run) (step : StepOutput) (new : Option Machine) (still : List Frame) : Type 0 where
+  pub before : Machine
+  pub after : Machine
+  pub was : old ≡ Some before
+  pub is : new ≡ Some after
+  pub steps : StepsTo (owing before) step after still
+
+-- an engine that has failed, in which no body runs
+abbrev pub HasFailed : Engine → Type 0
+HasFailed engine = (live engine ≡ None) × (bodies engine ≡ [])
 
 -- What can be seen of a machine, with its cursor's stack lent.
 abbrev pub view_of : Bor (List CursorPosition) → Machine → View

@@ -1,5 +1,6 @@
 -- What goes out when a command is carried out.
 use Rattle.std.specs.Prelude.{ℕ, zero, suc, List, [], ◌∷◌, ◌++◌, Option, Some, None, option_map}
+use Rattle.std.specs.List.{flat_map}
 use Rattle.press_pjl.specs.Replies.{page_reply}
 use Rattle.press_sink.specs.Sides.{Sides}
 use Rattle.press_sink.specs.Sending.{Output, Deliver, Reply}
@@ -38,3 +39,7 @@ abbrev pub outputs_of : Sent → List Output
 outputs_of sents.Nothing = []
 outputs_of (sents.Sheets closed alone) = finished_of closed ++ finished_of alone
 outputs_of (sents.Reply bytes) = Reply bytes ∷ []
+
+-- the outputs of all parts, in order
+abbrev pub all_outputs : List Sent → List Output
+all_outputs sent = flat_map outputs_of sent

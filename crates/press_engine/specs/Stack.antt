@@ -16,7 +16,7 @@ use Rattle.press_engine.specs.declared.machine.Machine.{Machine}
 use Rattle.press_engine.specs.declared.state.State.{State}
 use Rattle.press_engine.specs.Calls.{kept_of, restored, overlay_body}
 use Rattle.press_engine.specs.Outcome.{Effect, Closes, Starts, bounds}
-use Rattle.press_engine.specs.Machine.{Run, quiet, then_run, with_state, taken, enter_body, leave_body, state_of, run_in_overlay}
+use Rattle.press_engine.specs.Machine.{Run, quiet, then_run, with_state, taken, enter_body, leave_body, state_of}
 use Rattle.press_engine.specs.Machine.{overlay_levels, enter_overlay, finish_without_overlay, levels, source_at}
 use Rattle.press_engine.specs.Table.{effect_on}
 use Rattle.press_engine.specs.Trace.{last_machine, with_end, trace_each, trace_in_overlay, trace_at}

@@ -1,22 +1,19 @@
 -- What steps of the code stand for.
-use Rattle.std.specs.Prelude.{◌≡◌, ℕ, List, [], ◌∷◌, ◌++◌, Bool, true, false, option_to_list, Result, OnOk, MatchResult}
+use Rattle.std.specs.Prelude.{◌≡◌, List, [], ◌∷◌, ◌++◌, Bool, true, false, option_to_list}
 use Rattle.press_cmd.specs.Token.{Token}
-use Rattle.press_cmd.specs.declared.variant.Kind.{Kind}
-use Rattle.press_sink.specs.Told.{Told}
 use Rattle.press_engine.specs.declared.effect.Effect.{Effect}
-use Rattle.press_engine.specs.declared.fault.EngineError.{EngineError}
+use Rattle.press_engine.specs.declared.effect.Sent.{Sent}
 use Rattle.press_engine.specs.declared.frame.Frame.{Frame}
 use Rattle.press_engine.specs.declared.machine.Machine.{Machine}
 use Rattle.press_engine.specs.declared.stepping.Begun.{Begun}
-use Rattle.press_engine.specs.Engine.{Performs, Sends, IsOfKind, whether}
 use Rattle.press_engine.specs.Effects.{effect_of}
-use Rattle.press_engine.specs.Machine.{Run, quiet, with_state, taken}
+use Rattle.press_engine.specs.Machine.{Run, with_state, taken}
 use Rattle.press_engine.specs.Table.{effect_on}
-use Rattle.press_engine.specs.Outputs.{outputs_of}
+use Rattle.press_engine.specs.Outputs.{outputs_of, all_outputs}
 use Rattle.press_engine.specs.Outcome as outcome
 use Rattle.press_engine.specs.declared.state.State.{State}
 use Rattle.press_engine.specs.Stack as stack
-use Rattle.press_engine.specs.Stack.{Stepped, pops, owed, source_in}
+use Rattle.press_engine.specs.Stack.{Stepped, pops, source_in}
 
 abbrev pub begun_of : Machine → Begun → stack.Begun
 begun_of machine it = record {
@@ -43,27 +40,13 @@ TakesFirst frame command old effect new =
     (effect_of new.state effect ≡ first_effect frame command old.state)
     × (new ≡ with_state new.state (taken command old))
 
--- A step was taken: where all went well, the machine and the bodies that still run are the step's; and its outputs went out as
--- far as the answer says.
-pub record TakesStep (stepped : Stepped) (tag : ℕ) (result : Result (Unit {0}) EngineError) (new : Machine) (still : List Frame) (before after : Told) : Type 0 where
-  pub running : OnOk result (still ≡ stepped.frames)
-  pub performs : Performs stepped.item tag result new before after
+-- what steps of the code left: the machine, the outputs of these parts in order, and the bodies that still run
+abbrev pub run_of : Machine → List Sent → Run
+run_of machine out = record { machine = machine; outputs = all_outputs out }
 
--- The bodies that are used up ended, the innermost first.
-abbrev pub Ends : List Frame → Machine → ℕ → Result (Unit {0}) EngineError → Machine → List Frame → Told → Told → Type 0
-Ends frames machine = TakesStep (pops frames (quiet machine))
+abbrev pub stepped_of : Machine → List Sent → List Frame → Stepped
+stepped_of machine out frames = record { item = run_of machine out; frames = frames }
 
 -- what a step began, with the bodies round it
 abbrev pub finished : stack.Begun → List Frame → Stepped
 finished begin frames = pops (begin.started ++ frames) begin.item
-
--- A step gave the first of the items that were owed, and what is still owed are the others; or it stopped in that item, and
--- no body runs.
-pub record GivesItem (owing : List Run) (tag : ℕ) (result : Result Kind EngineError) (new : Machine) (still : List Frame) (before after : Told) : Type 0 where
-  pub item : Run
-  pub others : List Run
-  pub due : owing ≡ item ∷ others
-  pub left : MatchResult result
-      (λ kind. IsOfKind item.machine.last kind × (new ≡ item.machine) × (others ≡ owed still item.machine))
-      (λ _. still ≡ [])
-  pub sends : Sends tag item.outputs (whether result) before after

@@ -1,10 +1,9 @@
 //! The bodies that run, between two steps (PCL 5 Printer Language Technical Reference Manual, Macros).
 
-use crate::fault::EngineError;
+use crate::effect::StepOutput;
 use crate::frame::Frame;
 use crate::machine::{Last, Machine};
 use press_cmd::{Command, Kind, kind};
-use press_sink::{ReplySink, SheetSink};
 use std::alloc::{AllocError, Global};
 use std::marker::Model;
 
@@ -47,16 +46,14 @@ impl Last {
 }
 
 impl Bodies {
-    ghost use Rattle.std.specs.Prelude.{◌≡◌, ◌≢◌, ◌≤◌, ◌↔◌, [], length, IfOk, IsTrue, IsErrOf};
+    ghost use Rattle.std.specs.Prelude.{◌≡◌, ◌≢◌, ◌≤◌, ◌↔◌, [], length, IfOk, IsTrue, IsErr, MatchResult};
     ghost use Rattle.press_cmd.specs.View.{token};
     ghost use Rattle.press_cmd.specs.Kinds.{kind_of};
-    ghost use Rattle.press_sink.specs.Told.{both, CanCount};
     ghost use Rattle.press_engine.specs.declared.effect.Source.TheVariants.{Stream};
-    ghost use Rattle.press_engine.specs.Engine.{Performs, TakesMemory, InnerTakesMemory};
+    ghost use Rattle.press_engine.specs.Engine.{StepsTo, TakesMemory, InnerTakesMemory};
     ghost use Rattle.press_engine.specs.Laws.{most_bodies};
-    ghost use Rattle.press_engine.specs.Machine.{run, levels};
-    ghost use Rattle.press_engine.specs.Stack.{IsReady, owed};
-    ghost use Rattle.press_engine.specs.Stepping.{GivesItem};
+    ghost use Rattle.press_engine.specs.Machine.{levels};
+    ghost use Rattle.press_engine.specs.Stack.{HasNext, IsReady, owed};
     ghost use Rattle.press_engine.specs.Table.{effect_on};
     ghost use Rattle.press_engine.specs.Trace.{trace_at};
 
@@ -87,85 +84,53 @@ impl Bodies {
         self.frames.is_empty()
     }
 
-    /// Takes a command of the stream, where no body runs.
-    pub fn step<S: SheetSink, R: ReplySink>(
+    /// Takes a command of the stream, where no body runs, and answers what goes out. Where memory ran out no body runs.
+    pub fn step(
         &mut self,
         machine: &mut Machine,
         alloc: Global,
         command: Command<'_>,
-        tag: u64,
-        sheets: &mut S,
-        replies: &mut R,
-    ) -> Result<Kind, EngineError>
+    ) -> Result<StepOutput, AllocError>
         requires none { self.old ≡ [] }
-        requires can_count { CanCount (both (S.told sheets.old) (R.told replies.old)) }
-        ensures gives { GivesItem
-            (trace_at levels (token command.entry) machine.old) tag result machine.new self.new
-            (both (S.told sheets.old) (R.told replies.old))
-            (both (S.told sheets.new) (R.told replies.new)) }
-        ensures kind { IfOk result (λ kind. kind ≡ kind_of (token command.entry)) }
-        ensures memory { IsErrOf result EngineError.NoMemory
+        ensures steps { MatchResult result
+            (λ step. StepsTo (trace_at levels (token command.entry) machine.old) step machine.new self.new)
+            (λ _. self.new ≡ []) }
+        ensures kind { IfOk result (λ step. step.kind ≡ kind_of (token command.entry)) }
+        ensures memory { IsErr result
             → TakesMemory (effect_on Stream (token command.entry) machine.old.state) }
     {
         let kind = kind(&command);
-        match machine.step_outer(alloc, command, &mut self.frames, tag, sheets, replies) {
-            Ok(()) => Ok(kind),
-            Err(fault) => {
+        match machine.step_outer(alloc, command, &mut self.frames) {
+            Ok(sent) => Ok(StepOutput { kind, sent }),
+            Err(error) => {
                 self.frames.clear();
-                Err(fault)
+                Err(error)
             }
         }
     }
 
-    /// Takes the first command of the innermost body.
-    pub fn step_inner<S: SheetSink, R: ReplySink>(
+    /// Takes the first command of the innermost body, and answers what goes out. Where memory ran out no body runs.
+    pub fn step_inner(
         &mut self,
         machine: &mut Machine,
         alloc: Global,
-        tag: u64,
-        sheets: &mut S,
-        replies: &mut R,
-    ) -> Result<Kind, EngineError>
+    ) -> Result<StepOutput, AllocError>
         requires running { self.old ≢ [] }
-        requires can_count { CanCount (both (S.told sheets.old) (R.told replies.old)) }
-        ensures memory { IsErrOf result EngineError.NoMemory
-            → InnerTakesMemory self.old machine.old }
-        ensures gives { GivesItem (owed self.old machine.old) tag result machine.new self.new
-            (both (S.told sheets.old) (R.told replies.old))
-            (both (S.told sheets.new) (R.told replies.new)) }
+        ensures steps { MatchResult result
+            (λ step. StepsTo (owed self.old machine.old) step machine.new self.new)
+            (λ _. self.new ≡ []) }
+        ensures next { HasNext self.old }
+        ensures memory { IsErr result → InnerTakesMemory self.old machine.old }
     {
-        match machine.step_inner(alloc, &mut self.frames, tag, sheets, replies) {
-            Ok(()) => Ok(machine.last.kind()),
-            Err(fault) => {
+        match machine.step_inner(alloc, &mut self.frames) {
+            Ok(sent) => Ok(StepOutput {
+                kind: machine.last.kind(),
+                sent,
+            }),
+            Err(error) => {
                 self.frames.clear();
-                Err(fault)
+                Err(error)
             }
         }
-    }
-
-    /// Carries a command of the stream out whole, with the bodies that it starts.
-    pub fn run<S: SheetSink, R: ReplySink>(
-        &mut self,
-        machine: &mut Machine,
-        alloc: Global,
-        command: Command<'_>,
-        tag: u64,
-        sheets: &mut S,
-        replies: &mut R,
-    ) -> Result<(), EngineError>
-        requires none { self.old ≡ [] }
-        requires can_count { CanCount (both (S.told sheets.old) (R.told replies.old)) }
-        ensures performs { Performs (run (token command.entry) machine.old) tag result machine.new
-            (both (S.told sheets.old) (R.told replies.old))
-            (both (S.told sheets.new) (R.told replies.new)) }
-        ensures none { self.new ≡ [] }
-        ensures memory { IsErrOf result EngineError.NoMemory
-            → TakesMemory (effect_on Stream (token command.entry) machine.old.state) }
-    {
-        let outcome = machine.run_whole(alloc, command, &mut self.frames, tag, sheets, replies);
-        if outcome.is_err() {
-            self.frames.clear();
-        }
-        outcome
     }
 }

@@ -1,9 +1,11 @@
 //! What a row of the command table gives, as a value.
 
-ghost use Rattle.std.specs.Prelude.{◌≡◌};
+ghost use Rattle.std.specs.Prelude.{◌≡◌, ◌↔◌, [], IsTrue};
 ghost use Rattle.press_engine.specs.Closing.{selection_of};
+ghost use Rattle.press_engine.specs.Outputs.{finished_of};
 
 use crate::calls::Kept;
+use press_cmd::Kind;
 use press_macros::Body;
 use press_page::{Orientation, PageSize, Sides};
 use press_pjl::{PjlEnv, ReplyBytes};
@@ -29,6 +31,52 @@ pub enum Sent {
     },
     /// The bytes of a reply.
     Reply(ReplyBytes),
+}
+
+impl FinishedSheet {
+    ghost use Rattle.std.specs.Prelude.{◌↔◌, ◌≡◌, [], IsTrue, Some};
+    ghost use Rattle.press_engine.specs.Outputs.{finished_of};
+
+    /// Whether no copy of it goes out.
+    fn is_nothing(&self) -> bool
+        ensures { IsTrue result ↔ (finished_of (Some self.now) ≡ []) }
+    {
+        self.copies == 0
+    }
+}
+
+/// Whether no copy goes out of a sheet, where there is one.
+fn sends_nothing(finished: &Option<FinishedSheet>) -> bool
+    ensures { IsTrue result ↔ (finished_of finished.now ≡ []) }
+{
+    match finished {
+        None => true,
+        Some(finished) => finished.is_nothing(),
+    }
+}
+
+impl Sent {
+    ghost use Rattle.std.specs.Prelude.{◌↔◌, ◌≡◌, [], IsTrue};
+    ghost use Rattle.press_engine.specs.Outputs.{outputs_of};
+
+    /// Whether nothing goes out.
+    pub fn is_nothing(&self) -> bool
+        ensures { IsTrue result ↔ (outputs_of self.now ≡ []) }
+    {
+        match self {
+            Sent::Nothing => true,
+            Sent::Sheets { closed, alone } => sends_nothing(closed) && sends_nothing(alone),
+            Sent::Reply(_) => false,
+        }
+    }
+}
+
+/// What a step took, and what goes out in it, in order.
+#[derive(Drop)]
+pub struct StepOutput {
+    /// The kind of the command that was taken.
+    pub kind: Kind,
+    pub sent: Vec<Sent>,
 }
 
 /// Which side of a sheet the next page is to be on.

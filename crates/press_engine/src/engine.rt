@@ -1,8 +1,10 @@
 //! The command table at work, over sinks of sheets and replies.
 
 use crate::bodies::Bodies;
+use crate::effect::{Sent, StepOutput};
 use crate::fault::EngineError;
 use crate::machine::Machine;
+use crate::sender::send_all;
 use crate::view::View;
 use press_cmd::{Command, Kind};
 use press_sink::{ReplySink, SheetSink};
@@ -25,15 +27,16 @@ pub struct Engine {
 }
 
 impl Engine {
-    ghost use Rattle.std.specs.Prelude.{◌≡◌, ◌≢◌, ◌≤◌, ◌⊎◌, ◌↔◌, [], length, IsTrue, IfOk, IfErr, IfSome, IsErrOf, Some, None};
+    ghost use Rattle.std.specs.Prelude.{◌≡◌, ◌≢◌, ◌≤◌, ◌⊎◌, ◌↔◌, [], length, IsTrue, IfOk, IfErr, IfSome, IsErrOf, MatchResult, Some, None};
     ghost use Rattle.press_sink.specs.Told.{both, CanCount};
     ghost use Rattle.press_cmd.specs.View.{token};
     ghost use Rattle.press_engine.specs.Machine.{power_on, levels};
     ghost use Rattle.press_cmd.specs.Kinds.{kind_of};
     ghost use Rattle.press_engine.specs.Laws.{most_bodies};
-    ghost use Rattle.press_engine.specs.Stack.{IsReady, owed};
+    ghost use Rattle.press_engine.specs.Stack.{HasNext, IsReady, owed};
     ghost use Rattle.press_engine.specs.Trace.{trace_at};
-    ghost use Rattle.press_engine.specs.Engine.{live, bodies, Runs, TakesNext, NeedsMemory, InnerNeedsMemory, view_of};
+    ghost use Rattle.press_engine.specs.Outputs.{all_outputs};
+    ghost use Rattle.press_engine.specs.Engine.{live, bodies, HasFailed, Sends, Steps, Runs, TakesNext, NeedsMemory, InnerNeedsMemory, view_of};
 
     /// An engine after power on.
     ///
@@ -63,6 +66,96 @@ impl Engine {
         self.failed || self.bodies.is_empty()
     }
 
+    /// Takes a command of the stream, where no body runs: one step, which answers what goes out in it. Where the body of a
+    /// macro starts, or an overlay before its page closes, that runs from then on: its commands are taken by
+    /// [`Engine::take_inner`].
+    ///
+    /// Source: PCL 5 Printer Language Technical Reference Manual, Page Control Commands, and Macros.
+    ///
+    /// # Errors
+    ///
+    /// `NoMemory` where memory ran out: the engine has failed then, and answers `Failed` (303) from then on.
+    pub fn take_step(&mut self, command: Command<'_>) -> Result<StepOutput, EngineError>
+        requires none { bodies self.old ≡ [] }
+        ensures steps { MatchResult result
+            (λ step. Steps (live self.old) (trace_at levels (token command.entry)) step
+            (live self.new) (bodies self.new))
+            (λ _. HasFailed self.new) }
+        ensures kind { IfOk result (λ step. step.kind ≡ kind_of (token command.entry)) }
+        ensures failed { IsErrOf result EngineError.Failed ↔ (live self.old ≡ None) }
+        ensures refused { IfErr result
+            (λ error. (error ≡ EngineError.Failed) ⊎ (error ≡ EngineError.NoMemory)) }
+        ensures memory { IsErrOf result EngineError.NoMemory →
+            NeedsMemory (live self.old) (token command.entry) }
+    {
+        if self.failed {
+            return Err(EngineError::Failed);
+        }
+        let Ok(step) = self.bodies.step(&mut self.machine, self.alloc, command) else {
+            self.failed = true;
+            return Err(EngineError::NoMemory);
+        };
+        Ok(step)
+    }
+
+    /// Takes the first command that is left of the innermost body that runs: one step, which answers what goes out in it. In the
+    /// same step each innermost body that is used up ends, and a page close that waited for its overlay is finished.
+    ///
+    /// Source: PCL 5 Printer Language Technical Reference Manual, Macros.
+    ///
+    /// # Errors
+    ///
+    /// As [`Engine::take_step`].
+    pub fn take_inner(&mut self) -> Result<StepOutput, EngineError>
+        requires running { bodies self.old ≢ [] }
+        ensures steps { MatchResult result
+            (λ step. Steps (live self.old) (owed (bodies self.old)) step
+            (live self.new) (bodies self.new))
+            (λ _. HasFailed self.new) }
+        ensures next { HasNext (bodies self.old) }
+        ensures failed { IsErrOf result EngineError.Failed ↔ (live self.old ≡ None) }
+        ensures refused { IfErr result
+            (λ error. (error ≡ EngineError.Failed) ⊎ (error ≡ EngineError.NoMemory)) }
+        ensures memory { IsErrOf result EngineError.NoMemory →
+            InnerNeedsMemory (live self.old) (bodies self.old) }
+    {
+        if self.failed {
+            return Err(EngineError::Failed);
+        }
+        let Ok(step) = self.bodies.step_inner(&mut self.machine, self.alloc) else {
+            self.failed = true;
+            return Err(EngineError::NoMemory);
+        };
+        Ok(step)
+    }
+
+    /// Hands what goes out in a step to the sinks, in order: each sheet in its copies under a tag, and the replies.
+    ///
+    /// # Errors
+    ///
+    /// `SinkFault` (301) and `ReplyFault` (302): a sink had a fault, and nothing came after it. After these and after
+    /// `NoMemory` the engine has failed.
+    pub fn hand_over<S: SheetSink, R: ReplySink>(
+        &mut self,
+        sent: &[Sent],
+        tag: u64,
+        sheets: &mut S,
+        replies: &mut R,
+    ) -> Result<(), EngineError>
+        requires can_count { CanCount (both (S.told sheets.old) (R.told replies.old)) }
+        ensures sends { Sends tag (all_outputs sent.now) result
+            (both (S.told sheets.old) (R.told replies.old))
+            (both (S.told sheets.new) (R.told replies.new)) }
+        ensures left { MatchResult result (λ _. self.new ≡ self.old) (λ _. HasFailed self.new) }
+        ensures memory { IsErrOf result EngineError.NoMemory → all_outputs sent.now ≢ [] }
+    {
+        let outcome = send_all(sent, self.alloc, tag, sheets, replies);
+        if outcome.is_err() {
+            self.failed = true;
+        }
+        outcome
+    }
+
     /// Takes a command of the stream, where no body runs: one step. The answer is its kind. Where the body of a macro starts,
     /// or an overlay before its page closes, that runs from then on: its commands are taken by [`Engine::step_inner`].
     ///
@@ -90,12 +183,9 @@ impl Engine {
         ensures memory { IsErrOf result EngineError.NoMemory →
             NeedsMemory (live self.old) (token command.entry) }
     {
-        if self.failed {
-            return Err(EngineError::Failed);
-        }
-        let answer = self.bodies.step(&mut self.machine, self.alloc, command, tag, sheets, replies);
-        self.failed = answer.is_err();
-        answer
+        let step = self.take_step(command)?;
+        self.hand_over(&step.sent, tag, sheets, replies)?;
+        Ok(step.kind)
     }
 
     /// Takes the first command that is left of the innermost body that runs: one step. The answer is its kind. In the same step
@@ -122,14 +212,9 @@ impl Engine {
         ensures memory { IsErrOf result EngineError.NoMemory →
             InnerNeedsMemory (live self.old) (bodies self.old) }
     {
-        if self.failed {
-            return Err(EngineError::Failed);
-        }
-        let answer = self
-            .bodies
-            .step_inner(&mut self.machine, self.alloc, tag, sheets, replies);
-        self.failed = answer.is_err();
-        answer
+        let step = self.take_inner()?;
+        self.hand_over(&step.sent, tag, sheets, replies)?;
+        Ok(step.kind)
     }
 
     /// Carries one command out whole, with the macro bodies that it starts, and delivers the sheets that it finishes under a tag,
@@ -158,12 +243,11 @@ impl Engine {
             NeedsMemory (live self.old) (token command.entry) }
         ensures none { bodies self.new ≡ [] }
     {
-        if self.failed {
-            return Err(EngineError::Failed);
+        self.step(command, tag, sheets, replies)?;
+        while !self.needs_command() {
+            self.step_inner(tag, sheets, replies)?;
         }
-        let outcome = self.bodies.run(&mut self.machine, self.alloc, command, tag, sheets, replies);
-        self.failed = outcome.is_err();
-        outcome
+        Ok(())
     }
 
     /// An equal engine, in memory of its own.

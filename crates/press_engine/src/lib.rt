@@ -29,6 +29,7 @@ mod stepping;
 mod view;
 
 pub use drawing::Drawing;
+pub use effect::{FinishedSheet, Sent, StepOutput};
 pub use engine::Engine;
 pub use fault::EngineError;
 pub use machine::Last;

@@ -5,7 +5,7 @@ ghost use Rattle.press_pjl.specs.Replies.{page_reply};
 ghost use Rattle.press_sink.specs.Told.{both, CanCount, Delivers, TookLast, most_faults};
 ghost use Rattle.press_sink.specs.Sending.{Deliver, Reply};
 ghost use Rattle.press_engine.specs.Engine.{Sends};
-ghost use Rattle.press_engine.specs.Outputs.{outputs_of, finished_of, copy_out, next_count};
+ghost use Rattle.press_engine.specs.Outputs.{outputs_of, all_outputs, finished_of, copy_out, next_count};
 
 use crate::effect::{FinishedSheet, Sent};
 use crate::fault::EngineError;
@@ -13,8 +13,8 @@ use press_pjl::write_reply;
 use press_sink::{ReplyError, ReplySink, Sheet, SheetSink, SinkError};
 use std::alloc::Global;
 
-/// Hands what goes out to the sinks, in order. This is the one place that speaks to them.
-pub fn send<S: SheetSink, R: ReplySink>(
+/// Hands a part of what goes out to the sinks, in order.
+fn send<S: SheetSink, R: ReplySink>(
     sent: &Sent,
     alloc: Global,
     tag: u64,
@@ -35,6 +35,26 @@ pub fn send<S: SheetSink, R: ReplySink>(
         }
         Sent::Reply(bytes) => reply(bytes.as_slice(), tag, sheets, replies),
     }
+}
+
+/// Hands what goes out in a step to the sinks, in order.
+pub fn send_all<S: SheetSink, R: ReplySink>(
+    sent: &[Sent],
+    alloc: Global,
+    tag: u64,
+    sheets: &mut S,
+    replies: &mut R,
+) -> Result<(), EngineError>
+    requires { CanCount (both (S.told sheets.old) (R.told replies.old)) }
+    ensures sends { Sends tag (all_outputs sent.now) result
+        (both (S.told sheets.old) (R.told replies.old))
+        (both (S.told sheets.new) (R.told replies.new)) }
+    ensures memory { IsErrOf result EngineError.NoMemory → all_outputs sent.now ≢ [] }
+{
+    for part in sent {
+        send(part, alloc, tag, sheets, replies)?;
+    }
+    Ok(())
 }
 
 /// Delivers the copies of a finished sheet, where there is one.

@@ -1,19 +1,17 @@
-//! Table steps: each takes one command, of the stream or of the innermost body that runs (PCL 5 Printer Language Technical
-//! Reference Manual, Macros).
+//! Table steps, as values: each takes one command, of the stream or of the innermost body that runs, and answers what goes out
+//! (PCL 5 Printer Language Technical Reference Manual, Macros). No sink is known here.
 
-ghost use Rattle.std.specs.Prelude.{◌≡◌, ◌++◌, option_to_list, OnOk, IfErr, IsErr, IsSome};
+ghost use Rattle.std.specs.Prelude.{◌≡◌, ◌≢◌, [], ◌++◌, option_to_list, OnOk, IfErr, IsErr, IsSome};
+ghost use Rattle.press_engine.specs.Outputs.{outputs_of, all_outputs};
 ghost use Rattle.press_engine.specs.Stepping.{is_top_used_up};
 
 use crate::calls::Kept;
 use crate::effect::{BodyEnd, Closer, Effect, Sent, Source};
-use crate::fault::EngineError;
 use crate::frame::{Frame, FrameEnd};
 use crate::machine::{LEVELS, Machine, OVERLAY_LEVELS};
-use crate::sender::send;
 use press_cmd::Command;
 use press_cursor::CursorPosition;
 use press_macros::Body;
-use press_sink::{ReplySink, SheetSink};
 use std::alloc::{AllocError, Global};
 
 /// What a step began: what goes out, and the body that it started.
@@ -64,34 +62,42 @@ fn is_top_used_up(frames: &[Frame]) -> bool
 }
 
 /// The body that a step started, if it started one, is the innermost.
-fn push_started(frames: &mut Vec<Frame>, started: Option<Frame>) -> Result<(), EngineError>
+fn push_started(frames: &mut Vec<Frame>, started: Option<Frame>) -> Result<(), AllocError>
     ensures ok { OnOk result (frames.new.items ≡ option_to_list started ++ frames.old.items) }
-    ensures memory { IfErr result (λ error. error ≡ EngineError.NoMemory) }
     ensures some { IsErr result → IsSome started }
 {
-    if let Some(frame) = started
-        && frames.insert(0, frame).is_err()
-    {
-        return Err(EngineError::NoMemory);
+    if let Some(frame) = started {
+        frames.insert(0, frame)?;
+    }
+    Ok(())
+}
+
+/// Puts what goes out behind what goes out before it. Where that is nothing, no memory is taken.
+fn push_sent(out: &mut Vec<Sent>, sent: Sent) -> Result<(), AllocError>
+    ensures kept { OnOk result (all_outputs out.new.items
+        ≡ all_outputs out.old.items ++ outputs_of sent) }
+    ensures memory { IsErr result → outputs_of sent ≢ [] }
+{
+    if !sent.is_nothing() {
+        out.push(sent)?;
     }
     Ok(())
 }
 
 impl Machine {
-    ghost use Rattle.std.specs.Prelude.{◌≡◌, ◌≢◌, ◌⊎◌, [], ◌∷◌, ◌++◌, List, option_to_list, IfOk, OnOk, IsErr, IsErrOf};
-    ghost use Rattle.press_sink.specs.Told.{both, CanCount};
+    ghost use Rattle.std.specs.Prelude.{◌≡◌, ◌≢◌, ◌⊎◌, [], ◌∷◌, ◌++◌, List, option_to_list, IfOk, OnOk, IsErr};
     ghost use Rattle.press_cmd.specs.Token.{Token};
     ghost use Rattle.press_engine.specs.Calls.{overlay_body};
     ghost use Rattle.press_engine.specs.Effects.{effect_of};
-    ghost use Rattle.press_engine.specs.Engine.{Performs, TakesMemory, InnerTakesMemory};
-    ghost use Rattle.press_engine.specs.Machine.{run, quiet, with_state, taken};
+    ghost use Rattle.press_engine.specs.Engine.{TakesMemory, InnerTakesMemory};
+    ghost use Rattle.press_engine.specs.Machine.{quiet, then_run, with_state, taken};
     ghost use Rattle.press_engine.specs.declared.frame.Frame.{Frame};
     ghost use Rattle.press_cmd.specs.View.{token};
     ghost use Rattle.press_engine.specs.Stack.{HasNext, IsOverlayEnd, EndsOverlay, step_outer, step_inner, source_in};
-    ghost use Rattle.press_engine.specs.Stack.{begun, begun_body, begun_close_with, end_by, leave_overlay_with, finish_close};
-    ghost use Rattle.press_engine.specs.Outputs.{outputs_of};
+    ghost use Rattle.press_engine.specs.Stack.{begun, begun_body, begun_only, begun_close_with, end_by, pops, leave_overlay_with};
+    ghost use Rattle.press_engine.specs.Outputs.{outputs_of, all_outputs};
     ghost use Rattle.press_engine.specs.declared.effect.Source.TheVariants.{Stream};
-    ghost use Rattle.press_engine.specs.Stepping.{begun_of, first_effect, TakesFirst, Ends, TakesStep, finished};
+    ghost use Rattle.press_engine.specs.Stepping.{begun_of, first_effect, TakesFirst, finished, run_of, stepped_of};
     ghost use Rattle.press_engine.specs.Table.{effect_on};
 
     /// Takes the first command that is left of a body.
@@ -203,40 +209,16 @@ impl Machine {
         self.depth = depth;
     }
 
-    /// The page closes that waited for an overlay.
-    fn close_after_overlay<S: SheetSink, R: ReplySink>(
-        &mut self,
-        alloc: Global,
-        closer: Closer,
-        tag: u64,
-        sheets: &mut S,
-        replies: &mut R,
-    ) -> Result<(), EngineError>
-        requires { CanCount (both (S.told sheets.old) (R.told replies.old)) }
-        ensures { Performs (finish_close closer self.old) tag result self.new
-            (both (S.told sheets.old) (R.told replies.old))
-            (both (S.told sheets.new) (R.told replies.new)) }
-    {
-        let Ok(sent) = self.state.finish_effect(alloc, Effect::Closes(closer)) else {
-            return Err(EngineError::NoMemory);
-        };
-        send(&sent, alloc, tag, sheets, replies)
-    }
-
     /// A body is used up.
-    fn end_frame<S: SheetSink, R: ReplySink>(
+    fn end_frame(
         &mut self,
         alloc: Global,
         end: FrameEnd,
         depth: u8,
-        tag: u64,
-        sheets: &mut S,
-        replies: &mut R,
-    ) -> Result<(), EngineError>
-        requires { CanCount (both (S.told sheets.old) (R.told replies.old)) }
-        ensures performs { Performs (end_by end depth self.old) tag result self.new
-            (both (S.told sheets.old) (R.told replies.old))
-            (both (S.told sheets.new) (R.told replies.new)) }
+        out: &mut Vec<Sent>,
+    ) -> Result<(), AllocError>
+        ensures ends { OnOk result (run_of self.new out.new.items
+            ≡ then_run (all_outputs out.old.items) (end_by end depth self.old)) }
         ensures overlay { IsErr result → IsOverlayEnd end }
     {
         match end {
@@ -250,144 +232,100 @@ impl Machine {
                 position,
             } => {
                 self.end_overlay(kept, position, depth);
-                self.close_after_overlay(alloc, closer, tag, sheets, replies)
+                let sent = self.state.finish_effect(alloc, Effect::Closes(closer))?;
+                push_sent(out, sent)
             }
         }
     }
 
     /// Ends the bodies that are used up, the innermost first.
-    fn end_bodies<S: SheetSink, R: ReplySink>(
+    fn end_bodies(
         &mut self,
         alloc: Global,
         frames: &mut Vec<Frame>,
-        tag: u64,
-        sheets: &mut S,
-        replies: &mut R,
-    ) -> Result<(), EngineError>
-        requires { CanCount (both (S.told sheets.old) (R.told replies.old)) }
-        ensures ends { Ends frames.old.items self.old tag result self.new frames.new.items
-            (both (S.told sheets.old) (R.told replies.old))
-            (both (S.told sheets.new) (R.told replies.new)) }
+        out: &mut Vec<Sent>,
+    ) -> Result<(), AllocError>
+        ensures ends { OnOk result (stepped_of self.new out.new.items frames.new.items
+            ≡ pops frames.old.items (run_of self.old out.old.items)) }
         ensures overlay { IsErr result → EndsOverlay frames.old.items }
     {
         while is_top_used_up(frames) {
             let frame = frames.remove(0);
-            self.end_frame(alloc, frame.end, frame.depth, tag, sheets, replies)?;
+            self.end_frame(alloc, frame.end, frame.depth, out)?;
         }
         Ok(())
     }
 
-    /// The rest of a step: what it sends goes out, its body starts, and the bodies that are used up end.
-    fn finish_step<S: SheetSink, R: ReplySink>(
+    /// The rest of a step: its body starts, and the bodies that are used up end.
+    fn finish_step(
         &mut self,
         alloc: Global,
         it: Begun,
         frames: &mut Vec<Frame>,
-        tag: u64,
-        sheets: &mut S,
-        replies: &mut R,
-    ) -> Result<(), EngineError>
-        requires { CanCount (both (S.told sheets.old) (R.told replies.old)) }
-        ensures takes { TakesStep
-            (finished (begun_of self.old it) frames.old.items) tag result self.new frames.new.items
-            (both (S.told sheets.old) (R.told replies.old))
-            (both (S.told sheets.new) (R.told replies.new)) }
-        ensures memory { IsErrOf result EngineError.NoMemory → (outputs_of it.sent ≢ [])
+    ) -> Result<Vec<Sent>, AllocError>
+        ensures steps { IfOk result (λ out. stepped_of self.new out.items frames.new.items
+            ≡ finished (begun_of self.old it) frames.old.items) }
+        ensures memory { IsErr result → (outputs_of it.sent ≢ [])
             ⊎ (option_to_list it.started ≢ []) ⊎ EndsOverlay frames.old.items }
     {
-        send(&it.sent, alloc, tag, sheets, replies)?;
+        let mut out = Vec::new(alloc);
+        push_sent(&mut out, it.sent)?;
         push_started(frames, it.started)?;
-        self.end_bodies(alloc, frames, tag, sheets, replies)
+        self.end_bodies(alloc, frames, &mut out)?;
+        Ok(out)
+    }
+
+    /// The rest of a step in which all is done: the bodies that are used up end.
+    fn end_step(&mut self, alloc: Global, frames: &mut Vec<Frame>) -> Result<Vec<Sent>, AllocError>
+        ensures steps { IfOk result (λ out. stepped_of self.new out.items frames.new.items
+            ≡ finished (begun_only (quiet self.old)) frames.old.items) }
+        ensures memory { IsErr result → EndsOverlay frames.old.items }
+    {
+        let mut out = Vec::new(alloc);
+        self.end_bodies(alloc, frames, &mut out)?;
+        Ok(out)
     }
 
     /// Takes a command of the stream, where no body runs.
-    pub fn step_outer<S: SheetSink, R: ReplySink>(
+    pub fn step_outer(
         &mut self,
         alloc: Global,
         command: Command<'_>,
         frames: &mut Vec<Frame>,
-        tag: u64,
-        sheets: &mut S,
-        replies: &mut R,
-    ) -> Result<(), EngineError>
+    ) -> Result<Vec<Sent>, AllocError>
         requires none { frames.old.items ≡ [] }
-        requires can_count { CanCount (both (S.told sheets.old) (R.told replies.old)) }
-        ensures takes { TakesStep
-            (step_outer (token command.entry) self.old) tag result self.new frames.new.items
-            (both (S.told sheets.old) (R.told replies.old))
-            (both (S.told sheets.new) (R.told replies.new)) }
-        ensures memory { IsErrOf result EngineError.NoMemory
+        ensures steps { IfOk result (λ out. stepped_of self.new out.items frames.new.items
+            ≡ step_outer (token command.entry) self.old) }
+        ensures memory { IsErr result
             → TakesMemory (effect_on Stream (token command.entry) self.old.state) }
     {
-        let Ok(effect) = self.take(alloc, Source::within(false, LEVELS), &command) else {
-            return Err(EngineError::NoMemory);
-        };
+        let effect = self.take(alloc, Source::within(false, LEVELS), &command)?;
         if effect.is_done() {
-            return Ok(());
+            return Ok(Vec::new(alloc));
         }
-        let Ok(it) = self.begin(alloc, false, LEVELS, effect) else {
-            return Err(EngineError::NoMemory);
-        };
-        self.finish_step(alloc, it, frames, tag, sheets, replies)
+        let it = self.begin(alloc, false, LEVELS, effect)?;
+        self.finish_step(alloc, it, frames)
     }
 
     /// Takes the first command of the innermost body.
-    pub fn step_inner<S: SheetSink, R: ReplySink>(
+    pub fn step_inner(
         &mut self,
         alloc: Global,
         frames: &mut Vec<Frame>,
-        tag: u64,
-        sheets: &mut S,
-        replies: &mut R,
-    ) -> Result<(), EngineError>
+    ) -> Result<Vec<Sent>, AllocError>
         requires running { HasNext frames.old.items }
-        requires can_count { CanCount (both (S.told sheets.old) (R.told replies.old)) }
-        ensures memory { IsErrOf result EngineError.NoMemory
-            → InnerTakesMemory frames.old.items self.old }
-        ensures takes { (frame : Frame) (command : Token) (rest : List Token) (outer : List Frame)
+        ensures steps { IfOk result (λ out. (frame : Frame) (command : Token) (rest : List Token) (outer : List Frame)
             → frames.old.items ≡ record frame { body = command ∷ rest } ∷ outer
-            → TakesStep
-            (step_inner frame command rest outer self.old) tag result self.new frames.new.items
-            (both (S.told sheets.old) (R.told replies.old))
-            (both (S.told sheets.new) (R.told replies.new)) }
+            → stepped_of self.new out.items frames.new.items ≡ step_inner frame command rest outer self.old) }
+        ensures memory { IsErr result → InnerTakesMemory frames.old.items self.old }
     {
         let in_overlay = frames[0].in_overlay;
         let levels = frames[0].levels;
-        let Ok(effect) = self.take_first(alloc, &mut frames[0]) else {
-            return Err(EngineError::NoMemory);
-        };
+        let effect = self.take_first(alloc, &mut frames[0])?;
         if effect.is_done() {
-            return self.end_bodies(alloc, frames, tag, sheets, replies);
+            return self.end_step(alloc, frames);
         }
-        let Ok(it) = self.begin(alloc, in_overlay, levels, effect) else {
-            return Err(EngineError::NoMemory);
-        };
-        self.finish_step(alloc, it, frames, tag, sheets, replies)
-    }
-
-    /// Carries a command of the stream out whole: a step that takes it, and steps in the bodies that it starts until none runs.
-    pub fn run_whole<S: SheetSink, R: ReplySink>(
-        &mut self,
-        alloc: Global,
-        command: Command<'_>,
-        frames: &mut Vec<Frame>,
-        tag: u64,
-        sheets: &mut S,
-        replies: &mut R,
-    ) -> Result<(), EngineError>
-        requires none { frames.old.items ≡ [] }
-        requires can_count { CanCount (both (S.told sheets.old) (R.told replies.old)) }
-        ensures performs { Performs (run (token command.entry) self.old) tag result self.new
-            (both (S.told sheets.old) (R.told replies.old))
-            (both (S.told sheets.new) (R.told replies.new)) }
-        ensures left { OnOk result (frames.new.items ≡ []) }
-        ensures memory { IsErrOf result EngineError.NoMemory
-            → TakesMemory (effect_on Stream (token command.entry) self.old.state) }
-    {
-        self.step_outer(alloc, command, frames, tag, sheets, replies)?;
-        while !frames.is_empty() {
-            self.step_inner(alloc, frames, tag, sheets, replies)?;
-        }
-        Ok(())
+        let it = self.begin(alloc, in_overlay, levels, effect)?;
+        self.finish_step(alloc, it, frames)
     }
 }

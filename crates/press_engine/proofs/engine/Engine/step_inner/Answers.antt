@@ -1,26 +1,39 @@
-use Rattle.std.proofs.Common.{◌∙◌, List, [], Some, None, Bool, if◌then◌else◌, sym, subst}
+use Rattle.std.proofs.Common.{◌≢◌, ◌∙◌, List, [], Ok, Err, sym, ap, subst}
+use Rattle.std.proofs.lemmas.Result.{err_from_is_err_and}
 use Rattle.press_sink.specs.Told.{both}
-use Rattle.press_engine.specs.declared.machine.Machine.{Machine}
-use Rattle.press_engine.specs.Engine.{TakesNext, TakesItem, InnerNeedsMemory, InnerTakesMemory}
+use Rattle.press_engine.specs.declared.effect.Sent.{Sent}
+use Rattle.press_engine.specs.declared.engine.Engine.{Engine}
+use Rattle.press_engine.specs.Engine.{live, bodies, Sends, TakesNext}
 use Rattle.press_engine.specs.Stack.{owed}
-use Rattle.press_engine.proofs.StepLemmas.{item-taken}
+use Rattle.press_engine.specs.Outputs.{all_outputs}
+use Rattle.press_engine.proofs.StepLemmas.{same_error}
+use Rattle.press_engine.proofs.ValueLemmas.{takes-ok, takes-stopped, takes-none, inner-some, needs-inner}
 use Rattle.press_engine.proofs.engine.Engine.step_inner.Goals as goal
+
+pub returns-in_err-step-clause-takes : goal.returns-in_err-step-clause-takes
+returns-in_err-step-clause-takes g c =
+    let p = err_from_is_err_and c.from_residual.result c.from_residual.ensures.1 in
+    let failed = c.in_err-step.ensures in
+    takes-none (live c.args.self.now) (owed (bodies c.args.self.now)) c.args.tag c.from_residual.result c.in_err-step.field-0.0 (live c.take_inner.new.self) (bodies c.take_inner.new.self) _
+    (λ machine. inner-some (bodies c.args.self.now) machine c.take_inner.ensures.next) failed.refused (λ is. failed.failed.0 (ap Err is)) (p.1 ∙ ap Err p.2) failed.steps.0 failed.steps.1
+
+pub returns-in_err-hand_over-clause-takes : goal.returns-in_err-hand_over-clause-takes
+returns-in_err-hand_over-clause-takes g c =
+    let p = err_from_is_err_and c.from_residual-in_err-hand_over.result c.from_residual-in_err-hand_over.ensures.1 in
+    let P : List Sent → Type 0 = λ sent. Sends c.args.tag (all_outputs sent) c.hand_over.result (both (g.S.SheetSink.told c.args.sheets.now) (g.R.ReplySink.told c.args.replies.now)) (both (g.S.SheetSink.told c.hand_over.new.sheets) (g.R.ReplySink.told c.hand_over.new.replies)) in
+    takes-stopped (live c.args.self.now) (owed (bodies c.args.self.now)) c.in_ok-step.step (live c.take_inner.new.self) (live c.hand_over.new.self) (bodies c.take_inner.new.self) (bodies c.hand_over.new.self) c.args.tag c.hand_over.result c.from_residual-in_err-hand_over.result c.in_err-hand_over.field-0.0 _ _
+    c.in_ok-step.ensures.steps (subst P c.deref.ensures.value c.hand_over.ensures.sends) c.in_err-hand_over.was (p.1 ∙ ap Err p.2) c.in_err-hand_over.ensures.left.0 c.in_err-hand_over.ensures.left.1
+
+pub returns-in_err-hand_over-clause-memory : goal.returns-in_err-hand_over-clause-memory
+returns-in_err-hand_over-clause-memory g c stops =
+    let p = err_from_is_err_and c.from_residual-in_err-hand_over.result c.from_residual-in_err-hand_over.ensures.1 in
+    let P : List Sent → Type 0 = λ sent. all_outputs sent ≢ [] in
+    needs-inner (bodies c.args.self.now) c.in_ok-step.step (live c.args.self.now) (live c.take_inner.new.self) (bodies c.take_inner.new.self) c.take_inner.ensures.next c.in_ok-step.ensures.steps
+    (subst P c.deref.ensures.value (c.hand_over.ensures.memory (c.in_err-hand_over.was ∙ ap Err (sym p.2 ∙ same_error _ _ _ p.1 stops))))
 
 pub returns-clause-takes : goal.returns-clause-takes
 returns-clause-takes g c =
-    let running = c.args.self.now.bodies in
-    let outcome = c.step_inner-answer in
-    let before = both (g.S.SheetSink.told c.args.sheets.now) (g.R.ReplySink.told c.args.replies.now) in
-    let after = both (g.S.SheetSink.told outcome.new.sheets) (g.R.ReplySink.told outcome.new.replies) in
-    let failed = c.is_err-self.result in
-    let Q : Machine → Type 0 = λ machine. TakesItem (owed running machine) c.args.tag outcome.result (if failed then None else Some outcome.new.machine) (if failed then [] else outcome.new.self) before after in
-    let P : Bool → Type 0 = λ was. TakesNext (if was then None else Some c.args.self.now.machine.value) (owed (if was then [] else running)) c.args.tag outcome.result (if failed then None else Some outcome.new.machine) (if failed then [] else outcome.new.self) before after in
-    subst P (sym c.if-self.false)
-    (subst Q c.deref_mut.ensures.value (item-taken (owed running c.deref_mut.result.now) c.args.tag outcome.result outcome.new.machine outcome.new.self failed before after c.is_err-self.ensures.value outcome.ensures.gives))
-
-pub returns-clause-memory : goal.returns-clause-memory
-returns-clause-memory g c = λ e.
-    let running = c.args.self.now.bodies in
-    let P : Bool → Type 0 = λ was. InnerNeedsMemory (if was then None else Some c.args.self.now.machine.value) (if was then [] else running) in
-    let Q : Machine → Type 0 = λ machine. InnerTakesMemory running machine in
-    subst P (sym c.if-self.false) (subst Q c.deref_mut.ensures.value (c.step_inner-answer.ensures.memory e))
+    let Q : Engine → Type 0 = λ engine. TakesNext (live c.args.self.now) (owed (bodies c.args.self.now)) c.args.tag (Ok c.in_ok-step.step.kind) (live engine) (bodies engine) (both (g.S.SheetSink.told c.args.sheets.now) (g.R.ReplySink.told c.args.replies.now)) (both (g.S.SheetSink.told c.hand_over.new.sheets) (g.R.ReplySink.told c.hand_over.new.replies)) in
+    let P : List Sent → Type 0 = λ sent. Sends c.args.tag (all_outputs sent) (Ok tt) (both (g.S.SheetSink.told c.args.sheets.now) (g.R.ReplySink.told c.args.replies.now)) (both (g.S.SheetSink.told c.hand_over.new.sheets) (g.R.ReplySink.told c.hand_over.new.replies)) in
+    subst Q (sym c.in_ok-hand_over.ensures.left)
+    (takes-ok (live c.args.self.now) (owed (bodies c.args.self.now)) c.in_ok-step.step (live c.take_inner.new.self) (bodies c.take_inner.new.self) c.args.tag _ _ c.in_ok-step.ensures.steps (subst P c.deref.ensures.value c.in_ok-hand_over.ensures.sends))

@@ -1,26 +1,42 @@
-use Rattle.std.proofs.Common.{◌∙◌, false, ap}
+use Rattle.std.proofs.Common.{◌≡◌, ◌∙◌, false, sym, ap}
 use Rattle.press_cmd.specs.View.{token}
-use Rattle.press_engine.specs.Machine.{levels}
-use Rattle.press_engine.specs.Stepping.{begun_of}
+use Rattle.press_engine.specs.Machine.{levels, quiet}
+use Rattle.press_engine.specs.Outputs.{all_outputs}
+use Rattle.press_engine.specs.Stack.{Stepped, step_outer, begins, begun_only}
+use Rattle.press_engine.specs.Stepping.{begun_of, finished}
 use Rattle.press_engine.specs.Table.{effect_on}
-use Rattle.press_engine.proofs.EndsLemmas.{step-stopped, takes-outer, begins-from}
+use Rattle.press_engine.proofs.EndsLemmas.{takes-outer, begins-from, done-begins, steps-by}
 use Rattle.press_engine.proofs.StepLemmas.{outer-memory}
 use Rattle.press_engine.proofs.machine.Machine.step_outer.Goals as goal
 
-pub returns-in_default-clause-takes : goal.returns-in_default-clause-takes
-returns-in_default-clause-takes g c = step-stopped _ c.args.tag _ _ _
-
-pub returns-in_default-begin-clause-takes : goal.returns-in_default-begin-clause-takes
-returns-in_default-begin-clause-takes g c = step-stopped _ c.args.tag _ _ _
-
-pub returns-clause-takes : goal.returns-clause-takes
-returns-clause-takes g c =
-    let gives = c.in-Ok.ensures.effect ∙ ap (λ source. effect_on source (token c.args.command) c.args.self.now.state) c.within.ensures in
-    let begins = c.in-Ok-begin.ensures.begins ∙ begins-from false levels (token c.args.command) c.args.self.now c.take.new.self c.in-Ok.effect c.in-Ok.ensures.taken gives in
-    takes-outer (token c.args.command) c.args.self.now (begun_of c.begin.new.self c.in-Ok-begin.it) c.args.frames.now.items c.args.tag c.finish_step.result c.finish_step.new.self c.finish_step.new.frames.items _ _ begins c.requires.none c.finish_step.ensures.takes
+pub returns-clause-steps : goal.returns-clause-steps
+returns-clause-steps c =
+    let command = token c.args.command in
+    let old = c.args.self.now in
+    let one = begun_of c.begin.new.self c.in_ok-it.it in
+    let gives = c.in_ok-effect.ensures.effect ∙ ap (λ source. effect_on source command old.state) c.within.ensures in
+    let begins = c.in_ok-it.ensures.begins ∙ begins-from false levels command old c.take.new.self c.in_ok-effect.effect c.in_ok-effect.ensures.taken gives in
+    steps-by c.finish_step.result c.finish_step.new.self c.finish_step.new.frames.items (finished one c.args.frames.now.items) (step_outer command old)
+    (takes-outer command old one c.args.frames.now.items begins c.requires.none) c.finish_step.ensures.steps
 
 pub returns-clause-memory : goal.returns-clause-memory
-returns-clause-memory g c stops =
-    let gives = c.in-Ok.ensures.effect ∙ ap (λ source. effect_on source (token c.args.command) c.args.self.now.state) c.within.ensures in
-    let begins = c.in-Ok-begin.ensures.begins ∙ begins-from false levels (token c.args.command) c.args.self.now c.take.new.self c.in-Ok.effect c.in-Ok.ensures.taken gives in
-    outer-memory (token c.args.command) c.args.self.now (begun_of c.begin.new.self c.in-Ok-begin.it) c.args.frames.now.items begins c.requires.none (c.finish_step.ensures.memory stops)
+returns-clause-memory c stops =
+    let command = token c.args.command in
+    let old = c.args.self.now in
+    let gives = c.in_ok-effect.ensures.effect ∙ ap (λ source. effect_on source command old.state) c.within.ensures in
+    let begins = c.in_ok-it.ensures.begins ∙ begins-from false levels command old c.take.new.self c.in_ok-effect.effect c.in_ok-effect.ensures.taken gives in
+    outer-memory command old (begun_of c.begin.new.self c.in_ok-it.it) c.args.frames.now.items begins c.requires.none (c.finish_step.ensures.memory stops)
+
+pub returns-then-is_done-clause-steps : goal.returns-then-is_done-clause-steps
+returns-then-is_done-clause-steps c =
+    let command = token c.args.command in
+    let old = c.args.self.now in
+    let new = c.take.new.self in
+    let gives = c.in_ok-effect.ensures.effect ∙ ap (λ source. effect_on source command old.state) c.within.ensures in
+    let begun : begun_only (quiet new) ≡ begins false levels command old =
+    done-begins false levels new c.in_ok-effect.effect (sym c.is_done.ensures ∙ c.if-is_done.true)
+    ∙ begins-from false levels command old new c.in_ok-effect.effect c.in_ok-effect.ensures.taken gives in
+    let out : Stepped = record { item = record { machine = new; outputs = all_outputs c.new.result.items }; frames = c.args.frames.now.items } in
+    (λ i. record out { item = record { machine = new; outputs = all_outputs (c.new.ensures.items i) }; frames = c.requires.none i })
+    ∙ ap (finished (begun_only (quiet new))) (sym c.requires.none)
+    ∙ takes-outer command old (begun_only (quiet new)) c.args.frames.now.items begun c.requires.none

@@ -1,6 +1,5 @@
 use Rattle.std.proofs.Common.{◌≡◌, ◌∙◌, ap, rules}
 use Rattle.press_raster.specs.Rows.{drawn, drawn_rows}
-use Rattle.press_engine.specs.Closing.{page_now}
 use Rattle.press_engine.specs.Raster.{ink_now, with_drawn}
 use Rattle.press_engine.proofs.state.State.take_rows.Goals as goal
 

@@ -1,0 +1,46 @@
+use Rattle.std.proofs.Common.{◌≡◌, ◌∙◌, ◌∷◌, ◌+◌, List, Ok, Err, suc, drop, sym, ap, subst, drop-cons, add-one}
+use Rattle.std.proofs.lemmas.Result.{err_from_is_err_and}
+use Rattle.press_sink.specs.Sending.{Output}
+use Rattle.press_sink.specs.Told.{both}
+use Rattle.press_engine.specs.declared.effect.Sent.{Sent}
+use Rattle.press_engine.specs.Engine.{Sends}
+use Rattle.press_engine.specs.Outputs.{outputs_of, all_outputs}
+use Rattle.press_engine.proofs.SendsLemmas.{Sends-then, Sends-exit, can_count-then, all_outputs-some, Sends-all}
+use Rattle.press_engine.proofs.sender.send_all.Goals as goal
+
+pub loop-part-preserved : goal.loop-part-preserved
+loop-part-preserved g c =
+    let rest = drop (c.loop-part.part-index + 1) c.args.sent.now in
+    let left : drop c.loop-part.part-index c.args.sent.now ≡ c.part-item.result ∷ rest =
+    drop-cons c.args.sent.now c.loop-part.part-index c.part-item.result c.loop-part-test.true
+    ∙ rw (add-one c.loop-part.part-index) (ap (λ (x : Sent). x ∷ drop (suc c.loop-part.part-index) c.args.sent.now) (sym c.part-item.is)) in
+    record {
+      can_count = can_count-then c.args.tag _ _ _ c.in_ok-send.ensures.sends c.loop-part.invariant.can_count;
+      rest = λ result after sends.
+          let P : List Output → Type 0 = λ outputs. Sends c.args.tag outputs result (both (g.S.SheetSink.told c.loop-part.sheets) (g.R.ReplySink.told c.loop-part.replies)) after in
+          c.loop-part.invariant.rest result after (subst P (sym (ap all_outputs left)) (Sends-then c.args.tag (outputs_of c.part-item.result) (all_outputs rest) result _ _ after c.in_ok-send.ensures.sends sends));
+    }
+
+pub returns-in_err-send-clause-sends : goal.returns-in_err-send-clause-sends
+returns-in_err-send-clause-sends g c =
+    let p = err_from_is_err_and c.from_residual.result c.from_residual.ensures.1 in
+    let rest = drop (c.loop-part.part-index + 1) c.args.sent.now in
+    let left : drop c.loop-part.part-index c.args.sent.now ≡ c.part-item.result ∷ rest =
+    drop-cons c.args.sent.now c.loop-part.part-index c.part-item.result c.loop-part-test.true
+    ∙ rw (add-one c.loop-part.part-index) (ap (λ (x : Sent). x ∷ drop (suc c.loop-part.part-index) c.args.sent.now) (sym c.part-item.is)) in
+    let P : List Output → Type 0 = λ outputs. Sends c.args.tag outputs c.from_residual.result (both (g.S.SheetSink.told c.loop-part.sheets) (g.R.ReplySink.told c.loop-part.replies)) (both (g.S.SheetSink.told c.send.new.sheets) (g.R.ReplySink.told c.send.new.replies)) in
+    c.loop-part.invariant.rest c.from_residual.result _ (subst P (sym (ap all_outputs left))
+    (Sends-exit c.args.tag (outputs_of c.part-item.result) (all_outputs rest) c.send.result c.from_residual.result p.0 _ _ c.send.ensures.sends (c.in_err-send.was ∙ ap Err (sym p.2)) p.1))
+
+pub returns-in_err-send-clause-memory : goal.returns-in_err-send-clause-memory
+returns-in_err-send-clause-memory g c stops =
+    let p = err_from_is_err_and c.from_residual.result c.from_residual.ensures.1 in
+    let rest = drop (c.loop-part.part-index + 1) c.args.sent.now in
+    let left : drop c.loop-part.part-index c.args.sent.now ≡ c.part-item.result ∷ rest =
+    drop-cons c.args.sent.now c.loop-part.part-index c.part-item.result c.loop-part-test.true
+    ∙ rw (add-one c.loop-part.part-index) (ap (λ (x : Sent). x ∷ drop (suc c.loop-part.part-index) c.args.sent.now) (sym c.part-item.is)) in
+    all_outputs-some c.args.sent.now c.loop-part.part-index c.part-item.result rest left (c.send.ensures.memory (c.in_err-send.was ∙ ap Err (sym p.2) ∙ sym p.1 ∙ stops))
+
+pub returns-clause-sends : goal.returns-clause-sends
+returns-clause-sends g c =
+    c.loop-part.invariant.rest (Ok tt) _ (Sends-all c.args.tag c.loop-part.part-index c.args.sent.now _ c.loop-part-test.false)
