@@ -1,11 +1,12 @@
 -- How a job goes on.
-use Rattle.std.proofs.Common.{◌≡◌, ◌∙◌, ◌<◌, inl, inr, ℕ, List, [], ◌∷◌, ◌++◌, Bool, true, false, Option, Some, None, IsSome, MatchBool, refl, sym, ap, subst}
+use Rattle.std.proofs.Common.{◌≡◌, ◌≢◌, ◌∙◌, ◌<◌, ◌≤◌, ◌+◌, inl, inr, arith, length, ℕ, List, [], ◌∷◌, ◌++◌, Bool, true, false, Option, Some, None, IsSome, MatchBool, refl, sym, ap, subst}
 use Rattle.std.proofs.lemmas.Bool.{false≢true, true≢false}
 use Rattle.std.proofs.lemmas.List.{append_assoc, append-nil}
 use Rattle.press_cmd.specs.Mode.{Mode}
 use Rattle.press_cmd.specs.Split.{Steps, ClosedFrom, closing}
 use Rattle.press_cmd.specs.Token.{Token, Uel}
 use Rattle.press_cmd.proofs.Splits.{some_split, steps-more, steps-then}
+use Rattle.press_cmd.specs.declared.variant.Kind.{Kind}
 use Rattle.press_scan.specs.Gives.{Passes, IsDone}
 use Rattle.press_scan.specs.ScannerState.{ScannerState}
 use Rattle.press_sink.specs.Told.{Told, CanCount, most_faults}
@@ -14,12 +15,13 @@ use Rattle.press_sink.proofs.SendingLemmas.{TookAll-none, WentOut-then, WentOut-
 use Rattle.press_engine.specs.declared.frame.Frame.{Frame}
 use Rattle.press_engine.specs.declared.machine.Machine.{Machine}
 use Rattle.press_engine.specs.Machine.{Run}
-use Rattle.press_engine.specs.Stack.{owed}
+use Rattle.press_engine.specs.Stack.{owed, HasNext}
 use Rattle.press_engine.specs.Trace.{last_machine, joined, trace}
-use Rattle.press_stream.specs.State.{JobState, with_piece, input_ended}
+use Rattle.press_stream.specs.State.{JobState, with_piece, input_ended, most_commands}
+use Rattle.press_stream.specs.Steps.{TakesGiven, Does}
 use Rattle.press_stream.specs.Meaning.{with_exit, left, Carried, Stopped, StoppedAt, Owes, Goes, Stops}
-use Rattle.press_stream.specs.Answers.{TakesOf, StopsAtDue}
-use Rattle.press_stream.proofs.Items.{joined-append, left-none, left-append, left-then, last-append}
+use Rattle.press_stream.specs.Answers.{TakesOf, RanOne, StopsAtDue}
+use Rattle.press_stream.proofs.Items.{joined-one, joined-append, left-none, left-append, left-then, last-append}
 
 -- the value of an option that has one
 pub some_of : {X : Type 0} (option : Option X) → IsSome option → (value : X) × (option ≡ Some value)
@@ -202,30 +204,6 @@ passes-to_end old new command more commands going still passes owes =
       subst Q (sym going) (command ∷ owing.0, passes_owed old.held new.held command more owing.0 passes owes.0 owing.1, ap (λ all. command ∷ all) owing.2),
     )
 
-unfoldable pub Goes-command : (old new : JobState) (command : Token) (items : List Run) (tag : ℕ) (before after : Told) → old.exited ≡ false → new.exited ≡ false → Passes old.held command new.held → Carried (command ∷ []) items old new tag before after → Goes old [] (command ∷ []) tag new before after
-Goes-command old new command items tag before after not_exited still_not passes carried = record {
-  items = items;
-  so_far = λ going.
-      let still : old.held.ended ≡ false = sym passes.ended ∙ going in
-      let (used, bytes_are, head) = passes.head still in
-      (still, (used, new.held.bytes, new.held.mode, append-nil old.held.bytes ∙ bytes_are, head, (refl, refl)));
-  to_end = λ more commands owes. passes-to_end old new command more commands not_exited still_not passes owes;
-  carried = carried;
-}
-
--- a step in a body that runs
-unfoldable pub Goes-inside : (old new : JobState) (items : List Run) (tag : ℕ) (before after : Told) → new.held ≡ old.held → new.exited ≡ old.exited → Carried [] items old new tag before after → Goes old [] [] tag new before after
-Goes-inside old new items tag before after held exited carried = record {
-  items = items;
-  so_far = λ going.
-      let P : ScannerState → Type 0 = λ (now : ScannerState). (now.ended ≡ false) → (old.held.ended ≡ false) × Steps old.held.mode (old.held.bytes ++ []) [] now.mode now.bytes in
-      subst P (sym held) (λ still. (still, (refl, append-nil old.held.bytes))) going;
-  to_end = λ more commands owes.
-      let Q : ScannerState → Bool → Type 0 = λ now out. (now.ended ≡ true → more ≡ []) × MatchBool out (commands ≡ []) ((closed : List Token) × ClosedFrom now.mode (now.bytes ++ more) closed × (commands ≡ with_exit closed)) in
-      subst (λ (out : Bool). Q old.held out) exited (subst (λ (now : ScannerState). Q now new.exited) held owes);
-  carried = carried;
-}
-
 -- the exit that is added
 pub exit_owed : (job : JobState) → job.exited ≡ false → job.held.ended ≡ true → IsDone job.held → Owes job [] (Uel ∷ [])
 exit_owed job going ended done =
@@ -233,20 +211,76 @@ exit_owed job going ended done =
     let Q : Bool → Type 0 = λ exited. MatchBool exited (Uel ∷ [] ≡ []) ((closed : List Token) × ClosedFrom job.held.mode (job.held.bytes ++ []) closed × (Uel ∷ [] ≡ with_exit closed)) in
     (λ _. refl, subst Q (sym going) ([], subst P (sym (append-nil job.held.bytes)) (done.closed ended), refl))
 
-unfoldable pub Goes-exit : (old new : JobState) (items : List Run) (tag : ℕ) (before after : Told) → old.exited ≡ false → new.exited ≡ true → new.held ≡ old.held → old.held.ended ≡ true → IsDone old.held → Carried (Uel ∷ []) items old new tag before after → Goes old [] (Uel ∷ []) tag new before after
-Goes-exit old new items tag before after going exited held ended done carried =
+-- What a step takes of the stream: the bytes so far, what is owed behind it, and how many commands are left.
+taken-so_far : (old new : JobState) (given : List Token) → TakesGiven old given new → new.held.ended ≡ false
+    → (old.held.ended ≡ false) × Steps old.held.mode (old.held.bytes ++ []) given new.held.mode new.held.bytes
+taken-so_far old new given (inl (_, none, held, _)) going =
+    let P : ScannerState → Type 0 = λ (now : ScannerState). (now.ended ≡ false) → (old.held.ended ≡ false) × Steps old.held.mode (old.held.bytes ++ []) [] now.mode now.bytes in
+    let Q : List Token → Type 0 = λ commands. (old.held.ended ≡ false) × Steps old.held.mode (old.held.bytes ++ []) commands new.held.mode new.held.bytes in
+    subst Q (sym none) (subst P (sym held) (λ still. (still, (refl, append-nil old.held.bytes))) going)
+taken-so_far old new given (inr (inl (command, is, _, _, _, passes))) going =
+    let still : old.held.ended ≡ false = sym passes.ended ∙ going in
+    let (used, bytes_are, head) = passes.head still in
+    let P : List Token → Type 0 = λ commands. Steps old.held.mode (old.held.bytes ++ []) commands new.held.mode new.held.bytes in
+    (still, subst P (sym is) (used, new.held.bytes, new.held.mode, append-nil old.held.bytes ∙ bytes_are, head, (refl, refl)))
+taken-so_far old new given (inr (inr (_, _, _, _, held, ended, _))) going =
+    absurd (true≢false (sym (ap (λ (now : ScannerState). now.ended) held ∙ ended) ∙ going))
+
+pub taken-to_end : (old new : JobState) (given : List Token) → TakesGiven old given new → (more : List ℕ) (commands : List Token) → Owes new more commands → Owes old more (given ++ commands)
+taken-to_end old new given (inl (_, none, held, exited)) more commands owes =
+    let P : List Token → Type 0 = λ front. Owes old more (front ++ commands) in
+    let Q : ScannerState → Bool → Type 0 = λ now out. (now.ended ≡ true → more ≡ []) × MatchBool out (commands ≡ []) ((closed : List Token) × ClosedFrom now.mode (now.bytes ++ more) closed × (commands ≡ with_exit closed)) in
+    subst P (sym none) (subst (λ (out : Bool). Q old.held out) exited (subst (λ (now : ScannerState). Q now new.exited) held owes))
+taken-to_end old new given (inr (inl (command, is, _, going, still, passes))) more commands owes =
+    let P : List Token → Type 0 = λ front. Owes old more (front ++ commands) in
+    subst P (sym is) (passes-to_end old new command more commands going still passes owes)
+taken-to_end old new given (inr (inr (is, _, going, exited, held, ended, done))) more commands owes =
     let still : new.held.ended ≡ true = ap (λ (now : ScannerState). now.ended) held ∙ ended in
+    let O : List Token → Type 0 = λ front. Owes old more (front ++ commands) in
+    let P : List ℕ → Type 0 = λ all. Owes old all (Uel ∷ commands) in
+    let Q : List Token → Type 0 = λ all. Owes old [] (Uel ∷ all) in
+    let R : Bool → Type 0 = λ out. MatchBool out (commands ≡ []) ((closed : List Token) × ClosedFrom new.held.mode (new.held.bytes ++ more) closed × (commands ≡ with_exit closed)) in
+    let none : commands ≡ [] = subst R exited owes.1 in
+    subst O (sym is) (subst P (sym (owes.0 still)) (subst Q (sym none) (exit_owed old going ended done)))
+
+pub taken-fewer : (old new : JobState) (given : List Token) → TakesGiven old given new → length given + most_commands new ≤ most_commands old
+taken-fewer old new given (inl (_, none, held, exited)) = rw (none, held, exited) (omega arith)
+taken-fewer old new given (inr (inl (command, is, _, going, still, passes))) = rw (is, going, still) (omega (arith, passes.used))
+taken-fewer old new given (inr (inr (is, _, going, exited, held, _, _))) = rw (is, held, going, exited) (omega arith)
+
+pub taken-ended : (old new : JobState) (given : List Token) → TakesGiven old given new → new.held.ended ≡ old.held.ended
+taken-ended old new given (inl (_, _, held, _)) = ap (λ (now : ScannerState). now.ended) held
+taken-ended old new given (inr (inl (_, _, _, _, _, passes))) = passes.ended
+taken-ended old new given (inr (inr (_, _, _, _, held, _, _))) = ap (λ (now : ScannerState). now.ended) held
+
+pub next_runs : (bodies : List Frame) → HasNext bodies → bodies ≢ []
+next_runs bodies (_, _, _, _, is) none = cc
+
+pub taken-of : (old new : JobState) (given : List Token) → TakesGiven old given new → TakesOf old given
+taken-of old new given (inl (next, none, _, _)) = inl (next_runs old.bodies next, none)
+taken-of old new given (inr (inl (command, is, idle, going, _, passes))) = inr (command, (idle, going, inl (new.held, passes)), is)
+taken-of old new given (inr (inr (is, idle, going, _, _, ended, done))) = inr (Uel, (idle, going, inr (ended, done, refl)), is)
+
+-- A step that did an item, all of whose outputs went out.
+pub Goes-one : (old new : JobState) (item : Run) (kind : Kind) (tag : ℕ) (before after : Told) → (did : Does old item kind new) → WentOut tag item.outputs Complete before after → Goes old [] did.given tag new before after
+Goes-one old new item kind tag before after did went =
+    let P : List Output → Type 0 = λ outputs. WentOut tag outputs Complete before after in
     record {
-      items = items;
-      so_far = λ now. absurd (true≢false (sym still ∙ now));
-      to_end = λ more commands owes.
-          let P : List ℕ → Type 0 = λ all. Owes old all (Uel ∷ commands) in
-          let Q : List Token → Type 0 = λ all. Owes old [] (Uel ∷ all) in
-          let R : Bool → Type 0 = λ out. MatchBool out (commands ≡ []) ((closed : List Token) × ClosedFrom new.held.mode (new.held.bytes ++ more) closed × (commands ≡ with_exit closed)) in
-          let none : commands ≡ [] = subst R exited owes.1 in
-          subst P (sym (owes.0 still)) (subst Q (sym none) (exit_owed old going ended done));
-      carried = carried;
+      items = item ∷ [];
+      so_far = taken-so_far old new did.given did.takes;
+      to_end = taken-to_end old new did.given did.takes;
+      carried = record { from = did.from; starts = did.starts; ends = did.ends; are = did.are; went = subst P (sym (joined-one item)) went };
     }
+
+pub Goes-ran : (old new : JobState) (tag : ℕ) (kind : Kind) (before after : Told) → (ran : RanOne old tag kind new before after) → Goes old [] ran.did.given tag new before after
+Goes-ran old new tag kind before after ran = Goes-one old new ran.item kind tag before after ran.did ran.went
+
+pub Goes-took : (old new : JobState) (tag : ℕ) (kind : Kind) (before after : Told) → (ran : RanOne old tag kind new before after)
+    → (given : List Token) × TakesOf old given × (goes : Goes old [] given tag new before after) × (goes.items ≡ ran.item ∷ [])
+unfolding Goes-one
+Goes-took old new tag kind before after ran =
+    let did = ran.did in
+    (did.given, taken-of old new did.given did.takes, Goes-one old new ran.item kind tag before after did ran.went, refl)
 
 -- Whatever a step takes of the stream, something is owed behind it.
 taken_owed : (job : JobState) (given : List Token) (more : List ℕ) → (job.held.ended ≡ true → more ≡ []) → TakesOf job given → (others : List Token) × Owes job more (given ++ others)

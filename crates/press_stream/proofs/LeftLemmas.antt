@@ -16,13 +16,14 @@ use Rattle.press_stream.specs.declared.phase.Phase.{Phase}
 use Rattle.press_stream.specs.declared.phase.Phase.TheVariants as phases
 use Rattle.press_stream.specs.State.{JobState, IsOver, opened, with_piece, input_ended, is_exited}
 use Rattle.press_stream.specs.Meaning.{with_exit, left, Owes}
+use Rattle.press_stream.specs.Steps.{Does}
 use Rattle.press_stream.specs.Answers.{RanOne}
 use Rattle.press_stream.specs.Left.{LeftWith, StepsOn, LeftGoesOn}
 use Rattle.press_stream.proofs.Items.{left-none, left-then}
-use Rattle.press_stream.proofs.Going.{Owes-some, same_some}
+use Rattle.press_stream.proofs.Going.{Owes-some, same_some, taken-to_end, taken-ended}
 
 -- the commands that a job owes are one list
-Owes-one : (job : JobState) (bytes : List ℕ) (commands others : List Token) → Owes job bytes commands → Owes job bytes others → commands ≡ others
+pub Owes-one : (job : JobState) (bytes : List ℕ) (commands others : List Token) → Owes job bytes commands → Owes job bytes others → commands ≡ others
 Owes-one job bytes commands others owes other = at_exit job.exited owes.1 other.1
   where
     at_exit : (exited : Bool)
@@ -32,23 +33,34 @@ Owes-one job bytes commands others owes other = at_exit job.exited owes.1 other.
     at_exit true is are = is ∙ sym are
     at_exit false (c, closed, is) (d, other, are) = is ∙ ap with_exit (closed_once job.held.mode (job.held.bytes ++ bytes) c d closed other) ∙ sym are
 
+left_does : (old new : JobState) (item : Run) (kind : Kind) (bytes : List ℕ) (items : List Run) → LeftWith old bytes items → Does old item kind new → StepsOn new bytes items item
+left_does old new item kind bytes items is did =
+    let later = Owes-some new bytes (λ e. is.owes.0 (sym (taken-ended old new did.given did.takes) ∙ e)) in
+    let rest = later.0 in
+    let same : is.from ≡ did.from = same_some old.machine is.from did.from is.starts did.starts in
+    let commands : is.commands ≡ did.given ++ rest = Owes-one old bytes is.commands (did.given ++ rest) is.owes (taken-to_end old new did.given did.takes bytes rest later.1) in
+    record {
+      others = left rest new.bodies item.machine;
+      are = is.are ∙ (λ j. left (commands j) old.bodies (same j)) ∙ left-then did.given rest old.bodies new.bodies did.from (item ∷ []) did.are;
+      still = record { from = item.machine; starts = did.ends; commands = rest; owes = later.1; are = refl };
+    }
+
 left_steps : (old new : JobState) (tag : ℕ) (kind : Kind) (before after : Told) (bytes : List ℕ) (items : List Run) → LeftWith old bytes items → (ran : RanOne old tag kind new before after)
     → StepsOn new bytes items ran.item
-left_steps old new tag kind before after bytes items is ran =
-    let later = Owes-some new bytes (λ e. is.owes.0 (sym ran.still ∙ e)) in
-    let rest = later.0 in
-    let goes = ran.goes in
-    let from = goes.carried.from in
-    let at = last_machine from goes.items in
-    let same : is.from ≡ from = same_some old.machine is.from from is.starts goes.carried.starts in
-    let commands : is.commands ≡ ran.given ++ rest = Owes-one old bytes is.commands (ran.given ++ rest) is.owes (goes.to_end bytes rest later.1) in
+left_steps old new tag kind before after bytes items is ran = left_does old new ran.item kind bytes items is ran.did
+
+-- what was left before a step
+pub left_before : (old new : JobState) (item : Run) (kind : Kind) (bytes : List ℕ) (others : List Run) → LeftWith new bytes others → Does old item kind new → LeftWith old bytes (item ∷ others)
+left_before old new item kind bytes others is did =
+    let same : is.from ≡ item.machine = same_some new.machine is.from item.machine is.starts did.ends in
     record {
-      others = left rest new.bodies at;
+      from = did.from;
+      starts = did.starts;
+      commands = did.given ++ is.commands;
+      owes = taken-to_end old new did.given did.takes bytes is.commands is.owes;
       are =
-          is.are ∙ (λ j. left (commands j) old.bodies (same j))
-          ∙ left-then ran.given rest old.bodies new.bodies from goes.items goes.carried.are
-          ∙ ap (λ (done : List Run). done ++ left rest new.bodies at) ran.one;
-      still = record { from = at; starts = goes.carried.ends; commands = rest; owes = later.1; are = refl };
+          ap (λ (more : List Run). item ∷ more) (is.are ∙ ap (left is.commands new.bodies) same)
+          ∙ sym (left-then did.given is.commands old.bodies new.bodies did.from (item ∷ []) did.are);
     }
 
 -- ---- nothing is left exactly of a job that is over
@@ -95,7 +107,7 @@ left_ends : (job : JobState) (items : List Run) → LeftWith job [] items → Le
 left_ends job items is = record { from = is.from; starts = is.starts; commands = is.commands; owes = (λ _. refl, is.owes.1); are = is.are }
 
 pub left_goes_on : LeftGoesOn
-left_goes_on = record { opens = left_opens; pushes = left_pushes; ends = left_ends; steps = left_steps; over = left_over }
+left_goes_on = record { opens = left_opens; pushes = left_pushes; ends = left_ends; does = left_does; steps = left_steps; over = left_over }
 
 -- something is owed by bodies of which the innermost has a command
 some-then : (items others : List Run) → items ++ others ≡ [] → items ≡ []

@@ -1,18 +1,20 @@
 -- Bodies that run, until none does.
-use Rattle.std.proofs.Common.{◌≡◌, ◌≢◌, ◌∙◌, ◌<◌, ◌≤◌, ◌+◌, ℕ, List, [], ◌∷◌, ◌++◌, length, Option, Some, None, Ok, sym, ap, subst, inl, inr, arith}
+use Rattle.std.proofs.Common.{◌≡◌, ◌≢◌, ◌∙◌, ◌<◌, ◌≤◌, ℕ, List, [], ◌∷◌, ◌++◌, length, Option, Some, None, Ok, sym, ap, subst, inl, inr, arith}
 use Rattle.press_sink.specs.Told.{Told}
 use Rattle.press_cmd.specs.Token.{Token}
+use Rattle.press_cmd.specs.declared.variant.Kind.{Kind}
 use Rattle.press_engine.specs.declared.frame.Frame.{Frame}
 use Rattle.press_engine.specs.declared.machine.Machine.{Machine}
 use Rattle.press_engine.specs.Machine.{Run}
 use Rattle.press_engine.specs.Stack.{owed}
-use Rattle.press_engine.specs.Trace.{last_machine}
 use Rattle.press_stream.specs.declared.step.Step.{Step}
 use Rattle.press_stream.specs.declared.step.Step.TheVariants as answers
-use Rattle.press_stream.specs.Answers.{TakesOf, Takes, ComesToWant}
+use Rattle.press_stream.specs.Answers.{TakesOf, RanOne, Takes, ComesToWant}
 use Rattle.press_stream.specs.Meaning.{left, Goes}
-use Rattle.press_stream.specs.State.{JobState, most_commands}
+use Rattle.press_stream.specs.State.{JobState}
+use Rattle.press_stream.specs.Steps.{Does}
 use Rattle.press_stream.proofs.Items.{left-none}
+use Rattle.press_stream.proofs.Going.{Goes-ran, taken-of}
 use Rattle.press_stream.proofs.Faults.{Goes-after}
 
 -- the items that bodies owe in this machine
@@ -33,33 +35,34 @@ nothing_taken job given inside (inl (_, none)) = none
 nothing_taken job given inside (inr (command, due, is)) = absurd (inside due.0)
 
 -- the answer was a step
-pub ran_inside : (old new : JobState) (tag : ℕ) (step : Step) (before after : Told) → old.bodies ≢ [] → Takes old tag (Ok step) new before after → (given : List Token) × (given ≡ []) × (goes : Goes old [] given tag new before after) × (item : Run) × (goes.items ≡ item ∷ []) × (length given + most_commands new ≤ most_commands old) × (new.held.ended ≡ old.held.ended)
-ran_inside old new tag (answers.Ran kind) before after inside ran =
-    (ran.given, nothing_taken old ran.given inside ran.takes, ran.goes, ran.item, ran.one, ran.fewer, ran.still)
+pub ran_inside : (old new : JobState) (tag : ℕ) (step : Step) (before after : Told) → old.bodies ≢ [] → Takes old tag (Ok step) new before after → (kind : Kind) × RanOne old tag kind new before after
+ran_inside old new tag (answers.Ran kind) before after inside ran = (kind, ran)
 ran_inside old new tag answers.Hungry before after inside (hungry, _, _) = absurd (inside hungry.idle)
 ran_inside old new tag answers.Ended before after inside (over, _, _) = absurd (inside over.idle)
+
+-- and took nothing of the stream
+pub none_given : (old new : JobState) (item : Run) (kind : Kind) → old.bodies ≢ [] → (did : Does old item kind new) → did.given ≡ []
+none_given old new item kind inside did = nothing_taken old did.given inside (taken-of old new did.given did.takes)
 
 -- A step in a body leaves one item fewer.
 pub one_fewer : (old new : JobState) (tag : ℕ) (step : Step) (before after : Told) → old.bodies ≢ [] → Takes old tag (Ok step) new before after → length (still_owed new) < length (still_owed old)
 one_fewer old new tag step before after inside takes =
-    let (given, none, goes, item, one, _, _) = ran_inside old new tag step before after inside takes in
-    let carried = goes.carried in
-    let from = carried.from in
-    let here = owed_at old.bodies old.machine from carried.starts in
-    let there = owed_at new.bodies new.machine (last_machine from goes.items) carried.ends in
-    let all : owed old.bodies from ≡ item ∷ owed new.bodies (last_machine from goes.items) =
-    sym (left-none old.bodies from)
-    ∙ ap (λ (commands : List Token). left commands old.bodies from) (sym none)
-    ∙ carried.are
-    ∙ ap (λ (items : List Run). items ++ owed new.bodies (last_machine from goes.items)) one in
+    let (kind, ran) = ran_inside old new tag step before after inside takes in
+    let did = ran.did in
+    let here = owed_at old.bodies old.machine did.from did.starts in
+    let there = owed_at new.bodies new.machine ran.item.machine did.ends in
+    let all : owed old.bodies did.from ≡ ran.item ∷ owed new.bodies ran.item.machine =
+    sym (left-none old.bodies did.from)
+    ∙ ap (λ (commands : List Token). left commands old.bodies did.from) (sym (none_given old new ran.item kind inside did))
+    ∙ did.are in
     rw (here, there, all) (omega arith)
 
 -- the job goes on by it
 pub Goes-more : (first old new : JobState) (tag : ℕ) (step : Step) (begin before after : Told) → old.bodies ≢ [] → Goes first [] [] tag old begin before → Takes old tag (Ok step) new before after → Goes first [] [] tag new begin after
 Goes-more first old new tag step begin before after inside goes takes =
-    let (given, none, more, _, _, _, _) = ran_inside old new tag step before after inside takes in
+    let (kind, ran) = ran_inside old new tag step before after inside takes in
     let P : List Token → Type 0 = λ commands. Goes first [] commands tag new begin after in
-    subst P none (Goes-after first old new [] [] given tag begin before after goes more)
+    subst P (none_given old new ran.item kind inside ran.did) (Goes-after first old new [] [] ran.did.given tag begin before after goes (Goes-ran old new tag kind before after ran))
 
 -- No body runs, so a step takes a command of the stream.
 pub one_taken : (job : JobState) (given : List Token) → job.bodies ≡ [] → TakesOf job given → 1 ≤ length given

@@ -1,25 +1,23 @@
 -- What a job answers.
-use Rattle.std.specs.Prelude.{◌≡◌, ◌≢◌, ◌<◌, ◌≤◌, ◌+◌, ℕ, List, [], ◌∷◌, ◌++◌, Option, Some, None, IsSome, Result, Ok, Err, true, false, ◌⊎◌, ⊤, length}
+use Rattle.std.specs.Prelude.{◌≡◌, ◌≢◌, ◌<◌, ◌≤◌, ℕ, List, [], ◌∷◌, ◌++◌, Option, Some, None, IsSome, Result, Ok, Err, true, false, ◌⊎◌, ⊤}
 use Rattle.std.specs.Io.KnownBytes.{Consumes, IsAtEnd}
 use Rattle.press_cmd.specs.Token.{Token, Uel}
 use Rattle.press_cmd.specs.declared.variant.Kind.{Kind}
-use Rattle.press_scan.specs.ScannerState.{ScannerState}
-use Rattle.press_scan.specs.Gives.{Passes, IsDone, IsNext}
+use Rattle.press_scan.specs.Gives.{IsDone, IsNext}
 use Rattle.press_sink.specs.Told.{Told}
-use Rattle.press_sink.specs.Sending.{Ending, Complete, AtSheet, AtReply, ForMemory, WentOut}
-use Rattle.press_engine.specs.Engine.{IsOfKind, NeedsMemory, InnerNeedsMemory}
-use Rattle.press_engine.specs.Machine.{Run, levels}
-use Rattle.press_engine.specs.Stack.{owed}
-use Rattle.press_engine.specs.Trace.{trace_at}
-use Rattle.press_engine.specs.declared.frame.Frame.{Frame}
-use Rattle.press_engine.specs.declared.machine.Machine.{Machine}
+use Rattle.press_sink.specs.Sending.{Output, Ending, Complete, AtSheet, AtReply, ForMemory, WentOut}
+use Rattle.press_engine.specs.Engine.{NeedsMemory, InnerNeedsMemory}
+use Rattle.press_engine.specs.Machine.{Run}
 use Rattle.press_engine.specs.declared.fault.EngineError.{EngineError}
 use Rattle.press_engine.specs.declared.fault.EngineError.TheVariants as engine_errors
 use Rattle.press_stream.specs.declared.fault.JobError.{JobError}
 use Rattle.press_stream.specs.declared.fault.JobError.TheVariants as errors
 use Rattle.press_stream.specs.declared.step.Step.{Step}
 use Rattle.press_stream.specs.declared.step.Step.TheVariants as answers
+use Rattle.press_stream.specs.declared.step.JobStep.{JobStep}
+use Rattle.press_stream.specs.declared.step.JobStep.TheVariants as steps
 use Rattle.press_stream.specs.State.{JobState, IsHungry, IsOver, IsAfterEnd, with_piece, most_commands}
+use Rattle.press_stream.specs.Steps.{Does, DoesStep}
 use Rattle.press_stream.specs.Meaning.{StoppedAt, Goes, Stops}
 
 -- an engine's error as a job's
@@ -28,48 +26,6 @@ job_error engine_errors.SinkFault = errors.SinkFault
 job_error engine_errors.ReplyFault = errors.ReplyFault
 job_error engine_errors.Failed = errors.Failed
 job_error engine_errors.NoMemory = errors.NoMemory
-
--- An engine did the first of the items that were left, whose command has this kind; what its bodies owe now are the others.
-pub record DidOne (owing : Machine → List Run) (old : Option Machine) (tag : ℕ) (kind : Kind) (new : Option Machine) (still : List Frame) (before after : Told) : Type 0 where
-  pub from : Machine
-  pub starts : old ≡ Some from
-  pub item : Run
-  pub is_kind : IsOfKind item.machine.last kind
-  pub ends : new ≡ Some item.machine
-  pub are : owing from ≡ item ∷ owed still item.machine
-  pub went : WentOut tag item.outputs Complete before after
-
--- It stopped in that item, and its outputs went out as far as the ending says.
-pub record StoppedIn (owing : Machine → List Run) (old : Option Machine) (tag : ℕ) (ending : Ending) (before after : Told) : Type 0 where
-  pub from : Machine
-  pub starts : old ≡ Some from
-  pub item : Run
-  pub others : List Run
-  pub are : owing from ≡ item ∷ others
-  pub went : WentOut tag item.outputs ending before after
-
--- A step of an engine to which these items were left.
-abbrev pub Carries : (Machine → List Run) → Option Machine → ℕ → Result Kind JobError → Option Machine → List Frame → Told → Told → Type 0
-Carries owing old tag (Ok kind) new still before after = DidOne owing old tag kind new still before after
-Carries owing old tag (Err errors.SinkFault) new still before after = (new ≡ None) × StoppedIn owing old tag AtSheet before after
-Carries owing old tag (Err errors.ReplyFault) new still before after = (new ≡ None) × StoppedIn owing old tag AtReply before after
-Carries owing old tag (Err errors.NoMemory) new still before after = (new ≡ None) × StoppedIn owing old tag ForMemory before after
-Carries owing old tag (Err errors.Failed) new still before after = (old ≡ None) × (new ≡ None) × (after ≡ before)
-Carries owing old tag (Err errors.ReadFault) new still before after = ⊥
-Carries owing old tag (Err errors.AfterEnd) new still before after = ⊥
-
--- One command was handed to an engine in which no body ran. Memory ran out only where the command may take some.
-abbrev pub CarriesOne : Token → Option Machine → ℕ → Result Kind JobError → Option Machine → List Frame → Told → Told → Type 0
-CarriesOne command old tag result new still before after =
-    Carries (trace_at levels command) old tag result new still before after × (result ≡ Err errors.NoMemory → NeedsMemory old command)
-
--- The next command that a scanner holds was handed to an engine; or it holds none, and nothing changed.
-abbrev pub CarriesNext : ScannerState → Option Machine → ℕ → Result (Option Kind) JobError → ScannerState → Option Machine → List Frame → Told → Told → Type 0
-CarriesNext held old tag (Ok (Some kind)) next new still before after =
-    (command : Token) × Passes held command next × CarriesOne command old tag (Ok kind) new still before after
-CarriesNext held old tag (Ok None) next new still before after = IsDone held × (next ≡ held) × (new ≡ old) × (still ≡ []) × (after ≡ before)
-CarriesNext held old tag (Err error) next new still before after =
-    (command : Token) × Passes held command next × CarriesOne command old tag (Err error) new still before after
 
 -- A job stopped at a fault, and has failed for good: so much went out as the fault's ending says. A job that had failed
 -- before lets nothing out.
@@ -129,16 +85,11 @@ abbrev pub TakesOf : JobState → List Token → Type 0
 TakesOf job given =
     ((job.bodies ≢ []) × (given ≡ [])) ⊎ ((command : Token) × IsDue job command × (given ≡ command ∷ []))
 
--- A table step was taken: the first item of what is left of the job, whose command has this kind.
+-- A table step was taken: the job did an item, whose command has this kind, and all that goes out in it went out.
 pub record RanOne (old : JobState) (tag : ℕ) (kind : Kind) (new : JobState) (before after : Told) : Type 0 where
-  pub given : List Token
-  pub takes : TakesOf old given
-  pub goes : Goes old [] given tag new before after
   pub item : Run
-  pub one : goes.items ≡ item ∷ []
-  pub is_kind : IsOfKind item.machine.last kind
-  pub fewer : length given + most_commands new ≤ most_commands old
-  pub still : new.held.ended ≡ old.held.ended
+  pub did : Does old item kind new
+  pub went : WentOut tag item.outputs Complete before after
 
 -- The item that comes next was begun, and of its outputs so much went out as the ending says.
 abbrev pub StopsAtDue : JobState → ℕ → Ending → Told → Told → Type 0
@@ -164,6 +115,29 @@ IsIdle job = IsHungry job ⊎ IsOver job
 abbrev pub WantsMemory : JobState → Type 0
 WantsMemory job =
     InnerNeedsMemory job.machine job.bodies ⊎ ((command : Token) × IsDue job command × NeedsMemory job.machine command)
+
+-- A table step was taken, and what goes out in it is answered; or the bytes so far are used up, or no step is left, and nothing
+-- changed; or memory ran out where what comes next may take some, and the job has failed for good; or it had failed before.
+abbrev pub TakesStep : JobState → Result JobStep JobError → JobState → Type 0
+TakesStep old (Ok (steps.Ran step)) new = DoesStep old step new
+TakesStep old (Ok steps.Hungry) new = IsHungry old × (new ≡ old)
+TakesStep old (Ok steps.Ended) new = IsOver old × (new ≡ old)
+TakesStep old (Err errors.NoMemory) new = WantsMemory old × (new.machine ≡ None)
+TakesStep old (Err errors.Failed) new = (old.machine ≡ None) × (new ≡ old)
+TakesStep old (Err errors.SinkFault) new = ⊥
+TakesStep old (Err errors.ReplyFault) new = ⊥
+TakesStep old (Err errors.ReadFault) new = ⊥
+TakesStep old (Err errors.AfterEnd) new = ⊥
+
+-- How far outputs went out that were handed over, by what is answered.
+abbrev pub HandsOver : ℕ → List Output → Result (Unit {0}) JobError → Told → Told → Type 0
+HandsOver tag outputs (Ok _) before after = WentOut tag outputs Complete before after
+HandsOver tag outputs (Err errors.SinkFault) before after = WentOut tag outputs AtSheet before after
+HandsOver tag outputs (Err errors.ReplyFault) before after = WentOut tag outputs AtReply before after
+HandsOver tag outputs (Err errors.NoMemory) before after = WentOut tag outputs ForMemory before after
+HandsOver tag outputs (Err errors.Failed) before after = ⊥
+HandsOver tag outputs (Err errors.ReadFault) before after = ⊥
+HandsOver tag outputs (Err errors.AfterEnd) before after = ⊥
 
 -- The job goes on, by commands that it takes, to where what comes next may take memory.
 abbrev pub ComesToWant : JobState → ℕ → Told → Type 0

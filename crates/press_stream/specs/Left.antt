@@ -9,6 +9,7 @@ use Rattle.press_engine.specs.Machine.{Run, power_on}
 use Rattle.press_engine.specs.Trace.{trace}
 use Rattle.press_stream.specs.State.{JobState, IsOver, opened, with_piece, input_ended}
 use Rattle.press_stream.specs.Meaning.{left, Owes, with_exit}
+use Rattle.press_stream.specs.Steps.{Does}
 use Rattle.press_stream.specs.Answers.{RanOne}
 
 -- These items are left of a job where these bytes are still to come, and then its end: those that its bodies owe, and those of
@@ -31,12 +32,15 @@ pub record StepsOn (new : JobState) (bytes : List ℕ) (items : List Run) (item 
   pub still : LeftWith new bytes others
 
 -- What is left of a job, from call to call: at the beginning the items of all bytes that come; a piece that is pushed and the end
--- of input leave what was left; a step does the first item; and nothing is left of a job that is over.
+-- of input leave what was left; a step does the first item, whether it answers what goes out in it or hands that to sinks; and
+-- nothing is left of a job that is over.
 pub record LeftGoesOn : Type 0 where
   pub opens : (bytes : List ℕ) (closed : List Token) → Closed bytes closed → LeftWith opened bytes (trace (with_exit closed) power_on)
   pub pushes : (job : JobState) (piece more : List ℕ) (items : List Run)
       → job.held.ended ≡ false → LeftWith job (piece ++ more) items → LeftWith (with_piece piece job) more items
   pub ends : (job : JobState) (items : List Run) → LeftWith job [] items → LeftWith (input_ended job) [] items
+  pub does : (old new : JobState) (item : Run) (kind : Kind) (bytes : List ℕ) (items : List Run)
+      → LeftWith old bytes items → Does old item kind new → StepsOn new bytes items item
   pub steps : (old new : JobState) (tag : ℕ) (kind : Kind) (before after : Told) (bytes : List ℕ) (items : List Run)
       → LeftWith old bytes items → (ran : RanOne old tag kind new before after) → StepsOn new bytes items ran.item
   pub over : (job : JobState) (bytes : List ℕ) (items : List Run) → IsOver job → LeftWith job bytes items → items ≡ []

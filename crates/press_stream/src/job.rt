@@ -1,11 +1,11 @@
 //! A stream that is carried out as its pieces come.
 
-use crate::carrying::{carry_inner, take};
+use crate::carrying::take;
 use crate::fault::JobError;
 use crate::phase::Phase;
 use crate::reading::{PIECE, ReadCount, read_next};
-use crate::step::Step;
-use press_engine::{Engine, View};
+use crate::step::{JobStep, Step};
+use press_engine::{Engine, Sent, View};
 use press_scan::Scanner;
 use press_sink::{ReplySink, SheetSink};
 use std::alloc::{AllocError, Global};
@@ -43,14 +43,15 @@ impl Model for Job {
 }
 
 impl Job {
-    ghost use Rattle.std.specs.Prelude.{◌≡◌, ◌≢◌, ◌<◌, ◌≤◌, ◌↔◌, ℕ, List, [], length, take, false, None, IfOk, IfErr, OnErr, IfSome, IsTrue, IsSome, IsErrOf};
+    ghost use Rattle.std.specs.Prelude.{◌≡◌, ◌≢◌, ◌<◌, ◌≤◌, ◌↔◌, ℕ, List, [], length, take, false, None, IfOk, IfErr, OnErr, IfSome, IsTrue, IsSome, IsErrOf, MatchResult};
     ghost use Rattle.press_sink.specs.Told.{both, CanCount};
     ghost use Rattle.press_engine.specs.Engine.{view_of};
     ghost use Rattle.press_engine.specs.Machine.{Run};
+    ghost use Rattle.press_engine.specs.Outputs.{all_outputs};
     ghost use Rattle.press_engine.specs.Stack.{IsReady};
     ghost use Rattle.press_stream.specs.Left.{LeftWith};
     ghost use Rattle.press_stream.specs.State.{opened, with_piece, input_ended, IsHungry, IsOver, IsAfterEnd};
-    ghost use Rattle.press_stream.specs.Answers.{Pushes, IsGoing, IsEarly, Takes, WantsMemory, RunsOut, Drains, ComesToWant, Feeds, Finishes, RunsReader, CountsFaults, fault_of};
+    ghost use Rattle.press_stream.specs.Answers.{Pushes, IsGoing, IsEarly, TakesStep, HandsOver, Takes, WantsMemory, RunsOut, Drains, ComesToWant, Feeds, Finishes, RunsReader, CountsFaults, fault_of};
     ghost use Rattle.press_stream.specs.Pieces.{most_reads, no_reads, HasFault};
 
     /// A job at the beginning of a stream, with an engine after power on.
@@ -97,10 +98,78 @@ impl Job {
         self.scanner.end_input();
     }
 
-    /// Takes a table step: one command of the innermost body that runs, or, where none runs, of the stream. In the same step
-    /// each innermost body that is used up ends, and a page close that waited for its overlay is finished. After the end of
-    /// input the last command of the stream is the universal exit that is added. `Hungry`: no whole command is there, and no
-    /// body runs; `Ended`: no step is left; neither changes anything.
+    /// Takes a table step, and answers what goes out in it: one command of the innermost body that runs, or, where none runs, of
+    /// the stream. In the same step each innermost body that is used up ends, and a page close that waited for its overlay is
+    /// finished. After the end of input the last command of the stream is the universal exit that is added. `Hungry`: no whole
+    /// command is there, and no body runs; `Ended`: no step is left; neither changes anything.
+    ///
+    /// Source: PCL 5 Printer Language Technical Reference Manual, Macros.
+    ///
+    /// # Errors
+    ///
+    /// `Failed` (303). After `NoMemory` the job has failed, and nothing goes out.
+    pub fn take_step(&mut self) -> Result<JobStep, JobError>
+        ensures takes { TakesStep self.old result self.new }
+    {
+        if !self.is_idle() {
+            return self.take_inside();
+        }
+        match self.phase {
+            Phase::Failed => Err(JobError::Failed),
+            Phase::Exited => Ok(JobStep::Ended),
+            Phase::Running => {
+                let answer = take(&mut self.scanner, &mut self.engine, &mut self.phase);
+                if answer.is_err() {
+                    self.phase = Phase::Failed;
+                }
+                answer
+            }
+        }
+    }
+
+    /// Takes the next command of the innermost body that runs.
+    fn take_inside(&mut self) -> Result<JobStep, JobError>
+        requires { self.old.bodies ≢ [] }
+        ensures takes { TakesStep self.old result self.new }
+    {
+        match self.engine.take_inner() {
+            Ok(step) => Ok(JobStep::Ran(step)),
+            Err(fault) => {
+                self.phase = Phase::Failed;
+                Err(JobError::from(fault))
+            }
+        }
+    }
+
+    /// Hands what goes out in a step to the sinks, in order: each sheet in its copies, and the replies.
+    ///
+    /// # Errors
+    ///
+    /// `SinkFault` (301) and `ReplyFault` (302): a sink had a fault, and nothing came after it.
+    pub fn hand_over<S: SheetSink, P: ReplySink>(
+        &mut self,
+        sent: &[Sent],
+        tag: u64,
+        sheets: &mut S,
+        replies: &mut P,
+    ) -> Result<(), JobError>
+        requires { CanCount (both (S.told sheets.old) (P.told replies.old)) }
+        ensures hands { HandsOver tag (all_outputs sent.now) result
+            (both (S.told sheets.old) (P.told replies.old))
+            (both (S.told sheets.new) (P.told replies.new)) }
+        ensures left { MatchResult result (λ _. self.new ≡ self.old) (λ _. self.new.machine ≡ None) }
+        ensures memory { IsErrOf result JobError.NoMemory → all_outputs sent.now ≢ [] }
+    {
+        match self.engine.hand_over(sent, tag, sheets, replies) {
+            Ok(()) => Ok(()),
+            Err(fault) => {
+                self.phase = Phase::Failed;
+                Err(JobError::from(fault))
+            }
+        }
+    }
+
+    /// Takes a table step as [`Job::take_step`] does, and hands what goes out in it to the sinks.
     ///
     /// Source: PCL 5 Printer Language Technical Reference Manual, Macros.
     ///
@@ -127,49 +196,13 @@ impl Job {
             (both (S.told sheets.old) (P.told replies.old))
             (both (S.told sheets.new) (P.told replies.new)) }
     {
-        if !self.is_idle() {
-            return self.step_inside(tag, sheets, replies);
-        }
-        match self.phase {
-            Phase::Failed => Err(JobError::Failed),
-            Phase::Exited => Ok(Step::Ended),
-            Phase::Running => {
-                let answer = take(
-                    &mut self.scanner,
-                    &mut self.engine,
-                    &mut self.phase,
-                    tag,
-                    sheets,
-                    replies,
-                );
-                if answer.is_err() {
-                    self.phase = Phase::Failed;
-                }
-                answer
+        match self.take_step()? {
+            JobStep::Ran(step) => {
+                self.hand_over(&step.sent, tag, sheets, replies)?;
+                Ok(Step::Ran(step.kind))
             }
-        }
-    }
-
-    /// Takes the next command of the innermost body that runs.
-    fn step_inside<S: SheetSink, P: ReplySink>(
-        &mut self,
-        tag: u64,
-        sheets: &mut S,
-        replies: &mut P,
-    ) -> Result<Step, JobError>
-        requires inside { self.old.bodies ≢ [] }
-        requires can_count { CanCount (both (S.told sheets.old) (P.told replies.old)) }
-        ensures takes { Takes self.old tag result self.new
-            (both (S.told sheets.old) (P.told replies.old))
-            (both (S.told sheets.new) (P.told replies.new)) }
-        ensures memory { IsErrOf result JobError.NoMemory → WantsMemory self.old }
-    {
-        match carry_inner(&mut self.engine, tag, sheets, replies) {
-            Ok(kind) => Ok(Step::Ran(kind)),
-            Err(fault) => {
-                self.phase = Phase::Failed;
-                Err(fault)
-            }
+            JobStep::Hungry => Ok(Step::Hungry),
+            JobStep::Ended => Ok(Step::Ended),
         }
     }
 

@@ -17,6 +17,7 @@ use Rattle.press_stream.specs.declared.step.Step.TheVariants as steps
 use Rattle.press_stream.specs.Chain.{CallsGo, PrintsAll}
 use Rattle.press_stream.specs.Meaning.{Goes}
 use Rattle.press_stream.specs.Printed.{Prints, PrintedTo}
+use Rattle.press_stream.proofs.Going.{Goes-ran, taken-ended}
 
 -- the bytes of the first pieces, and of one more
 pub pieces-next : {A : Type 0} (f : A → List ℕ) (pieces : List A) (i : ℕ) (other : A) → i < length pieces → flat_map f (take (i + 1) pieces) ≡ flat_map f (take i pieces) ++ f (get_or pieces i other)
@@ -67,7 +68,7 @@ still calls old new tag before after running same quiet =
 pub stepped : CallsGo → (old new : JobState) (tag : ℕ) (result : Result Step JobError) (step : Step) (before after : Told) → IsSome old.machine → result ≡ Ok step → Takes old tag result new before after → (given : List Token) × Goes old [] given tag new before after
 stepped calls old new tag result step before after running answer takes = by step (subst (λ (one : Result Step JobError). Takes old tag one new before after) answer takes) where
   by : (step : Step) → Takes old tag (Ok step) new before after → (given : List Token) × Goes old [] given tag new before after
-  by (steps.Ran kind) ran = (ran.given, ran.goes)
+  by (steps.Ran kind) ran = (ran.did.given, Goes-ran old new tag kind before after ran)
   by steps.Hungry quiet = still calls old new tag before after running quiet.1 quiet.2
   by steps.Ended quiet = still calls old new tag before after running quiet.1 quiet.2
 
@@ -80,7 +81,7 @@ pushed-going old new piece (Err error) pushes = tt
 pub stepped-going : (old new : JobState) (tag : ℕ) (result : Result Step JobError) (step : Step) (before after : Told) → old.held.ended ≡ false → result ≡ Ok step → Takes old tag result new before after → new.held.ended ≡ false
 stepped-going old new tag result step before after going answer takes = by step (subst (λ (one : Result Step JobError). Takes old tag one new before after) answer takes) where
   by : (step : Step) → Takes old tag (Ok step) new before after → new.held.ended ≡ false
-  by (steps.Ran kind) ran = ran.still ∙ going
+  by (steps.Ran kind) ran = taken-ended old new ran.did.given ran.did.takes ∙ going
   by steps.Hungry quiet = ap (λ (job : JobState). job.held.ended) quiet.1 ∙ going
   by steps.Ended quiet = ap (λ (job : JobState). job.held.ended) quiet.1 ∙ going
 

@@ -2,7 +2,7 @@ use Rattle.std.proofs.Common.{[], ◌++◌, ◌∙◌, Err, refl, ap, arith}
 use Rattle.std.proofs.lemmas.Result.{err_from_is_err_and}
 use Rattle.press_stream.specs.declared.fault.JobError.{JobError}
 use Rattle.press_stream.proofs.Carries.{same_fault}
-use Rattle.press_stream.proofs.Going.{can_count-then}
+use Rattle.press_stream.proofs.Going.{can_count-then, Goes-ran, taken-of, taken-fewer, taken-ended}
 use Rattle.press_stream.proofs.Faults.{FaultsBefore-after, FaultsBefore-step, Goes-after}
 use Rattle.press_stream.proofs.RunningOut.{one_taken, Wants-after}
 use Rattle.press_stream.proofs.job.Job.drain.Goals as goal
@@ -37,29 +37,35 @@ pub returns-in_err-run_out-2-clause-drains : goal.returns-in_err-run_out-2-claus
 returns-in_err-run_out-2-clause-drains g c =
     let p = err_from_is_err_and c.from_residual-in_err-run_out-2.result c.from_residual-in_err-run_out-2.ensures.1 in
     let ran = rw (c.in_ok-step.was, c.in-Ran.is) at c.step.ensures.takes in
+    let did = ran.did in
+    let one = Goes-ran c.loop-self.self c.step.new.self c.args.tag _ _ _ ran in
     let so_far = c.loop-self.invariant in
-    let goes = Goes-after c.args.self.now c.loop-self.self c.step.new.self [] so_far.given ran.given c.args.tag _ _ _ so_far.goes ran.goes in
-    rw (p.1, p.2) (FaultsBefore-after c.args.self.now c.step.new.self c.run_out-in-Ran.new.self [] (so_far.given ++ ran.given) c.args.tag _ _ _ _ (ran.still ∙ so_far.still) goes (rw c.in_err-run_out-2.was at c.run_out-in-Ran.ensures.runs_out))
+    let goes = Goes-after c.args.self.now c.loop-self.self c.step.new.self [] so_far.given did.given c.args.tag _ _ _ so_far.goes one in
+    rw (p.1, p.2) (FaultsBefore-after c.args.self.now c.step.new.self c.run_out-in-Ran.new.self [] (so_far.given ++ did.given) c.args.tag _ _ _ _ (taken-ended c.loop-self.self c.step.new.self did.given did.takes ∙ so_far.still) goes (rw c.in_err-run_out-2.was at c.run_out-in-Ran.ensures.runs_out))
 
 pub returns-in_err-run_out-2-clause-memory : goal.returns-in_err-run_out-2-clause-memory
 returns-in_err-run_out-2-clause-memory g c =
     let p = err_from_is_err_and c.from_residual-in_err-run_out-2.result c.from_residual-in_err-run_out-2.ensures.1 in
     let ran = rw (c.in_ok-step.was, c.in-Ran.is) at c.step.ensures.takes in
+    let did = ran.did in
+    let one = Goes-ran c.loop-self.self c.step.new.self c.args.tag _ _ _ ran in
     let so_far = c.loop-self.invariant in
-    let goes = Goes-after c.args.self.now c.loop-self.self c.step.new.self [] so_far.given ran.given c.args.tag _ _ _ so_far.goes ran.goes in
-    rw (p.1, p.2) (λ e. Wants-after c.args.self.now c.step.new.self (so_far.given ++ ran.given) c.args.tag _ _ goes (c.run_out-in-Ran.ensures.memory (c.in_err-run_out-2.was ∙ ap (λ (fault : JobError). Err fault) (same_fault _ _ _ refl e))))
+    let goes = Goes-after c.args.self.now c.loop-self.self c.step.new.self [] so_far.given did.given c.args.tag _ _ _ so_far.goes one in
+    rw (p.1, p.2) (λ e. Wants-after c.args.self.now c.step.new.self (so_far.given ++ did.given) c.args.tag _ _ goes (c.run_out-in-Ran.ensures.memory (c.in_err-run_out-2.was ∙ ap (λ (fault : JobError). Err fault) (same_fault _ _ _ refl e))))
 
 pub loop-self-preserved : goal.loop-self-preserved
 loop-self-preserved g c =
     let ran = rw (c.in_ok-step.was, c.in-Ran.is) at c.step.ensures.takes in
+    let did = ran.did in
+    let one = Goes-ran c.loop-self.self c.step.new.self c.args.tag _ _ _ ran in
     let out = rw c.in_ok-run_out-2.was at c.run_out-in-Ran.ensures.runs_out in
     let so_far = c.loop-self.invariant in
-    let goes = Goes-after c.args.self.now c.loop-self.self c.step.new.self [] so_far.given ran.given c.args.tag _ _ _ so_far.goes ran.goes in
-    let can = can_count-then ran.given ran.goes.items c.loop-self.self c.step.new.self c.args.tag _ _ ran.goes.carried so_far.can_count in
+    let goes = Goes-after c.args.self.now c.loop-self.self c.step.new.self [] so_far.given did.given c.args.tag _ _ _ so_far.goes one in
+    let can = can_count-then did.given one.items c.loop-self.self c.step.new.self c.args.tag _ _ one.carried so_far.can_count in
     record {
-      given = (so_far.given ++ ran.given) ++ [];
-      goes = Goes-after c.args.self.now c.step.new.self c.run_out-in-Ran.new.self [] (so_far.given ++ ran.given) [] c.args.tag _ _ _ goes out.0;
-      still = out.3 ∙ ran.still ∙ so_far.still;
+      given = (so_far.given ++ did.given) ++ [];
+      goes = Goes-after c.args.self.now c.step.new.self c.run_out-in-Ran.new.self [] (so_far.given ++ did.given) [] c.args.tag _ _ _ goes out.0;
+      still = out.3 ∙ taken-ended c.loop-self.self c.step.new.self did.given did.takes ∙ so_far.still;
       can_count = can_count-then [] out.0.items c.step.new.self c.run_out-in-Ran.new.self c.args.tag _ _ out.0.carried can;
       idle = out.1;
     }
@@ -67,5 +73,6 @@ loop-self-preserved g c =
 pub loop-self-smaller : goal.loop-self-smaller
 loop-self-smaller g c =
     let ran = rw (c.in_ok-step.was, c.in-Ran.is) at c.step.ensures.takes in
+    let did = ran.did in
     let out = rw c.in_ok-run_out-2.was at c.run_out-in-Ran.ensures.runs_out in
-    omega (arith, one_taken c.loop-self.self ran.given c.loop-self.invariant.idle ran.takes, ran.fewer, out.2)
+    omega (arith, one_taken c.loop-self.self did.given c.loop-self.invariant.idle (taken-of c.loop-self.self c.step.new.self did.given did.takes), taken-fewer c.loop-self.self c.step.new.self did.given did.takes, out.2)

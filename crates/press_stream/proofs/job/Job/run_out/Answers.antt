@@ -2,7 +2,7 @@ use Rattle.std.proofs.Common.{[], ◌∙◌, Err, refl, ap, arith}
 use Rattle.std.proofs.lemmas.Result.{err_from_is_err_and}
 use Rattle.press_stream.specs.declared.fault.JobError.{JobError}
 use Rattle.press_stream.proofs.Carries.{same_fault}
-use Rattle.press_stream.proofs.Going.{Goes-none, can_count-then}
+use Rattle.press_stream.proofs.Going.{Goes-none, can_count-then, Goes-ran, taken-fewer, taken-ended}
 use Rattle.press_stream.proofs.Faults.{FaultsBefore-after, FaultsBefore-step}
 use Rattle.press_stream.proofs.Inside.{not_idle}
 use Rattle.press_stream.proofs.RunningOut.{ran_inside, one_fewer, Goes-more}
@@ -30,12 +30,14 @@ pub loop-self-preserved : goal.loop-self-preserved
 loop-self-preserved g c =
     let takes = rw c.in_ok-step.was at c.step.ensures.takes in
     let inside = not_idle c.is_idle.result _ c.is_idle.ensures.none c.loop-self-test.true in
-    let (given, none, goes, item, one, fewer, still) = ran_inside c.loop-self.self c.step.new.self c.args.tag _ _ _ inside takes in
+    let (kind, ran) = ran_inside c.loop-self.self c.step.new.self c.args.tag _ _ _ inside takes in
+    let goes = Goes-ran c.loop-self.self c.step.new.self c.args.tag kind _ _ ran in
+    let fewer = taken-fewer c.loop-self.self c.step.new.self ran.did.given ran.did.takes in
     record {
       goes = Goes-more c.args.self.now c.loop-self.self c.step.new.self c.args.tag _ _ _ _ inside c.loop-self.invariant.goes takes;
       fewer = omega (arith, fewer, c.loop-self.invariant.fewer);
-      still = still ∙ c.loop-self.invariant.still;
-      can_count = can_count-then given goes.items c.loop-self.self c.step.new.self c.args.tag _ _ goes.carried c.loop-self.invariant.can_count;
+      still = taken-ended c.loop-self.self c.step.new.self ran.did.given ran.did.takes ∙ c.loop-self.invariant.still;
+      can_count = can_count-then ran.did.given goes.items c.loop-self.self c.step.new.self c.args.tag _ _ goes.carried c.loop-self.invariant.can_count;
     }
 
 pub loop-self-smaller : goal.loop-self-smaller

@@ -1,9 +1,32 @@
-use Rattle.std.proofs.Common.{sym, ap, ◌∙◌, subst}
-use Rattle.press_stream.specs.State.{job_state}
-use Rattle.press_stream.specs.Answers.{WantsMemory}
+use Rattle.std.proofs.Common.{◌∙◌, Err, refl, ap}
+use Rattle.std.proofs.lemmas.Result.{err_from_is_err_and}
+use Rattle.press_stream.specs.declared.fault.JobError.{JobError}
+use Rattle.press_stream.proofs.Carries.{same_fault, RanOne-sent, Faults-taken, Faults-sent, wants-sent}
 use Rattle.press_stream.proofs.job.Job.step.Goals as goal
 
-pub returns-then-is_err-clause-memory : goal.returns-then-is_err-clause-memory
-returns-then-is_err-clause-memory g c = λ e.
-    subst WantsMemory (ap (λ phase. job_state c.self.inside.scanner c.self.inside.engine phase) (sym c.in-Running.is) ∙ c.self.view_is)
-    (c.take-answer.ensures.memory e)
+pub returns-in_err-step-clause-takes : goal.returns-in_err-step-clause-takes
+returns-in_err-step-clause-takes g c =
+    let p = err_from_is_err_and c.from_residual.result c.from_residual.ensures.1 in
+    rw (p.1, p.2) (Faults-taken c.args.self.now c.take_step.new.self c.args.tag _ _ (rw c.in_err-step.was at c.take_step.ensures.takes))
+
+pub returns-in_err-hand_over-in-Ran-clause-takes : goal.returns-in_err-hand_over-in-Ran-clause-takes
+returns-in_err-hand_over-in-Ran-clause-takes g c =
+    let exit = c.from_residual-in_err-hand_over-in-Ran in
+    let p = err_from_is_err_and exit.result exit.ensures.1 in
+    let hands = c.hand_over in
+    rw (p.1, p.2) (Faults-sent c.args.self.now c.take_step.new.self hands.new.self c.in-Ran.step c.deref.result.now c.args.tag _ _ _ (rw (c.in_ok-step.was, c.in-Ran.is) at c.take_step.ensures.takes) c.deref.ensures.value
+    (rw c.in_err-hand_over-in-Ran.was at hands.ensures.left) (rw c.in_err-hand_over-in-Ran.was at hands.ensures.hands))
+
+pub returns-in_err-hand_over-in-Ran-clause-memory : goal.returns-in_err-hand_over-in-Ran-clause-memory
+returns-in_err-hand_over-in-Ran-clause-memory g c =
+    let exit = c.from_residual-in_err-hand_over-in-Ran in
+    let p = err_from_is_err_and exit.result exit.ensures.1 in
+    let hands = c.hand_over in
+    rw (p.1, p.2) (λ e. wants-sent c.args.self.now c.take_step.new.self c.in-Ran.step c.deref.result.now (rw (c.in_ok-step.was, c.in-Ran.is) at c.take_step.ensures.takes) c.deref.ensures.value
+    (hands.ensures.memory (c.in_err-hand_over-in-Ran.was ∙ ap (λ (fault : JobError). Err fault) (same_fault _ _ _ refl e))))
+
+pub returns-in_ok-hand_over-in-Ran-clause-takes : goal.returns-in_ok-hand_over-in-Ran-clause-takes
+returns-in_ok-hand_over-in-Ran-clause-takes g c =
+    let hands = c.hand_over in
+    RanOne-sent c.args.self.now c.take_step.new.self hands.new.self c.in-Ran.step c.deref.result.now c.args.tag _ _ (rw (c.in_ok-step.was, c.in-Ran.is) at c.take_step.ensures.takes)
+    (rw c.in_ok-hand_over-in-Ran.was at hands.ensures.left) c.deref.ensures.value (rw c.in_ok-hand_over-in-Ran.was at hands.ensures.hands)

@@ -1,25 +1,18 @@
-use Rattle.std.proofs.Common.{◌≢◌, ◌∙◌, [], Err, refl, sym, ap, subst}
-use Rattle.press_stream.specs.declared.fault.JobError.{JobError}
+use Rattle.std.proofs.Common.{◌≢◌, [], sym, subst}
 use Rattle.press_stream.specs.State.{JobState}
-use Rattle.press_stream.proofs.Carries.{same_fault}
-use Rattle.press_stream.proofs.Inside.{engine_inside, job_ran, job_stopped, job_wants}
-use Rattle.press_stream.proofs.job.Job.step_inside.Goals as goal
+use Rattle.press_stream.proofs.Inside.{engine_inside, job_ran}
+use Rattle.press_stream.proofs.job.Job.take_inside.Goals as goal
 
-pub returns-in-Ok-clause-takes : goal.returns-in-Ok-clause-takes
-returns-in-Ok-clause-takes g c =
-    job_ran c.self.inside.scanner c.self.inside.engine c.carry_inner.new.engine c.self.inside.phase c.args.self.now c.args.tag c.in-Ok.kind _ _ c.self.view_is c.requires.inside
-    (rw c.in-Ok.is at c.carry_inner.ensures.carries)
+pub take_inner-requires : goal.take_inner-requires
+take_inner-requires c = record {
+  running =
+      engine_inside c.self.inside.scanner c.self.inside.engine c.self.inside.phase
+      (subst (λ (job : JobState). job.bodies ≢ []) (sym c.self.view_is) c.requires);
+}
 
-pub returns-in-Err-clause-takes : goal.returns-in-Err-clause-takes
-returns-in-Err-clause-takes g c =
-    job_stopped c.self.inside.scanner c.self.inside.engine c.carry_inner.new.engine c.self.inside.phase c.args.self.now c.args.tag c.in-Err.fault _ _ c.self.view_is c.self.invariant c.requires.inside
-    (rw c.in-Err.is at c.carry_inner.ensures.carries)
-
-pub carry_inner-requires-clause-runs : goal.carry_inner-requires-clause-runs
-carry_inner-requires-clause-runs g c =
-    engine_inside c.self.inside.scanner c.self.inside.engine c.self.inside.phase
-    (subst (λ (job : JobState). job.bodies ≢ []) (sym c.self.view_is) c.requires.inside)
-
-pub returns-in-Err-clause-memory : goal.returns-in-Err-clause-memory
-returns-in-Err-clause-memory g c = λ e.
-    job_wants c.self.inside.scanner c.self.inside.engine c.self.inside.phase c.args.self.now c.self.view_is c.requires.inside (c.carry_inner.ensures.memory (c.in-Err.is ∙ ap (λ (fault : JobError). Err fault) (same_fault _ _ _ refl e)))
+pub returns-in-Ok : goal.returns-in-Ok
+returns-in-Ok c = record {
+  takes =
+      job_ran c.self.inside.scanner c.self.inside.engine c.take_inner.new.self c.self.inside.phase c.args.self.now c.in-Ok.step c.self.view_is c.requires
+      c.take_inner.ensures.next c.in-Ok.ensures.steps;
+}
