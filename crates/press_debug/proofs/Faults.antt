@@ -1,31 +1,42 @@
--- A step that met a fault: with sinks that have none, memory ran out.
-use Rattle.std.proofs.Common.{◌≡◌, ◌∙◌, ◌<◌, ℕ, None, refl, ap, inl, inr, arith}
-use Rattle.press_sink.specs.Told.{Told}
+-- A step for which memory ran out, now or before.
+use Rattle.std.proofs.Common.{◌≡◌, ◌∙◌, List, Option, None, Err, ap, subst, inl, inr}
+use Rattle.press_cmd.specs.declared.variant.Kind.{Kind}
+use Rattle.press_engine.specs.declared.machine.Machine.{Machine}
+use Rattle.press_engine.specs.Engine.{NeedsMemory, InnerNeedsMemory}
 use Rattle.press_stream.specs.declared.fault.JobError.{JobError}
 use Rattle.press_stream.specs.declared.fault.JobError.TheVariants as errors
-use Rattle.press_stream.specs.Answers.{StepFaults, WantsMemory}
+use Rattle.press_stream.specs.Answers.{TakesStep, WantsMemory}
 use Rattle.press_stream.specs.State.{JobState}
-use Rattle.press_debug.specs.Steps.{MayFail}
+use Rattle.press_debug.specs.Steps.{Standing, MayFail}
 
 -- the job has failed
-pub no_machine : (old : JobState) (tag : ℕ) (error : JobError) (new : JobState) (before after : Told) → StepFaults old tag error new before after → new.machine ≡ None
-no_machine old tag errors.SinkFault new before after faults = faults.0
-no_machine old tag errors.ReplyFault new before after faults = faults.0
-no_machine old tag errors.NoMemory new before after faults = faults.0
-no_machine old tag errors.Failed new before after (none, same, _) = ap (λ (job : JobState). job.machine) same ∙ none
-no_machine old tag errors.ReadFault new before after faults = absurd faults
-no_machine old tag errors.AfterEnd new before after faults = absurd faults
+pub no_machine : (old : JobState) (error : JobError) (new : JobState) → TakesStep old (Err error) new → new.machine ≡ None
+no_machine old errors.NoMemory new takes = takes.1
+no_machine old errors.Failed new takes = ap (λ (job : JobState). job.machine) takes.1 ∙ takes.0
+no_machine old errors.SinkFault new takes = absurd takes
+no_machine old errors.ReplyFault new takes = absurd takes
+no_machine old errors.ReadFault new takes = absurd takes
+no_machine old errors.AfterEnd new takes = absurd takes
 
-same_faults : (before after : ℕ) → after ≡ before → before < after → ⊥
-same_faults before after same more = omega (arith, same, more)
+-- what came next may take memory, or the job had failed before
+pub may_fail : (old : JobState) (error : JobError) (new : JobState) → TakesStep old (Err error) new → MayFail old
+may_fail old errors.NoMemory new takes = inl takes.0
+may_fail old errors.Failed new takes = inr takes.0
+may_fail old errors.SinkFault new takes = absurd takes
+may_fail old errors.ReplyFault new takes = absurd takes
+may_fail old errors.ReadFault new takes = absurd takes
+may_fail old errors.AfterEnd new takes = absurd takes
 
--- neither sink had a fault, so what came next may take memory
-pub may_fail : (old : JobState) (tag : ℕ) (error : JobError) (new : JobState) (before after : Told) → after ≡ before → (error ≡ errors.NoMemory → WantsMemory old) → StepFaults old tag error new before after → MayFail old
-may_fail old tag errors.SinkFault new before after same wants faults =
-    absurd (same_faults before.sheets.faults after.sheets.faults (ap (λ (told : Told). told.sheets.faults) same) faults.1.2.went.fault)
-may_fail old tag errors.ReplyFault new before after same wants faults =
-    absurd (same_faults before.replies.faults after.replies.faults (ap (λ (told : Told). told.replies.faults) same) faults.1.2.went.fault)
-may_fail old tag errors.NoMemory new before after same wants faults = inl (wants refl)
-may_fail old tag errors.Failed new before after same wants faults = inr faults.0
-may_fail old tag errors.ReadFault new before after same wants faults = absurd faults
-may_fail old tag errors.AfterEnd new before after same wants faults = absurd faults
+-- a job that has failed wants no memory
+wants_none : (job : JobState) → job.machine ≡ None → WantsMemory job → ⊥
+wants_none job none (inl needs) = subst (λ (machine : Option Machine). InnerNeedsMemory machine job.bodies) none needs
+wants_none job none (inr (command, due, needs)) = subst (λ (machine : Option Machine). NeedsMemory machine command) none needs
+
+-- a step of a job that has failed changes nothing
+pub unchanged-fault : (old new : JobState) (recent : List Kind) (now : Standing) (error : JobError) → record { job = old; recent = recent } ≡ now → TakesStep old (Err error) new → now.job.machine ≡ None → record { job = new; recent = recent } ≡ now
+unchanged-fault old new recent now errors.Failed is takes none = ap (λ (job : JobState). record { job = job; recent = recent }) takes.1 ∙ is
+unchanged-fault old new recent now errors.NoMemory is takes none = absurd (wants_none old (ap (λ (standing : Standing). standing.job.machine) is ∙ none) takes.0)
+unchanged-fault old new recent now errors.SinkFault is takes none = absurd takes
+unchanged-fault old new recent now errors.ReplyFault is takes none = absurd takes
+unchanged-fault old new recent now errors.ReadFault is takes none = absurd takes
+unchanged-fault old new recent now errors.AfterEnd is takes none = absurd takes

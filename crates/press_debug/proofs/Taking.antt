@@ -1,58 +1,32 @@
 -- Steps of a job, one after another.
-use Rattle.std.proofs.Common.{◌≡◌, ◌∙◌, ◌+◌, ◌≤◌, ◌↔◌, ℕ, List, [], ◌∷◌, ◌++◌, length, Bool, true, false, Option, Some, None, IfSome, IsSome, IsTrue, IsFalse, Ok, MatchBool, refl, sym, ap, subst, inl, inr, arith}
+use Rattle.std.proofs.Common.{◌≡◌, ◌∙◌, ◌+◌, ◌≤◌, ◌↔◌, ℕ, List, [], ◌∷◌, ◌++◌, length, Bool, true, false, Option, Some, None, IfSome, IsSome, IsTrue, IsFalse, Ok, refl, sym, ap, subst, inl, inr, arith}
 use Rattle.std.proofs.lemmas.Bool.{false≢true, true≢false}
 use Rattle.std.proofs.lemmas.List.{append_assoc}
 use Rattle.press_cmd.specs.Token.{Token}
-use Rattle.press_cmd.specs.Split.{ClosedFrom}
 use Rattle.press_cmd.specs.declared.variant.Kind.{Kind}
-use Rattle.press_cmd.proofs.Splits.{closed_once}
-use Rattle.press_sink.specs.Told.{Told}
+use Rattle.press_engine.specs.declared.effect.StepOutput.{StepOutput}
 use Rattle.press_engine.specs.declared.machine.Last.{Last}
 use Rattle.press_engine.specs.declared.machine.Last.TheVariants as lasts
 use Rattle.press_engine.specs.declared.machine.Machine.{Machine}
 use Rattle.press_engine.specs.Engine.{IsOfKind}
 use Rattle.press_engine.specs.Machine.{Run}
 use Rattle.press_engine.specs.Trace.{last_machine}
-use Rattle.press_stream.specs.declared.step.Step.{Step}
-use Rattle.press_stream.specs.declared.step.Step.TheVariants as steps
-use Rattle.press_stream.specs.Answers.{RanOne, Takes}
+use Rattle.press_engine.specs.Outputs.{all_outputs}
+use Rattle.press_stream.specs.declared.step.JobStep.{JobStep}
+use Rattle.press_stream.specs.declared.step.JobStep.TheVariants as steps
+use Rattle.press_stream.specs.Answers.{TakesStep}
+use Rattle.press_stream.specs.Steps.{Does, DoesStep}
 use Rattle.press_stream.specs.Left.{LeftOf, LeftGoesOn}
-use Rattle.press_stream.specs.Meaning.{with_exit, left, Owes}
+use Rattle.press_stream.specs.Meaning.{left, Owes}
 use Rattle.press_stream.specs.State.{JobState, IsOver}
-use Rattle.press_stream.proofs.Going.{Owes-some, same_some, some_of}
-use Rattle.press_stream.proofs.Items.{left-then, last-append}
+use Rattle.press_stream.proofs.Going.{Owes-some, same_some, some_of, taken-ended}
+use Rattle.press_stream.proofs.Items.{last-append}
+use Rattle.press_stream.proofs.LeftLemmas.{Owes-one, left_before}
 use Rattle.circular_buffer.specs.Buffer.{Buffer, buffer, keep_last}
 use Rattle.press_debug.specs.Steps.{Standing, Advances, EndsOutside, IsOutside, IsSound, Remains, RanOut, kind_taken, kinds_of, with_kinds}
 use Rattle.press_debug.proofs.Tables.{keep_last-twice, keep_last-all, keep_last-few}
 
--- ---- what is left before a step, and that it is one list
-
-pub left_before : (old new : JobState) (tag : ℕ) (kind : Kind) (before after : Told) (others : List Run) → LeftOf new others → (ran : RanOne old tag kind new before after) → LeftOf old (ran.item ∷ others)
-left_before old new tag kind before after others is ran =
-    let goes = ran.goes in
-    let from = goes.carried.from in
-    let at = last_machine from goes.items in
-    let same : is.from ≡ at = same_some new.machine is.from at is.starts goes.carried.ends in
-    record {
-      from = from;
-      starts = goes.carried.starts;
-      commands = ran.given ++ is.commands;
-      owes = goes.to_end [] is.commands is.owes;
-      are =
-          ap (λ (done : List Run). done ++ others) (sym ran.one)
-          ∙ ap (λ (more : List Run). goes.items ++ more) (is.are ∙ ap (left is.commands new.bodies) same)
-          ∙ sym (left-then ran.given is.commands old.bodies new.bodies from goes.items goes.carried.are);
-    }
-
-Owes-one : (job : JobState) (bytes : List ℕ) (commands others : List Token) → Owes job bytes commands → Owes job bytes others → commands ≡ others
-Owes-one job bytes commands others owes other = at_exit job.exited owes.1 other.1
-  where
-    at_exit : (exited : Bool)
-        → MatchBool exited (commands ≡ []) ((closed : List Token) × ClosedFrom job.held.mode (job.held.bytes ++ bytes) closed × (commands ≡ with_exit closed))
-        → MatchBool exited (others ≡ []) ((closed : List Token) × ClosedFrom job.held.mode (job.held.bytes ++ bytes) closed × (others ≡ with_exit closed))
-        → commands ≡ others
-    at_exit true is are = is ∙ sym are
-    at_exit false (c, closed, is) (d, other, are) = is ∙ ap with_exit (closed_once job.held.mode (job.held.bytes ++ bytes) c d closed other) ∙ sym are
+-- ---- what is left is one list
 
 LeftOf-one : (job : JobState) (items others : List Run) → LeftOf job items → LeftOf job others → items ≡ others
 LeftOf-one job items others is other =
@@ -92,13 +66,13 @@ kind_once lasts.Nothing kind is = absurd is
 kind_once (lasts.Ran one) kind is = ap (λ (k : Kind). k ∷ []) is
 kind_once (lasts.Recorded one) kind is = ap (λ (k : Kind). k ∷ []) is
 
-pub Advances-one : LeftGoesOn → (old new : JobState) (tag : ℕ) (kind : Kind) (before after : Told) (recent last : List Kind) → (ran : RanOne old tag kind new before after) → last ≡ keep_last 64 (recent ++ kind ∷ []) → Advances (record { job = old; recent = recent }) (ran.item ∷ []) (record { job = new; recent = last })
-Advances-one law old new tag kind before after recent last ran kept = record {
-  from = ran.goes.carried.from;
-  starts = ran.goes.carried.starts;
-  ends = ran.goes.carried.ends ∙ ap (λ (done : List Run). Some (last_machine ran.goes.carried.from done)) ran.one;
-  left = λ all is. let on = law.steps old new tag kind before after [] all is ran in (on.others, on.are, on.still);
-  recent = kept ∙ ap (λ (kinds : List Kind). keep_last 64 (recent ++ kinds)) (kind_once ran.item.machine.last kind ran.is_kind);
+pub Advances-one : LeftGoesOn → (old new : JobState) (item : Run) (kind : Kind) (recent last : List Kind) → Does old item kind new → last ≡ keep_last 64 (recent ++ kind ∷ []) → Advances (record { job = old; recent = recent }) (item ∷ []) (record { job = new; recent = last })
+Advances-one law old new item kind recent last did kept = record {
+  from = did.from;
+  starts = did.starts;
+  ends = did.ends;
+  left = λ all is. let on = law.does old new item kind [] all is did in (on.others, on.are, on.still);
+  recent = kept ∙ ap (λ (kinds : List Kind). keep_last 64 (recent ++ kinds)) (kind_once item.machine.last kind did.is_kind);
 }
 
 pub Advances-none : (now : Standing) (from : Machine) → now.job.machine ≡ Some from → length now.recent ≤ 64 → Advances now [] now
@@ -146,13 +120,11 @@ RanOut-then old between new items first (none, inr (others, last, second, may)) 
 
 -- ---- the last of what is left has no running body
 
-pub EndsOutside-after : (old new : JobState) (tag : ℕ) (kind : Kind) (before after : Told) → RanOne old tag kind new before after → EndsOutside old → EndsOutside new
-EndsOutside-after old new tag kind before after ran outside = λ items is.
-    let at = last_machine ran.goes.carried.from ran.goes.items in
-    let same : is.from ≡ at = same_some new.machine is.from at is.starts ran.goes.carried.ends in
-    let one : at ≡ ran.item.machine = ap (last_machine ran.goes.carried.from) ran.one in
-    ap (λ (machine : Machine). (last_machine machine items).depth) (same ∙ one)
-    ∙ outside (ran.item ∷ items) (left_before old new tag kind before after items is ran)
+pub EndsOutside-after : (old new : JobState) (item : Run) (kind : Kind) → Does old item kind new → EndsOutside old → EndsOutside new
+EndsOutside-after old new item kind did outside = λ items is.
+    let same : is.from ≡ item.machine = same_some new.machine is.from item.machine is.starts did.ends in
+    ap (λ (machine : Machine). (last_machine machine items).depth) same
+    ∙ outside (item ∷ items) (left_before old new item kind [] items is did)
 
 pub EndsOutside-none : (job : JobState) → job.machine ≡ None → EndsOutside job
 EndsOutside-none job none = λ items is. absurd (some_not (sym none ∙ is.starts)) where
@@ -199,23 +171,23 @@ remains false job tells is_not = λ items is none. absurd (false≢true ((tells 
 
 -- ---- what is true of a job stays true
 
-ran_of : (old new : JobState) (tag : ℕ) (step : Step) (kind : Kind) (before after : Told) → step ≡ steps.Ran kind → Takes old tag (Ok step) new before after → RanOne old tag kind new before after
-ran_of old new tag step kind before after is takes = subst (λ (one : Step). Takes old tag (Ok one) new before after) is takes
+ran_of : (old new : JobState) (answer : JobStep) (step : StepOutput) → answer ≡ steps.Ran step → TakesStep old (Ok answer) new → DoesStep old step new
+ran_of old new answer step is takes = subst (λ (one : JobStep). TakesStep old (Ok one) new) is takes
 
-pub IsSound-ran : (old new : JobState) (tag : ℕ) (step : Step) (kind : Kind) (before after : Told) (recent last : Buffer Kind) (failed : Bool) → IsSound old recent failed
-    → step ≡ steps.Ran kind → Takes old tag (Ok step) new before after → last ≡ buffer (keep_last recent.capacity (recent.items ++ kind ∷ [])) recent.capacity → IsSound new last failed
-IsSound-ran old new tag step kind before after recent last failed sound is takes kept =
-    let ran = ran_of old new tag step kind before after is takes in
-    let started = ran.goes.carried.starts in
+pub IsSound-ran : (old new : JobState) (answer : JobStep) (step : StepOutput) (recent last : Buffer Kind) (failed : Bool) → IsSound old recent failed
+    → answer ≡ steps.Ran step → TakesStep old (Ok answer) new → last ≡ buffer (keep_last recent.capacity (recent.items ++ step.kind ∷ [])) recent.capacity → IsSound new last failed
+IsSound-ran old new answer step recent last failed sound is takes kept =
+    let (machine, did) = ran_of old new answer step is takes in
+    let kinds = recent.items ++ step.kind ∷ [] in
     record {
-      running = λ _. subst IsSome (sym ran.goes.carried.ends) refl;
-      lost = λ was. absurd (none_some (sym (sound.lost was) ∙ started));
-      ended = λ was_not. ran.still ∙ sound.ended was_not;
-      outside = EndsOutside-after old new tag kind before after ran sound.outside;
+      running = λ _. subst IsSome (sym did.ends) refl;
+      lost = λ was. absurd (none_some (sym (sound.lost was) ∙ did.starts));
+      ended = λ was_not. taken-ended old new did.given did.takes ∙ sound.ended was_not;
+      outside = EndsOutside-after old new _ step.kind did sound.outside;
       capacity = ap (λ (ring : Buffer Kind). ring.capacity) kept ∙ sound.capacity;
       few =
           subst (λ (ring : Buffer Kind). length ring.items ≤ 64) (sym kept)
-          (subst (λ (n : ℕ). length (keep_last n (recent.items ++ kind ∷ [])) ≤ 64) (sym sound.capacity) (keep_last-few 64 (recent.items ++ kind ∷ [])));
+          (subst (λ (n : ℕ). length (keep_last n kinds) ≤ 64) (sym sound.capacity) (keep_last-few 64 kinds));
     }
   where
     none_some : {X : Type 0} {x : X} → None ≡ Some x → ⊥
@@ -231,33 +203,32 @@ IsSound-fault old new recent failed sound none = record {
   few = sound.few;
 }
 
-pub takes_one : LeftGoesOn → (old new : JobState) (tag : ℕ) (step : Step) (kind : Kind) (before after : Told) (recent last : Buffer Kind) (now : Standing) → record { job = old; recent = recent.items } ≡ now → recent.capacity ≡ 64
-    → step ≡ steps.Ran kind → Takes old tag (Ok step) new before after → last ≡ buffer (keep_last recent.capacity (recent.items ++ kind ∷ [])) recent.capacity
+pub takes_one : LeftGoesOn → (old new : JobState) (answer : JobStep) (step : StepOutput) (recent last : Buffer Kind) (now : Standing) → record { job = old; recent = recent.items } ≡ now → recent.capacity ≡ 64
+    → answer ≡ steps.Ran step → TakesStep old (Ok answer) new → last ≡ buffer (keep_last recent.capacity (recent.items ++ step.kind ∷ [])) recent.capacity
     → (item : Run) × Advances now (item ∷ []) (record { job = new; recent = last.items })
-takes_one law old new tag step kind before after recent last now same capacity is takes kept =
-    let ran = ran_of old new tag step kind before after is takes in
-    let kinds : last.items ≡ keep_last 64 (recent.items ++ kind ∷ []) = ap (λ (ring : Buffer Kind). ring.items) kept ∙ ap (λ (n : ℕ). keep_last n (recent.items ++ kind ∷ [])) capacity in
-    (ran.item, subst (λ (from : Standing). Advances from (ran.item ∷ []) (record { job = new; recent = last.items })) same (Advances-one law old new tag kind before after recent.items last.items ran kinds))
+takes_one law old new answer step recent last now same capacity is takes kept =
+    let (machine, did) = ran_of old new answer step is takes in
+    let item : Run = record { machine = machine; outputs = all_outputs step.sent.items } in
+    let kinds : last.items ≡ keep_last 64 (recent.items ++ step.kind ∷ []) = ap (λ (ring : Buffer Kind). ring.items) kept ∙ ap (λ (n : ℕ). keep_last n (recent.items ++ step.kind ∷ [])) capacity in
+    (item, subst (λ (from : Standing). Advances from (item ∷ []) (record { job = new; recent = last.items })) same (Advances-one law old new item step.kind recent.items last.items did kinds))
 
 -- ---- where a step found nothing
 
-ended_of : (old new : JobState) (tag : ℕ) (step : Step) (before after : Told) → step ≡ steps.Ended → Takes old tag (Ok step) new before after → IsOver old × (new ≡ old)
-ended_of old new tag step before after is takes =
-    let ended = subst (λ (one : Step). Takes old tag (Ok one) new before after) is takes in
-    (ended.0, ended.1)
+ended_of : (old new : JobState) (answer : JobStep) → answer ≡ steps.Ended → TakesStep old (Ok answer) new → IsOver old × (new ≡ old)
+ended_of old new answer is takes = subst (λ (one : JobStep). TakesStep old (Ok one) new) is takes
 
-pub takes_none : (old new : JobState) (tag : ℕ) (step : Step) (before after : Told) (recent : Buffer Kind) (now : Standing) → record { job = old; recent = recent.items } ≡ now → length recent.items ≤ 64
-    → step ≡ steps.Ended → Takes old tag (Ok step) new before after → Advances now [] (record { job = new; recent = recent.items })
-takes_none old new tag step before after recent now same few is takes =
-    let (over, kept) = ended_of old new tag step before after is takes in
+pub takes_none : (old new : JobState) (answer : JobStep) (recent : Buffer Kind) (now : Standing) → record { job = old; recent = recent.items } ≡ now → length recent.items ≤ 64
+    → answer ≡ steps.Ended → TakesStep old (Ok answer) new → Advances now [] (record { job = new; recent = recent.items })
+takes_none old new answer recent now same few is takes =
+    let (over, kept) = ended_of old new answer is takes in
     let standing : Standing = record { job = old; recent = recent.items } in
     let none : Advances standing [] standing = Advances-nothing standing few over in
     let stays : Advances standing [] (record { job = new; recent = recent.items }) = subst (λ (job : JobState). Advances standing [] (record { job = job; recent = recent.items })) (sym kept) none in
     subst (λ (from : Standing). Advances from [] (record { job = new; recent = recent.items })) same stays
 
-pub outside_none : LeftGoesOn → (old new : JobState) (tag : ℕ) (step : Step) (before after : Told) → EndsOutside old → step ≡ steps.Ended → Takes old tag (Ok step) new before after → IsOutside new
-outside_none law old new tag step before after outside is takes =
-    let (over, kept) = ended_of old new tag step before after is takes in
+pub outside_none : LeftGoesOn → (old new : JobState) (answer : JobStep) → EndsOutside old → answer ≡ steps.Ended → TakesStep old (Ok answer) new → IsOutside new
+outside_none law old new answer outside is takes =
+    let (over, kept) = ended_of old new answer is takes in
     subst IsOutside (sym kept) (IsOutside-over law old outside over)
 
 -- ---- facts of a machine that is there

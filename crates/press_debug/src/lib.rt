@@ -5,7 +5,6 @@ mod breakpoints;
 mod debugger;
 mod fault;
 pub mod laws;
-mod sinks;
 mod stepper;
 mod watch;
 

@@ -4,13 +4,12 @@ ghost use Rattle.std.specs.Prelude.{◌≡◌, IfOk, IfSome};
 ghost use Rattle.press_engine.specs.Engine.{view_of};
 ghost use Rattle.press_stream.specs.State.{IsOver};
 
-use crate::sinks::{NoReplies, NoSheets};
 use circular_buffer::HeapCircularBuffer;
 use press_cmd::Kind;
 use press_engine::View;
 use press_engine::laws::{at_most_four_bodies, trace_tells_the_run};
 use press_stream::laws::what_is_left;
-use press_stream::{Job, Step};
+use press_stream::{Job, JobStep};
 use std::alloc::{AllocError, Global};
 use std::marker::Model;
 
@@ -75,7 +74,7 @@ impl Stepper {
         })
     }
 
-    /// Takes a step, if one is left.
+    /// Takes a step, if one is left. What goes out in it goes nowhere; the engine counts the sheets.
     pub fn take(&mut self) -> Taken
         ensures takes { TakesOne self.old result self.new }
         ensures none { result ≡ Nothing → Advances self.old [] self.new }
@@ -84,13 +83,13 @@ impl Stepper {
         ensures lost { (result ≡ Fault) ↔ (self.new.job.machine ≡ None) }
     {
         what_is_left();
-        match self.job.step(0, &mut NoSheets, &mut NoReplies) {
-            Ok(Step::Ran(kind)) => {
-                self.recent.push_back(kind);
+        match self.job.take_step() {
+            Ok(JobStep::Ran(step)) => {
+                self.recent.push_back(step.kind);
                 Taken::Steps
             }
-            Ok(Step::Hungry) => unreachable!(),
-            Ok(Step::Ended) => Taken::Nothing,
+            Ok(JobStep::Hungry) => unreachable!(),
+            Ok(JobStep::Ended) => Taken::Nothing,
             Err(_) => {
                 self.failed = true;
                 Taken::Fault
