@@ -1,26 +1,27 @@
 -- A job at its place, and its next step.
-use Rattle.std.proofs.Common.{◌≡◌, ◌∙◌, ◌+◌, ◌<◌, ◌≤◌, ◌++◌, ◌↔◌, ℕ, zero, suc, List, [], ◌∷◌, length, take, drop, nat_eq, Bool, true, false, Some, IsTrue, option_map, Result, Ok, Err, is_err, refl, sym, ap, subst, arith, rules, length-append}
+use Rattle.std.proofs.Common.{◌≡◌, ◌∙◌, ◌+◌, ◌<◌, ◌≤◌, ◌++◌, ◌↔◌, ℕ, zero, suc, List, [], ◌∷◌, length, take, drop, nat_eq, Bool, true, false, Some, IsTrue, Result, Ok, Err, is_err, refl, sym, ap, subst, arith, rules, length-append}
 use Rattle.std.proofs.lemmas.Bool.{true≢false}
-use Rattle.std.proofs.lemmas.Option.{same_Some}
+use Rattle.std.proofs.lemmas.List.{append-nil}
 use Rattle.press_bits.specs.Page.{Page}
 use Rattle.press_cmd.specs.Mode.{Exit}
 use Rattle.press_cmd.specs.Split.{Closed, closing}
 use Rattle.press_cmd.specs.Token.{Token, Uel}
 use Rattle.press_cmd.specs.declared.variant.Kind.{Kind}
 use Rattle.press_cmd.proofs.Splits.{closed_once, some_split}
+use Rattle.press_engine.specs.declared.effect.StepOutput.{StepOutput}
 use Rattle.press_engine.specs.declared.machine.Machine.{Machine}
+use Rattle.press_engine.specs.Outputs.{all_outputs}
 use Rattle.press_engine.specs.Machine.{Run, power_on}
 use Rattle.press_engine.specs.Trace.{joined, last_machine, trace}
-use Rattle.press_sink.specs.Told.{Told}
-use Rattle.press_sink.specs.declared.sheet.Delivery.{Delivery}
-use Rattle.press_sink.specs.Sending.{Output, Complete, WentOut, sheets_of, under_tag}
-use Rattle.press_stream.specs.declared.step.Step.{Step}
-use Rattle.press_stream.specs.declared.step.Step.TheVariants as answers
+use Rattle.press_sink.specs.Sending.{sheets_of}
+use Rattle.press_stream.specs.declared.step.JobStep.{JobStep}
+use Rattle.press_stream.specs.declared.step.JobStep.TheVariants as answers
 use Rattle.press_stream.specs.declared.fault.JobError.{JobError}
-use Rattle.press_stream.specs.Answers.{Pushes, RanOne, Takes}
+use Rattle.press_stream.specs.Answers.{Pushes, TakesStep}
 use Rattle.press_stream.specs.Left.{LeftWith, LeftGoesOn}
 use Rattle.press_stream.specs.Meaning.{with_exit}
 use Rattle.press_stream.specs.State.{JobState, IsOver, opened, with_piece, input_ended}
+use Rattle.press_stream.specs.Steps.{Does, DoesStep}
 use Rattle.press_writer.specs.Job.{job_bytes}
 use Rattle.press_writer.specs.Left.{JobLeft, HasImages, bytes_left, most_job_commands}
 use Rattle.press_writer.specs.Printing.{PrintsTheTicket}
@@ -155,31 +156,21 @@ last_of_more : (items : List Run) (item : Run) (machine : Machine) → last_mach
 last_of_more [] item machine = refl
 last_of_more (first ∷ items) item machine = last_of_more items item first.machine
 
--- What a step of a job at its place leaves: it is at the next place, and the outputs of the item there went out.
-pub record StepsOn (items : List Run) (images : List Page) (place tag : ℕ) (new : RunningJob) (before after : Told) : Type 0 where
-  pub at : IsAt items images new
-  pub went : WentOut tag (joined (take 1 (drop place items))) Complete before after
-
-pub steps_on : LeftGoesOn → (items : List Run) (images : List Page) (tag : ℕ) (kind : Kind) (old : RunningJob) (job : JobState) (before after : Told) → IsAt items images old
-    → RanOne old.job tag kind job before after → StepsOn items images old.steps tag (record { job = job; writer = old.writer; steps = old.steps + 1 }) before after
-steps_on law items images tag kind old job before after at ran =
+-- What a step of a job at its place leaves: it is at the next place, and the outputs are those of the item there.
+pub steps_on : LeftGoesOn → (items : List Run) (images : List Page) (old : RunningJob) (job : JobState) (item : Run) (kind : Kind) → IsAt items images old → Does old.job item kind job
+    → IsAt items images (record { job = job; writer = old.writer; steps = old.steps + 1 }) × (item.outputs ≡ joined (take 1 (drop old.steps items)))
+steps_on law items images old job item kind at did =
     let place = old.steps in
-    let bytes = bytes_left old.writer images in
-    let on = law.steps old.job job tag kind before after bytes (drop place items) at.left ran in
-    let item = ran.item in
-    let carried = ran.goes.carried in
-    record {
-      at = record {
+    let on = law.does old.job job item kind (bytes_left old.writer images) (drop place items) at.left did in (
+      record {
         within = before_more place items on.others item on.are;
-        machine =
-            carried.ends ∙ ap (λ (done : List Run). Some (last_machine carried.from done)) ran.one
-            ∙ ap (λ (machine : Machine). Some machine) (sym (ap (last_machine power_on) (take_more place items on.others item on.are) ∙ last_of_more (take place items) item power_on));
-        left = subst (λ (these : List Run). LeftWith job bytes these) (sym (drop_more place items on.others item on.are)) on.still;
+        machine = did.ends ∙ ap (λ (machine : Machine). Some machine) (sym (ap (last_machine power_on) (take_more place items on.others item on.are) ∙ last_of_more (take place items) item power_on));
+        left = subst (λ (these : List Run). LeftWith job (bytes_left old.writer images) these) (sym (drop_more place items on.others item on.are)) on.still;
         has_images = at.has_images;
         fits = at.fits;
-      };
-      went = subst (λ (done : List Run). WentOut tag (joined done) Complete before after) (ran.one ∙ sym (take_one (drop place items) on.others item on.are)) carried.went;
-    }
+      },
+      sym (ap joined (take_one (drop place items) on.others item on.are) ∙ append-nil item.outputs),
+    )
 
 -- ---- the end
 
@@ -214,30 +205,25 @@ pub not_over : LeftGoesOn → (items : List Run) (images : List Page) (running :
 not_over law items images running at within over =
     omega (arith, within, at_end items images running at (law.over running.job (bytes_left running.writer images) (drop running.steps items) over at.left))
 
--- the sheets of a step that went out to a list
-sheets_listed : (tag : ℕ) (outputs : List Output) (before after : Told) → before.sheets.delivered ≡ Some [] → WentOut tag outputs Complete before after
-    → after.sheets.delivered ≡ Some (under_tag tag (sheets_of outputs))
-sheets_listed tag outputs before after none went = went.delivered ∙ ap (λ told. option_map (λ all. all ++ under_tag tag (sheets_of outputs)) told) none
-
-goes_on : LeftGoesOn → (items : List Run) (images : List Page) (number : ℕ) (kind : Kind) (old now : RunningJob) (job : JobState) (before after : Told) (sheets : List Delivery)
-    → IsAt items images now → now.steps ≡ old.steps → RanOne now.job number kind job before after → before.sheets.delivered ≡ Some [] → after.sheets.delivered ≡ Some sheets
-    → JobGoesOn items images number old (record { job = job; writer = now.writer; steps = now.steps + 1 }) sheets
-goes_on law items images number kind old now job before after sheets at here ran none listed =
-    let on = steps_on law items images number kind now job before after at ran in
+-- a step, and its sheets
+goes_on : LeftGoesOn → (items : List Run) (images : List Page) (step : StepOutput) (old now : RunningJob) (job : JobState) → IsAt items images now → now.steps ≡ old.steps → DoesStep now.job step job
+    → JobGoesOn items images old (record { job = job; writer = now.writer; steps = now.steps + 1 }) (sheets_of (all_outputs step.sent.items))
+goes_on law items images step old now job at here (machine, did) =
+    let item : Run = record { machine = machine; outputs = all_outputs step.sent.items } in
+    let on = steps_on law items images now job item step.kind at did in
     record {
-      at = on.at;
+      at = on.0;
       next = ap (λ n. n + 1) here;
-      sheets_are = same_Some sheets _ (sym listed ∙ sheets_listed number _ before after none on.went) ∙ ap (λ n. under_tag number (sheets_from n 1 items)) here;
+      sheets_are = ap sheets_of on.1 ∙ ap (λ n. sheets_from n 1 items) here;
     }
 
 -- by what the step was
-pub goes_on_after : LeftGoesOn → (items : List Run) (images : List Page) (number : ℕ) (kind : Kind) (step : Step) (old now : RunningJob) (job : JobState) (before after : Told) (sheets : List Delivery)
-    → IsAt items images now → now.steps ≡ old.steps → step ≡ answers.Ran kind → Takes now.job number (Ok step) job before after → before.sheets.delivered ≡ Some []
-    → after.sheets.delivered ≡ Some sheets → JobGoesOn items images number old (record { job = job; writer = now.writer; steps = now.steps + 1 }) sheets
-goes_on_after law items images number kind step old now job before after sheets at here is takes =
-    goes_on law items images number kind old now job before after sheets at here (subst (λ s. Takes now.job number (Ok s) job before after) is takes)
+pub goes_on_after : LeftGoesOn → (items : List Run) (images : List Page) (step : StepOutput) (answer : JobStep) (old now : RunningJob) (job : JobState) → IsAt items images now → now.steps ≡ old.steps
+    → answer ≡ answers.Ran step → TakesStep now.job (Ok answer) job → JobGoesOn items images old (record { job = job; writer = now.writer; steps = now.steps + 1 }) (sheets_of (all_outputs step.sent.items))
+goes_on_after law items images step answer old now job at here is takes =
+    goes_on law items images step old now job at here (subst (λ s. TakesStep now.job (Ok s) job) is takes)
 
-pub not_ended : LeftGoesOn → (items : List Run) (images : List Page) (tag : ℕ) (step : Step) (running : RunningJob) (job : JobState) (before after : Told) → IsAt items images running
-    → running.steps < length items → step ≡ answers.Ended → Takes running.job tag (Ok step) job before after → ⊥
-not_ended law items images tag step running job before after at within is takes =
-    not_over law items images running at within (subst (λ s. Takes running.job tag (Ok s) job before after) is takes).0
+pub not_ended : LeftGoesOn → (items : List Run) (images : List Page) (answer : JobStep) (running : RunningJob) (job : JobState) → IsAt items images running
+    → running.steps < length items → answer ≡ answers.Ended → TakesStep running.job (Ok answer) job → ⊥
+not_ended law items images answer running job at within is takes =
+    not_over law items images running at within (subst (λ s. TakesStep running.job (Ok s) job) is takes).0

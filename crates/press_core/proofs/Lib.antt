@@ -14,7 +14,6 @@ mod MessageChanges
 mod RunLemmas
 mod RunsLemmas
 mod PressLemmas
-mod RepeatLemmas
 mod SoundLemmas
 mod StandLemmas
 mod Standings

@@ -1,8 +1,7 @@
 -- A work whose job stands at its place.
 use Rattle.std.proofs.Common.{◌≡◌, ◌∙◌, ◌+◌, ◌<◌, ◌≤◌, ◌↔◌, ℕ, List, [], length, nat_eq, IsTrue, Bool, Option, Some, IfSome, Result, Ok, Err, OnErr, option_map, unwrap_or, sym, ap, subst}
 use Rattle.press_engine.specs.Machine.{Run}
-use Rattle.press_sink.specs.declared.sheet.Delivery.{Delivery}
-use Rattle.press_sink.specs.Sending.{under_tag}
+use Rattle.press_sink.specs.Sides.{Sides}
 use Rattle.press_stream.specs.Left.{LeftWith}
 use Rattle.press_core.specs.declared.work.RunningJob.{RunningJob}
 use Rattle.press_core.specs.Inside.{IsJobAt}
@@ -48,15 +47,15 @@ may_go_on work o running is place stands going =
     (at.0, at.2, subst (λ n. n < length at.0) (placed work o running is place) (going at.0 at.1))
 
 -- the work of a job that went on
-pub advances : (work : Work) (o : Option RunningJob) (running new : RunningJob) (number : ℕ) (sheets : List Delivery) → o ≡ Some running → work.place ≡ option_map (λ r. r.steps) o
-    → IfSome o (λ r. IsJobAt work r) → ((items : List Run) → IsAt items work.images running → JobGoesOn items work.images number running new sheets)
+pub advances : (work : Work) (o : Option RunningJob) (running new : RunningJob) (sheets : List Sides) → o ≡ Some running → work.place ≡ option_map (λ r. r.steps) o
+    → IfSome o (λ r. IsJobAt work r) → ((items : List Run) → IsAt items work.images running → JobGoesOn items work.images running new sheets)
     → (items : List Run) → IsJobOf work items
-    → (at_place new.steps work ≡ at_place (place_in_job work + 1) work) × (sheets ≡ under_tag number (sheets_from (place_in_job work) 1 items))
-advances work o running new number sheets is place stands goes items job =
+    → (at_place new.steps work ≡ at_place (place_in_job work + 1) work) × (sheets ≡ sheets_from (place_in_job work) 1 items)
+advances work o running new sheets is place stands goes items job =
     let at = standing work o running is stands in
     let here = placed work o running is place in
     let on = goes items (subst (λ cs. IsAt cs work.images running) (IsJobOf-one work at.0 items at.1 job) at.2) in
-    (ap (λ n. at_place n work) (on.next ∙ ap (λ n. n + 1) (sym here)), on.sheets_are ∙ ap (λ n. under_tag number (sheets_from n 1 items)) (sym here))
+    (ap (λ n. at_place n work) (on.next ∙ ap (λ n. n + 1) (sym here)), on.sheets_are ∙ ap (λ n. sheets_from n 1 items) (sym here))
 
 pub on_err : {A E P : Type 0} (r : Result A E) → P → OnErr r P
 on_err (Ok a) p = tt

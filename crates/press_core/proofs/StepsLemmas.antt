@@ -4,11 +4,10 @@ use Rattle.std.proofs.Math.Seq.{take-add}
 use Rattle.std.proofs.lemmas.List.{append_assoc, append-nil, drop-drop, map-append}
 use Rattle.press_engine.specs.Machine.{Run}
 use Rattle.press_engine.specs.Trace.{joined}
-use Rattle.press_sink.specs.declared.sheet.Delivery.{Delivery}
-use Rattle.press_sink.specs.Sending.{sheets_of, under_tag, sheets_in}
+use Rattle.press_sink.specs.Sending.{sheets_of, under_tag}
 use Rattle.press_sink.specs.Sides.{Sides}
 use Rattle.press_sink.specs.Told.{SheetsTold}
-use Rattle.press_sink.proofs.SendingLemmas.{sheets_of-append, sheets_in-tagged, told-nothing}
+use Rattle.press_sink.proofs.SendingLemmas.{sheets_of-append, told-nothing}
 use Rattle.press_core.specs.declared.turn.TurnError.{TurnError}
 use Rattle.press_core.specs.declared.turn.TurnError.TheVariants as errors
 use Rattle.press_core.specs.Handing.{HandsOver, TakesSteps}
@@ -82,20 +81,18 @@ record OneStep (number : ℕ) (old now next : Work) (taken : ℕ) (handed others
   pub within : (items : List Run) → IsJobOf old items → place_in_job old + taken < length items
   pub next_is : next ≡ at_place (place_in_job old + taken + 1) now
 
-one_step : (number taken : ℕ) (old now next : Work) (deliveries : List Delivery) (result : Result (Unit {0}) TurnError) (before between after : SheetsTold) (count : ℕ)
-    → TakesSteps number taken old (Ok taken) now before between → Advances number now next deliveries
-    → (hands : HandsOver number (sheets_in deliveries) result between after next.delivered count)
+one_step : (number taken : ℕ) (old now next : Work) (sheets : List Sides) (result : Result (Unit {0}) TurnError) (before between after : SheetsTold) (count : ℕ)
+    → TakesSteps number taken old (Ok taken) now before between → Advances now next sheets
+    → (hands : HandsOver number sheets result between after next.delivered count)
     → ((items : List Run) → IsJobOf now items → place_in_job now < length items)
     → OneStep number old now next taken hands.handed hands.others
-one_step number taken old now next deliveries result before between after count took advances hands going =
+one_step number taken old now next sheets result before between after count took advances hands going =
     let here = placed_at number taken old now before between took in
     let some = IsJobOf-some old in
     record {
       here = λ items job.
           let advanced = advances items (same_job number taken old now before between items took job) in
-          sym (sheets_in-tagged number (sheets_from (place_in_job old + taken) 1 items))
-          ∙ sym (ap (λ n. sheets_in (under_tag number (sheets_from n 1 items))) here)
-          ∙ sym (ap sheets_in advanced.1) ∙ hands.sheets_are;
+          sym (ap (λ n. sheets_from n 1 items) here) ∙ sym advanced.1 ∙ hands.sheets_are;
       within = λ items job. subst (λ n. n < length items) here (going items (same_job number taken old now before between items took job));
       next_is = (advances some.0 (same_job number taken old now before between some.0 took some.1)).0 ∙ ap (λ n. at_place (n + 1) now) here;
     }
@@ -116,21 +113,21 @@ handed_on number sheets handed done result before between after first second =
     (handed_twice (under_tag number sheets) (under_tag number handed) done result before between after first second)
 
 -- the count after the sheets so far and those of a step
-counts_on : (number taken : ℕ) (old now next : Work) (deliveries : List Delivery) (result : Result (Unit {0}) TurnError) (before between after : SheetsTold) (count : ℕ)
-    → (took : TakesSteps number taken old (Ok taken) now before between) → (hands : HandsOver number (sheets_in deliveries) result between after next.delivered count)
+counts_on : (number taken : ℕ) (old now next : Work) (sheets : List Sides) (result : Result (Unit {0}) TurnError) (before between after : SheetsTold) (count : ℕ)
+    → (took : TakesSteps number taken old (Ok taken) now before between) → (hands : HandsOver number sheets result between after next.delivered count)
     → next ≡ at_place (place_in_job old + taken + 1) now → count ≡ counting (took.sheets ++ hands.handed) old.delivered
-counts_on number taken old now next deliveries result before between after count took hands is =
+counts_on number taken old now next sheets result before between after count took hands is =
     hands.count_is ∙ ap (λ (w : Work). counting hands.handed w.delivered) is ∙ ap (λ (w : Work). counting hands.handed w.delivered) took.left
     ∙ sym (counting-append took.sheets hands.handed old.delivered)
 
 -- a step more
-pub one_more : (number taken : ℕ) (old now next : Work) (deliveries : List Delivery) (before between after : SheetsTold) (count : ℕ)
-    → TakesSteps number taken old (Ok taken) now before between → Advances number now next deliveries
-    → HandsOver number (sheets_in deliveries) (Ok tt) between after next.delivered count
+pub one_more : (number taken : ℕ) (old now next : Work) (sheets : List Sides) (before between after : SheetsTold) (count : ℕ)
+    → TakesSteps number taken old (Ok taken) now before between → Advances now next sheets
+    → HandsOver number sheets (Ok tt) between after next.delivered count
     → ((items : List Run) → IsJobOf now items → place_in_job now < length items)
     → TakesSteps number (taken + 1) old (Ok (taken + 1)) (record next { delivered = count }) before after
-one_more number taken old now next deliveries before between after count took advances hands going =
-    let step = one_step number taken old now next deliveries (Ok tt) before between after count took advances hands going in
+one_more number taken old now next sheets before between after count took advances hands going =
+    let step = one_step number taken old now next sheets (Ok tt) before between after count took advances hands going in
     let were = handed_on number took.sheets hands.handed taken (Ok tt) before between after took.were hands.were in
     record {
       sheets = took.sheets ++ hands.handed;
@@ -143,7 +140,7 @@ one_more number taken old now next deliveries before between after count took ad
       left =
           ap (λ (w : Work). record w { delivered = count }) step.next_is
           ∙ ap (λ (w : Work). record w { delivered = count; place = Some (place_in_job old + taken + 1) }) took.left
-          ∙ ap (λ n. record old { delivered = n; place = Some (place_in_job old + taken + 1) }) (counts_on number taken old now next deliveries (Ok tt) before between after count took hands step.next_is)
+          ∙ ap (λ n. record old { delivered = n; place = Some (place_in_job old + taken + 1) }) (counts_on number taken old now next sheets (Ok tt) before between after count took hands step.next_is)
           ∙ ap (λ n. record old { delivered = counting (took.sheets ++ hands.handed) old.delivered; place = Some n }) (omega arith);
       were = record { told = were.told; faults = were.faults };
     }
@@ -161,13 +158,13 @@ fronts place taken most items sheets others within are =
           ∙ ap (λ l. l ++ sheets_from (place + taken) left items) are ∙ append_assoc sheets others (sheets_from (place + taken) left items),
     )
 
-pub stopped_in_step : (number taken most : ℕ) (old now next : Work) (deliveries : List Delivery) (error : TurnError) (before between after : SheetsTold) (count : ℕ)
-    → TakesSteps number taken old (Ok taken) now before between → Advances number now next deliveries
-    → HandsOver number (sheets_in deliveries) (Err error) between after next.delivered count
+pub stopped_in_step : (number taken most : ℕ) (old now next : Work) (sheets : List Sides) (error : TurnError) (before between after : SheetsTold) (count : ℕ)
+    → TakesSteps number taken old (Ok taken) now before between → Advances now next sheets
+    → HandsOver number sheets (Err error) between after next.delivered count
     → ((items : List Run) → IsJobOf now items → place_in_job now < length items) → taken < most
     → TakesSteps number most old (Err error) (record next { delivered = count }) before after
-stopped_in_step number taken most old now next deliveries error before between after count took advances hands going below =
-    let step = one_step number taken old now next deliveries (Err error) before between after count took advances hands going in
+stopped_in_step number taken most old now next sheets error before between after count took advances hands going below =
+    let step = one_step number taken old now next sheets (Err error) before between after count took advances hands going in
     let were = handed_on number took.sheets hands.handed taken (Err error) before between after took.were hands.were in
     record {
       sheets = took.sheets ++ hands.handed;
@@ -179,7 +176,7 @@ stopped_in_step number taken most old now next deliveries error before between a
       left =
           ap (λ (w : Work). record w { delivered = count; place = None }) step.next_is
           ∙ ap (λ (w : Work). record w { delivered = count; place = None }) took.left
-          ∙ ap (λ n. record old { delivered = n; place = None }) (counts_on number taken old now next deliveries (Err error) before between after count took hands step.next_is);
+          ∙ ap (λ n. record old { delivered = n; place = None }) (counts_on number taken old now next sheets (Err error) before between after count took hands step.next_is);
       were = record { told = were.told; faults = were.faults };
     }
 

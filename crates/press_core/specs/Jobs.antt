@@ -3,8 +3,7 @@ use Rattle.std.specs.Prelude.{◌≡◌, ◌≤◌, ◌<◌, ◌+◌, ℕ, List,
 use Rattle.press_units.specs.Limits.{greatest_of_64_bits}
 use Rattle.press_bits.specs.Page.{Page}
 use Rattle.press_engine.specs.Machine.{Run}
-use Rattle.press_sink.specs.declared.sheet.Delivery.{Delivery}
-use Rattle.press_sink.specs.Sending.{under_tag}
+use Rattle.press_sink.specs.Sides.{Sides}
 use Rattle.press_stream.specs.Left.{LeftWith}
 use Rattle.press_stream.specs.State.{JobState}
 use Rattle.press_writer.specs.Left.{HasImages, bytes_left}
@@ -35,13 +34,13 @@ pub record IsSupplied (images : List Page) (old new : RunningJob) : Type 0 where
   pub fewer : still_to_come new images < still_to_come old images
 
 -- a job took the next step, and these were its sheets
-pub record JobGoesOn (items : List Run) (images : List Page) (number : ℕ) (old new : RunningJob) (sheets : List Delivery) : Type 0 where
+pub record JobGoesOn (items : List Run) (images : List Page) (old new : RunningJob) (sheets : List Sides) : Type 0 where
   pub at : IsAt items images new
   pub next : new.steps ≡ old.steps + 1
-  pub sheets_are : sheets ≡ under_tag number (sheets_from old.steps 1 items)
+  pub sheets_are : sheets ≡ sheets_from old.steps 1 items
 
 -- a work's job took the next step, and these were its sheets
-abbrev pub Advances : (number : ℕ) (old new : Work) → List Delivery → Type 0
-Advances number old new sheets =
+abbrev pub Advances : (old new : Work) → List Sides → Type 0
+Advances old new sheets =
     (items : List Run) → IsJobOf old items
-    → (new ≡ at_place (place_in_job old + 1) old) × (sheets ≡ under_tag number (sheets_from (place_in_job old) 1 items))
+    → (new ≡ at_place (place_in_job old + 1) old) × (sheets ≡ sheets_from (place_in_job old) 1 items)

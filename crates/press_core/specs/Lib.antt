@@ -15,5 +15,4 @@ pub mod Jobs
 pub mod Inside
 pub mod Handing
 pub mod History
-pub mod Repeats
 pub mod Laws

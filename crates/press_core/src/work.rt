@@ -2,23 +2,23 @@
 
 ghost use Rattle.std.specs.Prelude.{◌≡◌, ◌≤◌, ◌<◌, List, length, None, Some, IfOk, OnOk, OnErr, IsSome, nat_eq, false};
 ghost use Rattle.press_engine.specs.Machine.{Run};
+ghost use Rattle.press_engine.specs.Outputs.{all_outputs};
+ghost use Rattle.press_sink.specs.Sending.{sheets_of};
 ghost use Rattle.press_sink.specs.Told.{most_faults};
 ghost use Rattle.press_writer.specs.Fitting.{refusal};
 ghost use Rattle.press_core.specs.Handing.{TakesSteps};
 ghost use Rattle.press_core.specs.Inside.{begun_work};
-ghost use Rattle.press_core.specs.Repeats.{deliveries};
 ghost use Rattle.press_core.specs.Jobs.{IsAt, IsSupplied, JobGoesOn, Advances};
 ghost use Rattle.press_core.specs.Turns.{IsJobOf, place_in_job};
 ghost use Rattle.press_core.specs.Work.{IsPrintable, new_work, without_job};
 
 use crate::handing::hand_over;
-use crate::no_replies::NoReplies;
-use crate::repeats::RepeatSink;
 use crate::turn::TurnError;
 use press_bits::Bitmap;
+use press_engine::Sent;
 use press_sink::SheetSink;
 use press_stream::laws::what_is_left;
-use press_stream::{Job, Step};
+use press_stream::{Job, JobStep};
 use press_ticket::Ticket;
 use press_writer::JobWriter;
 use std::alloc::{AllocError, Global};
@@ -100,30 +100,24 @@ impl RunningJob {
         Ok(())
     }
 
-    /// Carries out the next step, and gives its sheets.
-    fn step(
-        &mut self,
-        alloc: Global,
-        images: &[Bitmap],
-        number: u64,
-    ) -> Result<RepeatSink, AllocError>
+    /// Carries out the next step, and gives what goes out in it.
+    fn step(&mut self, alloc: Global, images: &[Bitmap]) -> Result<Vec<Sent>, AllocError>
         requires at { (items : List Run) × IsAt items images.now self.old
             × (self.old.steps < length items) }
-        ensures { IfOk result (λ sink.
+        ensures { IfOk result (λ sent.
             (items : List Run) → IsAt items images.now self.old
-            → JobGoesOn items images.now number self.old self.new (deliveries sink)) }
+            → JobGoesOn items images.now self.old self.new (sheets_of (all_outputs sent.items))) }
     {
         what_is_left();
-        let mut sheets = RepeatSink::new(alloc);
         loop {
-            match self.job.step(number, &mut sheets, &mut NoReplies) {
-                Ok(Step::Ran(_)) => {
+            match self.job.take_step() {
+                Ok(JobStep::Ran(step)) => {
                     self.steps += 1;
-                    return Ok(sheets);
+                    return Ok(step.sent);
                 }
-                Ok(Step::Hungry) => self.supply(alloc, images)?,
-                Ok(Step::Ended) => unreachable!(),
-                // Neither this sink nor the one without replies has a fault.
+                Ok(JobStep::Hungry) => self.supply(alloc, images)?,
+                Ok(JobStep::Ended) => unreachable!(),
+                // The job runs: a step is refused for want of memory alone.
                 Err(_) => return Err(AllocError),
             }
         }
@@ -187,20 +181,21 @@ impl Work {
         }
     }
 
-    /// Carries out the next step of its job, and gives the sheets. Where memory ran out, the job is given up.
-    pub fn advance(&mut self, alloc: Global, number: u64) -> Result<RepeatSink, AllocError>
+    /// Carries out the next step of its job, and gives what goes out in it. Where memory ran out, the job is given up.
+    pub fn advance(&mut self, alloc: Global) -> Result<Vec<Sent>, AllocError>
         requires begun { IsSome self.old.place }
         requires going { (items : List Run) → IsJobOf self.old items
             → place_in_job self.old < length items }
-        ensures ok { IfOk result (λ sink. Advances number self.old self.new (deliveries sink)) }
+        ensures ok { IfOk result (λ sent.
+            Advances self.old self.new (sheets_of (all_outputs sent.items))) }
         ensures err { OnErr result (self.new ≡ without_job self.old) }
     {
         let Some(mut running) = self.running.take() else {
             unreachable!()
         };
-        let sheets = running.step(alloc, &self.images, number)?;
+        let sent = running.step(alloc, &self.images)?;
         self.running = Some(running);
-        Ok(sheets)
+        Ok(sent)
     }
 
     /// Takes at most so many steps of its job, and hands their sheets over under a number: how many steps it took.
@@ -218,8 +213,8 @@ impl Work {
     {
         let mut taken = 0;
         while taken < most && !self.is_over() {
-            let sheets = self.advance(alloc, number)?;
-            hand_over(number, sheets.repeats(), sink, &mut self.delivered)?;
+            let sent = self.advance(alloc)?;
+            hand_over(number, &sent, sink, &mut self.delivered)?;
             taken += 1;
         }
         Ok(taken)

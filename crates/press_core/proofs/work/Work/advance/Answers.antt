@@ -1,7 +1,8 @@
 use Rattle.std.proofs.Common.{◌<◌, ◌∙◌, List, length, subst, sym, refl}
 use Rattle.press_engine.specs.Machine.{Run}
 use Rattle.press_core.specs.Inside.{work_of}
-use Rattle.press_core.specs.Repeats.{deliveries}
+use Rattle.press_engine.specs.Outputs.{all_outputs}
+use Rattle.press_sink.specs.Sending.{sheets_of}
 use Rattle.press_core.specs.Jobs.{Advances, IsAt, JobGoesOn}
 use Rattle.press_core.specs.Turns.{IsJobOf, place_in_job}
 use Rattle.press_core.specs.Work.{Work, at_place}
@@ -16,13 +17,14 @@ step-requires c = record {
       (subst (λ (w : Work). (items : List Run) → IsJobOf w items → place_in_job w < length items) (sym c.self.view_is) c.requires.going));
 }
 
-pub returns-in_err-sheets-clause-err : goal.returns-in_err-sheets-clause-err
-returns-in_err-sheets-clause-err c = on_err c.from_residual.result (rw (c.take.ensures.after, ← c.self.view_is) refl)
+pub returns-in_err-sent-clause-err : goal.returns-in_err-sent-clause-err
+returns-in_err-sent-clause-err c = on_err c.from_residual.result (rw (c.take.ensures.after, ← c.self.view_is) refl)
 
 pub returns-clause-ok : goal.returns-clause-ok
 returns-clause-ok c =
-    subst (λ (w : Work). Advances c.args.number w (at_place c.step.new.self.steps (work_of c.self.inside)) (deliveries c.in_ok-sheets.sheets)) c.self.view_is
-    (λ items job. advances (work_of c.self.inside) c.self.inside.running c.in-Some.running c.step.new.self c.args.number (deliveries c.in_ok-sheets.sheets)
+    let sheets = sheets_of (all_outputs c.in_ok-sent.sent.items) in
+    subst (λ (w : Work). Advances w (at_place c.step.new.self.steps (work_of c.self.inside)) sheets) c.self.view_is
+    (λ items job. advances (work_of c.self.inside) c.self.inside.running c.in-Some.running c.step.new.self sheets
     (sym c.take.ensures.value ∙ c.in-Some.is) refl c.self.invariant.stands
-    (subst (λ images. (items : List Run) → IsAt items images c.in-Some.running → JobGoesOn items images c.args.number c.in-Some.running c.step.new.self (deliveries c.in_ok-sheets.sheets))
-    c.deref.ensures.value c.in_ok-sheets.ensures) items job)
+    (subst (λ images. (items : List Run) → IsAt items images c.in-Some.running → JobGoesOn items images c.in-Some.running c.step.new.self sheets)
+    c.deref.ensures.value c.in_ok-sent.ensures) items job)
