@@ -9,61 +9,76 @@ use Rattle.press_engine.specs.declared.effect.Source.TheVariants as sources
 use Rattle.press_engine.specs.declared.machine.Machine.{Machine}
 use Rattle.press_engine.specs.Calls.{overlay_body}
 use Rattle.press_engine.specs.Outcome.{Effect, Changes, Makes, GivesReply, Stays, Closes, Starts}
-use Rattle.press_engine.specs.Machine.{Run, quiet, then_run, with_state, taken, deeper, enter_body, leave_body, effect_in_overlay, run_in_overlay, overlay_levels, enter_overlay, leave_overlay, finish_without_overlay, finish_effect_with_overlay, run_each, carry_out, levels, source_at, run_at, run}
+use Rattle.press_engine.specs.Machine.{Run, quiet, then_run, with_state, taken, deeper, enter_body, leave_body, overlay_levels, enter_overlay, leave_overlay, finish_without_overlay, levels, source_at}
 use Rattle.press_engine.specs.Table.{effect_on}
 use Rattle.press_engine.specs.Trace.{last_machine, with_end, trace_each, body_items, trace_effect_in_overlay, trace_in_overlay, close_items_with, trace_finished, trace_carry_out, trace_at}
 use Rattle.press_engine.specs.Laws.{BodiesAreBounded}
-use Rattle.press_engine.proofs.TraceLaws.{closed_with, tells-over, tells-at}
+use Rattle.press_engine.proofs.TraceLaws.{last_machine-append, with_end-machine}
 
 -- so many bodies or fewer
 abbrev Within : ℕ → Run → Type 0
 Within bound item = item.machine.depth ≤ bound
 
--- As many bodies run after a command as before.
-effect_in_overlay-depth : (one : Token → Machine → Machine) (machine : Machine) (effect : Effect) → (effect_in_overlay one machine effect).depth ≡ machine.depth
-effect_in_overlay-depth one machine (Changes state) = refl
-effect_in_overlay-depth one machine (Makes state) = refl
-effect_in_overlay-depth one machine (GivesReply reply state) = refl
-effect_in_overlay-depth one machine (Stays closer state) = refl
-effect_in_overlay-depth one machine (Closes closer state) = refl
-effect_in_overlay-depth one machine (Starts commands end state) = refl
+-- As many bodies run after the items of a command as before.
+abbrev Keeps : Machine → (before : Machine) → List Run → Type 0
+Keeps machine before items = (last_machine before items).depth ≡ machine.depth
 
-over-depth : (levels : ℕ) (command : Token) (machine : Machine) → (run_in_overlay levels command machine).depth ≡ machine.depth
-unfolding run_in_overlay
-over-depth zero command machine = refl
-over-depth (suc levels) command machine =
-    effect_in_overlay-depth (run_in_overlay levels) (taken command machine) (effect_on sources.Overlay command machine.state)
+body-keeps : (tracing : Token → Machine → List Run) (end : Machine → Run) (commands : List Token) (inside before machine : Machine) → ((at : Machine) → (end at).machine.depth ≡ machine.depth) → Keeps machine before (body_items tracing end commands inside)
+body-keeps tracing end commands inside before machine ends =
+    let items = trace_each tracing commands inside in
+    ap (λ (at : Machine). at.depth) (with_end-machine end (quiet inside) items before) ∙ ends (last_machine inside items)
 
-closed-depth : (body : Option (List Token)) (closer : Closer) (machine : Machine) → (closed_with body closer machine).machine.depth ≡ machine.depth
-closed-depth None closer machine = refl
-closed-depth (Some commands) closer machine = refl
+over-effect-keeps : (tracing : Token → Machine → List Run) (before machine : Machine) (effect : Effect) → Keeps machine before (trace_effect_in_overlay tracing machine effect)
+over-effect-keeps tracing before machine (Changes state) = refl
+over-effect-keeps tracing before machine (Makes state) = refl
+over-effect-keeps tracing before machine (GivesReply reply state) = refl
+over-effect-keeps tracing before machine (Stays closer state) = refl
+over-effect-keeps tracing before machine (Closes closer state) = refl
+over-effect-keeps tracing before machine (Starts commands end state) =
+    body-keeps tracing (λ after. quiet (leave_body end machine.depth after)) commands (enter_body end state machine) before machine (λ at. refl)
 
-finish_effect_with_overlay-depth : (machine : Machine) (effect : Effect) → (finish_effect_with_overlay machine effect).machine.depth ≡ machine.depth
-finish_effect_with_overlay-depth machine (Changes state) = refl
-finish_effect_with_overlay-depth machine (Makes state) = refl
-finish_effect_with_overlay-depth machine (GivesReply reply state) = refl
-finish_effect_with_overlay-depth machine (Stays closer state) = refl
-finish_effect_with_overlay-depth machine (Closes closer state) = closed-depth (overlay_body state) closer (with_state state machine)
-finish_effect_with_overlay-depth machine (Starts commands end state) = refl
+over-keeps : (levels : ℕ) (command : Token) (machine : Machine) → Keeps machine machine (trace_in_overlay levels command machine)
+unfolding trace_in_overlay
+over-keeps zero command machine = refl
+over-keeps (suc levels) command machine =
+    over-effect-keeps (trace_in_overlay levels) machine (taken command machine) (effect_on sources.Overlay command machine.state)
 
-carry_out-depth : (one : Token → Machine → Run) (machine : Machine) (effect : Effect) → (carry_out one machine effect).machine.depth ≡ machine.depth
-carry_out-depth one machine (Changes state) = refl
-carry_out-depth one machine (Makes state) = refl
-carry_out-depth one machine (GivesReply reply state) = refl
-carry_out-depth one machine (Stays closer state) = refl
-carry_out-depth one machine (Closes closer state) = finish_effect_with_overlay-depth machine (Closes closer state)
-carry_out-depth one machine (Starts commands end state) = refl
+close_items-keeps : (body : Option (List Token)) (closer : Closer) (before machine : Machine) → Keeps machine before (close_items_with body closer machine)
+close_items-keeps None closer before machine = refl
+close_items-keeps (Some commands) closer before machine =
+    body-keeps (trace_in_overlay overlay_levels) (λ after. finish_without_overlay (leave_overlay machine after) (Closes closer (leave_overlay machine after).state))
+    commands (enter_overlay machine) before machine (λ at. refl)
 
-at-depth : (levels : ℕ) (command : Token) (machine : Machine) → (run_at levels command machine).machine.depth ≡ machine.depth
-unfolding run_at
-at-depth zero command machine = finish_effect_with_overlay-depth (taken command machine) (effect_on (source_at 0) command machine.state)
-at-depth (suc more) command machine =
-    carry_out-depth (run_at more) (taken command machine) (effect_on (source_at (suc more)) command machine.state)
+finished-keeps : (before machine : Machine) (effect : Effect) → Keeps machine before (trace_finished machine effect)
+finished-keeps before machine (Changes state) = refl
+finished-keeps before machine (Makes state) = refl
+finished-keeps before machine (GivesReply reply state) = refl
+finished-keeps before machine (Stays closer state) = refl
+finished-keeps before machine (Closes closer state) = close_items-keeps (overlay_body state) closer before (with_state state machine)
+finished-keeps before machine (Starts commands end state) = refl
 
-each-depth : (one : Token → Machine → Run) → ((command : Token) (machine : Machine) → (one command machine).machine.depth ≡ machine.depth) → (commands : List Token) (machine : Machine) → (run_each one commands machine).machine.depth ≡ machine.depth
-unfolding run_each
-each-depth one keeps [] machine = refl
-each-depth one keeps (command ∷ commands) machine = each-depth one keeps commands (one command machine).machine ∙ keeps command machine
+carry_out-keeps : (tracing : Token → Machine → List Run) (before machine : Machine) (effect : Effect) → Keeps machine before (trace_carry_out tracing machine effect)
+carry_out-keeps tracing before machine (Changes state) = refl
+carry_out-keeps tracing before machine (Makes state) = refl
+carry_out-keeps tracing before machine (GivesReply reply state) = refl
+carry_out-keeps tracing before machine (Stays closer state) = refl
+carry_out-keeps tracing before machine (Closes closer state) = finished-keeps before machine (Closes closer state)
+carry_out-keeps tracing before machine (Starts commands end state) =
+    body-keeps tracing (λ after. quiet (leave_body end machine.depth after)) commands (enter_body end state machine) before machine (λ at. refl)
+
+at-keeps : (levels : ℕ) (command : Token) (machine : Machine) → Keeps machine machine (trace_at levels command machine)
+unfolding trace_at
+at-keeps zero command machine = finished-keeps machine (taken command machine) (effect_on (source_at 0) command machine.state)
+at-keeps (suc more) command machine =
+    carry_out-keeps (trace_at more) machine (taken command machine) (effect_on (source_at (suc more)) command machine.state)
+
+each-keeps : (tracing : Token → Machine → List Run) → ((command : Token) (machine : Machine) → Keeps machine machine (tracing command machine)) → (commands : List Token) (machine : Machine) → Keeps machine machine (trace_each tracing commands machine)
+unfolding trace_each
+each-keeps tracing keeps [] machine = refl
+each-keeps tracing keeps (command ∷ commands) machine =
+    let middle = last_machine machine (tracing command machine) in
+    ap (λ (at : Machine). at.depth) (last_machine-append (tracing command machine) (trace_each tracing commands middle) machine)
+    ∙ each-keeps tracing keeps commands middle ∙ keeps command machine
 
 -- an end after which so many bodies run, in the last item
 with_end-within : (bound : ℕ) (end : Machine → Run) → ((machine : Machine) → Within bound (end machine)) → (item : Run) (items : List Run) → Within bound item → All (Within bound) items → All (Within bound) (with_end end item items)
@@ -93,12 +108,6 @@ one-within bound item here = All-cons (Within bound) item [] here (All-nil (With
 deeper-small : (depth : ℕ) → deeper depth ≤ depth + 1
 deeper-small depth = min-le_left (depth + 1) 255
 
-over-keeps : (levels : ℕ) (command : Token) (machine : Machine) → (last_machine machine (trace_in_overlay levels command machine)).depth ≡ machine.depth
-over-keeps levels command machine = ap (λ (at : Machine). at.depth) (tells-over levels command machine).machine ∙ over-depth levels command machine
-
-at-keeps : (levels : ℕ) (command : Token) (machine : Machine) → (last_machine machine (trace_at levels command machine)).depth ≡ machine.depth
-at-keeps levels command machine = ap (λ (at : Machine). at.depth) (tells-at levels command machine).machine ∙ at-depth levels command machine
-
 -- The items of a command of an overlay.
 over-effect-within : (bound levels : ℕ) (machine : Machine) (effect : Effect) → ((command : Token) (at : Machine) → at.depth ≤ machine.depth + 1 → All (Within bound) (trace_in_overlay levels command at)) → machine.depth + 1 ≤ bound → All (Within bound) (trace_effect_in_overlay (trace_in_overlay levels) machine effect)
 over-effect-within bound levels machine (Changes state) within small = one-within bound _ (omega (arith, small))
@@ -113,7 +122,7 @@ over-effect-within bound levels machine (Starts commands end state) within small
 over-within : (bound levels : ℕ) (command : Token) (machine : Machine) → machine.depth + levels ≤ bound → All (Within bound) (trace_in_overlay levels command machine)
 unfolding trace_in_overlay
 over-within bound zero command machine small =
-    one-within bound (quiet (run_in_overlay 0 command machine)) (subst (λ n. n ≤ bound) (sym (over-depth 0 command machine)) (omega (arith, small)))
+    one-within bound _ (omega (arith, small))
 over-within bound (suc levels) command machine small =
     over-effect-within bound levels (taken command machine) (effect_on sources.Overlay command machine.state)
     (λ command at near. over-within bound levels command at (omega (arith, small, near))) (omega (arith, small))
@@ -125,20 +134,20 @@ close_items-within bound (Some commands) closer machine small =
     body-within bound (machine.depth + 1) (trace_in_overlay overlay_levels) (over-keeps overlay_levels) (λ command at near. over-within bound overlay_levels command at (omega (arith, small, near)))
     (λ after. finish_without_overlay (leave_overlay machine after) (Closes closer (leave_overlay machine after).state)) (λ after. omega (arith, small)) commands (enter_overlay machine) (deeper-small machine.depth) (omega (arith, small))
 
-finish_effect_with_overlay-within : (bound : ℕ) (machine : Machine) (effect : Effect) → machine.depth + 2 ≤ bound → All (Within bound) (trace_finished machine effect)
-finish_effect_with_overlay-within bound machine (Changes state) small = one-within bound _ (omega (arith, small))
-finish_effect_with_overlay-within bound machine (Makes state) small = one-within bound _ (omega (arith, small))
-finish_effect_with_overlay-within bound machine (GivesReply reply state) small = one-within bound _ (omega (arith, small))
-finish_effect_with_overlay-within bound machine (Stays closer state) small = one-within bound _ (omega (arith, small))
-finish_effect_with_overlay-within bound machine (Closes closer state) small = close_items-within bound (overlay_body state) closer (with_state state machine) small
-finish_effect_with_overlay-within bound machine (Starts commands end state) small = one-within bound _ (omega (arith, small))
+finished-within : (bound : ℕ) (machine : Machine) (effect : Effect) → machine.depth + 2 ≤ bound → All (Within bound) (trace_finished machine effect)
+finished-within bound machine (Changes state) small = one-within bound _ (omega (arith, small))
+finished-within bound machine (Makes state) small = one-within bound _ (omega (arith, small))
+finished-within bound machine (GivesReply reply state) small = one-within bound _ (omega (arith, small))
+finished-within bound machine (Stays closer state) small = one-within bound _ (omega (arith, small))
+finished-within bound machine (Closes closer state) small = close_items-within bound (overlay_body state) closer (with_state state machine) small
+finished-within bound machine (Starts commands end state) small = one-within bound _ (omega (arith, small))
 
 carry_out-within : (bound levels : ℕ) (machine : Machine) (effect : Effect) → ((command : Token) (at : Machine) → at.depth ≤ machine.depth + 1 → All (Within bound) (trace_at levels command at)) → machine.depth + 2 ≤ bound → All (Within bound) (trace_carry_out (trace_at levels) machine effect)
-carry_out-within bound levels machine (Changes state) within small = finish_effect_with_overlay-within bound machine (Changes state) small
-carry_out-within bound levels machine (Makes state) within small = finish_effect_with_overlay-within bound machine (Makes state) small
-carry_out-within bound levels machine (GivesReply reply state) within small = finish_effect_with_overlay-within bound machine (GivesReply reply state) small
-carry_out-within bound levels machine (Stays closer state) within small = finish_effect_with_overlay-within bound machine (Stays closer state) small
-carry_out-within bound levels machine (Closes closer state) within small = finish_effect_with_overlay-within bound machine (Closes closer state) small
+carry_out-within bound levels machine (Changes state) within small = finished-within bound machine (Changes state) small
+carry_out-within bound levels machine (Makes state) within small = finished-within bound machine (Makes state) small
+carry_out-within bound levels machine (GivesReply reply state) within small = finished-within bound machine (GivesReply reply state) small
+carry_out-within bound levels machine (Stays closer state) within small = finished-within bound machine (Stays closer state) small
+carry_out-within bound levels machine (Closes closer state) within small = finished-within bound machine (Closes closer state) small
 carry_out-within bound levels machine (Starts commands end state) within small =
     body-within bound (machine.depth + 1) (trace_at levels) (at-keeps levels) within
     (λ after. quiet (leave_body end machine.depth after)) (λ after. omega (arith, small)) commands (enter_body end state machine) (deeper-small machine.depth) (omega (arith, small))
@@ -146,7 +155,7 @@ carry_out-within bound levels machine (Starts commands end state) within small =
 at-within : (bound levels : ℕ) (command : Token) (machine : Machine) → machine.depth + levels + 2 ≤ bound → All (Within bound) (trace_at levels command machine)
 unfolding trace_at
 at-within bound zero command machine small =
-    finish_effect_with_overlay-within bound (taken command machine) (effect_on (source_at 0) command machine.state) (omega (arith, small))
+    finished-within bound (taken command machine) (effect_on (source_at 0) command machine.state) (omega (arith, small))
 at-within bound (suc more) command machine small =
     carry_out-within bound more (taken command machine) (effect_on (source_at (suc more)) command machine.state)
     (λ command at near. at-within bound more command at (omega (arith, small, near))) (omega (arith, small))
@@ -155,5 +164,5 @@ at-within bound (suc more) command machine small =
 pub at-most-four : (commands : List Token) (machine : Machine) → machine.depth ≡ 0 → BodiesAreBounded commands machine
 at-most-four commands machine none = record {
   depths = each-within 4 0 (trace_at levels) (at-keeps levels) (λ command at small. at-within 4 levels command at (omega (arith, small))) commands machine (omega (arith, none));
-  none_left = each-depth run (at-depth levels) commands machine ∙ none;
+  none_left = each-keeps (trace_at levels) (at-keeps levels) commands machine ∙ none;
 }

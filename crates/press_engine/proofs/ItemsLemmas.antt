@@ -3,15 +3,9 @@ use Rattle.std.proofs.Common.{◌≡◌, ◌≢◌, ◌∙◌, List, [], ◌∷�
 use Rattle.press_cmd.specs.Token.{Token}
 use Rattle.press_engine.specs.declared.frame.Frame.{Frame}
 use Rattle.press_engine.specs.declared.machine.Machine.{Machine}
-use Rattle.press_engine.specs.Machine.{Run, then_run, levels, run}
-use Rattle.press_engine.specs.Trace.{last_machine, joined, trace_at}
+use Rattle.press_engine.specs.Machine.{Run, then_run}
 use Rattle.press_engine.specs.Stack.{owed, begins, end_of, ended_by, pops, Gives, step_inner, HasNext, IsReady}
 use Rattle.press_engine.proofs.StackLaws.{inner-owed}
-use Rattle.press_engine.proofs.TraceLaws.{tells-at}
-
--- what items leave from a machine on
-abbrev pub told_by : List Run → Machine → Run
-told_by items machine = record { machine = last_machine machine items; outputs = joined items }
 
 ended-ready : (body : List Token) (frames : List Frame) (frame : Frame) → ((item : Run) → IsReady (pops frames item).frames) → (item : Run) → body ≡ frame.body → IsReady (ended_by body frames frame (pops frames) item).frames
 ended-ready [] frames frame outer item is = outer (then_run item.outputs (end_of frame item.machine))
@@ -27,12 +21,6 @@ ready-of frames still item is = subst IsReady (sym is) (pops-ready frames item)
 pub ready-some : (frames : List Frame) → IsReady frames → frames ≢ [] → HasNext frames
 ready-some frames (inl none) some = absurd (some none)
 ready-some frames (inr next) some = next
-
--- the items of a whole command tell what it leaves
-pub whole : (command : Token) (machine : Machine) → told_by (trace_at levels command machine) machine ≡ run command machine
-whole command machine =
-    let tells = tells-at levels command machine in
-    (λ i. record { machine = tells.machine i; outputs = tells.outputs i })
 
 pub inner-gives : (frame : Frame) (command : Token) (rest : List Token) (outer frames : List Frame) (machine : Machine) → frames ≡ record frame { body = command ∷ rest } ∷ outer → Gives (step_inner frame command rest outer machine) (owed frames machine)
 inner-gives frame command rest outer frames machine is =

@@ -7,7 +7,7 @@ use Rattle.press_engine.specs.declared.frame.Frame.{Frame}
 use Rattle.press_engine.specs.declared.machine.Machine.{Machine}
 use Rattle.press_engine.specs.Calls.{overlay_body}
 use Rattle.press_engine.specs.Outcome.{Effect, Changes, Makes, GivesReply, Stays, Closes, Starts}
-use Rattle.press_engine.specs.Machine.{Run, then_run, with_state, taken, run_in_overlay, levels, source_at}
+use Rattle.press_engine.specs.Machine.{Run, then_run, with_state, taken, levels, source_at}
 use Rattle.press_engine.specs.Table.{effect_on}
 use Rattle.press_engine.specs.Trace.{last_machine, with_end, trace_each, trace_effect_in_overlay, trace_in_overlay, close_items_with, trace_finished, trace_carry_out, trace_at}
 use Rattle.press_engine.specs.Stack.{items_at, items_in, end_of, ends_in, outwards, owed, begun_in_overlay, begun_close_with, begun_finished, begun_outside, begins, Stepped, ended_by, pops, step_outer, step_inner}
@@ -42,7 +42,7 @@ begun-outside more before machine (Starts commands end state) = refl
 
 -- the items of a command are those of the step that takes it, with the body that it starts
 items-begin : (in_overlay : Bool) (more : ℕ) (command : Token) (machine : Machine) → items_at in_overlay more command machine ≡ outwards (begins in_overlay more command machine).started ((begins in_overlay more command machine).item ∷ []) machine
-unfolding trace_at trace_in_overlay run_in_overlay
+unfolding trace_at trace_in_overlay
 items-begin true zero command machine = refl
 items-begin true (suc more) command machine = begun-in_overlay more machine (taken command machine) (effect_on sources.Overlay command machine.state)
 items-begin false zero command machine = begun-finished machine (taken command machine) (effect_on (source_at 0) command machine.state)

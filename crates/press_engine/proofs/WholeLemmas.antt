@@ -11,8 +11,7 @@ use Rattle.press_engine.specs.declared.engine.Engine.{Engine}
 use Rattle.press_engine.specs.Engine.{live, bodies, Sends, Runs, TakesItem, TakesNext, NeedsMemory}
 use Rattle.press_engine.specs.Machine.{Run, levels}
 use Rattle.press_engine.specs.Stack.{owed, begins, pops, step_outer, HasNext}
-use Rattle.press_engine.specs.Trace.{joined, trace_at}
-use Rattle.press_engine.proofs.ItemsLemmas.{told_by, whole}
+use Rattle.press_engine.specs.Trace.{joined, trace_at, told_by}
 use Rattle.press_engine.proofs.SendsLemmas.{Sends-then, Sends-exit, can_count-then}
 use Rattle.press_engine.proofs.StackLaws.{outer-owed}
 use Rattle.press_engine.proofs.StackLemmas.{outer-wants}
@@ -69,9 +68,7 @@ none-leaves (Some machine) still tag told alive none =
 pub runs-of : (old : Option Machine) (command : Token) (tag : ℕ) (result : Result (Unit {0}) EngineError) (new : Option Machine) (before after : Told) → LeavesAll old (trace_at levels command) tag result new before after → Runs old command tag result new before after
 runs-of None command tag result new before after leaves = absurd leaves
 runs-of (Some machine) command tag result new before after leaves =
-    let P : Run → Type 0 = λ all. Leaves all tag result new before after in
-    let there = subst P (whole command machine) leaves in
-    record { left = there.left; sends = there.sends }
+    record { left = leaves.left; sends = leaves.sends }
 
 -- the first step stopped
 pub runs-stopped : (old : Option Machine) (command : Token) (tag : ℕ) (result : Result Kind EngineError) (exit : Result (Unit {0}) EngineError) (error : EngineError) (new : Option Machine) (still : List Frame) (before after : Told) → TakesNext old (trace_at levels command) tag result new still before after → result ≡ Err error → exit ≡ Err error → Runs old command tag exit new before after

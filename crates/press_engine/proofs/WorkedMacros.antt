@@ -2,7 +2,7 @@
 -- compute: at each command that looks a macro up it is put in by what a map says of it.
 use Prim.Native.Char.{Char, code}
 use Prim.Native.String.{String}
-use Rattle.std.proofs.Common.{◌≡◌, ◌∙◌, ℕ, suc, false, true, List, [], ◌∷◌, ◌++◌, Some, None, option_map, map, refl, sym, ap}
+use Rattle.std.proofs.Common.{◌≡◌, ◌∙◌, ℕ, suc, false, true, List, [], ◌∷◌, ◌++◌, Some, None, option_map, map, refl, ap}
 use Rattle.std.proofs.lemmas.Cmp.{nat_cmp_total}
 use Rattle.std.proofs.lemmas.List.{append-nil}
 use Rattle.std.specs.FinMap as maps
@@ -31,11 +31,11 @@ use Rattle.press_engine.specs.declared.state.State.{State}
 use Rattle.press_engine.specs.Calls.{kept_of, overlay_body}
 use Rattle.press_engine.specs.Macros.{start_body, record_command}
 use Rattle.press_engine.specs.Outcome.{Effect, Changes, Makes, Stays, Closes, Starts, is_marked, with_macros}
-use Rattle.press_engine.specs.Machine.{Run, quiet, with_state, taken, enter_body, leave_body, power_on, source_at, run_all}
+use Rattle.press_engine.specs.Machine.{Run, quiet, with_state, taken, enter_body, leave_body, power_on, source_at}
 use Rattle.press_engine.specs.Motion.{to_left_margin}
 use Rattle.press_engine.specs.Table.{effect_on, is_recorded, is_skipped, table_row, row_unless_skipped}
-use Rattle.press_engine.specs.Trace.{last_machine, joined, with_end, body_items, close_items_with, trace_finished, trace_carry_out, trace, trace_each, trace_at, trace_in_overlay}
-use Rattle.press_engine.proofs.TraceLaws.{tells-all, trace_each-append}
+use Rattle.press_engine.specs.Trace.{last_machine, joined, with_end, body_items, close_items_with, trace_finished, trace_carry_out, trace, trace_each, trace_at, trace_in_overlay, run_all}
+use Rattle.press_engine.proofs.TraceLaws.{trace_each-append}
 
 -- ESC, a parameterized character, a group character, a field and a termination character
 abbrev sequence : Char → Char → String → Char → Token
@@ -255,12 +255,12 @@ machine_of_items :
     (commands : List Token) (items : List Run) → trace commands power_on ≡ items
     → (run_all commands power_on).machine ≡ last_machine power_on items
 machine_of_items commands items same =
-    sym ((tells-all commands power_on).machine) ∙ ap (λ all. last_machine power_on all) same
+    ap (λ all. last_machine power_on all) same
 
 outputs_of_items :
     (commands : List Token) (items : List Run) → trace commands power_on ≡ items
     → (run_all commands power_on).outputs ≡ joined items
-outputs_of_items commands items same = sym ((tells-all commands power_on).outputs) ∙ ap joined same
+outputs_of_items commands items same = ap joined same
 
 computed_x : (last_machine power_on (stream_with [] called)).state.cursor.x ≡ 96
 unfolding trace_each trace_at

@@ -22,7 +22,8 @@ use Rattle.press_engine.specs.Outcome.{Outcome, Effect, Changes, Makes, GivesRep
 use Rattle.press_engine.specs.Closing.{after_close}
 use Rattle.press_engine.specs.Outputs.{all_outputs}
 use Rattle.press_engine.specs.Table.{effect_on}
-use Rattle.press_engine.specs.Machine.{Run, run}
+use Rattle.press_engine.specs.Machine.{Run}
+use Rattle.press_engine.specs.Trace.{run}
 use Rattle.press_engine.specs.Stack.{owed, source_in, EndsOverlay}
 use Rattle.press_engine.specs.declared.effect.Source.TheVariants.{Stream}
 

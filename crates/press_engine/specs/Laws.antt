@@ -5,10 +5,10 @@ use Rattle.press_cmd.specs.Token.{Token}
 use Rattle.press_engine.specs.declared.machine.Machine.{Machine}
 use Rattle.press_engine.specs.declared.effect.Source.TheVariants.{Stream}
 use Rattle.press_engine.specs.Calls.{overlay_body}
-use Rattle.press_engine.specs.Machine.{Run, run, run_all}
+use Rattle.press_engine.specs.Machine.{Run}
 use Rattle.press_engine.specs.Outcome.{Effect, Changes, Makes, GivesReply, Stays, Closes, Starts}
 use Rattle.press_engine.specs.Table.{effect_on}
-use Rattle.press_engine.specs.Trace.{last_machine, joined, trace}
+use Rattle.press_engine.specs.Trace.{last_machine, joined, trace, run, run_all}
 
 -- The items stand for a run: they end in its machine, and their outputs joined are its outputs.
 pub record Tells (items : List Run) (before : Machine) (run : Run) : Type 0 where

@@ -1,7 +1,7 @@
 -- The trace of commands: the machine after each table step, with what went out in that step. A step takes one command, of the
 -- stream or of the innermost body that runs. In the same step each innermost body that is used up ends, and a page close
 -- that waited for its overlay is finished: that falls into the last item of the body, or, where the body is empty, into the
--- item that started it.
+-- item that started it. A whole command is its items.
 use Rattle.std.specs.Prelude.{ℕ, zero, suc, List, [], ◌∷◌, ◌++◌, Option, Some, None}
 use Rattle.press_cmd.specs.Token.{Token}
 use Rattle.press_sink.specs.Sending.{Output}
@@ -10,7 +10,7 @@ use Rattle.press_engine.specs.declared.effect.Source.TheVariants as sources
 use Rattle.press_engine.specs.declared.machine.Machine.{Machine}
 use Rattle.press_engine.specs.Calls.{overlay_body}
 use Rattle.press_engine.specs.Outcome.{Effect, Closes, Starts}
-use Rattle.press_engine.specs.Machine.{Run, quiet, then_run, with_state, taken, enter_body, leave_body, state_of, run_in_overlay}
+use Rattle.press_engine.specs.Machine.{Run, quiet, then_run, with_state, taken, enter_body, leave_body, state_of}
 use Rattle.press_engine.specs.Machine.{overlay_levels, enter_overlay, leave_overlay, finish_without_overlay, levels, source_at}
 use Rattle.press_engine.specs.Table.{effect_on}
 
@@ -45,8 +45,10 @@ trace_effect_in_overlay one machine (Starts commands end state) =
     body_items one (λ after. quiet (leave_body end machine.depth after)) commands (enter_body end state machine)
 trace_effect_in_overlay one machine effect = quiet (with_state (state_of effect) machine) ∷ []
 
+-- The items of a command of an overlay, where so many macros may start: nothing goes out, and no page closes.
 unfoldable pub trace_in_overlay : (levels : ℕ) → Token → Machine → List Run
-trace_in_overlay zero command machine = quiet (run_in_overlay 0 command machine) ∷ []
+trace_in_overlay zero command machine =
+    quiet (with_state (state_of (effect_on sources.Overlay command machine.state)) (taken command machine)) ∷ []
 trace_in_overlay (suc levels) command machine =
     trace_effect_in_overlay (trace_in_overlay levels) (taken command machine) (effect_on sources.Overlay command machine.state)
 
@@ -71,6 +73,7 @@ trace_carry_out one machine (Starts commands end state) =
     body_items one (λ after. quiet (leave_body end machine.depth after)) commands (enter_body end state machine)
 trace_carry_out one machine effect = trace_finished machine effect
 
+-- The items of a command outside an overlay, where so many macros may start.
 unfoldable pub trace_at : (levels : ℕ) → Token → Machine → List Run
 trace_at zero command machine = trace_finished (taken command machine) (effect_on (source_at 0) command machine.state)
 trace_at (suc more) command machine =
@@ -79,3 +82,14 @@ trace_at (suc more) command machine =
 -- The trace of the commands of a stream.
 abbrev pub trace : List Token → Machine → List Run
 trace = trace_each (trace_at levels)
+
+-- What items leave from a machine on: the machine of the last, and all outputs in order.
+abbrev pub told_by : List Run → Machine → Run
+told_by items machine = record { machine = last_machine machine items; outputs = joined items }
+
+-- A command of the stream, carried out whole, with the bodies that it starts; and commands one after another.
+abbrev pub run : Token → Machine → Run
+run command machine = told_by (trace_at levels command machine) machine
+
+abbrev pub run_all : List Token → Machine → Run
+run_all commands machine = told_by (trace commands machine) machine

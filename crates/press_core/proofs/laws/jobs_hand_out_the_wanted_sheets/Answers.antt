@@ -4,7 +4,6 @@ use Rattle.std.proofs.lemmas.List.{take_all}
 use Rattle.press_cmd.specs.Token.{Token}
 use Rattle.press_engine.specs.Machine.{power_on}
 use Rattle.press_engine.specs.Trace.{joined}
-use Rattle.press_engine.proofs.TraceLaws.{tells-all}
 use Rattle.press_sink.specs.Sending.{Deliver, sheets_of}
 use Rattle.press_sink.specs.Sides.{Sides}
 use Rattle.press_stream.specs.Meaning.{meaning_of, with_exit}
@@ -20,6 +19,5 @@ returns c = λ work items printable (closed, is_closed, is).
     let prints = c.jobs_print_their_tickets.ensures work.ticket work.images printable.fits printable.images_are in
     let same = prints.only closed is_closed in
     ap (λ these. sheets_of (joined these)) (take_all (length items) items (omega arith) ∙ is)
-    ∙ ap sheets_of (tells-all (with_exit closed) power_on).outputs
     ∙ ap (λ (commands : List Token). sheets_of (meaning_of (with_exit commands)).outputs) same
     ∙ ap sheets_of prints.outputs ∙ delivered_sheets (wanted work.ticket work.images)
