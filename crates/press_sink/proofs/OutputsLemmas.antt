@@ -9,7 +9,7 @@ use Rattle.press_sink.specs.declared.fault.SinkError.{SinkError}
 use Rattle.press_sink.specs.declared.fault.SinkError.TheVariants.{SinkFault, NoMemory}
 use Rattle.press_sink.specs.declared.list_outputs.ListedOutput.{ListedOutput}
 use Rattle.press_sink.specs.Kept.{output_of, outputs_in}
-use Rattle.press_sink.specs.Outputs.{MadeOutput, opened, holding, with_outputs, last_holds, HoldsFront, Closes, IsCut, IsFront, MakesFront, MakesOutputs, side_output, back_output, sheet_outputs}
+use Rattle.press_sink.specs.Outputs.{MadeOutput, opened, holding, with_outputs, last_holds, HoldsFront, GivesUp, Closes, IsCut, IsFront, MakesFront, MakesOutputs, side_output, back_output, sheet_outputs}
 use Rattle.press_sink.specs.Sides.{Sides}
 use Rattle.press_sink.specs.Template.{NameParts, number_after}
 
@@ -73,12 +73,17 @@ made_whole (Ok done) text name file first last old between new good is opens emp
     holds_all name file first last old new empty appends (closed text name last old between new is opens closes)
 made_whole (Err error) text name file first last old between new good is opens empty appends closes = cc
 
--- the same where a front was written, or did not come through
+-- the same where it was given up, and a front was written
+pub made_given_up : (text name file : List ℕ) (first last : Option (List ℕ)) (old between new : Option (List MadeOutput)) → text ≡ name → between ≡ with_outputs (opened text ∷ []) old → first ≡ option_map (λ _. []) old → AppendsFront first last file → GivesUp last between new → MakesFront (holding name file ∷ []) old new
+made_given_up text name file first last old between new is opens empty appends (holds, front, gives) =
+    holds_front name file first last holds old new empty appends front (closed text name holds old between new is opens gives)
+
+-- the same where it was closed, and a front was written or came through
 pub made_front : {X E : Type 0} → (result : Result X E) (text name file : List ℕ) (first last : Option (List ℕ)) (old between new : Option (List MadeOutput)) → text ≡ name → between ≡ with_outputs (opened text ∷ []) old → first ≡ option_map (λ _. []) old → AppendsFront first last file → Closes result last between new → MakesFront (holding name file ∷ []) old new
 made_front (Ok done) text name file first last old between new is opens empty appends closes =
     holds_front name file first last last old new empty appends (HoldsFront-all last) (closed text name last old between new is opens closes)
-made_front (Err error) text name file first last old between new is opens empty appends (holds, front, closes) =
-    holds_front name file first last holds old new empty appends front (closed text name holds old between new is opens closes)
+made_front (Err error) text name file first last old between new is opens empty appends closes =
+    made_given_up text name file first last old between new is opens empty appends closes
 
 IsCut-append : (cut outputs others : List MadeOutput) → IsCut cut outputs → IsCut cut (outputs ++ others)
 IsCut-append [] outputs others is = tt

@@ -36,10 +36,14 @@ HoldsFront (Some front) (Some bytes) = (back : List ℕ) × (bytes ≡ front ++ 
 HoldsFront None None = ⊤
 HoldsFront holds all = ⊥
 
+-- The output that was made last is given up: it holds a front of what was written.
+abbrev pub GivesUp : (written : Option (List ℕ)) → (old new : Option (List MadeOutput)) → Type 0
+GivesUp written old new = (holds : Option (List ℕ)) × HoldsFront holds written × (new ≡ option_map (last_holds holds) old)
+
 -- The output that was made last is closed: it holds what was written, all of it, or a front of it after a fault.
 abbrev pub Closes : {X E : Type 0} → Result X E → (written : Option (List ℕ)) → (old new : Option (List MadeOutput)) → Type 0
 Closes (Ok _) written old new = new ≡ option_map (last_holds written) old
-Closes (Err _) written old new = (holds : Option (List ℕ)) × HoldsFront holds written × (new ≡ option_map (last_holds holds) old)
+Closes (Err _) written old new = GivesUp written old new
 
 -- Nothing stands there; or one output, which has the name of the first of these, and holds a front of what that is to hold.
 abbrev pub IsCut : (cut outputs : List MadeOutput) → Type 0

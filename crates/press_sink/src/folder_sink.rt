@@ -120,12 +120,14 @@ fn make_side<O: NamedOutputs>(outputs: &mut O, side: &Side<'_>) -> Result<(), Si
     let Ok(mut output) = outputs.make(side.name.as_str()) else {
         return Err(SinkError::SinkFault);
     };
-    let written = write_pbm(side.page, &mut output);
-    let closed = outputs.close(output);
-    if written.is_err() || closed.is_err() {
+    if write_pbm(side.page, &mut output).is_err() {
+        outputs.abandon(output);
         return Err(SinkError::SinkFault);
     }
-    Ok(())
+    match outputs.close(output) {
+        Ok(()) => Ok(()),
+        Err(_) => Err(SinkError::SinkFault),
+    }
 }
 
 /// How many sides of a sheet are printed.

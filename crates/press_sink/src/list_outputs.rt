@@ -1,9 +1,10 @@
 //! Named outputs that are kept in a list.
 ghost use Rattle.std.specs.Prelude.{◌≡◌, [], Some};
 ghost use Rattle.press_sink.specs.Kept.{kept_outputs, outputs_in};
+ghost use Rattle.press_sink.specs.Outputs.{last_holds};
 
 use crate::named_outputs::NamedOutputs;
-use std::alloc::Global;
+use std::alloc::{AllocError, Global};
 use std::io;
 
 /// An output: its name, and what it holds, once it is closed.
@@ -37,12 +38,25 @@ impl ListOutputs {
     {
         &self.outputs
     }
+
+    /// Keeps what was written to the output that was made last.
+    fn keep(&mut self, output: Vec<u8>)
+        ensures { kept_outputs self.new ≡ last_holds (Some output.items) (kept_outputs self.old) }
+    {
+        if let Some(last) = self.outputs.last_mut() {
+            last.holds = Some(output);
+        }
+    }
 }
 
 impl NamedOutputs for ListOutputs {
     ghost made = { λ outputs. Some (kept_outputs outputs) };
 
     type Output = Vec<u8>;
+
+    fn spare(&mut self, _input: &str) -> Result<(), AllocError> {
+        Ok(())
+    }
 
     fn make(&mut self, name: &str) -> io::Result<Vec<u8>> {
         let name = String::from_str(self.alloc, name)?;
@@ -51,9 +65,11 @@ impl NamedOutputs for ListOutputs {
     }
 
     fn close(&mut self, output: Vec<u8>) -> io::Result<()> {
-        if let Some(last) = self.outputs.last_mut() {
-            last.holds = Some(output);
-        }
+        self.keep(output);
         Ok(())
+    }
+
+    fn abandon(&mut self, output: Vec<u8>) {
+        self.keep(output);
     }
 }

@@ -1,17 +1,27 @@
 //! Outputs that are made by their names, one after another (this profile).
 ghost use Rattle.std.specs.Prelude.{◌≡◌, ◌∷◌, [], List, Option, option_map, IfOk, OnOk, OnErr};
-ghost use Rattle.press_sink.specs.Outputs.{MadeOutput, MakesFront, Closes, opened, holding, with_outputs};
+ghost use Rattle.press_sink.specs.Outputs.{MadeOutput, MakesFront, Closes, GivesUp, opened, holding, with_outputs};
 
 use press_pbm::write_whole;
+use std::alloc::AllocError;
 use std::io::{self, Write};
 
-/// Where outputs are made by their names, one after another. An output that stood under a name before is replaced.
+/// Where outputs are made by their names, one after another. What stood under the name of an output before is replaced when it is whole.
+/// No output is an input: what an input has stays as it is, whatever is made.
 pub trait NamedOutputs {
     /// What was made, in order, where that is known.
     ghost made: { Self → Option (List MadeOutput) };
 
     /// An output that is open.
     type Output: Write + Drop;
+
+    /// Notes an input by its name: an output that would replace it, as far as that can be told, cannot be made.
+    ///
+    /// # Errors
+    ///
+    /// Where there is no memory to note it.
+    fn spare(&mut self, input: &str) -> Result<(), AllocError>
+        ensures { made self.new ≡ made self.old };
 
     /// Makes the output of this name, which holds nothing yet.
     ///
@@ -32,6 +42,11 @@ pub trait NamedOutputs {
     /// Where what was written does not come through; the output holds a front of it then.
     fn close(&mut self, output: Self::Output) -> io::Result<()>
         ensures { Closes result (Self.Output.contents output) (made self.old) (made self.new) };
+
+    /// Gives up the output that was made last, which is not whole. It holds a front of what was written to it, or is removed where
+    /// nothing tells of it.
+    fn abandon(&mut self, output: Self::Output)
+        ensures { GivesUp (Self.Output.contents output) (made self.old) (made self.new) };
 }
 
 /// Makes the output of this name, which holds these bytes.
@@ -46,8 +61,11 @@ pub fn write_output<O: NamedOutputs>(outputs: &mut O, name: &str, bytes: &[u8]) 
         (O.made outputs.old) (O.made outputs.new)) }
 {
     let mut output = outputs.make(name)?;
-    let written = write_whole(&mut output, bytes);
-    let closed = outputs.close(output);
-    written?;
-    closed
+    match write_whole(&mut output, bytes) {
+        Ok(()) => outputs.close(output),
+        Err(error) => {
+            outputs.abandon(output);
+            Err(error)
+        }
+    }
 }

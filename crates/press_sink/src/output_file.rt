@@ -1,0 +1,55 @@
+//! A file that is being written (this profile).
+use press_pbm::write_whole;
+use std::io::{self, Write};
+
+/// A file that is open, behind a buffer: it takes one write for as many bytes as that has room for. What it holds is not known.
+#[derive(Drop)]
+pub struct OutputFile<T> {
+    file: T,
+    /// What was written, and did not go to the file yet.
+    held: Vec<u8>,
+}
+
+impl<T: Write + Drop> OutputFile<T> {
+    /// A file behind a buffer with as much room as this one has.
+    pub(crate) fn new(file: T, buffer: Vec<u8>) -> Self {
+        OutputFile { file, held: buffer }
+    }
+
+    /// Closes the file, and hands the buffer back without what it holds.
+    pub(crate) fn into_buffer(self) -> Vec<u8> {
+        let OutputFile { file: _, mut held } = self;
+        held.clear();
+        held
+    }
+
+    /// How many more bytes the buffer takes without memory.
+    fn room(&self) -> usize {
+        self.held.capacity().saturating_sub(self.held.len())
+    }
+
+    /// Writes to the file what is held. Where that failed a front of it was written, and nothing is held.
+    fn send(&mut self) -> io::Result<()> {
+        let sent = write_whole(&mut self.file, &self.held);
+        self.held.clear();
+        sent
+    }
+}
+
+impl<T: Write + Drop> Write for OutputFile<T> {
+    fn write(&mut self, buf: &[u8]) -> io::Result<usize> {
+        if buf.len() > self.room() {
+            self.send()?;
+        }
+        if buf.len() > self.room() {
+            return self.file.write(buf);
+        }
+        self.held.extend_from_slice(buf)?;
+        Ok(buf.len())
+    }
+
+    fn flush(&mut self) -> io::Result<()> {
+        self.send()?;
+        self.file.flush()
+    }
+}
