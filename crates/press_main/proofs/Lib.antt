@@ -1,3 +1,4 @@
+mod AgainLemmas
 mod DebuggerSteps
 mod DefaultsLemmas
 mod DebuggerLemmas

@@ -87,4 +87,12 @@ impl SheetSink for EntrySheets {
         self.keep(ListedSheet::of(tag, sheet))
             .map_err(|_| SinkError::NoMemory)
     }
+
+    fn deliver_again(&mut self, tag: u64, sheet: &Sheet) -> Result<(), SinkError> {
+        let Some(last) = self.sheets.last() else {
+            return self.deliver(tag, sheet);
+        };
+        let again = last.sheet.again(sheet);
+        self.keep(again).map_err(|_| SinkError::NoMemory)
+    }
 }

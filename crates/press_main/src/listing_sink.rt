@@ -4,7 +4,7 @@ ghost use Rattle.press_main.specs.Measured.{measures_of};
 
 use crate::measures::Measures;
 use press_sink::{Sheet, SheetSink, SinkError};
-use std::alloc::Global;
+use std::alloc::{AllocError, Global};
 use std::snapshot::Snapshot;
 
 /// What the listing tells of a sheet, and the tag under which it was delivered. Of the sheet itself clauses alone know: its
@@ -43,11 +43,24 @@ impl ListedSheet {
             sheet: Snapshot::of(sheet),
         }
     }
+
+    /// What the listing tells of the same sheet once more: its dots are not counted again.
+    pub fn again(&self, sheet: &Sheet) -> Self
+        requires { self.now.sheet.value ≡ sheet.now }
+        ensures { delivery_of result ≡ delivery_of self.now }
+    {
+        ListedSheet {
+            tag: self.tag,
+            front: self.front,
+            back: self.back,
+            sheet: Snapshot::of(sheet),
+        }
+    }
 }
 
 impl ListingSink {
-    ghost use Rattle.std.specs.Prelude.{[]};
-    ghost use Rattle.press_main.specs.Listed.{listed};
+    ghost use Rattle.std.specs.Prelude.{◌++◌, ◌∷◌, [], OnOk, OnErr};
+    ghost use Rattle.press_main.specs.Listed.{listed, delivery_of, deliveries_of};
 
     /// A sink that took nothing yet.
     pub fn new(alloc: Global) -> Self
@@ -64,6 +77,16 @@ impl ListingSink {
     {
         &self.sheets
     }
+
+    /// Keeps what the listing tells of a sheet.
+    fn keep(&mut self, sheet: ListedSheet) -> Result<(), AllocError>
+        ensures ok { OnOk result (deliveries_of (listed self.new)
+            ≡ deliveries_of (listed self.old) ++ delivery_of sheet ∷ []) }
+        ensures err { OnErr result (listed self.new ≡ listed self.old) }
+    {
+        self.sheets.push(sheet)?;
+        Ok(())
+    }
 }
 
 impl SheetSink for ListingSink {
@@ -77,8 +100,15 @@ impl SheetSink for ListingSink {
     }
 
     fn deliver(&mut self, tag: u64, sheet: &Sheet) -> Result<(), SinkError> {
-        self.sheets
-            .push(ListedSheet::of(tag, sheet))
+        self.keep(ListedSheet::of(tag, sheet))
             .map_err(|_| SinkError::NoMemory)
+    }
+
+    fn deliver_again(&mut self, tag: u64, sheet: &Sheet) -> Result<(), SinkError> {
+        let Some(last) = self.sheets.last() else {
+            return self.deliver(tag, sheet);
+        };
+        let again = last.again(sheet);
+        self.keep(again).map_err(|_| SinkError::NoMemory)
     }
 }

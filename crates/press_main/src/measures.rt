@@ -5,7 +5,7 @@ ghost use Rattle.press_main.specs.Measured.{measures_of};
 use press_bits::Bitmap;
 
 /// What the listing tells of a side: its width and height in dots, and how many of its dots are black.
-#[derive(Drop)]
+#[derive(Clone, Copy)]
 pub struct Measures {
     pub width: u32,
     pub height: u32,
