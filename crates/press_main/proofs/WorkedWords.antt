@@ -58,6 +58,15 @@ assembling : asked (codes "press" ∷ codes "asm" ∷ codes "a" ∷ codes "b" �
 unfolding clap_on_literals
 assembling = refl
 
+-- `-` is no file that can be made
+assembling_to_a_dash : asked (codes "press" ∷ codes "asm" ∷ codes "a" ∷ codes "-" ∷ []) ≡ None
+unfolding clap_on_literals
+assembling_to_a_dash = refl
+
+writing_to_a_dash : asked (codes "press" ∷ codes "write" ∷ codes "t" ∷ codes "-" ∷ codes "i" ∷ []) ≡ None
+unfolding clap_on_literals
+writing_to_a_dash = refl
+
 no_output : asked (codes "press" ∷ codes "asm" ∷ codes "a" ∷ []) ≡ None
 unfolding clap_on_literals
 no_output = refl

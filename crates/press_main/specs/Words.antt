@@ -111,10 +111,17 @@ made_of rows = option_and_then (made_behind rows) (front_in rows)
 abbrev pub images_of : List Row → List Text
 images_of rows = unwrap_or (all_of (codes "IMG") rows) []
 
+-- a file that is made has a name, and `-` is none
+abbrev pub made_named : Text → Option Text
+made_named name = if bytes_eq name (codes "-") then None else Some name
+
+abbrev pub made_in : List Row → Option Text
+made_in rows = option_and_then made_named (first_of (codes "OUT") rows)
+
 -- what the values of the words of `write` ask for: the ticket is a file, whatever its name
 abbrev pub job_asked : List Row → Option Asked
 job_asked rows =
-    option_and_then (λ ticket. option_map (λ name. record { source = FileNamed ticket; made = JobTo name (images_of rows) }) (first_of (codes "OUT") rows)) (first_of (codes "TICKET") rows)
+    option_and_then (λ ticket. option_map (λ name. record { source = FileNamed ticket; made = JobTo name (images_of rows) }) (made_in rows)) (first_of (codes "TICKET") rows)
 
 -- what the values of the words of `print`, of `asm` and of `disasm` ask for
 abbrev pub print_asked : List Row → Option Asked
@@ -123,7 +130,7 @@ print_asked rows =
 
 abbrev pub asm_asked : List Row → Option Asked
 asm_asked rows =
-    option_and_then (λ name. option_map (λ made. record { source = source_of name; made = StreamTo made }) (first_of (codes "OUT") rows)) (first_of (codes "IN") rows)
+    option_and_then (λ name. option_map (λ made. record { source = source_of name; made = StreamTo made }) (made_in rows)) (first_of (codes "IN") rows)
 
 abbrev pub disasm_asked : List Row → Option Asked
 disasm_asked rows = option_map (λ name. record { source = source_of name; made = AsText }) (first_of (codes "IN") rows)

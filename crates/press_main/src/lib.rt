@@ -21,6 +21,7 @@ mod measures;
 mod named_inputs;
 mod program;
 mod sessions;
+mod sparing;
 mod stream;
 mod taken;
 mod telling;

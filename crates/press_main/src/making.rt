@@ -125,10 +125,11 @@ fn make_job<O: NamedOutputs>(
     let Ok(mut output) = outputs.make(name) else {
         return Err(WriterError::WriteFault);
     };
-    let written = write_job(alloc, ticket, images, &mut output);
-    let closed = outputs.close(output);
-    written?;
-    if closed.is_err() {
+    if let Err(error) = write_job(alloc, ticket, images, &mut output) {
+        outputs.abandon(output);
+        return Err(error);
+    }
+    if outputs.close(output).is_err() {
         return Err(WriterError::WriteFault);
     }
     Ok(())

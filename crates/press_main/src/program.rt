@@ -1,5 +1,5 @@
 //! What the words ask for, done.
-ghost use Rattle.std.specs.Prelude.{◌≡◌, ◌≢◌, ◌⊎◌, map, IfOk};
+ghost use Rattle.std.specs.Prelude.{◌≡◌, ◌≢◌, ◌≤◌, ◌⊎◌, map, IfOk};
 ghost use Rattle.std.specs.String.{string_bytes};
 ghost use Rattle.press_main.specs.Defaults.{HoldsBehind, with_front};
 ghost use Rattle.press_main.specs.Files.{DoesNothing, PrintsFiles};
@@ -16,19 +16,20 @@ use crate::listing::print_list;
 use crate::making::{asm_file, job_file};
 use crate::named_inputs::NamedInputs;
 use crate::sessions::press_lines;
-use crate::telling::told;
+use crate::sparing::spare_inputs;
+use crate::telling::{NO_OUTPUT, told};
 use crate::words::{Input, Output, Refusal, Request, request_of};
 use press_sink::NamedOutputs;
 use press_units::NO_MEMORY;
 use std::alloc::{AllocError, Global};
-use std::io::{Read, Write};
+use std::io::{self, Read, Write};
 
 /// Does what the words ask for, the program's name among them. Inputs are opened by their names in `inputs`, and files are made in
-/// `outputs`. The answer has the status, and hands standard output and the outputs back.
+/// `outputs`, none of which is an input. The answer has the status, and hands standard output and the outputs back.
 pub fn run_words<I: NamedInputs, O: NamedOutputs + Drop, S: Read, W: Write + Drop, E: Write>(
     alloc: Global,
     inputs: &I,
-    outputs: O,
+    mut outputs: O,
     words: &[String],
     input: &mut S,
     mut out: W,
@@ -47,7 +48,14 @@ pub fn run_words<I: NamedInputs, O: NamedOutputs + Drop, S: Read, W: Write + Dro
         };
     };
     match request_of(alloc, &texts) {
-        Ok(request) => perform(alloc, inputs, outputs, &request, input, out, err),
+        Ok(request) => match spare_inputs(&mut outputs, &request) {
+            Ok(()) => perform(alloc, inputs, outputs, &request, input, out, err),
+            Err(error) => Finished {
+                status: told(&error, err),
+                out,
+                outputs,
+            },
+        },
         Err(refusal) => Finished {
             status: refuse(&refusal, &mut out, err),
             out,
@@ -67,19 +75,27 @@ fn texts_of(alloc: Global, words: &[String]) -> Result<Vec<&str>, AllocError>
     Ok(texts)
 }
 
-/// Tells why the words ask for nothing: help on `out`, all else on `err`. The answer is the status.
+/// Tells why the words ask for nothing: help on `out`, all else on `err`. The answer is the status: 1 where help cannot be written.
 fn refuse<W: Write, E: Write>(refusal: &Refusal, out: &mut W, err: &mut E) -> u8
-    ensures status { result ≡ status_of refusal.now }
-    ensures stays { result ≢ 0 → W.contents out.new ≡ W.contents out.old }
+    ensures help { status_of refusal.now ≡ 0 → result ≤ 1 }
+    ensures status { status_of refusal.now ≢ 0 → result ≡ status_of refusal.now }
+    ensures stays { status_of refusal.now ≢ 0 → W.contents out.new ≡ W.contents out.old }
 {
     let status = refusal.status();
     if status == 0 {
-        let _ = write!(out, "{refusal}");
-        let _ = out.flush();
-    } else {
-        let _ = write!(err, "{refusal}");
+        return match write_help(refusal, out) {
+            Ok(()) => 0,
+            Err(_) => told(&NO_OUTPUT, err),
+        };
     }
+    let _ = write!(err, "{refusal}");
     status
+}
+
+/// Writes help whole, and flushes.
+fn write_help<W: Write>(help: &Refusal, out: &mut W) -> io::Result<()> {
+    write!(out, "{help}")?;
+    out.flush()
 }
 
 /// Opens the input of a request, and makes of it what is asked for.

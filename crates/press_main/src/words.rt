@@ -3,7 +3,7 @@ ghost use Rattle.std.specs.Prelude.{◌≡◌, ◌↔◌, ◌⊎◌, IfOk, IfErr
 ghost use Rattle.clap.specs.Words.{app_of, new_app, rule_of, new_rule, kind_of, first_of, rows_of, found_of, subcommand_of, subcommand_rows_of, fault_of, FailsBy};
 ghost use Rattle.clap.specs.declared.builder.command.Command.TheViews.{out-Command};
 ghost use Rattle.clap.specs.declared.error.kind.ErrorKind.TheVariants.{OutOfMemory};
-ghost use Rattle.press_main.specs.Words.{list_rule, default_rule, needed_rule, images_rule, engines_rule, print_app, asm_app, disasm_app, debug_app, write_app, session_app, program_app, press_app, source_of, made_behind, made_of, images_of, defaults_of, front_in, engines_of, print_asked, asm_asked, disasm_asked, debug_of, debug_asked, job_asked, session_asked, subcommand_named, asked_of, asked_by, asked, is_set};
+ghost use Rattle.press_main.specs.Words.{list_rule, default_rule, needed_rule, images_rule, engines_rule, print_app, asm_app, disasm_app, debug_app, write_app, session_app, program_app, press_app, source_of, made_behind, made_of, made_named, made_in, images_of, defaults_of, front_in, engines_of, print_asked, asm_asked, disasm_asked, debug_of, debug_asked, job_asked, session_asked, subcommand_named, asked_of, asked_by, asked, is_set};
 ghost use Rattle.press_main.specs.View.{source_seen, made_seen, request_seen, status_of, IsForMemory};
 
 use crate::defaults::{are_assignments, front_of};
@@ -34,7 +34,7 @@ A fault is told in one line on standard error. What each means, and what to do:
   fault 111, 113        an image is no P4 file (raw PBM), or its end is missing: make it again
   fault 112             an image has a side of 0 or above 16,384 dots: scale or cut it
   fault 114             an image was opened and cannot be read, as a folder: look at the file
-  fault 115, 301, 614   a file cannot be made or written: look at its folder and the disk
+  fault 115, 301, 614   a file cannot be made or written, or is an input: look at its name and the disk
   fault 121             %d does not stand exactly once in OUT: name it as page-%d.pbm
   fault 302, output     standard output cannot be written: look who reads it
   fault 304             an input, also an image, cannot be opened or read: look at its name
@@ -96,8 +96,8 @@ pub struct Request<'a> {
 pub enum Refusal {
     /// The command line is refused, or asks for help or the version; or memory ran out.
     Words(Error),
-    /// A subcommand lacks what its words have to name: `print` a template, where no listing is asked for, `debug` a file, or
-    /// `press` a number of engines.
+    /// A subcommand lacks what its words have to name: `print` a template, where no listing is asked for, `asm` and `write` a file to
+    /// make, `debug` a file, or `press` a number of engines.
     NoName,
     /// This text is no `NAME=VALUE` of the job language.
     NoDefault(String),
@@ -136,8 +136,9 @@ impl fmt::Display for Refusal {
             Refusal::Words(error) => write!(f, "{error}"),
             Refusal::NoName => writeln!(
                 f,
-                "usage: press print IN OUT, press print --list IN, press debug IN, \
-                where IN is a file and not -, or press press [--engines N], where N is a number"
+                "usage: press print IN OUT, press print --list IN, press asm IN OUT or press write TICKET OUT [IMG...], \
+                where OUT is a file and not -, press debug IN, where IN is a file and not -, \
+                or press press [--engines N], where N is a number"
             ),
             Refusal::NoDefault(text) => writeln!(
                 f,
@@ -223,7 +224,7 @@ fn asm_command<'a>(alloc: Global) -> Result<Command<'a>, AllocError>
         .arg(needed_word(
             alloc,
             "OUT",
-            "The file of the stream, which is made or replaced",
+            "The file of the stream, which is made or replaced; - is refused",
         ))
 }
 
@@ -278,7 +279,7 @@ fn write_command<'a>(alloc: Global) -> Result<Command<'a>, AllocError>
         .arg(needed_word(
             alloc,
             "OUT",
-            "The file of the stream, which is made or replaced",
+            "The file of the stream, which is made or replaced; - is refused",
         ))?
         .arg(images_word(alloc))
 }
@@ -420,6 +421,24 @@ fn images_of<'a>(alloc: Global, matches: &ArgMatches<'a>) -> Result<Vec<&'a str>
     }
 }
 
+/// The name of a file that is made, unless it is `-`.
+fn made_named(name: &str) -> Option<&str>
+    ensures { option_map (λ made. made.now) result ≡ made_named name.now }
+{
+    if name == "-" {
+        return None;
+    }
+    Some(name)
+}
+
+/// The file that the matches of `asm` or `write` ask to be made.
+#[tactic(auto, using(crate::proofs::WordsLemmas::value_by_rows))]
+fn made_in<'a>(matches: &ArgMatches<'a>) -> Option<&'a str>
+    ensures { option_map (λ made. made.now) result ≡ made_in (rows_of (found_of matches.now)) }
+{
+    made_named(matches.get_str("OUT")?)
+}
+
 /// What the matches of `write` ask for.
 #[tactic(auto, using(crate::proofs::WordsLemmas::value_by_rows))]
 fn job_request<'a>(
@@ -433,7 +452,7 @@ fn job_request<'a>(
     let Some(ticket) = matches.get_str("TICKET") else {
         return Ok(None);
     };
-    let Some(name) = matches.get_str("OUT") else {
+    let Some(name) = made_in(matches) else {
         return Ok(None);
     };
     Ok(Some(Request {
@@ -470,7 +489,7 @@ fn asm_request<'a>(matches: &ArgMatches<'a>) -> Option<Request<'a>>
     ensures { option_map request_seen result ≡ asm_asked (rows_of (found_of matches.now)) }
 {
     let name = matches.get_str("IN")?;
-    let made = matches.get_str("OUT")?;
+    let made = made_in(matches)?;
     Some(Request {
         input: input_named(name),
         output: Output::Assembled(made),

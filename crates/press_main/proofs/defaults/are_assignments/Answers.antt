@@ -1,4 +1,4 @@
-use Rattle.std.proofs.Common.{◌≡◌, ◌∙◌, [], refl, sym, ap}
+use Rattle.std.proofs.Common.{◌∙◌, [], refl, sym, ap}
 use Rattle.std.proofs.lemmas.List.{take_all}
 use Rattle.press_pjl.specs.Variables.{is_assignment}
 use Rattle.press_main.proofs.DefaultsLemmas.{assignments-all, assignments-more, assignments-none}

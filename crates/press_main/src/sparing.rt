@@ -1,0 +1,59 @@
+//! Inputs that no output replaces.
+ghost use Rattle.std.specs.Prelude.{◌≡◌};
+
+use crate::words::{Input, Output, Request};
+use press_sink::{NamedOutputs, SinkError};
+
+/// Notes the inputs of a request that makes files, so that none of these replaces one of them.
+///
+/// # Errors
+///
+/// `SinkFault` (301): a side would have the name of the stream's file. `NoMemory`: they cannot be noted.
+pub(crate) fn spare_inputs<O: NamedOutputs>(
+    outputs: &mut O,
+    request: &Request<'_>,
+) -> Result<(), SinkError>
+    ensures { O.made outputs.new ≡ O.made outputs.old }
+{
+    let Input::File(name) = request.input else {
+        return Ok(());
+    };
+    match &request.output {
+        Output::Files(_, template) if is_side(template, name) => Err(SinkError::SinkFault),
+        Output::Files(_, _) | Output::Assembled(_) => spare(outputs, &[name]),
+        Output::Job(_, images) => {
+            spare(outputs, &[name])?;
+            spare(outputs, images)
+        }
+        _ => Ok(()),
+    }
+}
+
+/// Notes inputs by their names.
+fn spare<O: NamedOutputs>(outputs: &mut O, names: &[&str]) -> Result<(), SinkError>
+    ensures { O.made outputs.new ≡ O.made outputs.old }
+{
+    for name in names {
+        if outputs.spare(name).is_err() {
+            return Err(SinkError::NoMemory);
+        }
+    }
+    Ok(())
+}
+
+/// Whether this is the name of a side by a template: a number, as it is written from 1 on, in place of its one `%d`.
+fn is_side(template: &str, name: &str) -> bool {
+    let Some((front, back)) = template.split_once("%d") else {
+        return false;
+    };
+    let Some(number) = name
+        .strip_prefix(front)
+        .and_then(|rest| rest.strip_suffix(back))
+    else {
+        return false;
+    };
+    !back.contains("%d")
+        && !number.is_empty()
+        && !number.starts_with('0')
+        && number.bytes().all(|byte| byte.is_ascii_digit())
+}
