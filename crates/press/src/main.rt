@@ -2,11 +2,17 @@
 #![tactic(auto)]
 
 use press_main::{NamedFiles, run_words};
-use press_sink::FileOutputs;
+use press_sink::{FileOutputs, NamedOutputs};
 use press_units::NO_MEMORY;
 use std::env;
-use std::io::{self, ErrorKind};
+use std::io::{self, BufWriter, ErrorKind};
 use std::process::ExitCode;
+
+/// How many bytes one write to standard output takes.
+const BUFFER: usize = 65_536;
+
+/// The name of the file that standard input is.
+const STANDARD_INPUT: &str = "/dev/stdin";
 
 fn main(rt: HostRuntime) -> ExitCode {
     let words = match words_of(&rt) {
@@ -22,24 +28,40 @@ fn main(rt: HostRuntime) -> ExitCode {
             return ExitCode::from(if no_memory { 1 } else { 2 });
         }
     };
-    let mut input = rt.stdin();
-    let out = io::writer(&rt);
-    let mut err = rt.stderr();
-    let inputs = NamedFiles { files: &rt };
-    let outputs = FileOutputs { files: &rt };
-    let finished = run_words(
-        rt.alloc(),
-        &inputs,
-        outputs,
-        &words,
-        &mut input,
-        out,
-        &mut err,
-    );
-    ExitCode::from(finished.status)
+    match run(&rt, &words) {
+        Ok(status) => ExitCode::from(status),
+        Err(_) => {
+            let _ = eprintln!(rt; "{NO_MEMORY}");
+            ExitCode::from(1)
+        }
+    }
 }
 
 /// The words of the command line, the program's name among them.
 fn words_of(rt: &HostRuntime) -> io::Result<Vec<String>> {
     Ok(env::args(rt)?.collect(rt.alloc())?)
+}
+
+/// Does what the words ask for, with the streams and files of the process: the status.
+///
+/// # Errors
+///
+/// Where there is no memory for the buffers of standard output and of files. Nothing was read then.
+fn run(rt: &HostRuntime, words: &[String]) -> io::Result<u8> {
+    let out = BufWriter::with_capacity(rt.alloc(), BUFFER, io::writer(rt))?;
+    let mut outputs = FileOutputs::new(rt.alloc(), rt)?;
+    outputs.spare(STANDARD_INPUT)?;
+    let inputs = NamedFiles { files: rt };
+    let mut input = rt.stdin();
+    let mut err = rt.stderr();
+    let finished = run_words(
+        rt.alloc(),
+        &inputs,
+        outputs,
+        words,
+        &mut input,
+        out,
+        &mut err,
+    );
+    Ok(finished.status)
 }
