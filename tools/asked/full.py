@@ -17,6 +17,10 @@ ROWS = [
     ("press --engines 2", b"what\n", "output"),
     ("debug dot", b"step\n", "output"),
     ("debug dot", b"what\n", "output"),
+    ("--help", b"", "output"),
+    ("help", b"", "output"),
+    ("print --help", b"", "output"),
+    ("--version", b"", "output"),
 ]
 # What says nothing ends well there, too: no fault is told where nothing failed.
 SILENT = [

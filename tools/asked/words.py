@@ -2,6 +2,8 @@
 
 PAGE = "sheet 1 front 2550x3300 black 0\n"
 FEED = b"\x0c"
+USAGE = ("usage: press print IN OUT, press print --list IN, press asm IN OUT or press write TICKET OUT [IMG...], where OUT is a file and not -, "
+         "press debug IN, where IN is a file and not -, or press press [--engines N], where N is a number\n")
 
 # Words, status, what is printed on standard output and then on standard error (bytes: on standard output alone; None: something,
 # without an end to compare), and standard input.
@@ -87,8 +89,10 @@ ROWS = [
     ("press --engines 18446744073709551616", 2, None, FEED),
     ("press --engines 2 2", 2, None, FEED),
     ("press --engines 2 --engines 2", 2, None, FEED),
-    ("debug -", 2, "usage: press print IN OUT, press print --list IN, press debug IN, where IN is a file and not -, or press press [--engines N], "
-     "where N is a number\n", FEED),
+    ("debug -", 2, USAGE, FEED),
+    ("asm - -", 2, USAGE, FEED),
+    ("asm b -", 2, USAGE, FEED),
+    ("write ticket - dot", 2, USAGE, FEED),
     ("debug", 2, None, FEED),
     ("debug a b", 2, None, FEED),
     ("debug --list a", 2, None, FEED),

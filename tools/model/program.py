@@ -4,6 +4,7 @@ Texts of help and of usage are not the model's: words that ask for help, or that
 makes is not told byte by byte: what stands in its file is the ticket and its images, whose sheets any job of them has.
 """
 
+import json
 from pathlib import Path
 from typing import NamedTuple
 
@@ -17,6 +18,15 @@ BAD_TEMPLATE, PAGE_FAULT, TEXT_FAULT, JOB_FAULT = 121, 301, 115, 614
 NUMBER = "%d"
 STANDARD_OUTPUT = "/dev/stdout"
 FULL = "/dev/full"  # can be opened, and takes no byte
+
+
+LONGEST_KEY = 64  # characters that are told of a key
+
+
+def spelled(key):
+    """A key as it stands between the quotes of a string of JSON, its control characters escaped; of a long one its beginning."""
+    text = "".join("\\u%04x" % ord(one) if 127 <= ord(one) < 160 else json.dumps(one, ensure_ascii=False)[1:-1] for one in key[:LONGEST_KEY])
+    return text + ("..." if len(key) > LONGEST_KEY else "")
 
 
 class NoAnswer(Exception):
@@ -115,6 +125,8 @@ class Program:
 
     def asm(self, words):
         source, target = exactly(2, words)
+        if target == "-":
+            raise NoAnswer()
         self.make(target, self.assembled(self.read(source)), TEXT_FAULT)
 
     def assembled(self, text):
@@ -141,14 +153,14 @@ class Program:
 
     def write(self, words):
         """Inputs are read and judged in the order of the words; then the images are; then the file is made."""
-        if len(words) < 2:
+        if len(words) < 2 or words[1] == "-":
             raise NoAnswer()
         try:
             read = ticket.read_ticket(self.read(words[0]))
             images = [read_image(self.folder / name) for name in words[2:]]
             ticket.check(read, images)
         except ticket.Refused as refused:
-            raise Fault("%d%s" % (refused.number, f" key {refused.key}" if refused.key is not None else "")) from None
+            raise Fault("%d%s" % (refused.number, f" key {spelled(refused.key)}" if refused.key is not None else "")) from None
         self.make(words[1], Job(read, images), JOB_FAULT)
 
     def press(self, words):

@@ -58,6 +58,14 @@ def read_input(name, what, unreadable=NOT_OPENED):
         raise Found(unreadable, f"{describe(what, name)} cannot be read: {reason(fault)}", "Copy it, and try the copy") from None
 
 
+def check_apart(name, number, inputs, what="OUT"):
+    """Fails where a file that is to be made is one of the inputs."""
+    for one in inputs:
+        if name and os.path.isfile(name) and one != "-" and os.path.exists(one) and os.path.samefile(name, one):
+            same = "is an input" if name == one else f"is the input {one}"
+            raise Found(number, f"{what} {name} {same}, which it would replace", "Give another name")
+
+
 def check_output(name, number, size, what="OUT"):
     """Fails where a file of so many bytes cannot be made."""
     folder = os.path.dirname(name) or "."

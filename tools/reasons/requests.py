@@ -31,11 +31,14 @@ def judge_print(request, _chosen):
     files.open_input(name, "IN")
     if not request.listed:
         check_template(request.names[1])
+        check_sides(name, request.names[1])
     shown = "standard input" if name == "-" else name
     stream = files.read_input(name, "IN")
     found, printed = streams.looked_at(shown, stream, defaults.front(request.defaults))
     if printed and not request.listed:
         size = sum(copies * (HEADER_BYTES + side.height() * ((side.width() + 7) // 8)) for side, _, _, copies in printed)
+        for number in range(1, sum(copies for *_, copies in printed) + 1):
+            files.check_apart(request.names[1].replace("%d", str(number)), NOT_MADE, [name])
         files.check_output(request.names[1].replace("%d", "1"), NOT_MADE, size)
     return found
 
@@ -47,9 +50,18 @@ def check_template(template):
         raise Found(BAD_TEMPLATE, f"OUT {template} {where}", "Put %d once where the number of the side goes: page-%d.pbm")
 
 
+def check_sides(name, template):
+    """IN is the file of no side, whatever its number."""
+    front, back = template.split("%d")
+    number = name[len(front):len(name) - len(back)]
+    if name == front + number + back and number.isdecimal() and number.isascii() and number[0] != "0":
+        raise Found(NOT_MADE, f"OUT {template} has a side that is called {name}, as IN is, which it would replace", "Give another template")
+
+
 def judge_asm(request, _chosen):
     name, made = request.names
     data = texts.assembled("standard input" if name == "-" else name, files.read_input(name, "IN"))
+    files.check_apart(made, NOT_ASSEMBLED, [name])
     files.check_output(made, NOT_ASSEMBLED, len(data))
     yield from replaced(made)
 
@@ -65,6 +77,7 @@ def judge_write(request, _chosen):
     ticket = tickets.ticket_in(name, files.read_input(name, "TICKET"))
     read = [images.read_image(place, image) for place, image in enumerate(image_names)]
     tickets.check_images(name, ticket, read, image_names)
+    files.check_apart(made, NOT_WRITTEN, [name, *image_names])
     files.check_output(made, NOT_WRITTEN, LEAST_JOB)
     yield from replaced(made)
 

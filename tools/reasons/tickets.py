@@ -4,6 +4,7 @@ import difflib
 
 from model import table, ticket
 from model.pages import SIZES
+from model.program import spelled
 from model.values import FACTORY_RESOLUTION
 
 from . import json_faults
@@ -53,7 +54,7 @@ def judged_key(key, shown, value):
     if key not in KEYS:
         near = difflib.get_close_matches(key, KEYS, 1, 0.5)
         hint = f"Did you mean {near[0]}?" if near else "The keys are " + ", ".join(KEYS)
-        return Found(ticket.NOT_PROFILE, f"{shown} has the unknown key {key}", hint)
+        return Found(ticket.NOT_PROFILE, f"{shown} has the unknown key {spelled(key)}", hint)
     if key not in value:
         return Found(ticket.NOT_PROFILE, f"{shown} has no key {key}", f"Add it: {WANTED[key]}")
     return Found(ticket.NOT_PROFILE, f"{shown} has a {key} that is {shortened(value[key])}", f"It has to be {WANTED[key]}")

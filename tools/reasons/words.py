@@ -125,6 +125,8 @@ def check_count(what, names, listed):
         refuse(f"{needed[len(names)]} is missing", usage(what))
     if len(names) > len(wanted) and not any(".." in word for word in wanted):
         refuse(f"The word {names[len(wanted)]} is one too many", usage(what))
+    if what in ("asm", "write") and names[1] == "-":
+        refuse("OUT is -, which is no file", "Give the name of a file, or /dev/stdout for standard output")
     if what == "debug" and names == ["-"]:
         refuse("IN is standard input, on which the lines stand", "Give the name of a file: press debug page.pcl < lines.txt")
     if what == "print" and not listed and len(names) == 1:

@@ -1,7 +1,7 @@
 /* Stands before the C library while tools/refused runs a program. REFUSE names one call by its kind and its number, from 1 on:
-   memory:3 answers null at the third call of malloc or realloc; read:2 and write:2 fail the second read or write. EACH changes every
-   read and write: `short` lets it move one byte, `interrupted` interrupts it once before it is done. At the end the file that COUNTED
-   names gets how many calls there were: of memory, reads, and writes. */
+   memory:3 answers null at the third call of malloc or realloc; read:2, write:2 and rename:2 fail the second read, write or change of a
+   file's name. EACH changes every read and write: `short` lets it move one byte, `interrupted` interrupts it once before it is done. At the
+   end the file that COUNTED names gets how many calls there were: of memory, reads, writes, and names. */
 #define _GNU_SOURCE
 #include <dlfcn.h>
 #include <errno.h>
@@ -10,8 +10,8 @@
 #include <string.h>
 #include <unistd.h>
 
-enum { MEMORY, READ, WRITE, KINDS };
-static const char *const names[KINDS] = {"memory", "read", "write"};
+enum { MEMORY, READ, WRITE, RENAME, KINDS };
+static const char *const names[KINDS] = {"memory", "read", "write", "rename"};
 static unsigned long made[KINDS], refused[KINDS];
 static int is_short, is_interrupted;
 
@@ -19,6 +19,7 @@ static void *(*next_malloc)(size_t);
 static void *(*next_realloc)(void *, size_t);
 static ssize_t (*next_read)(int, void *, size_t);
 static ssize_t (*next_write)(int, const void *, size_t);
+static int (*next_rename)(const char *, const char *);
 
 __attribute__((constructor)) static void begin(void) {
     const char *call = getenv("REFUSE"), *each = getenv("EACH"), *number = call ? strchr(call, ':') : NULL;
@@ -26,6 +27,7 @@ __attribute__((constructor)) static void begin(void) {
     next_realloc = dlsym(RTLD_NEXT, "realloc");
     next_read = dlsym(RTLD_NEXT, "read");
     next_write = dlsym(RTLD_NEXT, "write");
+    next_rename = dlsym(RTLD_NEXT, "rename");
     for (int kind = 0; kind < KINDS; kind++) {
         made[kind] = 0;
         refused[kind] = number && !strncmp(call, names[kind], (size_t)(number - call)) ? strtoul(number + 1, NULL, 10) : 0;
@@ -42,7 +44,7 @@ __attribute__((destructor)) static void end(void) {
     is_short = is_interrupted = 0;
     FILE *file = name ? fopen(name, "w") : NULL;
     if (file) {
-        fprintf(file, "%lu %lu %lu\n", all[MEMORY], all[READ], all[WRITE]);
+        fprintf(file, "%lu %lu %lu %lu\n", all[MEMORY], all[READ], all[WRITE], all[RENAME]);
         fclose(file);
     }
 }
@@ -80,4 +82,11 @@ ssize_t read(int file, void *bytes, size_t count) {
 
 ssize_t write(int file, const void *bytes, size_t count) {
     return fails(WRITE) ? -1 : next_write(file, bytes, is_short && count ? 1 : count);
+}
+
+int rename(const char *from, const char *to) {
+    if (!is_refused(RENAME))
+        return next_rename(from, to);
+    errno = EIO;
+    return -1;
 }

@@ -1,0 +1,99 @@
+"""What stands in a folder behind a run: each file, link and folder in it, those that were there before with it.
+
+An output takes its name when it is whole; until then an older file is there, and behind a fault nothing else. An output that is an input is refused.
+"""
+
+from typing import NamedTuple
+
+from asked.files import TICKET, FILES
+from asked.full import ECHO
+from asked.jobs import DOT, job
+from asked.pages import page
+
+FEED = b"\x0c"
+OLDER = b"an older file\n"
+PAGE = page([])
+TEXT, STREAM = b"uel\nctl 0C\n", b"\x1b%-12345X\x0c"
+FOLDER = "a folder"
+PART = ".press-1.part"
+LONG_NAME = "n" * 250
+LIMIT = 100_000  # bytes of a file, where they are limited
+
+
+class Link(NamedTuple):
+    """A name that stands for another: by what it says, or as a second name of the same file."""
+    to: str
+    is_hard: bool = False
+
+
+class Row(NamedTuple):
+    shows: str
+    words: str
+    before: dict             # from each name in the folder to what stands there
+    made: dict               # the names of which something else stands there behind it, or which were not there before
+    told: str = ""           # on standard error; then the status is 1
+    given: bytes = b""       # on standard input
+    input: str = ""          # the file that standard input is
+    most: int = 0            # the most bytes of a file
+    signal: int = 0          # the signal that ends it
+    is_full: bool = False    # whether standard output takes no byte
+
+
+TAKEN = {"ticket": TICKET, "dot": FILES["dot"]}
+ROWS = [
+    # an output that is an input
+    Row("a text that is its own output", "asm in in", {"in": TEXT}, {}, "fault 115"),
+    Row("by another name", "asm in ./in", {"in": TEXT}, {}, "fault 115"),
+    Row("by a link to it", "asm in out", {"in": TEXT, "out": Link("in")}, {}, "fault 115"),
+    Row("by a second name", "asm in out", {"in": TEXT, "out": Link("in", True)}, {}, "fault 115"),
+    Row("a text that is read by a link", "asm in out", {"in": Link("out"), "out": TEXT}, {}, "fault 115"),
+    Row("a text on standard input", "asm - in", {"in": TEXT}, {}, "fault 115", input="in"),
+    Row("a ticket that is its own output", "write ticket ticket dot", TAKEN, {}, "fault 614"),
+    Row("an image that is the output", "write ticket dot dot", TAKEN, {}, "fault 614"),
+    Row("by a link to it", "write ticket out dot", TAKEN | {"out": Link("dot")}, {}, "fault 614"),
+    Row("a stream that is its first side", "print p1 p%d", {"p1": FEED}, {}, "fault 301"),
+    Row("its second side, before the first is made", "print p2 p%d", {"p1": OLDER, "p2": FEED * 3}, {}, "fault 301"),
+    Row("its tenth side, of which it has none", "print p10 p%d", {"p10": FEED}, {}, "fault 301"),
+    Row("by a link to it", "print in p%d", {"in": FEED * 3, "p2": Link("in"), "p3": OLDER}, {"p1": PAGE}, "fault 301"),
+    Row("a stream on standard input", "print - p%d", {"p1": FEED}, {}, "fault 301", input="p1"),
+    Row("names that are no side's", "print p0 p%d", {"p0": FEED, "p01": OLDER, "p": OLDER}, {"p1": PAGE}),
+    Row("a stream without a number", "print p p%d", {"p": FEED}, {"p1": PAGE}),
+    Row("a stream with more behind its number", "print p1x p%d", {"p1x": FEED}, {"p1": PAGE}),
+    # an output that is made
+    Row("a new file", "asm - out", {}, {"out": STREAM}, given=TEXT),
+    Row("in place of an older one", "asm - out", {"out": OLDER}, {"out": STREAM}, given=TEXT),
+    Row("through a link", "asm - out", {"out": Link("real"), "real": OLDER}, {"real": STREAM}, given=TEXT),
+    Row("in place of a link to nothing", "asm - out", {"out": Link("none")}, {"out": STREAM}, given=TEXT),
+    Row("in place of one of two names", "asm - out", {"out": OLDER, "other": Link("out", True)}, {"out": STREAM}, given=TEXT),
+    Row("beside a part of another run", "asm - out", {PART: OLDER}, {"out": STREAM}, given=TEXT),
+    Row("with a name of 250 bytes", f"print - {LONG_NAME}%d", {}, {f"{LONG_NAME}1": PAGE}, given=FEED),
+    Row("of a ticket", "write ticket out dot", TAKEN | {"out": OLDER}, {"out": job([DOT])}),
+    Row("of three sides", "print - p%d", {"p2": OLDER, "p4": OLDER}, {"p1": PAGE, "p2": PAGE, "p3": PAGE}, given=FEED * 3),
+    # faults
+    Row("no stream", "print none p%d", {"p1": OLDER}, {}, "fault 304"),
+    Row("a folder as a stream", "print / p%d", {"p1": OLDER}, {}, "fault 304"),
+    Row("no template", "print - p1", {"p1": OLDER}, {}, "fault 121", FEED),
+    Row("no folder for the sides", "print - no/p%d", {}, {}, "fault 301", FEED),
+    Row("a folder in which nothing can be made", "print - /sys/p%d", {}, {}, "fault 301", FEED),
+    Row("a second side that is a folder", "print - p%d", {"p1": OLDER, "p2": FOLDER, "p3": OLDER}, {"p1": PAGE}, "fault 301", FEED * 3),
+    Row("a first side that is too long", "print - p%d", {"p1": OLDER, "p2": OLDER}, {}, "fault 301", FEED * 2, most=LIMIT),
+    Row("a new side that is too long", "print - p%d", {}, {}, "fault 301", FEED, most=LIMIT),
+    Row("a signal in the midst of a side", "print - p%d", {"p1": OLDER}, {PART: PAGE[:LIMIT]}, given=FEED, most=LIMIT, signal=25),
+    Row("a reply behind the first side", "print - p%d", {"p1": OLDER, "p2": OLDER}, {"p1": PAGE}, "fault 302", FEED + ECHO + FEED, is_full=True),
+    Row("no text", "asm none out", {"out": OLDER}, {}, "fault 304"),
+    Row("a folder as a text", "asm / out", {"out": OLDER}, {}, "fault 304"),
+    Row("a bad line", "asm - out", {"out": OLDER}, {}, "fault 401 line 2", b"uel\nfoo\n"),
+    Row("no folder for the stream", "asm - no/out", {}, {}, "fault 115", TEXT),
+    Row("a folder as the stream", "asm - out", {"out": FOLDER}, {}, "fault 115", TEXT),
+    Row("a folder in which no stream can be made", "asm - /sys/out", {}, {}, "fault 115", TEXT),
+    Row("a stream that is too long", "asm - out", {"out": OLDER}, {}, "fault 115", b"txt 41\n" * LIMIT + TEXT, most=LIMIT),
+    Row("no ticket", "write none out dot", TAKEN | {"out": OLDER}, {}, "fault 304"),
+    Row("a text that is no ticket", "write dot out dot", TAKEN | {"out": OLDER}, {}, "fault 601"),
+    Row("no image", "write ticket out none", TAKEN | {"out": OLDER}, {}, "fault 304"),
+    Row("a folder as an image", "write ticket out /", TAKEN | {"out": OLDER}, {}, "fault 114"),
+    Row("a ticket as an image", "write ticket out ticket", TAKEN | {"out": OLDER}, {}, "fault 111"),
+    Row("too few images", "write ticket out", TAKEN | {"out": OLDER}, {}, "fault 611"),
+    Row("no folder for the job", "write ticket no/out dot", TAKEN, {}, "fault 614"),
+    Row("a folder as the job", "write ticket out dot", TAKEN | {"out": FOLDER}, {}, "fault 614"),
+    Row("a job that is too long", "write ticket out dot", TAKEN | {"out": OLDER}, {}, "fault 614", most=20),
+]
