@@ -10,6 +10,7 @@ class Row(NamedTuple):
     name: str
     words: list
     given: bytes = b""
+    writes: int = 1   # how many there are: one for 64 KB of a listing, a text, a stream or a side, and one for each answer or reply
 
 
 def spelled(text):
@@ -52,22 +53,22 @@ SUBMISSION = b"message examples/messages/submit-flyer.json examples/images/front
 ROWS = [
     *(Row(name, LIST, spelled(text)) for name, text in STREAMS),
     *(Row(name, LIST, stream) for name, stream in LINES),
-    Row("files of two sides", ["print", "-", "page-%d.pbm"], spelled("ESC&l1S ESC*p9x9Y ESC*c9a9b0P FF ESC*c9a9b0P FF")),
+    Row("files of two sides", ["print", "-", "page-%d.pbm"], spelled("ESC&l1S ESC*p9x9Y ESC*c9a9b0P FF ESC*c9a9b0P FF"), 34),
     Row("the job of a ticket", ["write", *TICKET, "job", *IMAGES]),
     Row("a text that is assembled", ["asm", "-", "stream"], b"par *p10X\npar *b2W 02F0\nesc E\n; a remark\ntxt 41\n"),
     Row("commands that are told", ["disasm", "-"], b"\x1b*p10x20Y\x1bE\x1b*b2W\x02\xf0text\x0c"),
-    Row("a job that is printed by turns", ["press"], SUBMISSION + b"turn 3\npause\nturn 9\ncontinue\nturn 100000\n"),
-    Row("messages that are refused", ["press"], b"message examples/messages/hold-1.json\nturn 1\nwhat\nturn\n"),
-    Row("a debugger", ["debug", "examples/streams/letterhead-and-stamps.pcl"], b"go 20\nstep\nover\nover\ngo 100\nstep\ngo 1000\n"),
-    Row("lines of a debugger", ["debug", "examples/streams/small-box.pcl"], b"break par *cP\nclear 0\nclear 0\nrecent\nfoo\n"),
+    Row("a job that is printed by turns", ["press"], SUBMISSION + b"turn 3\npause\nturn 9\ncontinue\nturn 100000\n", 7),
+    Row("messages that are refused", ["press"], b"message examples/messages/hold-1.json\nturn 1\nwhat\nturn\n", 4),
+    Row("a debugger", ["debug", "examples/streams/letterhead-and-stamps.pcl"], b"go 20\nstep\nover\nover\ngo 100\nstep\ngo 1000\n", 7),
+    Row("lines of a debugger", ["debug", "examples/streams/small-box.pcl"], b"break par *cP\nclear 0\nclear 0\nrecent\nfoo\n", 4),
     # more than 300 bytes are read and more than 400 written, of which each read and write then moves one
     Row("many sheets and replies that are listed", LIST, ESC + b"*p1x1Y" + b"<" * 300 + FORM_FEED * 14 + EXIT + b"@PJL ECHO one\n"),
-    Row("many replies beside no file", ["print", "-", "page-%d.pbm"], EXIT + b"@PJL ECHO one two three four five\n" * 13),
+    Row("many replies beside no file", ["print", "-", "page-%d.pbm"], EXIT + b"@PJL ECHO one two three four five\n" * 13, 13),
     Row("much data that is assembled", ["asm", "-", "stream"], b"par *b410W " + b"41" * 410 + b"\n"),
     Row("many commands that are told", ["disasm", "-"], b"A" * 310),
-    Row("many lines of a session", ["press"], b"message examples/messages/queue-status.json\n" + b"pause\nwhat\n" * 50),
-    Row("many lines of a debugger", ["debug", "examples/streams/letterhead-and-stamps.pcl"], b"step\n" * 62),
-    Row("a queue that is told", ["press"], SUBMISSION + b"message examples/messages/queue-status.json\nabort\n"),
+    Row("many lines of a session", ["press"], b"message examples/messages/queue-status.json\n" + b"pause\nwhat\n" * 50, 101),
+    Row("many lines of a debugger", ["debug", "examples/streams/letterhead-and-stamps.pcl"], b"step\n" * 62, 62),
+    Row("a queue that is told", ["press"], SUBMISSION + b"message examples/messages/queue-status.json\nabort\n", 3),
 ]
 
 
