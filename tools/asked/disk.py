@@ -37,6 +37,7 @@ class Row(NamedTuple):
     most: int = 0            # the most bytes of a file
     signal: int = 0          # the signal that ends it
     is_full: bool = False    # whether standard output takes no byte
+    fixed: tuple = ()        # the names that may not be written, `.` for the folder
 
 
 TAKEN = {"ticket": TICKET, "dot": FILES["dot"]}
@@ -80,6 +81,10 @@ ROWS = [
     Row("a new side that is too long", "print - p%d", {}, {}, "fault 301", FEED, most=LIMIT),
     Row("a signal in the midst of a side", "print - p%d", {"p1": OLDER}, {PART: PAGE[:LIMIT]}, given=FEED, most=LIMIT, signal=25),
     Row("a reply behind the first side", "print - p%d", {"p1": OLDER, "p2": OLDER}, {"p1": PAGE}, "fault 302", FEED + ECHO + FEED, is_full=True),
+    Row("a second side that may not be written", "print - p%d", {"p1": OLDER, "p2": OLDER, "p3": OLDER}, {"p1": PAGE}, "fault 301", FEED * 3, fixed=("p2",)),
+    Row("a folder that may not be written", "print - p%d", {"p1": OLDER}, {}, "fault 301", FEED, fixed=(".",)),
+    Row("a stream that may not be written", "asm - out", {"out": OLDER}, {}, "fault 115", TEXT, fixed=("out",)),
+    Row("a job that may not be written", "write ticket out dot", TAKEN | {"out": OLDER}, {}, "fault 614", fixed=("out",)),
     Row("no text", "asm none out", {"out": OLDER}, {}, "fault 304"),
     Row("a folder as a text", "asm / out", {"out": OLDER}, {}, "fault 304"),
     Row("a bad line", "asm - out", {"out": OLDER}, {}, "fault 401 line 2", b"uel\nfoo\n"),
