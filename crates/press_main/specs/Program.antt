@@ -41,7 +41,8 @@ pub record Debugging (status : ℕ) (stream had left old new : Option (List ℕ)
   pub stops : status ≢ 0 → (rest : Option (List ℕ)) × (why : DebugError) × StopsDebugging stream rest had left old new why
 
 -- What is asked for was made of what a reader had: its status, what standard output took, and the outputs that were made. Standard
--- output takes nothing where an output is named, and no output is made where none is; the inputs are what they have by their names.
+-- output takes nothing where an output is named, and no output is made where none is; the inputs are what they have by their names,
+-- and no output that is made is one of them.
 abbrev pub Makes : Made → (inputs : Text → Option (List ℕ)) → ℕ → (had left old new : Option (List ℕ)) → (before after : Option (List MadeOutput)) → Type 0
 Makes (Listed front) inputs status had left old new before after =
     HoldsBehind front had left (λ had left. PrintsListing status had left old new) × (after ≡ before)

@@ -2,8 +2,10 @@
 ghost use Rattle.std.specs.Prelude.{◌≡◌, ℕ, List, Option, IfOk};
 
 use crate::inputs::InputError;
-use std::fs::{self, Files};
-use std::io::{self, Read};
+use press_stream::PIECE;
+use std::alloc::Global;
+use std::fs::{self, Files, OpenFile};
+use std::io::{self, BufReader, Read};
 use std::str;
 
 /// Where inputs are opened by their names.
@@ -17,7 +19,7 @@ pub trait NamedInputs {
     ///
     /// # Errors
     ///
-    /// `ReadFault` (304) where it cannot be opened.
+    /// `ReadFault` (304) where it cannot be opened; `NoMemory`.
     fn open(&self, name: &str) -> Result<Self::Input, InputError>
         ensures { IfOk result (λ input. Self.Input.remaining input ≡ bytes self.now name.now) };
 }
@@ -25,13 +27,15 @@ pub trait NamedInputs {
 /// The files of a file system. What a file has is not known.
 #[derive(Drop)]
 pub struct NamedFiles<'a, F> {
+    pub alloc: Global,
     pub files: &'a F,
 }
 
-/// A file of these. What it has is not known.
+/// A file of these, of which a piece is read at once. From a pipe or a device no more is read than is asked for, since what stands behind an
+/// image there may be that of another reader. What it has is not known.
 #[derive(Drop)]
 pub struct NamedFile<T> {
-    pub file: T,
+    file: BufReader<T>,
 }
 
 impl<T: Read> Read for NamedFile<T> {
@@ -48,18 +52,27 @@ impl<F: Files> NamedInputs for NamedFiles<'_, F> {
     type Input = NamedFile<F::File>;
 
     fn open(&self, name: &str) -> Result<NamedFile<F::File>, InputError> {
-        match fs::open(self.files, name) {
+        let Ok(file) = fs::open(self.files, name) else {
+            return Err(InputError::ReadFault);
+        };
+        let ahead = if is_regular(&file) { PIECE } else { 0 };
+        match BufReader::with_capacity(self.alloc, ahead, file) {
             Ok(file) => Ok(NamedFile { file }),
-            Err(_) => Err(InputError::ReadFault),
+            Err(_) => Err(InputError::NoMemory),
         }
     }
+}
+
+/// Whether what is open is a file, and no pipe or device.
+fn is_regular<T: OpenFile>(file: &T) -> bool {
+    file.metadata().is_ok_and(|found| found.is_file())
 }
 
 /// Opens the input whose name is this word. A word that is no text names none.
 ///
 /// # Errors
 ///
-/// `ReadFault` (304) where it cannot be opened.
+/// `ReadFault` (304) where it cannot be opened; `NoMemory`.
 pub fn open_named<I: NamedInputs>(inputs: &I, word: &[u8]) -> Result<I::Input, InputError>
     ensures { IfOk result (λ input. I.Input.remaining input ≡ I.bytes inputs.now word.now) }
 {

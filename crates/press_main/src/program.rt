@@ -11,7 +11,6 @@ ghost use Rattle.press_main.specs.Words.{asked};
 use crate::assembly::disasm_bytes;
 use crate::debugging::debug_lines;
 use crate::files::{Finished, print_files};
-use crate::inputs::InputError;
 use crate::listing::print_list;
 use crate::making::{asm_file, job_file};
 use crate::named_inputs::NamedInputs;
@@ -117,8 +116,8 @@ fn perform<I: NamedInputs, O: NamedOutputs + Drop, S: Read, W: Write + Drop, E: 
         Input::Standard => make(alloc, inputs, outputs, input, output, out, err),
         Input::File(name) => match inputs.open(name) {
             Ok(mut file) => make(alloc, inputs, outputs, &mut file, output, out, err),
-            Err(_) => Finished {
-                status: told(&InputError::ReadFault, err),
+            Err(error) => Finished {
+                status: told(&error, err),
                 out,
                 outputs,
             },
@@ -235,7 +234,7 @@ fn debug_file<I: NamedInputs, R: Read, W: Write, E: Write>(
 {
     match inputs.open(name) {
         Ok(mut input) => debug_behind(alloc, front, &mut input, reader, out, err),
-        Err(_) => told(&InputError::ReadFault, err),
+        Err(error) => told(&error, err),
     }
 }
 
