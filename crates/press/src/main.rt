@@ -51,7 +51,10 @@ fn run(rt: &HostRuntime, words: &[String]) -> io::Result<u8> {
     let out = BufWriter::with_capacity(rt.alloc(), BUFFER, io::writer(rt))?;
     let mut outputs = FileOutputs::new(rt.alloc(), rt)?;
     outputs.spare(STANDARD_INPUT)?;
-    let inputs = NamedFiles { files: rt };
+    let inputs = NamedFiles {
+        alloc: rt.alloc(),
+        files: rt,
+    };
     let mut input = rt.stdin();
     let mut err = rt.stderr();
     let finished = run_words(
