@@ -12,6 +12,8 @@ mod program_debugging;
 #[cfg(test)]
 mod program_devices;
 #[cfg(test)]
+mod program_files;
+#[cfg(test)]
 mod program_sessions;
 #[cfg(test)]
 mod queue;

@@ -1,0 +1,126 @@
+//! What the program makes and writes of streams, texts and tickets, over outputs and inputs that are kept in lists.
+use press_main::{InputError, NamedInputs, asm_file, asm_text, job_file, print_files, write_files};
+use press_sink::{ListOutputs, ListedOutput, NamedOutputs};
+use std::process::Abort;
+use std::test::Fail;
+
+/// A text of two commands, and the stream that it stands for.
+const TEXT: &[u8] = b"esc E\nctl 0C\n";
+
+const STREAM: &[u8] = b"\x1BE\x0C";
+
+const TICKET: &[u8] =
+    br#"{"Amount":1,"JobID":"J","NPage":1,"Type":"DigitalPrinting","Version":"1.5"}"#;
+
+/// Three black dots from dot 75 on, as they stand in their byte.
+const BLACK: u8 = 0b0001_1100;
+
+/// An image of a black dot, and the end of its job.
+const IMAGE: &[u8] = b"P4\n1 1\n\x80";
+
+const JOB_END: &[u8] = b"\x1BE\x1B%-12345X";
+
+/// One image, whatever it is called.
+#[derive(Drop)]
+struct OneImage {
+    file: &'static [u8],
+}
+
+impl NamedInputs for OneImage {
+    ghost use Rattle.std.specs.Prelude.{Some};
+
+    ghost bytes = { λ image _. Some image.file.now };
+
+    type Input = &'static [u8];
+
+    fn open(&self, _name: &str) -> Result<&'static [u8], InputError> {
+        Ok(self.file)
+    }
+}
+
+/// What an output of this name holds.
+fn held<'a>(
+    rt: &impl Abort,
+    outputs: &'a [ListedOutput],
+    number: usize,
+    name: &str,
+) -> Option<&'a [u8]> {
+    let output = outputs.get(number)?;
+    assert_eq!(rt; output.name.as_str(), name);
+    output.holds.as_ref().map(|bytes| bytes.as_slice())
+}
+
+#[test]
+fn a_side_is_made_as_an_output(rt: HostRuntime) -> Result<(), Fail> {
+    let alloc = rt.alloc();
+    let mut reader: &[u8] = b"\x1B&l1S\x0C\x1B*p0x0Y\x1B*c3a2b0P\x0C";
+    let mut err = Vec::new(alloc);
+    let outputs = ListOutputs::new(alloc);
+    let made = print_files(
+        alloc,
+        outputs,
+        &mut reader,
+        "p%d",
+        Vec::new(alloc),
+        &mut err,
+    );
+    assert_eq!(rt; (made.status, err.len(), made.out.len()), (0, 0, 0));
+    let outputs = made.outputs.outputs();
+    assert_eq!(rt; outputs.len(), 2);
+    for (number, name) in ["p1", "p2"].iter().enumerate() {
+        let Some(file) = held(&rt, outputs, number, name) else {
+            return Err(Fail::from("it was not closed"));
+        };
+        assert!(rt; file.starts_with(b"P4\n2550 3300\n"));
+        assert_eq!(rt; file.len(), 13 + 319 * 3300);
+        let black = file.iter().filter(|byte| **byte == BLACK).count();
+        assert_eq!(rt; black, if number == 0 { 0 } else { 2 });
+    }
+    Ok(())
+}
+
+#[test]
+fn a_text_is_made_an_output_and_written(rt: HostRuntime) -> Result<(), Fail> {
+    let alloc = rt.alloc();
+    let (mut reader, mut again) = (TEXT, TEXT);
+    let (mut err, mut out) = (Vec::new(alloc), Vec::new(alloc));
+    let mut outputs = ListOutputs::new(alloc);
+    outputs.spare("text")?;
+    let status = asm_file(alloc, &mut reader, &mut outputs, "stream", &mut err);
+    assert_eq!(rt; (status, err.len()), (0, 0));
+    assert_eq!(rt; outputs.outputs().len(), 1);
+    assert_eq!(rt; held(&rt, outputs.outputs(), 0, "stream"), Some(STREAM));
+    let status = asm_text(alloc, &mut again, &mut out, &mut err);
+    assert_eq!(rt; (status, err.len()), (0, 0));
+    assert_eq!(rt; out.as_slice(), STREAM);
+    Ok(())
+}
+
+#[test]
+fn a_ticket_is_made_an_output_and_written(rt: HostRuntime) -> Result<(), Fail> {
+    let alloc = rt.alloc();
+    let (mut ticket, mut again) = (TICKET, TICKET);
+    let (mut err, mut out) = (Vec::new(alloc), Vec::new(alloc));
+    let mut outputs = ListOutputs::new(alloc);
+    let names: [&[u8]; 1] = [b"dot"];
+    let image = OneImage { file: IMAGE };
+    let status = job_file(
+        alloc,
+        &mut ticket,
+        &image,
+        &names,
+        &mut outputs,
+        "job",
+        &mut err,
+    );
+    assert_eq!(rt; (status, err.len()), (0, 0));
+    let status = write_files(alloc, &mut again, &image, &names, &mut out, &mut err);
+    assert_eq!(rt; (status, err.len()), (0, 0));
+    assert!(rt; out.ends_with(JOB_END));
+    assert_eq!(rt; outputs.outputs().len(), 1);
+    assert_eq!(rt;
+        held(&rt, outputs.outputs(), 0, "job"),
+        Some(out.as_slice())
+    );
+    Ok(())
+}
