@@ -85,6 +85,7 @@ impl Bodies {
     }
 
     /// Takes a command of the stream, where no body runs, and answers what goes out. Where memory ran out no body runs.
+    #[inline(always)]
     pub fn step(
         &mut self,
         machine: &mut Machine,
@@ -110,6 +111,7 @@ impl Bodies {
     }
 
     /// Takes the first command of the innermost body, and answers what goes out. Where memory ran out no body runs.
+    #[inline(always)]
     pub fn step_inner(
         &mut self,
         machine: &mut Machine,

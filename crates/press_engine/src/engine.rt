@@ -75,6 +75,7 @@ impl Engine {
     /// # Errors
     ///
     /// `NoMemory` where memory ran out: the engine has failed then, and answers `Failed` (303) from then on.
+    #[inline(always)]
     pub fn take_step(&mut self, command: Command<'_>) -> Result<StepOutput, EngineError>
         requires none { bodies self.old ≡ [] }
         ensures steps { MatchResult result
@@ -106,6 +107,7 @@ impl Engine {
     /// # Errors
     ///
     /// As [`Engine::take_step`].
+    #[inline(always)]
     pub fn take_inner(&mut self) -> Result<StepOutput, EngineError>
         requires running { bodies self.old ≢ [] }
         ensures steps { MatchResult result
@@ -135,6 +137,7 @@ impl Engine {
     ///
     /// `SinkFault` (301) and `ReplyFault` (302): a sink had a fault, and nothing came after it. After these and after
     /// `NoMemory` the engine has failed.
+    #[inline(always)]
     pub fn hand_over<S: SheetSink, R: ReplySink>(
         &mut self,
         sent: &[Sent],

@@ -17,6 +17,7 @@ use press_engine::{Engine, StepOutput};
 use press_scan::Scanner;
 
 /// Hands one command of the stream to an engine that has not failed, and answers what goes out.
+#[inline(always)]
 fn carry(engine: &mut Engine, command: Command<'_>) -> Result<StepOutput, JobError>
     requires running { IsSome (live engine.old) }
     requires none { bodies engine.old ≡ [] }
@@ -27,6 +28,7 @@ fn carry(engine: &mut Engine, command: Command<'_>) -> Result<StepOutput, JobErr
 }
 
 /// Hands the next command that a scanner holds to an engine that has not failed, if it holds one.
+#[inline(always)]
 fn carry_next(scanner: &mut Scanner, engine: &mut Engine) -> Result<Option<StepOutput>, JobError>
     requires running { IsSome (live engine.old) }
     requires none { bodies engine.old ≡ [] }
@@ -41,6 +43,7 @@ fn carry_next(scanner: &mut Scanner, engine: &mut Engine) -> Result<Option<StepO
 
 /// Takes a step of the stream of a job that runs: its next command, or, where the input ended and nothing is held, the universal
 /// exit that is added.
+#[inline(always)]
 pub fn take(
     scanner: &mut Scanner,
     engine: &mut Engine,

@@ -108,6 +108,7 @@ impl Job {
     /// # Errors
     ///
     /// `Failed` (303). After `NoMemory` the job has failed, and nothing goes out.
+    #[inline(always)]
     pub fn take_step(&mut self) -> Result<JobStep, JobError>
         ensures takes { TakesStep self.old result self.new }
     {
@@ -128,6 +129,7 @@ impl Job {
     }
 
     /// Takes the next command of the innermost body that runs.
+    #[inline(always)]
     fn take_inside(&mut self) -> Result<JobStep, JobError>
         requires { self.old.bodies ≢ [] }
         ensures takes { TakesStep self.old result self.new }
@@ -146,6 +148,7 @@ impl Job {
     /// # Errors
     ///
     /// `SinkFault` (301) and `ReplyFault` (302): a sink had a fault, and nothing came after it.
+    #[inline(always)]
     pub fn hand_over<S: SheetSink, P: ReplySink>(
         &mut self,
         sent: &[Sent],
