@@ -7,6 +7,7 @@ use press_fill::{Rect, fill};
 use press_page::{Media, PageEnv};
 use press_pattern::{Ink, Pattern, Patterns};
 use press_raster::{Raster, RasterSettings};
+use press_sink::Sheet;
 use std::alloc::{AllocError, Global};
 use std::marker::Model;
 
@@ -84,5 +85,101 @@ impl Canvas {
             settings ink.now bytes.now (drawn raster.old self.old cursor.old)) }
     {
         raster.transfer(&mut self.bitmap, environment, cursor, settings, ink, bytes)
+    }
+}
+
+/// The page that is being printed, from its first mark on, and the memory of the sheet that went out last, which serves the pages that
+/// come. Contracts see the page alone.
+#[derive(Drop)]
+pub struct Current {
+    page: Option<Canvas>,
+    spare: Option<Bitmap>,
+    spare_back: Option<Bitmap>,
+}
+
+impl Model for Current {
+    ghost use Rattle.std.specs.Prelude.{Option};
+    ghost use Rattle.std.specs.Coded.{coded_option};
+    ghost use Rattle.press_bits.specs.Page.{Page, page_code};
+
+    ghost Value = { Option Page };
+
+    ghost coded = { coded_option page_code };
+
+    ghost view = { λ current. current.page };
+}
+
+impl Current {
+    ghost use Rattle.std.specs.Prelude.{◌≡◌, None, Some, is_some, IfOk};
+    ghost use Rattle.press_engine.specs.Place.{blank_page};
+
+    /// No page, and no memory.
+    pub fn none() -> Self
+        ensures { result ≡ None }
+    {
+        Current {
+            page: None,
+            spare: None,
+            spare_back: None,
+        }
+    }
+
+    /// An equal page, in memory of its own.
+    pub fn copy(&self) -> Result<Self, AllocError>
+        ensures { IfOk result (λ copy. copy ≡ self.now) }
+    {
+        let page = match &self.page {
+            Some(page) => Some(page.copy()?),
+            None => None,
+        };
+        Ok(Current {
+            page,
+            spare: None,
+            spare_back: None,
+        })
+    }
+
+    /// Whether there is a page.
+    pub fn is_some(&self) -> bool
+        ensures { result ≡ is_some self.now }
+    {
+        self.page.is_some()
+    }
+
+    /// Takes the page out.
+    pub fn take(&mut self) -> Option<Canvas>
+        ensures page { result ≡ self.old }
+        ensures left { self.new ≡ None }
+    {
+        self.page.take()
+    }
+
+    /// Puts a page in.
+    pub fn put(&mut self, page: Canvas)
+        ensures { self.new ≡ Some page }
+    {
+        self.page = Some(page);
+    }
+
+    /// The blank physical page of the media, which is not put in. Its marks take the memory that is kept.
+    pub fn blank(&mut self, alloc: Global, media: Media) -> Result<Canvas, AllocError>
+        ensures page { IfOk result (λ page. page ≡ blank_page media) }
+        ensures same { self.new ≡ self.old }
+    {
+        let mut page = Canvas::blank(alloc, media)?;
+        if let Some(spare) = self.spare.take() {
+            page.bitmap.reuse(spare);
+        } else if let Some(spare) = self.spare_back.take() {
+            page.bitmap.reuse(spare);
+        }
+        Ok(page)
+    }
+
+    /// Keeps the memory of a sheet that went out.
+    pub fn keep(&mut self, sheet: Sheet)
+        ensures { self.new ≡ self.old }
+    {
+        self.spare = Some(sheet.front);
+        self.spare_back = sheet.back;
     }
 }

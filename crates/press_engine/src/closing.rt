@@ -38,7 +38,26 @@ impl State {
     {
         match self.page.take() {
             Some(page) => Ok(page),
-            None => Canvas::blank(alloc, self.environment.media),
+            None => self.page.blank(alloc, self.environment.media),
+        }
+    }
+
+    /// Keeps the memory of what went out, for the pages that come.
+    pub fn keep(&mut self, sent: Sent)
+        ensures { self.new ≡ self.old }
+    {
+        if let Sent::Sheets { closed, alone } = sent {
+            self.keep_sheet(closed);
+            self.keep_sheet(alone);
+        }
+    }
+
+    /// Keeps the memory of a sheet that went out, where there is one.
+    fn keep_sheet(&mut self, finished: Option<FinishedSheet>)
+        ensures { self.new ≡ self.old }
+    {
+        if let Some(finished) = finished {
+            self.page.keep(finished.sheet);
         }
     }
 

@@ -159,6 +159,15 @@ impl Engine {
         outcome
     }
 
+    /// Takes the memory of what went out, for the pages that come. Nothing changes that can be seen.
+    pub fn reuse(&mut self, sent: Vec<Sent>)
+        ensures { self.new ≡ self.old }
+    {
+        for part in sent {
+            self.machine.state.keep(part);
+        }
+    }
+
     /// Takes a command of the stream, where no body runs: one step. The answer is its kind. Where the body of a macro starts,
     /// or an overlay before its page closes, that runs from then on: its commands are taken by [`Engine::step_inner`].
     ///
@@ -188,6 +197,7 @@ impl Engine {
     {
         let step = self.take_step(command)?;
         self.hand_over(&step.sent, tag, sheets, replies)?;
+        self.reuse(step.sent);
         Ok(step.kind)
     }
 
@@ -217,6 +227,7 @@ impl Engine {
     {
         let step = self.take_inner()?;
         self.hand_over(&step.sent, tag, sheets, replies)?;
+        self.reuse(step.sent);
         Ok(step.kind)
     }
 

@@ -39,7 +39,7 @@ impl State {
         let rect = self.rect_now();
         let mode = self.drawing.mode;
         page.fill(&self.environment, &self.patterns, rect, pattern, mode)?;
-        self.page = Some(page);
+        self.page.put(page);
         Ok(())
     }
 

@@ -136,7 +136,7 @@ impl State {
             &ink,
             bytes,
         )?;
-        self.page = Some(page);
+        self.page.put(page);
         Ok(())
     }
 

@@ -3,7 +3,7 @@
 ghost use Rattle.std.specs.Prelude.{◌≡◌, IfOk};
 ghost use Rattle.press_engine.specs.Outcome.{first_home};
 
-use crate::canvas::Canvas;
+use crate::canvas::{Canvas, Current};
 use crate::drawing::Drawing;
 use press_cursor::{Cursor, LogicalPage};
 use press_macros::MacroStore;
@@ -40,7 +40,7 @@ pub struct State {
     /// Raster graphics, off or on.
     pub graphics: Raster,
     /// The page that is being printed, from its first mark on; none is a blank page without a mark.
-    pub page: Option<Canvas>,
+    pub page: Current,
     /// The front that waits for its back.
     pub pending: Option<Canvas>,
 }
@@ -91,7 +91,7 @@ impl State {
             patterns: Patterns::new(alloc),
             macros: MacroStore::new(alloc),
             graphics: Raster::new(alloc),
-            page: None,
+            page: Current::none(),
             pending: None,
         }
     }
@@ -108,10 +108,10 @@ impl State {
     }
 
     /// The page that is being printed, and the front that waits, in memory of their own.
-    fn copy_pages(&self) -> Result<(Option<Canvas>, Option<Canvas>), AllocError>
+    fn copy_pages(&self) -> Result<(Current, Option<Canvas>), AllocError>
         ensures { IfOk result (λ pages. pages ≡ (self.now.page, self.now.pending)) }
     {
-        let page = copy_page(&self.page)?;
+        let page = self.page.copy()?;
         let pending = copy_page(&self.pending)?;
         Ok((page, pending))
     }

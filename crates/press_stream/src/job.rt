@@ -172,6 +172,13 @@ impl Job {
         }
     }
 
+    /// Takes the memory of what went out, for the pages that come. Nothing changes that can be seen.
+    pub fn reuse(&mut self, sent: Vec<Sent>)
+        ensures { self.new ≡ self.old }
+    {
+        self.engine.reuse(sent);
+    }
+
     /// Takes a table step as [`Job::take_step`] does, and hands what goes out in it to the sinks.
     ///
     /// Source: PCL 5 Printer Language Technical Reference Manual, Macros.
@@ -202,6 +209,7 @@ impl Job {
         match self.take_step()? {
             JobStep::Ran(step) => {
                 self.hand_over(&step.sent, tag, sheets, replies)?;
+                self.reuse(step.sent);
                 Ok(Step::Ran(step.kind))
             }
             JobStep::Hungry => Ok(Step::Hungry),

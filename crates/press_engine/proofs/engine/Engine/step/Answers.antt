@@ -37,5 +37,5 @@ pub returns-clause-takes : goal.returns-clause-takes
 returns-clause-takes g c =
     let Q : Engine → Type 0 = λ engine. TakesNext (live c.args.self.now) (trace_at levels (token c.args.command)) c.args.tag (Ok c.in_ok-step.step.kind) (live engine) (bodies engine) (both (g.S.SheetSink.told c.args.sheets.now) (g.R.ReplySink.told c.args.replies.now)) (both (g.S.SheetSink.told c.hand_over.new.sheets) (g.R.ReplySink.told c.hand_over.new.replies)) in
     let P : List Sent → Type 0 = λ sent. Sends c.args.tag (all_outputs sent) (Ok tt) (both (g.S.SheetSink.told c.args.sheets.now) (g.R.ReplySink.told c.args.replies.now)) (both (g.S.SheetSink.told c.hand_over.new.sheets) (g.R.ReplySink.told c.hand_over.new.replies)) in
-    subst Q (sym c.in_ok-hand_over.ensures.left)
+    subst Q (sym (c.reuse.ensures ∙ c.in_ok-hand_over.ensures.left))
     (takes-ok (live c.args.self.now) (trace_at levels (token c.args.command)) c.in_ok-step.step (live c.take_step.new.self) (bodies c.take_step.new.self) c.args.tag _ _ c.in_ok-step.ensures.steps (subst P c.deref.ensures.value c.in_ok-hand_over.ensures.sends))
