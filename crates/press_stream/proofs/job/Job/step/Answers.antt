@@ -28,5 +28,5 @@ returns-in_err-hand_over-in-Ran-clause-memory g c =
 pub returns-in_ok-hand_over-in-Ran-clause-takes : goal.returns-in_ok-hand_over-in-Ran-clause-takes
 returns-in_ok-hand_over-in-Ran-clause-takes g c =
     let hands = c.hand_over in
-    RanOne-sent c.args.self.now c.take_step.new.self hands.new.self c.in-Ran.step c.deref.result.now c.args.tag _ _ (rw (c.in_ok-step.was, c.in-Ran.is) at c.take_step.ensures.takes)
-    (rw c.in_ok-hand_over-in-Ran.was at hands.ensures.left) c.deref.ensures.value (rw c.in_ok-hand_over-in-Ran.was at hands.ensures.hands)
+    RanOne-sent c.args.self.now c.take_step.new.self c.reuse.new.self c.in-Ran.step c.deref.result.now c.args.tag _ _ (rw (c.in_ok-step.was, c.in-Ran.is) at c.take_step.ensures.takes)
+    (c.reuse.ensures ∙ (rw c.in_ok-hand_over-in-Ran.was at hands.ensures.left)) c.deref.ensures.value (rw c.in_ok-hand_over-in-Ran.was at hands.ensures.hands)
