@@ -1,7 +1,7 @@
 //! Pages of dots that stand in bands of sixty-four lines. A band that is not there is white.
 #![tactic(auto)]
 
-ghost use Rattle.std.specs.Prelude.{◌≡◌, ℕ, ◌<◌, ◌≤◌, ◌+◌, ◌-◌, ◌*◌, ◌≢◌, ◌↔◌, ◌⊎◌, [], replicate, length, take, min, pos, true, false, vec_len, MatchOption, IfOk, IsTrue, OnOk, OnErr};
+ghost use Rattle.std.specs.Prelude.{◌≡◌, ℕ, ◌<◌, ◌≤◌, ◌+◌, ◌-◌, ◌*◌, ◌/◌, ◌≢◌, ◌↔◌, ◌⊎◌, [], replicate, length, take, min, pos, true, false, vec_len, MatchOption, IfOk, IsTrue, OnOk, OnErr};
 ghost use Rattle.std.specs.List.{range_with_len, sum_by};
 ghost use Rattle.press_bits.specs.Page.{HasNoDotOutside, black_at, black_in_line, blank, count_black, is_page_size};
 ghost use Rattle.press_bits.specs.Mark.{IsSolid, IsWhite, painted, row, row_mark, column_mark};
@@ -220,6 +220,17 @@ impl Bands {
             return front(&[0; BAND * WIDEST_ROW], count);
         }
         front(band.bytes(), count)
+    }
+
+    /// Whether a band has the bytes of another page's; so has one that is not there on both.
+    pub(crate) fn is_same_band(&self, after: &Bands, band: usize) -> bool
+        requires width { after.now.page.width ≡ self.now.page.width }
+        requires height { after.now.page.height ≡ self.now.page.height }
+        requires here { band_lines * band < self.now.page.height }
+        ensures { IsTrue result → (x n : ℕ) → x < self.now.page.width → n < self.now.page.height
+            → n / band_lines ≡ band → black_at after.now.page x n ≡ black_at self.now.page x n }
+    {
+        self.bands[band].bytes() == after.bands[band].bytes()
     }
 
     /// How many dots of a line are black.

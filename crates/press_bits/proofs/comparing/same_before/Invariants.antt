@@ -1,0 +1,5 @@
+use Rattle.std.proofs.Common.{◌≡◌, ℕ, ◌<◌, slice_index}
+use Rattle.press_bits.proofs.comparing.same_before.Given as goal
+
+abbrev pub invariant-loop-index : goal.invariant-loop-index
+invariant-loop-index l = (k : ℕ) → k < l.index → slice_index l.after k ≡ slice_index l.before k
