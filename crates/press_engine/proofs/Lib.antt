@@ -14,3 +14,5 @@ pub mod WholeLemmas
 pub mod WorkedJobs
 pub mod WorkedStreams
 pub mod WorkedMacros
+pub mod PageKeptLemmas
+pub mod StepLaws

@@ -7,6 +7,8 @@ pub mod Engine
 pub mod Filling
 pub mod JobLanguage
 pub mod Laws
+pub mod PageKept
+pub mod Steps
 pub mod Machine
 pub mod Macros
 pub mod Motion

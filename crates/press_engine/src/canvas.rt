@@ -47,6 +47,13 @@ impl Canvas {
         }
     }
 
+    /// The page's bitmap.
+    pub fn bitmap(&self) -> &Bitmap
+        ensures { result.now ≡ self.now }
+    {
+        &self.bitmap
+    }
+
     /// An equal page, in memory of its own.
     pub fn copy(&self) -> Result<Self, AllocError>
         ensures { IfOk result (λ page. page ≡ self.now) }
@@ -110,7 +117,7 @@ impl Model for Current {
 }
 
 impl Current {
-    ghost use Rattle.std.specs.Prelude.{◌≡◌, None, Some, is_some, IfOk};
+    ghost use Rattle.std.specs.Prelude.{◌≡◌, None, Some, is_some, option_map, IfOk};
     ghost use Rattle.press_engine.specs.Place.{blank_page};
 
     /// No page, and no memory.
@@ -144,6 +151,16 @@ impl Current {
         ensures { result ≡ is_some self.now }
     {
         self.page.is_some()
+    }
+
+    /// The dots of the page.
+    pub fn bitmap(&self) -> Option<&Bitmap>
+        ensures { option_map (λ page. page.now) result ≡ self.now }
+    {
+        match &self.page {
+            Some(page) => Some(page.bitmap()),
+            None => None,
+        }
     }
 
     /// Takes the page out.

@@ -6,6 +6,7 @@ use crate::fault::EngineError;
 use crate::machine::Machine;
 use crate::sender::send_all;
 use crate::view::View;
+use press_bits::Bitmap;
 use press_cmd::{Command, Kind};
 use press_sink::{ReplySink, SheetSink};
 use press_units::Pos;
@@ -27,7 +28,7 @@ pub struct Engine {
 }
 
 impl Engine {
-    ghost use Rattle.std.specs.Prelude.{◌≡◌, ◌≢◌, ◌≤◌, ◌⊎◌, ◌↔◌, [], length, IsTrue, IfOk, IfErr, IfSome, IsErrOf, MatchResult, Some, None};
+    ghost use Rattle.std.specs.Prelude.{◌≡◌, ◌≢◌, ◌≤◌, ◌⊎◌, ◌↔◌, [], length, IsTrue, IfOk, IfErr, IfSome, IsErrOf, MatchResult, Some, None, option_map};
     ghost use Rattle.press_sink.specs.Told.{both, CanCount};
     ghost use Rattle.press_cmd.specs.View.{token};
     ghost use Rattle.press_engine.specs.Machine.{power_on, levels};
@@ -298,6 +299,14 @@ impl Engine {
         ensures { IfOk result (λ machine. machine.value ≡ self.now.machine.value) }
     {
         Ok(Box::new(self.alloc, self.machine.copy()?)?)
+    }
+
+    /// The page that is being printed; none is a blank page without a mark. After a fault nothing is said of it.
+    pub fn page(&self) -> Option<&Bitmap>
+        ensures { IfSome (live self.now) (λ machine.
+            option_map (λ page. page.now) result ≡ machine.state.page) }
+    {
+        self.machine.state.page.bitmap()
     }
 
     /// What can be seen of the engine. After a fault nothing is said of it.

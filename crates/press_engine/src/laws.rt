@@ -1,7 +1,9 @@
 //! What the trace of commands, a table step an item, has to do with carrying them out whole.
 
 ghost use Rattle.press_engine.specs.Laws.{TraceTellsTheRun, TraceGoesOn, OneStepIsTheRun, AtMostFourBodies};
+ghost use Rattle.press_engine.specs.PageKept.{OthersKeepThePage};
 ghost use Rattle.press_engine.specs.Stack.{InnerStepIsOwed, OuterStepIsOwed};
+ghost use Rattle.press_engine.specs.Steps.{EachItemIsOneStep};
 
 /// The last item of the trace has the machine that the commands leave, and the outputs of all items joined are theirs.
 pub fn trace_tells_the_run()
@@ -27,4 +29,14 @@ pub fn at_most_four_bodies()
 pub fn each_step_is_owed()
     ensures inner { InnerStepIsOwed }
     ensures outer { OuterStepIsOwed }
+{}
+
+/// Each item of the trace is one step more than the one before it: item k of a stream has step k.
+pub fn each_item_is_one_step()
+    ensures { EachItemIsOneStep }
+{}
+
+/// A command of the stream whose row marks and closes no page and starts no body has one item, which leaves the open page as it is.
+pub fn others_keep_the_page()
+    ensures { OthersKeepThePage }
 {}
