@@ -5,6 +5,7 @@ use crate::fault::JobError;
 use crate::phase::Phase;
 use crate::reading::{PIECE, ReadCount, read_next};
 use crate::step::{JobStep, Step};
+use press_bits::Bitmap;
 use press_engine::{Engine, Sent, View};
 use press_scan::Scanner;
 use press_sink::{ReplySink, SheetSink};
@@ -43,7 +44,7 @@ impl Model for Job {
 }
 
 impl Job {
-    ghost use Rattle.std.specs.Prelude.{◌≡◌, ◌≢◌, ◌<◌, ◌≤◌, ◌↔◌, ℕ, List, [], length, take, false, None, IfOk, IfErr, OnErr, IfSome, IsTrue, IsSome, IsErrOf, MatchResult};
+    ghost use Rattle.std.specs.Prelude.{◌≡◌, ◌≢◌, ◌<◌, ◌≤◌, ◌↔◌, ℕ, List, [], length, take, false, None, IfOk, IfErr, OnErr, IfSome, IsTrue, IsSome, IsErrOf, MatchResult, option_map};
     ghost use Rattle.press_sink.specs.Told.{both, CanCount};
     ghost use Rattle.press_engine.specs.Engine.{view_of};
     ghost use Rattle.press_engine.specs.Machine.{Run};
@@ -229,12 +230,19 @@ impl Job {
         }
     }
 
-    /// Whether no body runs.
-    fn is_idle(&self) -> bool
+    /// Whether no body runs: the next step takes a command of the stream.
+    pub fn is_idle(&self) -> bool
         ensures none { IsTrue result ↔ (self.now.bodies ≡ []) }
         ensures ready { IsReady self.now.bodies }
     {
         matches!(self.phase, Phase::Failed) || self.engine.needs_command()
+    }
+
+    /// How many bytes are held that stand in no command which was taken.
+    pub fn held(&self) -> usize
+        ensures { result ≡ length self.now.held.bytes }
+    {
+        self.scanner.held()
     }
 
     /// What can be seen of the engine. Of a job that has failed nothing is said.
@@ -245,6 +253,14 @@ impl Job {
             (λ machine. result.stack.now ≡ machine.state.cursor.stack) }
     {
         self.engine.view()
+    }
+
+    /// The page that is being printed; none is a blank page without a mark. Of a job that has failed nothing is said.
+    pub fn page(&self) -> Option<&Bitmap>
+        ensures { IfSome self.now.machine (λ machine.
+            option_map (λ page. page.now) result ≡ machine.state.page) }
+    {
+        self.engine.page()
     }
 
     /// Takes the next piece of the stream, and carries out the commands so far: those of all bytes handed in.
