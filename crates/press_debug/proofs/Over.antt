@@ -10,7 +10,8 @@ use Rattle.press_debug.specs.declared.stepper.Taken.{Taken}
 use Rattle.press_debug.specs.declared.stepper.Taken.TheVariants as answers
 use Rattle.press_debug.specs.Steps.{Standing, Advances, TakesOne, TakesOver, IsOutside, IsDeeper, IsBack, RanOut}
 use Rattle.press_stream.proofs.Going.{same_some}
-use Rattle.press_debug.proofs.Taking.{Advances-then, RanOut-then, items_left, items_left-none, fewer_left, at_machine}
+use Rattle.press_stream.proofs.ItemsLeft.{items_left, items_left-none}
+use Rattle.press_debug.proofs.Taking.{Advances-then, RanOut-then, fewer_left, at_machine}
 
 -- steps were taken, all but the last to deeper states
 pub record ReachesOne (old new : Standing) : Type 0 where

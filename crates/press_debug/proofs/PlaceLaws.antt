@@ -14,7 +14,8 @@ use Rattle.press_stream.proofs.Going.{same_some}
 use Rattle.press_stream.proofs.Items.{last-append}
 use Rattle.press_stream.proofs.LeftLemmas.{left_goes_on}
 use Rattle.press_debug.specs.Steps.{Standing, Advances, at_start, with_kinds}
-use Rattle.press_debug.specs.Places.{IsTraceAtEnd, StandsBehind, PlacesGoOn}
+use Rattle.press_debug.specs.Places.{StandsBehind, PlacesGoOn}
+use Rattle.press_stream.specs.Traced.{IsTraceOf}
 use Rattle.press_debug.proofs.Taking.{with_kinds-append}
 
 begins : (bytes : List ℕ) → StandsBehind bytes [] (at_start bytes)
@@ -43,16 +44,16 @@ goes_on bytes items taken old new behind advances =
     let same : advances.from ≡ at = same_some old.job.machine advances.from at advances.starts behind.state in
     record {
       others = rest.0;
-      are = subst (IsTraceAtEnd bytes) (ap (λ (more : List Run). items ++ more) rest.1 ∙ sym (append_assoc items taken rest.0)) behind.are;
+      are = subst (IsTraceOf bytes) (ap (λ (more : List Run). items ++ more) rest.1 ∙ sym (append_assoc items taken rest.0)) behind.are;
       left = rest.2;
       state = advances.ends ∙ ap (λ (machine : Machine). Some (last_machine machine taken)) same ∙ ap (λ (machine : Machine). Some machine) (sym (last-append items taken power_on));
       recent = advances.recent ∙ ap (λ (kinds : List Kind). with_kinds kinds taken) behind.recent ∙ with_kinds-append [] items taken;
     }
 
-at_end : (bytes : List ℕ) (items : List Run) (now : Standing) → StandsBehind bytes items now → IsOver now.job → IsTraceAtEnd bytes items
+at_end : (bytes : List ℕ) (items : List Run) (now : Standing) → StandsBehind bytes items now → IsOver now.job → IsTraceOf bytes items
 at_end bytes items now behind over =
     let none = left_goes_on.over now.job [] behind.others over behind.left in
-    subst (IsTraceAtEnd bytes) (ap (λ (more : List Run). items ++ more) none ∙ append-nil items) behind.are
+    subst (IsTraceOf bytes) (ap (λ (more : List Run). items ++ more) none ∙ append-nil items) behind.are
 
 pub places_go_on : PlacesGoOn
 places_go_on = record { begins = begins; goes_on = goes_on; at_end = at_end }

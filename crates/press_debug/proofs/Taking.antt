@@ -21,43 +21,11 @@ use Rattle.press_stream.specs.Meaning.{left, Owes}
 use Rattle.press_stream.specs.State.{JobState, IsOver}
 use Rattle.press_stream.proofs.Going.{Owes-some, same_some, some_of, taken-ended}
 use Rattle.press_stream.proofs.Items.{last-append}
-use Rattle.press_stream.proofs.LeftLemmas.{Owes-one, left_before}
+use Rattle.press_stream.proofs.ItemsLeft.{items_left, LeftOf-one, LeftOf-some}
+use Rattle.press_stream.proofs.LeftLemmas.{left_before}
 use Rattle.circular_buffer.specs.Buffer.{Buffer, buffer, keep_last}
 use Rattle.press_debug.specs.Steps.{Standing, Advances, EndsOutside, IsOutside, IsSound, Remains, RanOut, kind_taken, kinds_of, with_kinds}
 use Rattle.press_debug.proofs.Tables.{keep_last-twice, keep_last-all, keep_last-few}
-
--- ---- what is left is one list
-
-LeftOf-one : (job : JobState) (items others : List Run) → LeftOf job items → LeftOf job others → items ≡ others
-LeftOf-one job items others is other =
-    let from = same_some job.machine is.from other.from is.starts other.starts in
-    let commands = Owes-one job [] is.commands other.commands is.owes other.owes in
-    is.are ∙ (λ j. left (commands j) job.bodies (from j)) ∙ sym other.are
-
--- the commands that are left of a job, and their items
-commands_left : (job : JobState) → (commands : List Token) × Owes job [] commands
-commands_left job = Owes-some job [] (λ _. refl)
-
-items_in : JobState → Option Machine → List Run
-items_in job None = []
-items_in job (Some machine) = left (commands_left job).0 job.bodies machine
-
-pub items_left : JobState → List Run
-items_left job = items_in job job.machine
-
-pub items_left-none : (job : JobState) → job.machine ≡ None → items_left job ≡ []
-unfolding items_left items_in
-items_left-none job is = ap (items_in job) is
-
-pub LeftOf-some : (job : JobState) (machine : Machine) → job.machine ≡ Some machine → LeftOf job (items_left job)
-unfolding items_left items_in
-LeftOf-some job machine is = record {
-  from = machine;
-  starts = is;
-  commands = (commands_left job).0;
-  owes = (commands_left job).1;
-  are = ap (items_in job) is;
-}
 
 -- ---- one step
 

@@ -1,23 +1,17 @@
 -- The place of a debugger in the trace of its stream.
 use Rattle.std.specs.Prelude.{◌≡◌, ℕ, List, [], ◌++◌, Some}
-use Rattle.press_cmd.specs.Token.{Token}
-use Rattle.press_cmd.specs.Split.{Closed}
 use Rattle.press_engine.specs.Machine.{Run, power_on}
-use Rattle.press_engine.specs.Trace.{last_machine, trace}
+use Rattle.press_engine.specs.Trace.{last_machine}
 use Rattle.press_stream.specs.Left.{LeftOf}
-use Rattle.press_stream.specs.Meaning.{with_exit}
 use Rattle.press_stream.specs.State.{IsOver}
+use Rattle.press_stream.specs.Traced.{IsTraceOf}
 use Rattle.press_debug.specs.Steps.{Standing, Advances, at_start, with_kinds}
 
--- the trace of a stream of these bytes at its end
-abbrev pub IsTraceAtEnd : List ℕ → List Run → Type 0
-IsTraceAtEnd bytes items = (commands : List Token) × Closed bytes commands × (items ≡ trace (with_exit commands) power_on)
-
--- It stands behind these items of that trace: the state is that of the last of them, after power on where there is none; the
+-- It stands behind these items of the trace of these bytes: the state is that of the last of them, after power on where there is none; the
 -- last kinds are theirs; and the others are left.
 pub record StandsBehind (bytes : List ℕ) (items : List Run) (now : Standing) : Type 0 where
   pub others : List Run
-  pub are : IsTraceAtEnd bytes (items ++ others)
+  pub are : IsTraceOf bytes (items ++ others)
   pub left : LeftOf now.job others
   pub state : now.job.machine ≡ Some (last_machine power_on items)
   pub recent : now.recent ≡ with_kinds [] items
@@ -29,4 +23,4 @@ pub record PlacesGoOn : Type 0 where
   pub goes_on : (bytes : List ℕ) (items taken : List Run) (old new : Standing)
       → StandsBehind bytes items old → Advances old taken new → StandsBehind bytes (items ++ taken) new
   pub at_end : (bytes : List ℕ) (items : List Run) (now : Standing)
-      → StandsBehind bytes items now → IsOver now.job → IsTraceAtEnd bytes items
+      → StandsBehind bytes items now → IsOver now.job → IsTraceOf bytes items
