@@ -1,0 +1,10 @@
+pub mod FloatLemmas
+pub mod SeenLemmas
+pub mod SentLemmas
+pub mod PageLemmas
+pub mod PlaceLemmas
+pub mod StepLemmas
+pub mod Standing
+pub mod Telling
+pub mod Fewer
+pub mod RebuiltLemmas

@@ -1,0 +1,352 @@
+-- Where a stream stands that is told step by step: behind some items of its trace, with their places.
+use Rattle.std.proofs.Common.{◌≡◌, ◌∙◌, ◌⊎◌, ◌+◌, ◌-◌, ℕ, List, [], ◌∷◌, ◌++◌, length, Bool, true, false, cond, Option, Some, None, IsSome, is_some, refl, sym, ap, subst, inl, inr, arith}
+use Rattle.std.proofs.lemmas.Bool.{true≢false}
+use Rattle.std.proofs.lemmas.List.{append_assoc, append-nil, length-append}
+use Rattle.press_cmd.specs.Token.{Token, Uel}
+use Rattle.press_cmd.specs.Mode.{Mode, Exit}
+use Rattle.press_cmd.specs.Grammar.{Head, scanned_in}
+use Rattle.press_cmd.specs.Split.{ClosedFrom, NoHead, closing}
+use Rattle.press_cmd.proofs.Splits.{some_split, nothing_closed}
+use Rattle.press_scan.specs.Gives.{ClosesAs}
+use Rattle.press_scan.specs.ScannerState.{ScannerState}
+use Rattle.press_engine.specs.declared.frame.Frame.{Frame}
+use Rattle.press_engine.specs.declared.machine.Machine.{Machine}
+use Rattle.press_engine.specs.Machine.{Run, power_on, levels}
+use Rattle.press_engine.specs.Stack.{owed}
+use Rattle.press_engine.specs.Trace.{last_machine, trace_at, trace_each, trace}
+use Rattle.press_engine.proofs.TraceLaws.{last_machine-append, trace_each-append}
+use Rattle.press_stream.specs.Meaning.{left, with_exit}
+use Rattle.press_stream.specs.State.{JobState, IsOver}
+use Rattle.press_stream.specs.Traced.{IsTraceOf}
+use Rattle.press_stream.specs.Steps.{TakesNothing, TakesHeld, TakesExit, TakesGiven}
+use Rattle.press_stream.proofs.Going.{same_some}
+use Rattle.press_stream.proofs.Items.{left-none, left-one}
+use Rattle.press_trace.specs.declared.place.Place.{Place}
+use Rattle.press_trace.specs.declared.seen.Seen.{Seen}
+use Rattle.press_trace.specs.declared.tracer.Tracer.{Tracer}
+use Rattle.press_trace.specs.Places.{Piece, Placed, Opens, AreFront, IsPlacedTrace, placed_at, placed_from, placed_exit, from_on, machine_after, runs_of}
+use Rattle.press_trace.specs.Traced.{AreFirst, last_of}
+use Rattle.press_trace.specs.Tracing.{IsAtStart, TellsOne, place_of, told_before}
+use Rattle.press_trace.proofs.PlaceLemmas.{commands_of, bytes_in, front-then, front-length, placed-then, runs-at, runs-append, runs-from, last-from, commands-then}
+
+-- the items of the exit, once it was taken
+abbrev exit_if : Bool → (at : ℕ) → Machine → List Placed
+exit_if exited at machine = cond exited (placed_exit at machine) []
+
+-- the items of the pieces that were taken
+abbrev pub taken_so_far : (exited : Bool) → (long : ℕ) → List Piece → List Placed
+taken_so_far exited long pieces = placed_from 0 pieces power_on ++ exit_if exited long (machine_after pieces power_on)
+
+-- It stands behind these items: they are those of the pieces that were taken, but for what bodies still owe.
+pub record StandsBehind (bytes : List ℕ) (placed : List Placed) (now : Tracer) : Type 0 where
+  pub pieces : List Piece
+  pub front : AreFront Exit bytes pieces now.job.held.mode now.job.held.bytes
+  pub closes : (commands : List Token) → ClosedFrom now.job.held.mode now.job.held.bytes commands → ClosedFrom Exit bytes (commands_of pieces ++ commands)
+  pub over : now.job.exited ≡ true → now.job.held.bytes ≡ []
+  pub machine : Machine
+  pub running : now.job.machine ≡ Some machine
+  pub state : machine ≡ last_machine power_on (runs_of placed)
+  pub are : taken_so_far now.job.exited (length bytes) pieces ≡ placed ++ placed_at now.place (owed now.job.bodies machine)
+  pub told : told_before now ≡ last_of None placed
+  pub long : now.length ≡ length bytes
+
+-- ---- at the start
+
+-- the first items of a trace, where none was taken
+pub none_first : (bytes : List ℕ) → AreFirst bytes []
+none_first bytes =
+    let found = some_split Exit bytes in
+    let closed = found.commands ++ closing found.mode found.rest in
+    record {
+      others = trace (with_exit closed) power_on;
+      items = (closed, (found.commands, found.mode, found.rest, found.split, refl), refl);
+      pieces = [];
+      mode = Exit;
+      behind = bytes;
+      front = (refl, refl);
+      more = placed_exit (length bytes) power_on;
+      places = refl;
+    }
+
+pub at_start : (bytes : List ℕ) (tracer : Tracer) → IsAtStart bytes tracer → StandsBehind bytes [] tracer
+at_start bytes tracer start = record {
+  pieces = [];
+  front = (sym (ap (λ (job : JobState). job.held.mode) start.job), sym (ap (λ (job : JobState). job.held.bytes) start.job));
+  closes = λ commands closed. subst (λ (job : JobState). ClosedFrom job.held.mode job.held.bytes commands) start.job closed;
+  over = λ exited. absurd (true≢false (sym exited ∙ ap (λ (job : JobState). job.exited) start.job));
+  machine = power_on;
+  running = ap (λ (job : JobState). job.machine) start.job;
+  state = refl;
+  are =
+      ap (λ (job : JobState). taken_so_far job.exited (length bytes) []) start.job
+      ∙ sym (ap (λ (job : JobState). placed_at tracer.place (owed job.bodies power_on)) start.job);
+  told = ap (λ (seen : Option Seen). cond (is_some seen) tracer.job.machine None) start.untold;
+  long = start.whole;
+}
+
+-- ---- one item more
+
+abbrev pub one_more : List Placed → Place → Run → List Placed
+one_more placed place item = placed ++ record { place = place; run = item } ∷ []
+
+last_of-then : (before : Option Machine) (placed : List Placed) (one : Placed) → last_of before (placed ++ one ∷ []) ≡ Some one.run.machine
+last_of-then before [] one = refl
+last_of-then before (first ∷ placed) one = last_of-then (Some first.run.machine) placed one
+
+state-then : (placed : List Placed) (one : Placed) → one.run.machine ≡ last_machine power_on (runs_of (placed ++ one ∷ []))
+state-then placed one =
+    sym (last_machine-append (runs_of placed) (one.run ∷ []) power_on) ∙ ap (last_machine power_on) (sym (runs-append placed (one ∷ [])))
+
+told-then : (new : Tracer) (machine : Machine) (placed : List Placed) (one : Placed) → IsSome new.before → new.job.machine ≡ Some one.run.machine → told_before new ≡ last_of None (placed ++ one ∷ [])
+told-then new machine placed one some is = by new.before some where
+  some_not : (seen : Option Seen) → seen ≡ None → IsSome seen → ⊥
+  some_not seen is some = cc
+
+  by : (seen : Option Seen) → IsSome seen → cond (is_some seen) new.job.machine None ≡ last_of None (placed ++ one ∷ [])
+  by None here = absurd (some_not None refl here)
+  by (Some seen) here = is ∙ sym (last_of-then None placed one)
+
+-- ---- the three kinds of steps
+module _ (bytes : List ℕ) (placed : List Placed) (old new : Tracer) (line : List ℕ) (behind : StandsBehind bytes placed old) (tells : TellsOne old line new) where
+  abbrev one : Placed
+  one = record { place = new.place; run = tells.item }
+
+  from-is : tells.does.from ≡ behind.machine
+  from-is = same_some old.job.machine tells.does.from behind.machine tells.does.starts behind.running
+
+  owed-then : (place : Place) (runs : List Run) → new.place ≡ place → placed ++ placed_at place (tells.item ∷ runs) ≡ one_more placed new.place tells.item ++ placed_at new.place runs
+  owed-then place runs is =
+      (λ i. placed ++ placed_at (sym is i) (tells.item ∷ runs))
+      ∙ sym (append_assoc placed (one ∷ []) (placed_at new.place runs))
+
+  pub in_body : TakesNothing old.job tells.does.given new.job → StandsBehind bytes (one_more placed new.place tells.item) new
+  in_body (running, nothing, held, exited) =
+      let owing : owed old.job.bodies behind.machine ≡ tells.item ∷ owed new.job.bodies tells.item.machine =
+      ap (owed old.job.bodies) (sym from-is) ∙ sym (left-none old.job.bodies tells.does.from)
+      ∙ ap (λ (given : List Token). left given old.job.bodies tells.does.from) (sym nothing) ∙ tells.does.are in
+      let stays : new.place ≡ old.place = tells.place ∙ ap (λ (given : List Token). place_of old.length old.place given old.job.held new.job.held) nothing in
+      record {
+        pieces = behind.pieces;
+        front = subst (λ (now : ScannerState). AreFront Exit bytes behind.pieces now.mode now.bytes) (sym held) behind.front;
+        closes = λ commands closed. behind.closes commands (subst (λ (now : ScannerState). ClosedFrom now.mode now.bytes commands) held closed);
+        over = λ is. ap (λ (now : ScannerState). now.bytes) held ∙ behind.over (sym exited ∙ is);
+        machine = tells.item.machine;
+        running = tells.does.ends;
+        state = state-then placed one;
+        are =
+            ap (λ (out : Bool). taken_so_far out (length bytes) behind.pieces) exited
+            ∙ behind.are
+            ∙ ap (λ (runs : List Run). placed ++ placed_at old.place runs) owing
+            ∙ owed-then old.place (owed new.job.bodies tells.item.machine) stays;
+        told = told-then new tells.item.machine placed one tells.told tells.does.ends;
+        long = tells.still ∙ behind.long;
+      }
+
+  -- where no body runs, the items are those of the pieces alone
+  whole : old.job.bodies ≡ [] → old.job.exited ≡ false → placed_from 0 behind.pieces power_on ≡ placed
+  whole idle going =
+      sym (append-nil (placed_from 0 behind.pieces power_on))
+      ∙ ap (λ (out : Bool). taken_so_far out (length bytes) behind.pieces) (sym going)
+      ∙ behind.are
+      ∙ ap (λ (bodies : List Frame). placed ++ placed_at old.place (owed bodies behind.machine)) idle
+      ∙ append-nil placed
+
+  after-is : old.job.bodies ≡ [] → old.job.exited ≡ false → machine_after behind.pieces power_on ≡ behind.machine
+  after-is idle going =
+      sym (last-from 0 behind.pieces power_on)
+      ∙ ap (λ (items : List Placed). last_machine power_on (runs_of items)) (whole idle going)
+      ∙ sym behind.state
+
+  -- the items of a command of the stream
+  outside-owes : (command : Token) → tells.does.given ≡ command ∷ [] → old.job.bodies ≡ [] → trace_at levels command behind.machine ≡ tells.item ∷ owed new.job.bodies tells.item.machine
+  outside-owes command is idle =
+      ap (trace_at levels command) (sym from-is) ∙ sym (left-one command tells.does.from)
+      ∙ (λ i. left (sym is i) (sym idle i) tells.does.from) ∙ tells.does.are
+
+  pub next_command : (ended : old.job.held.ended ≡ true) → TakesHeld old.job tells.does.given new.job → StandsBehind bytes (one_more placed new.place tells.item) new
+  next_command ended (command, is, idle, going, still, passes) =
+      let found = passes.front ended in
+      let piece : Piece = record { bytes = found.0; command = command } in
+      let pieces = behind.pieces in
+      let all = front-length Exit bytes pieces old.job.held.mode old.job.held.bytes behind.front in
+      let used : length old.job.held.bytes ≡ length found.0 + length new.job.held.bytes = ap length found.1 ∙ length-append found.0 new.job.held.bytes in
+      let here : length bytes - length old.job.held.bytes ≡ 0 + bytes_in pieces = omega (arith, all) in
+      let size : length old.job.held.bytes - length new.job.held.bytes ≡ length found.0 = omega (arith, used) in
+      let place : new.place ≡ from_on (0 + bytes_in pieces) (length found.0) =
+      tells.place ∙ ap (λ (given : List Token). place_of old.length old.place given old.job.held new.job.held) is
+      ∙ ap (λ n. from_on (n - length old.job.held.bytes) (length old.job.held.bytes - length new.job.held.bytes)) behind.long
+      ∙ (λ i. from_on (here i) (size i)) in
+      record {
+        pieces = pieces ++ piece ∷ [];
+        front = front-then Exit bytes pieces old.job.held.mode old.job.held.bytes piece new.job.held.bytes new.job.held.mode behind.front found.1 (opens found.0 found.1 found.2);
+        closes = λ commands closed.
+            subst (λ these. ClosedFrom Exit bytes these)
+            (sym (append_assoc (commands_of pieces) (command ∷ []) commands) ∙ ap (λ (these : List Token). these ++ commands) (sym (commands-then pieces piece)))
+            (behind.closes (command ∷ commands) (passes.closes ended commands closed));
+        over = λ out. absurd (true≢false (sym out ∙ still));
+        machine = tells.item.machine;
+        running = tells.does.ends;
+        state = state-then placed one;
+        are =
+            ap (λ (out : Bool). taken_so_far out (length bytes) (pieces ++ piece ∷ [])) still
+            ∙ append-nil _
+            ∙ placed-then 0 pieces piece power_on
+            ∙ (λ i. whole idle going i ++ placed_at (sym place i) (trace_at levels command (after-is idle going i)))
+            ∙ ap (λ (runs : List Run). placed ++ placed_at new.place runs) (outside-owes command is idle)
+            ∙ owed-then new.place (owed new.job.bodies tells.item.machine) refl;
+        told = told-then new tells.item.machine placed one tells.told tells.does.ends;
+        long = tells.still ∙ behind.long;
+      }
+    where
+      opens : (used : List ℕ) → old.job.held.bytes ≡ used ++ new.job.held.bytes
+          → Head old.job.held.mode used new.job.held.bytes command new.job.held.mode ⊎ (NoHead old.job.held.mode old.job.held.bytes × ClosesAs (scanned_in old.job.held.mode old.job.held.bytes) used new.job.held.bytes command new.job.held.mode)
+          → Opens old.job.held.mode (record { bytes = used; command = command }) new.job.held.bytes new.job.held.mode
+      opens used cut (inl head) = inl head
+      opens used cut (inr (none, closes)) =
+          inr (
+            subst (NoHead old.job.held.mode) cut none,
+            subst (λ (all : List ℕ). ClosesAs (scanned_in old.job.held.mode all) used new.job.held.bytes command new.job.held.mode) cut closes,
+          )
+
+  pub the_exit : TakesExit old.job tells.does.given new.job → StandsBehind bytes (one_more placed new.place tells.item) new
+  the_exit (is, idle, going, out, held, ended, done) =
+      let pieces = behind.pieces in
+      let nothing : old.job.held.bytes ≡ [] = done.nothing ended in
+      let empty : length old.job.held.bytes ≡ 0 = ap length nothing in
+      let here : length bytes - length old.job.held.bytes ≡ length bytes = omega (arith, empty) in
+      let size : length old.job.held.bytes - length new.job.held.bytes ≡ 0 = omega (arith, empty) in
+      let place : new.place ≡ from_on (length bytes) 0 =
+      tells.place ∙ ap (λ (given : List Token). place_of old.length old.place given old.job.held new.job.held) is
+      ∙ ap (λ n. from_on (n - length old.job.held.bytes) (length old.job.held.bytes - length new.job.held.bytes)) behind.long
+      ∙ (λ i. from_on (here i) (size i)) in
+      record {
+        pieces = pieces;
+        front = subst (λ (now : ScannerState). AreFront Exit bytes pieces now.mode now.bytes) (sym held) behind.front;
+        closes = λ commands closed. behind.closes commands (subst (λ (now : ScannerState). ClosedFrom now.mode now.bytes commands) held closed);
+        over = λ _. ap (λ (now : ScannerState). now.bytes) held ∙ nothing;
+        machine = tells.item.machine;
+        running = tells.does.ends;
+        state = state-then placed one;
+        are =
+            ap (λ (exited : Bool). taken_so_far exited (length bytes) pieces) out
+            ∙ (λ i. whole idle going i ++ placed_at (sym place i) (trace_at levels Uel (after-is idle going i)))
+            ∙ ap (λ (runs : List Run). placed ++ placed_at new.place runs) (outside-owes Uel is idle)
+            ∙ owed-then new.place (owed new.job.bodies tells.item.machine) refl;
+        told = told-then new tells.item.machine placed one tells.told tells.does.ends;
+        long = tells.still ∙ behind.long;
+      }
+
+  pub one_step : old.job.held.ended ≡ true → StandsBehind bytes (one_more placed new.place tells.item) new
+  one_step ended = by tells.does.takes where
+    by : TakesGiven old.job tells.does.given new.job → StandsBehind bytes (one_more placed new.place tells.item) new
+    by (inl takes) = in_body takes
+    by (inr (inl takes)) = next_command ended takes
+    by (inr (inr takes)) = the_exit takes
+
+-- ---- the items so far are the first of the trace
+
+exit_behind : (commands : List Token) (machine : Machine) → machine ≡ last_machine power_on (trace commands power_on) → trace commands power_on ++ trace_at levels Uel machine ≡ trace (with_exit commands) power_on
+unfolding trace_each
+exit_behind commands machine is =
+    ap (λ (at : Machine). trace commands power_on ++ trace_at levels Uel at) is
+    ∙ ap (λ (items : List Run). trace commands power_on ++ items) (sym (append-nil (trace_at levels Uel (last_machine power_on (trace commands power_on)))))
+    ∙ sym (trace_each-append (trace_at levels) commands (Uel ∷ []) power_on)
+
+module _ (bytes : List ℕ) (placed : List Placed) (now : Tracer) (behind : StandsBehind bytes placed now) where
+  after_commands : machine_after behind.pieces power_on ≡ last_machine power_on (trace (commands_of behind.pieces) power_on)
+  after_commands = sym (last-from 0 behind.pieces power_on) ∙ ap (last_machine power_on) (runs-from 0 behind.pieces power_on)
+
+  abbrev held_mode : Mode
+  held_mode = now.job.held.mode
+
+  -- what closes what is held
+  some_closed : (commands : List Token) × ClosedFrom held_mode now.job.held.bytes commands
+  some_closed =
+      let found = some_split held_mode now.job.held.bytes in
+      (found.commands ++ closing found.mode found.rest, (found.commands, found.mode, found.rest, found.split, refl))
+
+  items-so-far : (exited : Bool) → now.job.exited ≡ exited → trace (commands_of behind.pieces) power_on ++ runs_of (exit_if exited (length bytes) (machine_after behind.pieces power_on)) ≡ runs_of placed ++ owed now.job.bodies behind.machine
+  items-so-far exited is =
+      let exit = exit_if exited (length bytes) (machine_after behind.pieces power_on) in
+      ap (λ (items : List Run). items ++ runs_of exit) (sym (runs-from 0 behind.pieces power_on))
+      ∙ sym (runs-append (placed_from 0 behind.pieces power_on) exit)
+      ∙ ap (λ (out : Bool). runs_of (taken_so_far out (length bytes) behind.pieces)) (sym is)
+      ∙ ap runs_of behind.are
+      ∙ runs-append placed (placed_at now.place (owed now.job.bodies behind.machine))
+      ∙ ap (λ (items : List Run). runs_of placed ++ items) (runs-at now.place (owed now.job.bodies behind.machine))
+
+  pub are_first : AreFirst bytes placed
+  are_first = by now.job.exited refl where
+    by : (exited : Bool) → now.job.exited ≡ exited → AreFirst bytes placed
+    by true out =
+        let commands = commands_of behind.pieces in
+        let nothing : ClosedFrom held_mode now.job.held.bytes [] = subst (λ (left : List ℕ). ClosedFrom held_mode left []) (sym (behind.over out)) (nothing_closed held_mode) in
+        record {
+          others = owed now.job.bodies behind.machine;
+          items = (
+            commands,
+            subst (ClosedFrom Exit bytes) (append-nil commands) (behind.closes [] nothing),
+            sym (items-so-far true out)
+                ∙ ap (λ (items : List Run). trace commands power_on ++ items) (runs-at (from_on (length bytes) 0) (trace_at levels Uel (machine_after behind.pieces power_on)))
+                ∙ exit_behind commands (machine_after behind.pieces power_on) after_commands,
+          );
+          pieces = behind.pieces;
+          mode = held_mode;
+          behind = now.job.held.bytes;
+          front = behind.front;
+          more = placed_at now.place (owed now.job.bodies behind.machine);
+          places = ap (λ (exited : Bool). taken_so_far exited (length bytes) behind.pieces) (sym out) ∙ behind.are;
+        }
+    by false going =
+        let commands = commands_of behind.pieces in
+        let closed = some_closed in
+        let exit = placed_exit (length bytes) (machine_after behind.pieces power_on) in
+        let owing = owed now.job.bodies behind.machine in
+        let rest = trace (with_exit closed.0) (last_machine power_on (trace commands power_on)) in
+        record {
+          others = owing ++ rest;
+          items = (
+            commands ++ closed.0,
+            behind.closes closed.0 closed.1,
+            sym (append_assoc (runs_of placed) owing rest)
+                ∙ ap (λ (items : List Run). items ++ rest) (sym (items-so-far false going) ∙ append-nil (trace commands power_on))
+                ∙ sym (trace_each-append (trace_at levels) commands (with_exit closed.0) power_on)
+                ∙ ap (λ (all : List Token). trace all power_on) (sym (append_assoc commands closed.0 (Uel ∷ []))),
+          );
+          pieces = behind.pieces;
+          mode = held_mode;
+          behind = now.job.held.bytes;
+          front = behind.front;
+          more = placed_at now.place owing ++ exit;
+          places =
+              ap (λ (items : List Placed). items ++ exit)
+              (sym (append-nil (placed_from 0 behind.pieces power_on)) ∙ ap (λ (exited : Bool). taken_so_far exited (length bytes) behind.pieces) (sym going) ∙ behind.are)
+              ∙ append_assoc placed (placed_at now.place owing) exit;
+        }
+
+  -- where no step is left they are all of it
+  pub at_end : IsOver now.job → IsTraceOf bytes (runs_of placed) × IsPlacedTrace bytes placed
+  at_end over =
+      let first = are_first in
+      let none : owed now.job.bodies behind.machine ≡ [] = ap (λ (bodies : List Frame). owed bodies behind.machine) over.idle in
+      let all : taken_so_far now.job.exited (length bytes) behind.pieces ≡ placed =
+      behind.are ∙ ap (λ (items : List Run). placed ++ placed_at now.place items) none ∙ append-nil placed in (
+        whole_trace,
+        (
+          behind.pieces,
+          (held_mode, subst (AreFront Exit bytes behind.pieces held_mode) over.nothing behind.front),
+          sym all ∙ ap (λ (out : Bool). taken_so_far out (length bytes) behind.pieces) over.exited,
+        ),
+      )
+    where
+      whole_trace : IsTraceOf bytes (runs_of placed)
+      whole_trace =
+          let commands = commands_of behind.pieces in
+          let nothing : ClosedFrom held_mode now.job.held.bytes [] = subst (λ (left : List ℕ). ClosedFrom held_mode left []) (sym over.nothing) (nothing_closed held_mode) in (
+            commands,
+            subst (ClosedFrom Exit bytes) (append-nil commands) (behind.closes [] nothing),
+            sym (append-nil (runs_of placed)) ∙ ap (λ (bodies : List Frame). runs_of placed ++ owed bodies behind.machine) (sym over.idle)
+                ∙ sym (items-so-far true over.exited)
+                ∙ ap (λ (items : List Run). trace commands power_on ++ items) (runs-at (from_on (length bytes) 0) (trace_at levels Uel (machine_after behind.pieces power_on)))
+                ∙ exit_behind commands (machine_after behind.pieces power_on) after_commands,
+          )

@@ -1,0 +1,13 @@
+pub mod Told
+pub mod Numbers
+pub mod Fields
+pub mod Seen
+pub mod Texts
+pub mod Sent
+pub mod Pages
+pub mod Plain
+pub mod Places
+pub mod Lines
+pub mod Tracing
+pub mod Traced
+pub mod Rebuilt

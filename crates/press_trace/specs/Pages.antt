@@ -1,0 +1,53 @@
+-- What is told of the open page.
+use Rattle.std.specs.Prelude.{◌≡◌, ◌⊎◌, ◌-◌, ◌*◌, ℕ, List, map, min, take, drop, Option, None, Some, codes}
+use Rattle.std.specs.List.{range_with_len}
+use Rattle.hex.specs.Hex.{encode_upper}
+use Rattle.serde_json.specs.Data.{Data, null, number, unsigned, string, array, object, item, no_items, no_members, put}
+use Rattle.serde_json.specs.View.{items_of}
+use Rattle.press_bits.specs.Page.{Page, blank}
+use Rattle.press_bits.specs.Patches.{ChangedIn}
+use Rattle.press_bits.specs.declared.region.Region.{Region}
+use Rattle.press_pbm.specs.Spelling.{line_bytes}
+
+-- the bytes of a line of a region, and its lines from the top
+abbrev pub row_in : Region → (line : List ℕ) → List ℕ
+row_in region line = take (region.right - region.left) (drop region.left line)
+
+abbrev pub row_data : Page → Region → (y : ℕ) → Data
+row_data page region y = string (encode_upper (row_in region (line_bytes page y)))
+
+abbrev pub rows_of : Page → Region → List Data
+rows_of page region = map (row_data page region) (range_with_len region.top (region.bottom - region.top))
+
+-- A region of a page: where it lies and how large it is, in dots, and its rows, in hexadecimal.
+abbrev pub patch_data : Page → Region → Data
+patch_data page region = object (
+    put (codes "y") (number (unsigned region.top))
+    (put (codes "x") (number (unsigned (8 * region.left)))
+    (put (codes "width") (number (unsigned (min (8 * region.right) page.width - 8 * region.left)))
+    (put (codes "rows") (array (items_of (rows_of page region)))
+    (put (codes "height") (number (unsigned (region.bottom - region.top))) no_members)))))
+
+-- the size of a page
+abbrev pub size_data : Page → Data
+size_data page = array (item (number (unsigned page.width)) (item (number (unsigned page.height)) no_items))
+
+-- What changed from a page to a later one of its size: nothing, where they are equal; else a region outside of which they agree.
+abbrev pub Follows : (before after : Page) → (told : Option Data) → Type 0
+Follows before after told =
+    ((before ≡ after) × (told ≡ None))
+    ⊎ ((region : Region) × ChangedIn before after region × (told ≡ Some (patch_data after region)))
+
+-- The page on which a change is told: the one before, of the size of the one after; or a white one, of which the size is told.
+abbrev pub StartsFrom : Option Page → (after from : Page) → (opened : Option Data) → Type 0
+StartsFrom before after from opened =
+    (after.width ≡ from.width) × (after.height ≡ from.height)
+    × (((before ≡ Some from) × (opened ≡ None))
+    ⊎ ((from ≡ blank after.width after.height) × (opened ≡ Some (size_data after))))
+
+-- What is told of the open page: nothing where there is none and was none; null where it closed; else what changed, on the page
+-- before or on a white one.
+abbrev pub IsPageTold : (before after : Option Page) → (opened told : Option Data) → Type 0
+IsPageTold None None opened told = (opened ≡ None) × (told ≡ None)
+IsPageTold (Some before) None opened told = (opened ≡ None) × (told ≡ Some null)
+IsPageTold before (Some after) opened told = (from : Page) × StartsFrom before after from opened × Follows from after told

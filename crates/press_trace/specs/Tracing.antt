@@ -1,0 +1,80 @@
+-- A stream that is told step by step.
+use Rattle.std.specs.Prelude.{◌≡◌, ◌-◌, ◌≤◌, ℕ, List, [], ◌∷◌, length, Option, None, Some, IsSome, Bool, true, false, is_some, if◌then◌else◌}
+use Rattle.press_cmd.specs.Token.{Token}
+use Rattle.press_cmd.specs.declared.variant.Kind.{Kind}
+use Rattle.press_scan.specs.ScannerState.{ScannerState}
+use Rattle.press_bits.specs.Page.{Page}
+use Rattle.press_engine.specs.declared.effect.StepOutput.{StepOutput}
+use Rattle.press_engine.specs.declared.machine.Machine.{Machine}
+use Rattle.press_engine.specs.Machine.{Run}
+use Rattle.press_engine.specs.Engine.{view_of}
+use Rattle.press_engine.specs.Outputs.{all_outputs}
+use Rattle.press_stream.specs.State.{IsOver, opened, with_piece, input_ended}
+use Rattle.press_stream.specs.Steps.{Does}
+use Rattle.press_trace.specs.declared.place.Place.{Place}
+use Rattle.press_trace.specs.declared.seen.Seen.{Seen}
+use Rattle.press_trace.specs.declared.tracer.Tracer.{Tracer}
+use Rattle.press_trace.specs.Lines.{IsLine}
+use Rattle.press_trace.specs.Places.{Placed, from_on}
+
+-- No step of the stream of these bytes was taken.
+pub record IsAtStart (bytes : List ℕ) (tracer : Tracer) : Type 0 where
+  pub job : tracer.job ≡ input_ended (with_piece bytes opened)
+  pub whole : tracer.length ≡ length bytes
+  pub untold : tracer.before ≡ None
+
+-- what was kept of a machine: what can be seen of it, and its open page
+pub record Keeps (seen : Seen) (page : Option Page) (machine : Machine) : Type 0 where
+  pub fields : seen.view ≡ view_of seen.view.stack machine
+  pub pushed : seen.pushed.items ≡ machine.state.cursor.stack
+  pub shown : page ≡ machine.state.page
+
+abbrev pub IsKept : Option Machine → Option Seen → Option Page → Type 0
+IsKept None None page = page ≡ None
+IsKept (Some machine) (Some seen) page = Keeps seen page machine
+IsKept machine seen page = ⊥
+
+-- the machine that was told last, if one was
+abbrev pub told_before : Tracer → Option Machine
+told_before tracer = if is_some tracer.before then tracer.job.machine else None
+
+-- What is true between two steps.
+pub record IsSound (tracer : Tracer) : Type 0 where
+  pub running : IsSome tracer.job.machine
+  pub ended : tracer.job.held.ended ≡ true
+  pub within : length tracer.job.held.bytes ≤ tracer.length
+  pub shown : (machine : Machine) → tracer.job.machine ≡ Some machine → tracer.page ≡ machine.state.page
+  pub kept : IsKept (told_before tracer) tracer.before tracer.page
+
+-- This is the machine behind a step, and the page is as it was where the step may not change it.
+pub record Shows (tracer : Tracer) (may_change : Bool) (machine : Machine) : Type 0 where
+  pub running : tracer.job.machine ≡ Some machine
+  pub stays : may_change ≡ false → tracer.page ≡ machine.state.page
+
+-- the item of a step, in its place
+abbrev pub placed_run : Place → Machine → StepOutput → Placed
+placed_run place machine step = record { place = place; run = record { machine = machine; outputs = all_outputs step.sent.items } }
+
+-- a place of a command of the stream, which began with so many bytes held; or that of the step before
+abbrev pub place_if : (outside : Bool) → (long held still : ℕ) → Place → Place
+place_if outside long held still place = if outside then from_on (long - held) (held - still) else place
+
+-- Where the command of the stream stands to which a step belongs: a new one, or that of the step before.
+abbrev pub place_of : (length : ℕ) → Place → (given : List Token) → (held still : ScannerState) → Place
+place_of long place [] held still = place
+place_of long place (command ∷ others) held still =
+    from_on (long - length held.bytes) (length held.bytes - length still.bytes)
+
+-- A step was taken, and its line was told.
+pub record TellsOne (old : Tracer) (line : List ℕ) (new : Tracer) : Type 0 where
+  pub item : Run
+  pub kind : Kind
+  pub does : Does old.job item kind new.job
+  pub place : new.place ≡ place_of old.length old.place does.given old.job.held new.job.held
+  pub still : new.length ≡ old.length
+  pub told : IsSome new.before
+  pub is_line : IsLine (told_before old) (record { place = new.place; run = item }) line
+
+abbrev pub Tells : Tracer → Option (List ℕ) → Tracer → Type 0
+Tells old None new = IsOver old.job × (new ≡ old)
+Tells old (Some line) new = TellsOne old line new

@@ -1,0 +1,19 @@
+//! The trace of a stream, told line by line: what each table step took, what it changed of what can be seen and of the open page,
+//! and what went out in it.
+#![tactic(auto)]
+
+mod fault;
+mod fields;
+pub mod laws;
+mod line;
+mod page;
+mod place;
+mod seen;
+mod sent;
+mod text;
+mod told;
+mod tracer;
+mod tracing;
+
+pub use fault::TraceError;
+pub use tracing::trace_lines;

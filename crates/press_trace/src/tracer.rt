@@ -1,0 +1,139 @@
+//! A stream that is carried out step by step, and told line by line.
+
+ghost use Rattle.std.specs.Prelude.{◌≡◌, ◌≤◌, ◌||◌, not, length, IfOk, OnOk};
+ghost use Rattle.press_engine.specs.PageKept.{kind_may_change_page};
+
+use crate::line::seen_line;
+use crate::page::{PageTold, told_page};
+use crate::place::Place;
+use crate::seen::Seen;
+use crate::sent::WentOut;
+use press_bits::Bitmap;
+use press_cmd::Kind;
+use press_engine::{StepOutput, may_change_page};
+use press_stream::{Job, JobStep};
+use std::alloc::{AllocError, Global};
+
+/// A stream that is carried out step by step, and told line by line.
+#[derive(Drop)]
+pub(crate) struct Tracer {
+    alloc: Global,
+    job: Job,
+    /// How many bytes the stream has.
+    length: usize,
+    /// Where the command of the stream stands to which the last step belongs.
+    place: Place,
+    /// What could be seen behind the last step, if one was told.
+    before: Option<Seen>,
+    /// The page that was open behind it.
+    page: Option<Bitmap>,
+}
+
+/// Whether a step may change the open page, that took a command of this kind outside of bodies or in one.
+fn may_change(outside: bool, kind: Kind) -> bool
+    ensures { result ≡ not outside || kind_may_change_page kind }
+{
+    !outside || may_change_page(kind)
+}
+
+impl Tracer {
+    ghost use Rattle.std.specs.Prelude.{Some, Option, option_map};
+    ghost use Rattle.serde_json.specs.View.{view};
+    ghost use Rattle.press_engine.specs.declared.machine.Machine.{Machine};
+    ghost use Rattle.press_trace.specs.Lines.{IsLine};
+    ghost use Rattle.press_trace.specs.Pages.{IsPageTold};
+    ghost use Rattle.press_trace.specs.Plain.{IsPlain};
+    ghost use Rattle.press_trace.specs.Tracing.{IsAtStart, IsSound, IsKept, Tells, Shows, placed_run, place_if};
+
+    /// A stream of these bytes, of which no step was taken.
+    pub(crate) fn open(alloc: Global, bytes: &[u8]) -> Result<Self, AllocError>
+        ensures start { IfOk result (IsAtStart bytes.now) }
+        ensures sound { IfOk result IsSound }
+    {
+        let mut job = Job::open(alloc)?;
+        if job.push(bytes).is_err() {
+            return Err(AllocError);
+        }
+        job.end_input();
+        Ok(Tracer {
+            alloc,
+            job,
+            length: bytes.len(),
+            place: Place { at: 0, bytes: 0 },
+            before: None,
+            page: None,
+        })
+    }
+
+    /// Takes the next table step. The answer is its line, with its line feed; none where no step is left.
+    pub(crate) fn next_line(&mut self) -> Result<Option<Vec<u8>>, AllocError>
+        requires { IsSound self.old }
+        ensures tells { IfOk result (λ line.
+            Tells self.old (option_map (λ text. text.items) line) self.new) }
+        ensures sound { OnOk result (IsSound self.new) }
+    {
+        let outside = self.job.is_idle();
+        let held = self.job.held();
+        match self.job.take_step() {
+            Ok(JobStep::Ran(step)) => {
+                self.place = self.place_behind(outside, held);
+                let line = self.tell(&step, may_change(outside, step.kind))?;
+                Ok(Some(line))
+            }
+            Ok(_) => Ok(None),
+            Err(_) => Err(AllocError),
+        }
+    }
+
+    /// Where the command stands of the step that was taken last, outside of bodies or in one, before which so many bytes were held.
+    fn place_behind(&self, outside: bool, held: usize) -> Place
+        requires within { held ≤ self.now.length }
+        requires fewer { length self.now.job.held.bytes ≤ held }
+        ensures { result ≡ place_if outside self.now.length held
+            (length self.now.job.held.bytes) self.now.place }
+    {
+        if !outside {
+            return self.place;
+        }
+        Place {
+            at: self.length - held,
+            bytes: held - self.job.held(),
+        }
+    }
+
+    /// What is told of the open page, which may have changed in the step that was taken last.
+    fn page_told(&mut self, may_change: bool) -> Result<PageTold, AllocError>
+        ensures told { IfOk result (λ told. (machine : Machine) → Shows self.old may_change machine
+            → IsPageTold self.old.page machine.state.page
+            (option_map view told.opened) (option_map view told.page)) }
+        ensures page { OnOk result ((machine : Machine) → Shows self.old may_change machine
+            → self.new.page ≡ machine.state.page) }
+        ensures plain { IfOk result IsPlain }
+        ensures others { OnOk result (self.new ≡ record self.old { page = self.new.page }) }
+    {
+        if !may_change {
+            return Ok(PageTold::nothing());
+        }
+        let (page, told) = told_page(self.alloc, self.page.take(), self.job.page())?;
+        self.page = page;
+        Ok(told)
+    }
+
+    /// The line of the step that was taken last.
+    fn tell(&mut self, step: &StepOutput, may_change: bool) -> Result<Vec<u8>, AllocError>
+        ensures line { IfOk result (λ line. (machine : Machine) → Shows self.old may_change machine
+            → (before : Option Machine) → IsKept before self.old.before self.old.page
+            → IsLine before (placed_run self.old.place machine step.now) line.items) }
+        ensures kept { OnOk result ((machine : Machine) → Shows self.old may_change machine
+            → IsKept (Some machine) self.new.before self.new.page) }
+        ensures others { OnOk result (self.new
+            ≡ record self.old { before = self.new.before; page = self.new.page }) }
+    {
+        let page = self.page_told(may_change)?;
+        let went = WentOut::of(&mut self.job, self.alloc, &step.sent)?;
+        let view = self.job.view();
+        let line = seen_line(self.alloc, self.place, &went, &self.before, &view, page)?;
+        self.before = Some(Seen::of(self.alloc, &view)?);
+        Ok(line)
+    }
+}
