@@ -1,7 +1,7 @@
 -- What some words ask for.
 use Rattle.std.specs.Prelude.{◌≡◌, [], ◌∷◌, Some, None, codes, refl}
 use Rattle.clap.proofs.OnLiterals.{clap_on_literals}
-use Rattle.press_main.specs.Words.{Standard, FileNamed, Listed, FilesBy, Answered, AsText, DebuggedOf, StreamTo, JobTo, asked}
+use Rattle.press_main.specs.Words.{Standard, FileNamed, Listed, FilesBy, Answered, AsText, DebuggedOf, TracedOf, StreamTo, JobTo, asked}
 
 nothing : asked (codes "press" ∷ []) ≡ Some (record { source = Standard; made = Listed [] })
 nothing = refl
@@ -53,6 +53,11 @@ debugging_with_a_default : asked (codes "press" ∷ codes "debug" ∷ codes "--d
     ≡ Some (record { source = Standard; made = DebuggedOf (codes "@PJL DEFAULT RESOLUTION=600\n@PJL RESET\n") (codes "a.pcl") })
 unfolding clap_on_literals
 debugging_with_a_default = refl
+
+tracing_with_a_default : asked (codes "press" ∷ codes "trace" ∷ codes "--default" ∷ codes "RESOLUTION=600" ∷ codes "-" ∷ [])
+    ≡ Some (record { source = Standard; made = TracedOf (codes "@PJL DEFAULT RESOLUTION=600\n@PJL RESET\n") })
+unfolding clap_on_literals
+tracing_with_a_default = refl
 
 assembling : asked (codes "press" ∷ codes "asm" ∷ codes "a" ∷ codes "b" ∷ []) ≡ Some (record { source = FileNamed (codes "a"); made = StreamTo (codes "b") })
 unfolding clap_on_literals

@@ -17,5 +17,6 @@ pub mod Numbering
 pub mod Printing
 pub mod Program
 pub mod Sessions
+pub mod Traced
 pub mod View
 pub mod Words

@@ -2,7 +2,7 @@
 use Rattle.std.specs.Prelude.{◌≡◌, ◌≢◌, ◌⊎◌, ℕ, List, Option, Some, None, map}
 use Rattle.clap.specs.Words.{Text}
 use Rattle.press_sink.specs.Outputs.{MadeOutput}
-use Rattle.press_main.specs.Words.{Source, Standard, FileNamed, Made, Listed, FilesBy, Answered, AsText, DebuggedOf, StreamTo, JobTo, Asked}
+use Rattle.press_main.specs.Words.{Source, Standard, FileNamed, Made, Listed, FilesBy, Answered, AsText, DebuggedOf, TracedOf, StreamTo, JobTo, Asked}
 use Rattle.press_main.specs.Assembly.{AssembledInto, StopsMaking, DisassembledTo, StopsDisassembling}
 use Rattle.press_main.specs.Debugging.{Debugs, StopsDebugging}
 use Rattle.press_main.specs.Defaults.{HoldsBehind, with_front}
@@ -10,6 +10,7 @@ use Rattle.press_main.specs.Files.{PrintsFiles, DoesNothing}
 use Rattle.press_main.specs.Jobs.{MakesTheTicket, StopsMakingJob}
 use Rattle.press_main.specs.Listing.{PrintsListing}
 use Rattle.press_main.specs.Sessions.{Plays, Stops}
+use Rattle.press_main.specs.Traced.{Tracing}
 use Rattle.press_main.specs.declared.assembly.TextError.{TextError}
 use Rattle.press_main.specs.declared.debugging.DebugError.{DebugError}
 use Rattle.press_main.specs.declared.jobs.JobFileError.{JobFileError}
@@ -51,6 +52,8 @@ Makes (FilesBy front template) inputs status had left old new before after =
 Makes (Answered engines) inputs status had left old new before after = Playing engines status inputs had left old new × (after ≡ before)
 Makes AsText inputs status had left old new before after = Disassembling status had left old new × (after ≡ before)
 Makes (DebuggedOf front name) inputs status had left old new before after = Debugging status (with_front front (inputs name)) had left old new × (after ≡ before)
+Makes (TracedOf front) inputs status had left old new before after =
+    HoldsBehind front had left (λ had left. Tracing status had left old new) × (after ≡ before)
 Makes (StreamTo name) inputs status had left old new before after = Assembling name status had left before after × (new ≡ old)
 Makes (JobTo name images) inputs status had left old new before after = Writing name status had left (map inputs images) before after × (new ≡ old)
 

@@ -1,5 +1,5 @@
 //! What the program does: it reads a print stream, and lists its sheets, writes them to files, or writes the stream as assembly
-//! text; it makes a stream of assembly text; it steps through a stream; it writes the job of a ticket; and it has a session with a press.
+//! text; it makes a stream of assembly text; it steps through a stream, and tells its trace; it writes the job of a ticket; and it has a session with a press.
 #![tactic(auto)]
 
 mod assembly;
@@ -26,6 +26,7 @@ mod stream;
 mod taken;
 mod telling;
 mod told_folder;
+mod traced;
 mod words;
 
 pub use assembly::{asm_text, disasm_bytes};
@@ -39,4 +40,5 @@ pub use named_inputs::{NamedFile, NamedFiles, NamedInputs};
 pub use program::run_words;
 pub use sessions::press_lines;
 pub use stream::print_stream;
+pub use traced::{TracedError, tell_trace};
 pub use words::{Input, Output, Refusal, Request, request_of};

@@ -5,6 +5,7 @@ ghost use Rattle.press_main.specs.Defaults.{HoldsBehind, with_front};
 ghost use Rattle.press_main.specs.Files.{DoesNothing, PrintsFiles};
 ghost use Rattle.press_main.specs.Listing.{PrintsListing};
 ghost use Rattle.press_main.specs.Program.{Debugging, Makes, Performs, Runs, Writing};
+ghost use Rattle.press_main.specs.Traced.{Tracing};
 ghost use Rattle.press_main.specs.View.{made_seen, request_seen, status_of};
 ghost use Rattle.press_main.specs.Words.{asked};
 
@@ -17,6 +18,7 @@ use crate::named_inputs::NamedInputs;
 use crate::sessions::press_lines;
 use crate::sparing::spare_inputs;
 use crate::telling::{NO_OUTPUT, told};
+use crate::traced::tell_trace;
 use crate::words::{Input, Output, Refusal, Request, request_of};
 use press_sink::NamedOutputs;
 use press_units::NO_MEMORY;
@@ -163,6 +165,11 @@ fn make<I: NamedInputs, O: NamedOutputs + Drop, R: Read, W: Write + Drop, E: Wri
             out,
             outputs,
         },
+        Output::Traced(front) => Finished {
+            status: trace_behind(alloc, front, reader, &mut out, err),
+            out,
+            outputs,
+        },
         Output::Assembled(name) => Finished {
             status: asm_file(alloc, reader, &mut outputs, name, err),
             out,
@@ -192,6 +199,24 @@ fn list_behind<R: Read, W: Write, E: Write>(
     }
     let mut listed = front.chain(reader);
     print_list(alloc, &mut listed, out, err)
+}
+
+/// Tells the trace of the stream of these bytes and those that a reader has behind them.
+fn trace_behind<R: Read, W: Write, E: Write>(
+    alloc: Global,
+    front: &[u8],
+    reader: &mut R,
+    out: &mut W,
+    err: &mut E,
+) -> u8
+    ensures { HoldsBehind front.now (R.remaining reader.old) (R.remaining reader.new)
+        (λ had left. Tracing result had left (W.contents out.old) (W.contents out.new)) }
+{
+    if front.is_empty() {
+        return tell_trace(alloc, reader, out, err);
+    }
+    let mut traced = front.chain(reader);
+    tell_trace(alloc, &mut traced, out, err)
 }
 
 /// Prints the stream of these bytes and those that a reader has behind them to files by a template.

@@ -3,7 +3,7 @@ ghost use Rattle.std.specs.Prelude.{◌≡◌, ◌↔◌, ◌⊎◌, IfOk, IfErr
 ghost use Rattle.clap.specs.Words.{app_of, new_app, rule_of, new_rule, kind_of, first_of, rows_of, found_of, subcommand_of, subcommand_rows_of, fault_of, FailsBy};
 ghost use Rattle.clap.specs.declared.builder.command.Command.TheViews.{out-Command};
 ghost use Rattle.clap.specs.declared.error.kind.ErrorKind.TheVariants.{OutOfMemory};
-ghost use Rattle.press_main.specs.Words.{list_rule, default_rule, needed_rule, images_rule, engines_rule, print_app, asm_app, disasm_app, debug_app, write_app, session_app, program_app, press_app, source_of, made_behind, made_of, made_named, made_in, images_of, defaults_of, front_in, engines_of, print_asked, asm_asked, disasm_asked, debug_of, debug_asked, job_asked, session_asked, subcommand_named, asked_of, asked_by, asked, is_set};
+ghost use Rattle.press_main.specs.Words.{list_rule, default_rule, needed_rule, images_rule, engines_rule, print_app, asm_app, disasm_app, debug_app, trace_app, write_app, session_app, program_app, press_app, source_of, made_behind, made_of, made_named, made_in, images_of, defaults_of, front_in, engines_of, print_asked, asm_asked, disasm_asked, debug_of, debug_asked, trace_asked, job_asked, session_asked, subcommand_named, asked_of, asked_by, asked, is_set};
 ghost use Rattle.press_main.specs.View.{source_seen, made_seen, request_seen, status_of, IsForMemory};
 
 use crate::defaults::{are_assignments, front_of};
@@ -26,6 +26,7 @@ const AFTER_HELP: &str = "Examples:
   press disasm page.pcl > page.asm
   press asm page.asm changed.pcl
   press debug page.pcl < lines.txt
+  press trace page.pcl > trace.jsonl
   press write ticket.json job.prn page-1.pbm page-2.pbm
   press press < events.txt
   press press --engines 2 < events.txt
@@ -78,6 +79,8 @@ pub enum Output<'a> {
     Text,
     /// The answers to the lines of a debugger of the stream of this file, with these bytes in front of it.
     Debugged(Vec<u8>, &'a str),
+    /// The lines of the trace of a stream, with these bytes in front of it.
+    Traced(Vec<u8>),
     /// The file of this name, of the bytes of assembly text.
     Assembled(&'a str),
     /// The file of this name, of the job of a ticket with the images of these files.
@@ -258,6 +261,21 @@ fn debug_command<'a>(alloc: Global) -> Result<Command<'a>, AllocError>
         ))
 }
 
+/// The subcommand `trace`.
+fn trace_command<'a>(alloc: Global) -> Result<Command<'a>, AllocError>
+    ensures app { IfOk result (λ command. app_of command ≡ trace_app) }
+    ensures local { IfOk result (λ command. (out-Command command).has_globals ≡ false) }
+{
+    Command::new(alloc, "trace")
+        .about("Tells what a stream does, step by step, in a line of JSON for each")
+        .arg(default_option(alloc))?
+        .arg(needed_word(
+            alloc,
+            "IN",
+            "The file of the stream, or - for standard input",
+        ))
+}
+
 /// The words for the images.
 fn images_word<'a>(alloc: Global) -> Arg<'a>
     ensures rule { rule_of result ≡ images_rule }
@@ -328,6 +346,7 @@ fn command<'a>(alloc: Global) -> Result<Command<'a>, AllocError>
         .subcommand(asm_command(alloc)?)?
         .subcommand(disasm_command(alloc)?)?
         .subcommand(debug_command(alloc)?)?
+        .subcommand(trace_command(alloc)?)?
         .subcommand(write_command(alloc)?)?
         .subcommand(press_command(alloc)?)
 }
@@ -539,6 +558,27 @@ fn debug_request<'a>(
     }
 }
 
+/// What the matches of `trace` ask for.
+#[tactic(auto, using(crate::proofs::WordsLemmas::value_by_rows))]
+fn trace_request<'a>(
+    alloc: Global,
+    matches: &ArgMatches<'a>,
+) -> Result<Option<Request<'a>>, AllocError>
+    ensures { IfOk result (λ found. option_map request_seen found
+        ≡ trace_asked (rows_of (found_of matches.now))) }
+{
+    let Some(front) = front_in(alloc, matches)? else {
+        return Ok(None);
+    };
+    let Some(name) = matches.get_str("IN") else {
+        return Ok(None);
+    };
+    Ok(Some(Request {
+        input: input_named(name),
+        output: Output::Traced(front),
+    }))
+}
+
 /// How many engines the matches of `press` ask for: one where they say nothing of them.
 #[tactic(auto, using(crate::proofs::WordsLemmas::value_by_rows))]
 fn engines_of(matches: &ArgMatches<'_>) -> Option<u64>
@@ -568,6 +608,7 @@ enum Subcommand {
     Asm,
     Disasm,
     Debug,
+    Trace,
     Write,
     Press,
 }
@@ -584,6 +625,8 @@ fn subcommand_named(name: &str) -> Option<Subcommand>
         Some(Subcommand::Disasm)
     } else if name == "debug" {
         Some(Subcommand::Debug)
+    } else if name == "trace" {
+        Some(Subcommand::Trace)
     } else if name == "write" {
         Some(Subcommand::Write)
     } else if name == "press" {
@@ -607,6 +650,7 @@ fn subcommand_request<'a>(
         Subcommand::Asm => Ok(asm_request(matches)),
         Subcommand::Disasm => Ok(disasm_request(matches)),
         Subcommand::Debug => debug_request(alloc, matches),
+        Subcommand::Trace => trace_request(alloc, matches),
         Subcommand::Write => job_request(alloc, matches),
         Subcommand::Press => Ok(session_request(matches)),
     }

@@ -16,6 +16,9 @@ returns-in-Text g c = rw c.in-Text.is (record { done = c.disasm_bytes.ensures.di
 pub returns-in-Debugged : goal.returns-in-Debugged
 returns-in-Debugged g c = rw (c.in-Debugged.is, ← c.deref-in-Debugged.ensures.value) (c.debug_file.ensures, refl)
 
+pub returns-in-Traced : goal.returns-in-Traced
+returns-in-Traced g c = rw (c.in-Traced.is, ← c.deref-in-Traced.ensures.value) (c.trace_behind.ensures, refl)
+
 pub returns-in-Assembled : goal.returns-in-Assembled
 returns-in-Assembled g c = rw c.in-Assembled.is (record { done = c.asm_file.ensures.assembled; stops = c.asm_file.ensures.refused }, refl)
 

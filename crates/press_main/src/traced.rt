@@ -1,0 +1,83 @@
+//! The trace of a stream, told to a writer.
+ghost use Rattle.std.specs.Prelude.{◌≡◌, ◌≤◌, IfErr, OnOk};
+ghost use Rattle.press_pbm.specs.Spelling.{Writes};
+ghost use Rattle.press_main.specs.Traced.{StopsTelling, Traced, Tracing};
+
+use crate::inputs::{InputError, read_all};
+use crate::telling::{NO_OUTPUT, told, write_flushed};
+use press_trace::{TraceError, trace_lines};
+use press_units::NO_MEMORY;
+use std::alloc::Global;
+use std::io::{Read, Write};
+use thiserror::Error;
+
+/// Why a trace was not told to its end.
+#[derive(Debug, Drop, Error)]
+pub enum TracedError {
+    /// The stream was not read to its end.
+    #[error("{0}")]
+    Input(InputError),
+    /// A line cannot be written.
+    #[error("{text}", text = NO_OUTPUT)]
+    Output,
+    #[error("{text}", text = NO_MEMORY)]
+    NoMemory,
+}
+
+impl From<InputError> for TracedError {
+    ghost use Rattle.std.specs.Prelude.{◌≡◌};
+    ghost use Rattle.press_main.specs.declared.traced.TracedError.TheVariants.{Input};
+
+    ghost from_gives = { λ fault error. error ≡ Input fault };
+
+    fn from(fault: InputError) -> TracedError {
+        TracedError::Input(fault)
+    }
+}
+
+impl From<TraceError> for TracedError {
+    ghost use Rattle.press_main.specs.Traced.{IsTold};
+
+    ghost from_gives = { IsTold };
+
+    fn from(fault: TraceError) -> TracedError {
+        match fault {
+            TraceError::Output(_) => TracedError::Output,
+            TraceError::NoMemory => TracedError::NoMemory,
+        }
+    }
+}
+
+/// Tells the trace of the stream that a reader has to `out`, and a fault to `err`. The stream is read whole before the first step.
+/// The answer is the status: 0, or 1 after a fault.
+pub fn tell_trace<R: Read, W: Write, E: Write>(
+    alloc: Global,
+    reader: &mut R,
+    out: &mut W,
+    err: &mut E,
+) -> u8
+    ensures status { result ≤ 1 }
+    ensures traced { Tracing result (R.remaining reader.old) (R.remaining reader.new)
+        (W.contents out.old) (W.contents out.new) }
+{
+    match trace_to(alloc, reader, out) {
+        Ok(()) => 0,
+        Err(error) => told(&error, err),
+    }
+}
+
+/// Tells the trace of the stream that a reader has to `out`.
+fn trace_to<R: Read, W: Write>(
+    alloc: Global,
+    reader: &mut R,
+    out: &mut W,
+) -> Result<(), TracedError>
+    ensures ok { OnOk result (Traced (R.remaining reader.old) (R.remaining reader.new)
+        (W.contents out.old) (W.contents out.new)) }
+    ensures err { IfErr result (StopsTelling (R.remaining reader.old) (R.remaining reader.new)
+        (W.contents out.old) (W.contents out.new)) }
+{
+    let bytes = read_all(alloc, reader)?;
+    trace_lines(alloc, &bytes, out)?;
+    Ok(())
+}
