@@ -53,7 +53,7 @@ SUBMISSION = b"message examples/messages/submit-flyer.json examples/images/front
 ROWS = [
     *(Row(name, LIST, spelled(text)) for name, text in STREAMS),
     *(Row(name, LIST, stream) for name, stream in LINES),
-    Row("files of two sides", ["print", "-", "page-%d.pbm"], spelled("ESC&l1S ESC*p9x9Y ESC*c9a9b0P FF ESC*c9a9b0P FF"), 34),
+    Row("files of two sides", ["print", "-", "page-%d.pbm"], spelled("ESC&l1S ESC*p9x9Y ESC*c9a9b0P FF ESC*c9a9b0P FF"), 36),
     Row("the job of a ticket", ["write", *TICKET, "job", *IMAGES]),
     Row("a text that is assembled", ["asm", "-", "stream"], b"par *p10X\npar *b2W 02F0\nesc E\n; a remark\ntxt 41\n"),
     Row("commands that are told", ["disasm", "-"], b"\x1b*p10x20Y\x1bE\x1b*b2W\x02\xf0text\x0c"),
