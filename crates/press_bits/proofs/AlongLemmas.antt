@@ -1,15 +1,18 @@
 -- Rows of dots that are painted along a line, one word after another.
 use Rattle.std.proofs.Common.{◌≡◌, ℕ, ◌+◌, ◌-◌, ◌*◌, ◌/◌, ◌%◌, ◌^◌, ◌<◌, ◌≤◌, ◌⊎◌, Bool, true, false, ◌&&◌, List, length, replicate, get_or, take, drop, sym, ap, ◌∙◌, inl, inr, arith}
-use Rattle.std.specs.Prelude.{nat_lt, nat_le}
+use Rattle.std.specs.Prelude.{nat_lt, nat_le, if◌then◌else◌}
 use Rattle.std.proofs.lemmas.Bool.{cases_lt}
 use Rattle.std.proofs.lemmas.Bool.Decides.{nat_tests}
 use Rattle.std.proofs.lemmas.List.{get_or-replicate, length-replicate, length-take, length-drop}
 use borrow.Rule.Slice.PartMut.{put_mid}
 use Rattle.press_bits.specs.DotRows.{mixed_dot}
+use Rattle.press_bits.specs.DotRule.{dot_after}
+use Rattle.press_bits.specs.DotRule.DotEffect.{MadeWhite, Unchanged}
 use Rattle.press_bits.specs.Mark.{row_dot, byte_dot}
 use Rattle.press_bits.specs.Words.{word_dot}
 use Rattle.press_bits.specs.declared.mode.Mode.{Mode}
 use Rattle.press_bits.proofs.ByteLemmas.{byte_dot-ones, row_dot-of_byte}
+use Rattle.press_bits.proofs.LineLemmas.{row_dot-slice}
 use Rattle.press_bits.proofs.MixLemmas.{mixed_when, not_mixed}
 use Rattle.press_bits.proofs.WordLemmas.{shifted_right, put_at, put_elsewhere}
 
@@ -127,3 +130,37 @@ painted_bytes rows bytes mode source tile from first last begin onward room is b
 
     full : (i : ℕ) → i < last - first → get_or bytes i 0 ≡ 255
     full i low = ap (λ (all : List ℕ). get_or all i 0) is ∙ get_or-replicate (length (take (last - first) (drop first rows))) i 255 0 (omega (arith, count))
+
+-- a dot that is laid through a black one
+laid_dot : (inside : Bool) (mode : Mode) (source pattern before : Bool) → inside ≡ true → mode.source_opaque ≡ true → pattern ≡ true → source ≡ mixed_dot inside mode source pattern before
+laid_dot inside mode true pattern before within opaque through = λ i. mixed_dot (sym within i) mode true (sym through i) before
+laid_dot inside mode false pattern before within opaque through =
+    ap (λ (b : Bool). dot_after (if b then MadeWhite else Unchanged) before) (sym opaque)
+    ∙ (λ i. mixed_dot (sym within i) mode false (sym through i) before)
+
+-- whole bytes are laid over others
+pub laid_bytes : (rows bytes bits : List ℕ) (mode : Mode) (source tile : ℕ → Bool) (from first last at : ℕ) → from ≡ 8 * first → first ≤ last → last ≤ length rows → length bytes ≡ last - first →
+    bytes ≡ take (last - first) (drop at bits) →
+    ((p : ℕ) → from ≤ p → p < 8 * last → source p ≡ row_dot bits (8 * at + (p - from))) → mode.source_opaque ≡ true → ((p : ℕ) → tile p ≡ true) →
+    IsPaintedBetween rows (put_mid first (last - first) rows bytes) mode source tile from (8 * last)
+laid_bytes rows bytes bits mode source tile from first last at begin onward room long is right opaque through p =
+    elim (cases_lt p from) [
+      | inl before ↦
+          put_elsewhere rows bytes first (last - first) long within p (inl (omega arith)) ∙ sym (not_mixed _ mode (source p) (tile p) (row_dot rows p) (before_test from (8 * last) p before))
+      | inr reached ↦ elim (cases_lt p (8 * last)) [
+        | inl left ↦
+            let bit : p % 8 ≡ (p - from) % 8 = omega arith in
+            sym (row_dot-of_byte (put_mid first (last - first) rows bytes) (first + (p / 8 - first)) p (omega arith))
+            ∙ (λ i. byte_dot (put_at rows bytes first (last - first) long within (p / 8 - first) (omega arith) i) (bit i))
+            ∙ row_dot-of_byte bytes (p / 8 - first) (p - from) (omega arith)
+            ∙ ap (λ all. row_dot all (p - from)) is
+            ∙ row_dot-slice bits at (last - first) (p - from) (omega arith)
+            ∙ sym (right p reached left)
+            ∙ laid_dot _ mode (source p) (tile p) (row_dot rows p) (within_test from (8 * last) p reached left) opaque (through p)
+        | inr past ↦
+            put_elsewhere rows bytes first (last - first) long within p (inr (omega arith)) ∙ sym (not_mixed _ mode (source p) (tile p) (row_dot rows p) (past_test from (8 * last) p past))
+      ]
+    ]
+  where
+    within : first + (last - first) ≤ length rows
+    within = omega arith

@@ -3,10 +3,10 @@ use Rattle.std.proofs.Common.{◌≡◌, ℕ, ◌+◌, ◌-◌, ◌*◌, ◌/◌
 use Rattle.std.specs.Int.{rotate_left}
 use Rattle.std.proofs.Math.Nat.{mod-eq_of_lt, add-mod_left, add-mul-mod_self_left, div-add-mod}
 use Rattle.std.proofs.lemmas.Bool.{cases_lt, cases_eq}
-use Rattle.press_bits.specs.Mark.{Row, row_dot, repeated}
+use Rattle.press_bits.specs.Mark.{IsBlack, Row, row_dot, repeated}
 use Rattle.press_bits.specs.Words.{word_dot}
 use Rattle.press_bits.proofs.MixLemmas.{or_false}
-use Rattle.press_bits.proofs.WordLemmas.{word_dot-or, shifted_right, white_before, shifted_left, white_behind}
+use Rattle.press_bits.proofs.WordLemmas.{word_dot-or, word_dot-ones, shifted_right, white_before, shifted_left, white_behind}
 
 pub repeated-first : (pattern : Row) (p : ℕ) → p < pattern.dots → row_dot pattern.bits p ≡ repeated pattern p
 unfolding repeated
@@ -82,3 +82,13 @@ turned_front pattern front q j small divides dots within =
     ∙ dots ((q + j) % 64) (omega arith)
     ∙ sym (times_64 pattern ((q + j) / 64) (IsPeriod-64 pattern divides) ((q + j) % 64))
     ∙ ap (repeated pattern) place
+
+-- a pattern whose width divides sixty-four is black where its first sixty-four dots are
+pub black_front : (pattern : Row) (front : ℕ) → front ≡ 2 ^ 64 - 1 → 64 % pattern.dots ≡ 0 → ((i : ℕ) → i < 64 → word_dot front i ≡ repeated pattern i) → IsBlack pattern
+black_front pattern front full divides dots = λ i.
+    let place : 64 * (i / 64) + i % 64 ≡ i = omega arith in
+    ap (repeated pattern) (sym place)
+    ∙ times_64 pattern (i / 64) (IsPeriod-64 pattern divides) (i % 64)
+    ∙ sym (dots (i % 64) (omega arith))
+    ∙ ap (λ n. word_dot n (i % 64)) full
+    ∙ word_dot-ones (i % 64)

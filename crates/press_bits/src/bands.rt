@@ -356,12 +356,14 @@ impl Bands {
             return;
         }
         let start = line % BAND * line_bytes(self.width);
+        let through = Repeats::of(pattern);
         let stroke = Stroke {
             run,
             source,
-            through: Repeats::of(pattern),
+            through,
             mode,
             solid,
+            laid: mode.source_opaque && through.is_black(),
         };
         self.bands[line / BAND].paint(start, &stroke);
     }
@@ -402,6 +404,7 @@ impl Bands {
             through: Repeats::of(pattern),
             mode,
             solid: false,
+            laid: false,
         };
         paint_down(&mut self.bands, column, &stroke);
     }

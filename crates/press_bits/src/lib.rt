@@ -24,3 +24,4 @@ pub use bitmap::{Bitmap, BlankError};
 pub use dot_row::DotRow;
 pub use mode::Mode;
 pub use region::Region;
+pub use word::{put_word, word_at, word_from};

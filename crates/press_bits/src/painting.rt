@@ -97,6 +97,27 @@ fn paint_words(rows: &mut [u8], first: usize, words: usize, line: usize, stroke:
     }
 }
 
+/// Paints so many words of sixty-four dots of a stroke, from a byte on: where it is laid and its dots stand in whole bytes, these.
+#[inline(always)]
+fn lay_words(rows: &mut [u8], first: usize, words: usize, line: usize, stroke: &Stroke<'_, '_>)
+    requires room { first + 8 * words ≤ length rows.old }
+    requires small { length rows.old < 2 ^ 40 }
+    requires begun { 8 * line + stroke.now.run.first ≤ 8 * first }
+    requires left { 8 * first + 64 * words
+        ≤ 8 * line + stroke.now.run.first + stroke.now.run.count }
+    requires enough { stroke.now.run.skip + stroke.now.run.count ≤ stroke.now.source.dots }
+    ensures { IsPaintedFrom rows.old rows.new line stroke.now (8 * first) (8 * first + 64 * words) }
+{
+    let run = stroke.run;
+    let dot = run.skip + (8 * first - (8 * line + run.first));
+    if !stroke.laid || dot % 8 != 0 {
+        paint_words(rows, first, words, line, stroke);
+        return;
+    }
+    let bits = &stroke.source.bits[dot / 8..dot / 8 + 8 * words];
+    rows[first..first + 8 * words].copy_from_slice(bits);
+}
+
 /// Paints dots of a stroke from dot `from` on that lie before dot `end`, and says before which: whole words where it begins with a
 /// byte, and else those in the same eight bytes.
 #[inline(always)]
@@ -129,7 +150,7 @@ fn paint_next(
     if stroke.solid {
         rows[first..first + 8 * words].fill(0xFF);
     } else {
-        paint_words(rows, first, words, line, stroke);
+        lay_words(rows, first, words, line, stroke);
     }
     from + 64 * words
 }

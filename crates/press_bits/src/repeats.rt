@@ -2,7 +2,7 @@
 #![tactic(auto)]
 
 ghost use Rattle.std.specs.Prelude.{◌≡◌, ℕ, ◌+◌, ◌%◌, ◌<◌, ◌≤◌, true};
-ghost use Rattle.press_bits.specs.Mark.{row, repeated};
+ghost use Rattle.press_bits.specs.Mark.{IsBlack, row, repeated};
 ghost use Rattle.press_bits.specs.Words.{word_dot};
 
 use crate::dot_row::DotRow;
@@ -37,6 +37,13 @@ impl<'p> Repeats<'p> {
             front,
             divides: 64 % pattern.dots == 0,
         }
+    }
+
+    /// Whether it is known to be black everywhere.
+    pub(crate) fn is_black(&self) -> bool
+        ensures { result ≡ true → IsBlack (row self.now.pattern) }
+    {
+        self.divides && self.front == u64::MAX
     }
 
     /// Sixty-four of its dots, from dot `first` on. Where its width divides sixty-four, they are those of the front, turned.

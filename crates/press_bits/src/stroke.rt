@@ -1,6 +1,6 @@
 //! What is painted along a line of a page, or down a column.
 ghost use Rattle.std.specs.Prelude.{◌≡◌, ◌*◌, ◌^◌, ◌<◌, ◌≤◌, true};
-ghost use Rattle.press_bits.specs.Mark.{IsSolid, row};
+ghost use Rattle.press_bits.specs.Mark.{IsBlack, IsSolid, row};
 
 use crate::dot_row::DotRow;
 use crate::mode::Mode;
@@ -15,7 +15,8 @@ pub(crate) struct Run {
     pub(crate) count: usize,
 }
 
-/// A run of the dots of a source row that is painted through a row of a pattern; a solid one has black dots alone.
+/// A run of the dots of a source row that is painted through a row of a pattern. A solid one has black dots alone; one that is laid
+/// takes the place of what was there.
 #[derive(Clone, Copy)]
 pub(crate) struct Stroke<'s, 'p> {
     pub(crate) run: Run,
@@ -23,8 +24,11 @@ pub(crate) struct Stroke<'s, 'p> {
     pub(crate) through: Repeats<'p>,
     pub(crate) mode: Mode,
     pub(crate) solid: bool,
+    pub(crate) laid: bool,
     ghost small: { source.dots < 2 ^ 64 },
     ghost black: { solid ≡ true → IsSolid (row source) (row through.pattern) },
+    ghost opaque: { laid ≡ true → mode.source_opaque ≡ true },
+    ghost through_black: { laid ≡ true → IsBlack (row through.pattern) },
 }
 
 /// A column of dots, `place` dots from the left edge of lines that have `bytes` bytes each.

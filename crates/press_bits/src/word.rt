@@ -13,7 +13,7 @@ use crate::mode::Mode;
 
 /// The sixty-four dots of the eight bytes from one on, white past the last byte.
 #[inline(always)]
-pub(crate) fn word_at(bits: &[u8], index: usize) -> u64
+pub fn word_at(bits: &[u8], index: usize) -> u64
     requires { index + 8 < 2 ^ 64 }
     ensures dots { (j : ℕ) → j < 64 → word_dot result j ≡ row_dot bits.now (8 * index + j) }
     ensures count { count_by (row_dot bits.now) (range_with_len 0 (8 * (index + 8)))
@@ -46,7 +46,7 @@ pub(crate) fn word_at(bits: &[u8], index: usize) -> u64
 
 /// Sixty-four dots of the bytes from dot `first` on, white past the last byte.
 #[inline(always)]
-pub(crate) fn word_from(bits: &[u8], first: usize) -> u64
+pub fn word_from(bits: &[u8], first: usize) -> u64
     ensures { (j : ℕ) → j < 64 → word_dot result j ≡ row_dot bits.now (first + j) }
 {
     let left = word_at(bits, first / 8);
@@ -56,7 +56,7 @@ pub(crate) fn word_from(bits: &[u8], first: usize) -> u64
 
 /// Puts sixty-four dots into the eight bytes from one on.
 #[inline(always)]
-pub(crate) fn put_word(rows: &mut [u8], index: usize, word: u64)
+pub fn put_word(rows: &mut [u8], index: usize, word: u64)
     requires { index + 8 ≤ length rows.old }
     ensures here { (j : ℕ) → j < 64 → row_dot rows.new (8 * index + j) ≡ word_dot word j }
     ensures elsewhere { (p : ℕ) → (p < 8 * index) ⊎ (8 * index + 64 ≤ p)

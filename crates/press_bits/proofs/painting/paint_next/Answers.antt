@@ -20,6 +20,6 @@ returns-clause-painted c =
           (λ p. (c.args.stroke.now.black w.if-stroke.true).1 (p - 8 * c.args.line))))
       | else-stroke w ↦
           subst (λ rows. IsPaintedFrom c.args.rows.now rows c.args.line c.args.stroke.now c.args.from (c.args.from + 64 * ((c.args.end - c.args.from) / 64))) (sym w.rows-is)
-          (subst (IsPaintedFrom c.args.rows.now w.paint_words.new.rows c.args.line c.args.stroke.now c.args.from) stop
-          (subst (λ from. IsPaintedFrom c.args.rows.now w.paint_words.new.rows c.args.line c.args.stroke.now from (8 * (c.args.from / 8) + 64 * ((c.args.end - c.args.from) / 64))) (sym begin) w.paint_words.ensures))
+          (subst (IsPaintedFrom c.args.rows.now w.lay_words.new.rows c.args.line c.args.stroke.now c.args.from) stop
+          (subst (λ from. IsPaintedFrom c.args.rows.now w.lay_words.new.rows c.args.line c.args.stroke.now from (8 * (c.args.from / 8) + 64 * ((c.args.end - c.args.from) / 64))) (sym begin) w.lay_words.ensures))
     ]

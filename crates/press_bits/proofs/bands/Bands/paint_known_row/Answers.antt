@@ -94,7 +94,7 @@ invariant_of-self c =
     c.run_within-run.result.first c.run_within-run.result.count c.in-Some.line c.self.invariant there (c.paint.ensures.long ∙ ap length band) some (omega (arith, c.run_within-run.ensures.count, full))
     (λ p. c.paint.ensures.dots p
     ∙ (λ i. mixed_dot (nat_le (8 * (c.in-Some.line % 64 * c.line_bytes.ensures i) + c.run_within-run.result.first) p && nat_lt p (8 * (c.in-Some.line % 64 * c.line_bytes.ensures i) + c.run_within-run.result.first + c.run_within-run.result.count)) c.args.mode
-    (row_dot c.args.source.bits.now (c.run_within-run.result.skip + (p - (8 * (c.in-Some.line % 64 * c.line_bytes.ensures i) + c.run_within-run.result.first)))) (repeated (row (c.of.ensures i)) (p - 8 * (c.in-Some.line % 64 * c.line_bytes.ensures i))) (row_dot (band i) p)))
+    (row_dot c.args.source.bits.now (c.run_within-run.result.skip + (p - (8 * (c.in-Some.line % 64 * c.line_bytes.ensures i) + c.run_within-run.result.first)))) (repeated (row (c.of-through.ensures i)) (p - 8 * (c.in-Some.line % 64 * c.line_bytes.ensures i))) (row_dot (band i) p)))
 
 pub returns-clause-painted : goal.returns-clause-painted
 returns-clause-painted c =
@@ -109,7 +109,7 @@ returns-clause-painted c =
     c.run_within-run.ensures.count full there
     (λ p. c.paint.ensures.dots p
     ∙ (λ i. mixed_dot (nat_le (8 * (c.in-Some.line % 64 * c.line_bytes.ensures i) + c.run_within-run.result.first) p && nat_lt p (8 * (c.in-Some.line % 64 * c.line_bytes.ensures i) + c.run_within-run.result.first + c.run_within-run.result.count)) c.args.mode
-    (row_dot c.args.source.bits.now (c.run_within-run.result.skip + (p - (8 * (c.in-Some.line % 64 * c.line_bytes.ensures i) + c.run_within-run.result.first)))) (repeated (row (c.of.ensures i)) (p - 8 * (c.in-Some.line % 64 * c.line_bytes.ensures i))) (row_dot (band i) p)))
+    (row_dot c.args.source.bits.now (c.run_within-run.result.skip + (p - (8 * (c.in-Some.line % 64 * c.line_bytes.ensures i) + c.run_within-run.result.first)))) (repeated (row (c.of-through.ensures i)) (p - 8 * (c.in-Some.line % 64 * c.line_bytes.ensures i))) (row_dot (band i) p)))
     ∙ ap (λ (s : BandedPage). painted s.page (row_mark c.args.x c.args.y (row c.args.source) (row c.args.pattern) c.args.mode)) c.self.view_is
 
 pub returns-clause-ready : goal.returns-clause-ready
