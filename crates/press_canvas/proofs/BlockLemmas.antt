@@ -1,0 +1,512 @@
+-- Blocks whose lines and columns are exchanged by six steps.
+use Rattle.std.proofs.Common.{◌≡◌, ℕ, ◌+◌, ◌-◌, ◌*◌, ◌/◌, ◌%◌, ◌^◌, ◌<◌, ◌≤◌, ◌≢◌, ◌⊎◌, zero, suc, Bool, true, false, ◌&&◌, ◌||◌, not, List, length, get_or, set, w64, refl, sym, ap, ◌∙◌, inl, inr, arith}
+use Rattle.std.specs.Prelude.{nat_eq, nat_lt, bit_and, bit_or, if◌then◌else◌}
+use Rattle.std.proofs.lemmas.Bool.{cases_eq, cases_lt, true≢false}
+use Rattle.std.proofs.lemmas.Bool.Decides.{nat_tests}
+use Rattle.std.specs.Int.{bit_not}
+use Rattle.std.specs.Int.Bits.{and_lt}
+use Rattle.std.proofs.lemmas.List.{get_or-set_same, get_or-set_other, length-set}
+use Rattle.press_bits.specs.Words.{word_dot}
+use Rattle.press_bits.proofs.WordLemmas.{word_dot-and, word_dot-or, word_dot-not, shifted_right, shifted_left, white_before, white_behind}
+use Rattle.press_canvas.specs.Block.{block_dot, dot_from, is_front, line_from, IsStep}
+
+-- ---- what holds of each number below a bound, tried one by one
+
+abbrev every : (ℕ → Bool) → ℕ → Bool
+every p zero = true
+every p (suc n) = p n && every p n
+
+first_of : (a b : Bool) → (a && b) ≡ true → a ≡ true
+first_of true b both = refl
+first_of false b both = both
+
+second_of : (a b : Bool) → (a && b) ≡ true → b ≡ true
+second_of true b both = both
+second_of false b both = absurd (true≢false (sym both))
+
+every_at : (p : ℕ → Bool) (n k : ℕ) → every p n ≡ true → k < n → p k ≡ true
+every_at p zero k all below = absurd (omega arith)
+every_at p (suc n) k all below =
+    elim (cases_eq k n) [
+      | inl here ↦ ap p here ∙ first_of (p n) (every p n) all
+      | inr apart ↦ every_at p n k (second_of (p n) (every p n) all) (omega arith)
+    ]
+
+-- ---- steps
+
+same_test : Bool → Bool → Bool
+same_test true b = b
+same_test false b = not b
+
+same_of : (a b : Bool) → same_test a b ≡ true → a ≡ b
+unfolding same_test
+same_of true b same = sym same
+same_of false true same = same
+same_of false false same = refl
+
+-- the mask of a step has the dots at its fronts
+abbrev masks : (step fronts j : ℕ) → Bool
+masks step fronts j = same_test (word_dot fronts j) (is_front step j)
+
+masks_32 : every (masks 32 18446744069414584320) 64 ≡ true
+unfolding same_test word_dot
+masks_32 = refl
+
+masks_16 : every (masks 16 18446462603027742720) 64 ≡ true
+unfolding same_test word_dot
+masks_16 = refl
+
+masks_8 : every (masks 8 18374966859414961920) 64 ≡ true
+unfolding same_test word_dot
+masks_8 = refl
+
+masks_4 : every (masks 4 17361641481138401520) 64 ≡ true
+unfolding same_test word_dot
+masks_4 = refl
+
+masks_2 : every (masks 2 14757395258967641292) 64 ≡ true
+unfolding same_test word_dot
+masks_2 = refl
+
+masks_1 : every (masks 1 12297829382473034410) 64 ≡ true
+unfolding same_test word_dot
+masks_1 = refl
+
+mask_of : (step fronts : ℕ) → every (masks step fronts) 64 ≡ true → (j : ℕ) → j < 64 → word_dot fronts j ≡ is_front step j
+mask_of step fronts all j low = same_of (word_dot fronts j) (is_front step j) (every_at (masks step fronts) 64 j all low)
+
+pub step_32 : IsStep 32 18446744069414584320
+step_32 = record {
+  some = omega arith;
+  small = omega arith;
+  fits = omega arith;
+  mask = mask_of 32 18446744069414584320 masks_32;
+  front = λ j low test. (grind (arith, nat_tests), grind (arith, nat_tests));
+  rear = λ j low test. (grind (arith, nat_tests), grind (arith, nat_tests));
+  before_front = λ j low test reached. grind (arith, nat_tests);
+  behind_rear = λ j low test. grind (arith, nat_tests);
+}
+
+pub step_16 : IsStep 16 18446462603027742720
+step_16 = record {
+  some = omega arith;
+  small = omega arith;
+  fits = omega arith;
+  mask = mask_of 16 18446462603027742720 masks_16;
+  front = λ j low test. (grind (arith, nat_tests), grind (arith, nat_tests));
+  rear = λ j low test. (grind (arith, nat_tests), grind (arith, nat_tests));
+  before_front = λ j low test reached. grind (arith, nat_tests);
+  behind_rear = λ j low test. grind (arith, nat_tests);
+}
+
+pub step_8 : IsStep 8 18374966859414961920
+step_8 = record {
+  some = omega arith;
+  small = omega arith;
+  fits = omega arith;
+  mask = mask_of 8 18374966859414961920 masks_8;
+  front = λ j low test. (grind (arith, nat_tests), grind (arith, nat_tests));
+  rear = λ j low test. (grind (arith, nat_tests), grind (arith, nat_tests));
+  before_front = λ j low test reached. grind (arith, nat_tests);
+  behind_rear = λ j low test. grind (arith, nat_tests);
+}
+
+pub step_4 : IsStep 4 17361641481138401520
+step_4 = record {
+  some = omega arith;
+  small = omega arith;
+  fits = omega arith;
+  mask = mask_of 4 17361641481138401520 masks_4;
+  front = λ j low test. (grind (arith, nat_tests), grind (arith, nat_tests));
+  rear = λ j low test. (grind (arith, nat_tests), grind (arith, nat_tests));
+  before_front = λ j low test reached. grind (arith, nat_tests);
+  behind_rear = λ j low test. grind (arith, nat_tests);
+}
+
+pub step_2 : IsStep 2 14757395258967641292
+step_2 = record {
+  some = omega arith;
+  small = omega arith;
+  fits = omega arith;
+  mask = mask_of 2 14757395258967641292 masks_2;
+  front = λ j low test. (grind (arith, nat_tests), grind (arith, nat_tests));
+  rear = λ j low test. (grind (arith, nat_tests), grind (arith, nat_tests));
+  before_front = λ j low test reached. grind (arith, nat_tests);
+  behind_rear = λ j low test. grind (arith, nat_tests);
+}
+
+pub step_1 : IsStep 1 12297829382473034410
+step_1 = record {
+  some = omega arith;
+  small = omega arith;
+  fits = omega arith;
+  mask = mask_of 1 12297829382473034410 masks_1;
+  front = λ j low test. (grind (arith, nat_tests), grind (arith, nat_tests));
+  rear = λ j low test. (grind (arith, nat_tests), grind (arith, nat_tests));
+  before_front = λ j low test reached. grind (arith, nat_tests);
+  behind_rear = λ j low test. grind (arith, nat_tests);
+}
+
+pub front_test : (n : ℕ) → n ≡ 0 → nat_eq n 0 ≡ true
+front_test n is = ap (λ k. nat_eq k 0) is
+
+pub rear_test : (n : ℕ) → n ≢ 0 → nat_eq n 0 ≡ false
+rear_test n apart = grind (arith, nat_tests)
+
+-- ---- pairs of lines
+
+either : (test a b : Bool) → (if test then a else b) ≡ ((a && test) || (b && not test))
+either true true b = refl
+either true false true = refl
+either true false false = refl
+either false true true = refl
+either false true false = refl
+either false false true = refl
+either false false false = refl
+
+and_true : (a b : Bool) → b ≡ true → (a && b) ≡ a
+and_true true b is = is
+and_true false b is = refl
+
+and_false : (a b : Bool) → b ≡ false → (a && b) ≡ false
+and_false true b is = is
+and_false false b is = refl
+
+or_none : (a b : Bool) → b ≡ false → (a || b) ≡ a
+or_none true b is = refl
+or_none false b is = is
+
+none_or : (a b : Bool) → a ≡ false → (a || b) ≡ b
+none_or a b is = ap (λ t. t || b) is
+
+chosen_front : (test a b : Bool) → test ≡ true → a ≡ (if test then a else b)
+chosen_front test a b is = ap (λ (t : Bool). if t then a else b) (sym is)
+
+chosen_rear : (test a b : Bool) → test ≡ false → b ≡ (if test then a else b)
+chosen_rear test a b is = ap (λ (t : Bool). if t then a else b) (sym is)
+
+test_of : (b : Bool) → (b ≡ true) ⊎ (b ≡ false)
+test_of true = inl refl
+test_of false = inr refl
+
+module _ (step fronts : ℕ) (is : IsStep step fronts) (front rear j : ℕ) (low : j < 64) where
+  pub front_dot : front < 2 ^ 64 → rear < 2 ^ 64 → word_dot (bit_or (bit_and front fronts) (bit_and rear fronts / 2 ^ step)) j
+      ≡ (if is_front step j then word_dot front j else word_dot rear (j - step))
+  front_dot small_front small_rear =
+      word_dot-or (bit_and front fronts) (bit_and rear fronts / 2 ^ step) j
+      ∙ elim (test_of (is_front step j)) [
+        | inl test ↦
+            (λ i. word_dot-and front fronts j i || late test i)
+            ∙ (λ i. and_true (word_dot front j) (word_dot fronts j) (is.mask j low ∙ test) i || false)
+            ∙ or_none (word_dot front j) false refl
+            ∙ chosen_front (is_front step j) (word_dot front j) (word_dot rear (j - step)) test
+        | inr test ↦
+            none_or (word_dot (bit_and front fronts) j) (word_dot (bit_and rear fronts / 2 ^ step) j) (word_dot-and front fronts j ∙ and_false (word_dot front j) (word_dot fronts j) (is.mask j low ∙ test))
+            ∙ shifted_right (bit_and rear fronts) step j ((is.rear j low test).0) low
+            ∙ word_dot-and rear fronts (j - step)
+            ∙ and_true (word_dot rear (j - step)) (word_dot fronts (j - step)) (is.mask (j - step) (omega arith) ∙ (is.rear j low test).1)
+            ∙ chosen_rear (is_front step j) (word_dot front j) (word_dot rear (j - step)) test
+      ]
+    where
+      late : is_front step j ≡ true → word_dot (bit_and rear fronts / 2 ^ step) j ≡ false
+      late test =
+          elim (cases_lt j step) [
+            | inl before ↦ white_before (bit_and rear fronts) step j (and_lt 64 rear fronts small_rear is.fits) before low
+            | inr reached ↦
+                shifted_right (bit_and rear fronts) step j reached low
+                ∙ word_dot-and rear fronts (j - step)
+                ∙ and_false (word_dot rear (j - step)) (word_dot fronts (j - step)) (is.mask (j - step) (omega arith) ∙ is.before_front j low test reached)
+          ]
+
+  pub rear_dot : front < 2 ^ 64 → rear < 2 ^ 64 → word_dot (bit_or (bit_and front (bit_not w64 fronts) * 2 ^ step % 2 ^ 64) (bit_and rear (bit_not w64 fronts))) j
+      ≡ (if is_front step j then word_dot front (j + step) else word_dot rear j)
+  rear_dot small_front small_rear =
+      word_dot-or (bit_and front (bit_not w64 fronts) * 2 ^ step % 2 ^ 64) (bit_and rear (bit_not w64 fronts)) j
+      ∙ elim (test_of (is_front step j)) [
+        | inl test ↦
+            let within : step + j < 64 = omega (arith, (is.front j low test).0) in
+            let place : step + j ≡ j + step = omega arith in
+            or_none (word_dot (bit_and front (bit_not w64 fronts) * 2 ^ step % 2 ^ 64) j) (word_dot (bit_and rear (bit_not w64 fronts)) j)
+            (word_dot-and rear (bit_not w64 fronts) j ∙ and_false (word_dot rear j) (word_dot (bit_not w64 fronts) j) (word_dot-not fronts j is.fits low ∙ ap not (is.mask j low ∙ test)))
+            ∙ shifted_left (bit_and front (bit_not w64 fronts)) step j within
+            ∙ ap (word_dot (bit_and front (bit_not w64 fronts))) place
+            ∙ word_dot-and front (bit_not w64 fronts) (j + step)
+            ∙ and_true (word_dot front (j + step)) (word_dot (bit_not w64 fronts) (j + step)) (word_dot-not fronts (j + step) is.fits (is.front j low test).0 ∙ ap not (is.mask (j + step) (is.front j low test).0 ∙ (is.front j low test).1))
+            ∙ chosen_front (is_front step j) (word_dot front (j + step)) (word_dot rear j) test
+        | inr test ↦
+            none_or (word_dot (bit_and front (bit_not w64 fronts) * 2 ^ step % 2 ^ 64) j) (word_dot (bit_and rear (bit_not w64 fronts)) j) (early test)
+            ∙ word_dot-and rear (bit_not w64 fronts) j
+            ∙ and_true (word_dot rear j) (word_dot (bit_not w64 fronts) j) (word_dot-not fronts j is.fits low ∙ ap not (is.mask j low ∙ test))
+            ∙ chosen_rear (is_front step j) (word_dot front (j + step)) (word_dot rear j) test
+      ]
+    where
+      early : is_front step j ≡ false → word_dot (bit_and front (bit_not w64 fronts) * 2 ^ step % 2 ^ 64) j ≡ false
+      early test =
+          elim (cases_lt (j + step) 64) [
+            | inl within ↦
+                let place : step + j ≡ j + step = omega arith in
+                shifted_left (bit_and front (bit_not w64 fronts)) step j (omega (arith, within))
+                ∙ ap (word_dot (bit_and front (bit_not w64 fronts))) place
+                ∙ word_dot-and front (bit_not w64 fronts) (j + step)
+                ∙ and_false (word_dot front (j + step)) (word_dot (bit_not w64 fronts) (j + step)) (word_dot-not fronts (j + step) is.fits within ∙ ap not (is.mask (j + step) within ∙ is.behind_rear j low test))
+            | inr past ↦ white_behind (bit_and front (bit_not w64 fronts)) step j low (omega (arith, past))
+          ]
+
+-- ---- lines of a block, pair by pair
+
+-- whether a line of a block was exchanged, where the pairs so far were whose front lines lie above a line
+abbrev pub is_done : (step line i : ℕ) → Bool
+is_done step line i = nat_lt (if is_front step i then i else i - step) line
+
+abbrev pub IsExchanged : (step : ℕ) → (old words : List ℕ) → (line : ℕ) → Type 0
+IsExchanged step old words line = (i j : ℕ) → i < 64 → j < 64 → block_dot words i j
+    ≡ (if is_done step line i then block_dot old (line_from step i j) (dot_from step i j) else block_dot old i j)
+
+pub none_exchanged : (step : ℕ) (old : List ℕ) → IsExchanged step old old 0
+none_exchanged step old i j low_i low_j = none (if is_front step i then i else i - step) (block_dot old (line_from step i j) (dot_from step i j)) (block_dot old i j)
+  where
+    none : (n : ℕ) (a b : Bool) → b ≡ (if nat_lt n 0 then a else b)
+    none n a b = grind (arith, nat_tests)
+
+pub all_exchanged : (step : ℕ) (old words : List ℕ) (line : ℕ) → 64 ≤ line → IsExchanged step old words line → (i j : ℕ) → i < 64 → j < 64 →
+    block_dot words i j ≡ block_dot old (line_from step i j) (dot_from step i j)
+all_exchanged step old words line all so_far i j low_i low_j =
+    so_far i j low_i low_j ∙ done (is_front step i) i step line (block_dot old (line_from step i j) (dot_from step i j)) (block_dot old i j) (omega (arith, all, low_i))
+  where
+    done : (test : Bool) (i step line : ℕ) (a b : Bool) → i < line → (if nat_lt (if test then i else i - step) line then a else b) ≡ a
+    done true i step line a b low = grind (arith, nat_tests)
+    done false i step line a b low = grind (arith, nat_tests)
+
+-- a line whose pair is another one
+still : (test : Bool) (i step line : ℕ) (a b : Bool) → (test ≡ true → i ≢ line) → (test ≡ false → i - step ≢ line) →
+    (if nat_lt (if test then i else i - step) line then a else b) ≡ (if nat_lt (if test then i else i - step) (line + 1) then a else b)
+still true i step line a b apart _ = let other : i ≢ line = apart refl in grind (arith, nat_tests)
+still false i step line a b _ apart = let other : i - step ≢ line = apart refl in grind (arith, nat_tests)
+
+-- past a line that is no front line nothing changes
+pub exchanged_past : (step fronts : ℕ) (old words : List ℕ) (line : ℕ) → IsStep step fronts → is_front step line ≡ false → IsExchanged step old words line → IsExchanged step old words (line + 1)
+exchanged_past step fronts old words line is rear so_far i j low_i low_j =
+    so_far i j low_i low_j
+    ∙ still (is_front step i) i step line (block_dot old (line_from step i j) (dot_from step i j)) (block_dot old i j)
+    (λ test here. true≢false (sym test ∙ ap (is_front step) here ∙ rear))
+    (λ test here. true≢false (sym ((is.rear i low_i test).1) ∙ ap (is_front step) here ∙ rear))
+
+undone_front : (t : Bool) (line step : ℕ) (a b : Bool) → t ≡ true → (if nat_lt (if t then line else line - step) line then a else b) ≡ b
+undone_front true line step a b _ = grind (arith, nat_tests)
+undone_front false line step a b wrong = absurd (true≢false (sym wrong))
+
+undone_rear : (t : Bool) (line step : ℕ) (a b : Bool) → t ≡ false → (if nat_lt (if t then line + step else line + step - step) line then a else b) ≡ b
+undone_rear true line step a b wrong = absurd (true≢false wrong)
+undone_rear false line step a b _ = grind (arith, nat_tests)
+
+done_front : (t : Bool) (line step : ℕ) (a b : Bool) → t ≡ true → a ≡ (if nat_lt (if t then line else line - step) (line + 1) then a else b)
+done_front true line step a b _ = grind (arith, nat_tests)
+done_front false line step a b wrong = absurd (true≢false (sym wrong))
+
+done_rear : (t : Bool) (line step : ℕ) (a b : Bool) → t ≡ false → a ≡ (if nat_lt (if t then line + step else line + step - step) (line + 1) then a else b)
+done_rear true line step a b wrong = absurd (true≢false wrong)
+done_rear false line step a b _ = grind (arith, nat_tests)
+
+module _ (step fronts : ℕ) (old words : List ℕ) (line front rear : ℕ) (is : IsStep step fronts) (long : length words ≡ 64) (low : line < 64) (test : is_front step line ≡ true)
+    (fronts_are : (j : ℕ) → j < 64 → word_dot front j ≡ (if is_front step j then word_dot (get_or words line 0) j else word_dot (get_or words (line + step) 0) (j - step)))
+    (rears_are : (j : ℕ) → j < 64 → word_dot rear j ≡ (if is_front step j then word_dot (get_or words line 0) (j + step) else word_dot (get_or words (line + step) 0) j))
+    (so_far : IsExchanged step old words line) where
+  abbrev pub next : List ℕ
+  next = set (set words line front) (line + step) rear
+
+  pair : is_front step (line + step) ≡ false
+  pair = (is.front line low test).1
+
+  inside : line + step < 64
+  inside = (is.front line low test).0
+
+  -- the two lines of the pair are still as they were
+  front_old : (j : ℕ) → j < 64 → word_dot (get_or words line 0) j ≡ block_dot old line j
+  front_old j low_j = so_far line j low low_j ∙ undone_front (is_front step line) line step _ _ test
+
+  rear_old : (j : ℕ) → j < 64 → word_dot (get_or words (line + step) 0) j ≡ block_dot old (line + step) j
+  rear_old j low_j = so_far (line + step) j inside low_j ∙ undone_rear (is_front step (line + step)) line step _ _ pair
+
+  front_next : (j : ℕ) → j < 64 → word_dot front j ≡ block_dot old (line_from step line j) (dot_from step line j)
+  front_next j low_j =
+      fronts_are j low_j
+      ∙ elim (test_of (is_front step j)) [
+        | inl at ↦
+            sym (chosen_front (is_front step j) (word_dot (get_or words line 0) j) (word_dot (get_or words (line + step) 0) (j - step)) at)
+            ∙ front_old j low_j
+            ∙ (λ t. block_dot old (if sym test t then (if sym at t then line else line + step) else (if is_front step j then line - step else line)) (if sym test t then (if sym at t then j else j - step) else (if is_front step j then j + step else j)))
+        | inr at ↦
+            sym (chosen_rear (is_front step j) (word_dot (get_or words line 0) j) (word_dot (get_or words (line + step) 0) (j - step)) at)
+            ∙ rear_old (j - step) (omega (arith, low_j))
+            ∙ (λ t. block_dot old (if sym test t then (if sym at t then line else line + step) else (if is_front step j then line - step else line)) (if sym test t then (if sym at t then j else j - step) else (if is_front step j then j + step else j)))
+      ]
+
+  rear_next : (j : ℕ) → j < 64 → word_dot rear j ≡ block_dot old (line_from step (line + step) j) (dot_from step (line + step) j)
+  rear_next j low_j =
+      let back : line ≡ line + step - step = omega arith in
+      rears_are j low_j
+      ∙ elim (test_of (is_front step j)) [
+        | inl at ↦
+            sym (chosen_front (is_front step j) (word_dot (get_or words line 0) (j + step)) (word_dot (get_or words (line + step) 0) j) at)
+            ∙ front_old (j + step) ((is.front j low_j at).0)
+            ∙ ap (λ l. block_dot old l (j + step)) back
+            ∙ (λ t. block_dot old (if sym pair t then (if is_front step j then line + step else line + step + step) else (if sym at t then line + step - step else line + step)) (if sym pair t then (if is_front step j then j else j - step) else (if sym at t then j + step else j)))
+        | inr at ↦
+            sym (chosen_rear (is_front step j) (word_dot (get_or words line 0) (j + step)) (word_dot (get_or words (line + step) 0) j) at)
+            ∙ rear_old j low_j
+            ∙ (λ t. block_dot old (if sym pair t then (if is_front step j then line + step else line + step + step) else (if sym at t then line + step - step else line + step)) (if sym pair t then (if is_front step j then j else j - step) else (if sym at t then j + step else j)))
+      ]
+
+  pub exchanged_more : IsExchanged step old next (line + 1)
+  exchanged_more i j low_i low_j =
+      elim (cases_eq i line) [
+        | inl here ↦
+            ap (λ k. block_dot next k j) here
+            ∙ ap (λ w. word_dot w j) (get_or-set_other (set words line front) (line + step) line rear 0 (λ same. absurd (omega (arith, same, is.some))) ∙ get_or-set_same words line front 0 (omega (arith, long)))
+            ∙ front_next j low_j
+            ∙ done_front (is_front step line) line step _ (block_dot old line j) test
+            ∙ ap (λ k. if is_done step (line + 1) k then block_dot old (line_from step k j) (dot_from step k j) else block_dot old k j) (sym here)
+        | inr apart ↦ elim (cases_eq i (line + step)) [
+          | inl here ↦
+              ap (λ k. block_dot next k j) here
+              ∙ ap (λ w. word_dot w j) (get_or-set_same (set words line front) (line + step) rear 0 (omega (arith, inside, long, length-set words line front)))
+              ∙ rear_next j low_j
+              ∙ done_rear (is_front step (line + step)) line step _ (block_dot old (line + step) j) pair
+              ∙ ap (λ k. if is_done step (line + 1) k then block_dot old (line_from step k j) (dot_from step k j) else block_dot old k j) (sym here)
+          | inr other ↦
+              ap (λ w. word_dot w j) (get_or-set_other (set words line front) (line + step) i rear 0 other ∙ get_or-set_other words line i front 0 apart)
+              ∙ so_far i j low_i low_j
+              ∙ still (is_front step i) i step line (block_dot old (line_from step i j) (dot_from step i j)) (block_dot old i j)
+              (λ _. apart)
+              (λ at same. other (omega (arith, same, (is.rear i low_i at).0)))
+        ]
+      ]
+
+-- ---- six steps
+
+-- A block after the steps down to squares of so many: the places of its dots within these are as they were, and the squares have changed places.
+abbrev pub IsTurnedDown : (size : ℕ) → (old words : List ℕ) → Type 0
+IsTurnedDown size old words = (i j : ℕ) → i < 64 → j < 64 → block_dot words i j ≡ block_dot old (j / size * size + i % size) (i / size * size + j % size)
+
+abbrev pub Exchanges : (step : ℕ) → (words new : List ℕ) → Type 0
+Exchanges step words new = (i j : ℕ) → i < 64 → j < 64 → block_dot new i j ≡ block_dot words (line_from step i j) (dot_from step i j)
+
+pub down_32 : (old words new : List ℕ) → IsTurnedDown 64 old words → Exchanges 32 words new → IsTurnedDown 32 old new
+down_32 old words new before exchanged i j low_i low_j =
+    exchanged i j low_i low_j
+    ∙ before (line_from 32 i j) (dot_from 32 i j) (small i j low_i low_j) (small_dot i j low_i low_j)
+    ∙ (λ t. block_dot old (line i j t) (dot i j t))
+  where
+    small : (i j : ℕ) → i < 64 → j < 64 → line_from 32 i j < 64
+    small i j low_i low_j = grind (arith, nat_tests)
+
+    small_dot : (i j : ℕ) → i < 64 → j < 64 → dot_from 32 i j < 64
+    small_dot i j low_i low_j = grind (arith, nat_tests)
+
+    line : (i j : ℕ) → dot_from 32 i j / 64 * 64 + line_from 32 i j % 64 ≡ j / 32 * 32 + i % 32
+    line i j = grind (arith, nat_tests)
+
+    dot : (i j : ℕ) → line_from 32 i j / 64 * 64 + dot_from 32 i j % 64 ≡ i / 32 * 32 + j % 32
+    dot i j = grind (arith, nat_tests)
+
+pub down_16 : (old words new : List ℕ) → IsTurnedDown 32 old words → Exchanges 16 words new → IsTurnedDown 16 old new
+down_16 old words new before exchanged i j low_i low_j =
+    exchanged i j low_i low_j
+    ∙ before (line_from 16 i j) (dot_from 16 i j) (small i j low_i low_j) (small_dot i j low_i low_j)
+    ∙ (λ t. block_dot old (line i j t) (dot i j t))
+  where
+    small : (i j : ℕ) → i < 64 → j < 64 → line_from 16 i j < 64
+    small i j low_i low_j = grind (arith, nat_tests)
+
+    small_dot : (i j : ℕ) → i < 64 → j < 64 → dot_from 16 i j < 64
+    small_dot i j low_i low_j = grind (arith, nat_tests)
+
+    line : (i j : ℕ) → dot_from 16 i j / 32 * 32 + line_from 16 i j % 32 ≡ j / 16 * 16 + i % 16
+    line i j = grind (arith, nat_tests)
+
+    dot : (i j : ℕ) → line_from 16 i j / 32 * 32 + dot_from 16 i j % 32 ≡ i / 16 * 16 + j % 16
+    dot i j = grind (arith, nat_tests)
+
+pub down_8 : (old words new : List ℕ) → IsTurnedDown 16 old words → Exchanges 8 words new → IsTurnedDown 8 old new
+down_8 old words new before exchanged i j low_i low_j =
+    exchanged i j low_i low_j
+    ∙ before (line_from 8 i j) (dot_from 8 i j) (small i j low_i low_j) (small_dot i j low_i low_j)
+    ∙ (λ t. block_dot old (line i j t) (dot i j t))
+  where
+    small : (i j : ℕ) → i < 64 → j < 64 → line_from 8 i j < 64
+    small i j low_i low_j = grind (arith, nat_tests)
+
+    small_dot : (i j : ℕ) → i < 64 → j < 64 → dot_from 8 i j < 64
+    small_dot i j low_i low_j = grind (arith, nat_tests)
+
+    line : (i j : ℕ) → dot_from 8 i j / 16 * 16 + line_from 8 i j % 16 ≡ j / 8 * 8 + i % 8
+    line i j = grind (arith, nat_tests)
+
+    dot : (i j : ℕ) → line_from 8 i j / 16 * 16 + dot_from 8 i j % 16 ≡ i / 8 * 8 + j % 8
+    dot i j = grind (arith, nat_tests)
+
+pub down_4 : (old words new : List ℕ) → IsTurnedDown 8 old words → Exchanges 4 words new → IsTurnedDown 4 old new
+down_4 old words new before exchanged i j low_i low_j =
+    exchanged i j low_i low_j
+    ∙ before (line_from 4 i j) (dot_from 4 i j) (small i j low_i low_j) (small_dot i j low_i low_j)
+    ∙ (λ t. block_dot old (line i j t) (dot i j t))
+  where
+    small : (i j : ℕ) → i < 64 → j < 64 → line_from 4 i j < 64
+    small i j low_i low_j = grind (arith, nat_tests)
+
+    small_dot : (i j : ℕ) → i < 64 → j < 64 → dot_from 4 i j < 64
+    small_dot i j low_i low_j = grind (arith, nat_tests)
+
+    line : (i j : ℕ) → dot_from 4 i j / 8 * 8 + line_from 4 i j % 8 ≡ j / 4 * 4 + i % 4
+    line i j = grind (arith, nat_tests)
+
+    dot : (i j : ℕ) → line_from 4 i j / 8 * 8 + dot_from 4 i j % 8 ≡ i / 4 * 4 + j % 4
+    dot i j = grind (arith, nat_tests)
+
+pub down_2 : (old words new : List ℕ) → IsTurnedDown 4 old words → Exchanges 2 words new → IsTurnedDown 2 old new
+down_2 old words new before exchanged i j low_i low_j =
+    exchanged i j low_i low_j
+    ∙ before (line_from 2 i j) (dot_from 2 i j) (small i j low_i low_j) (small_dot i j low_i low_j)
+    ∙ (λ t. block_dot old (line i j t) (dot i j t))
+  where
+    small : (i j : ℕ) → i < 64 → j < 64 → line_from 2 i j < 64
+    small i j low_i low_j = grind (arith, nat_tests)
+
+    small_dot : (i j : ℕ) → i < 64 → j < 64 → dot_from 2 i j < 64
+    small_dot i j low_i low_j = grind (arith, nat_tests)
+
+    line : (i j : ℕ) → dot_from 2 i j / 4 * 4 + line_from 2 i j % 4 ≡ j / 2 * 2 + i % 2
+    line i j = grind (arith, nat_tests)
+
+    dot : (i j : ℕ) → line_from 2 i j / 4 * 4 + dot_from 2 i j % 4 ≡ i / 2 * 2 + j % 2
+    dot i j = grind (arith, nat_tests)
+
+pub down_1 : (old words new : List ℕ) → IsTurnedDown 2 old words → Exchanges 1 words new → IsTurnedDown 1 old new
+down_1 old words new before exchanged i j low_i low_j =
+    exchanged i j low_i low_j
+    ∙ before (line_from 1 i j) (dot_from 1 i j) (small i j low_i low_j) (small_dot i j low_i low_j)
+    ∙ (λ t. block_dot old (line i j t) (dot i j t))
+  where
+    small : (i j : ℕ) → i < 64 → j < 64 → line_from 1 i j < 64
+    small i j low_i low_j = grind (arith, nat_tests)
+
+    small_dot : (i j : ℕ) → i < 64 → j < 64 → dot_from 1 i j < 64
+    small_dot i j low_i low_j = grind (arith, nat_tests)
+
+    line : (i j : ℕ) → dot_from 1 i j / 2 * 2 + line_from 1 i j % 2 ≡ j / 1 * 1 + i % 1
+    line i j = grind (arith, nat_tests)
+
+    dot : (i j : ℕ) → line_from 1 i j / 2 * 2 + dot_from 1 i j % 2 ≡ i / 1 * 1 + j % 1
+    dot i j = grind (arith, nat_tests)
+
+pub not_turned : (old : List ℕ) → IsTurnedDown 64 old old
+not_turned old i j low_i low_j =
+    let line : i ≡ j / 64 * 64 + i % 64 = omega (arith, low_i, low_j) in
+    let dot : j ≡ i / 64 * 64 + j % 64 = omega (arith, low_i, low_j) in
+    λ t. block_dot old (line t) (dot t)
+
+pub turned_whole : (old words : List ℕ) → IsTurnedDown 1 old words → (i j : ℕ) → i < 64 → j < 64 → block_dot words i j ≡ block_dot old j i
+turned_whole old words down i j low_i low_j =
+    let line : j / 1 * 1 + i % 1 ≡ j = omega arith in
+    let dot : i / 1 * 1 + j % 1 ≡ i = omega arith in
+    down i j low_i low_j ∙ (λ t. block_dot old (line t) (dot t))

@@ -1,0 +1,6 @@
+pub mod TurnedLemmas
+pub mod BlockLemmas
+pub mod LineLemmas
+pub mod FrameLemmas
+pub mod ColumnLemmas
+mod StripLemmas

@@ -1,0 +1,9 @@
+use Rattle.std.proofs.Common.{◌∙◌, ap}
+use Rattle.press_canvas.specs.Turned.{page_of_frame}
+use Rattle.press_canvas.proofs.FrameLemmas.{frame_blank}
+use Rattle.press_canvas.proofs.frame.Frame.blank.Goals as goal
+
+pub returns : goal.returns
+returns c =
+    ap (page_of_frame c.args.orientation) c.in_ok-bitmap.ensures
+    ∙ frame_blank c.args.orientation c.args.page c.frame_size.result c.frame_size.ensures.size

@@ -1,0 +1,4 @@
+-- The definitions of pages that are turned.
+pub mod Turned
+pub mod Block
+pub mod Strip

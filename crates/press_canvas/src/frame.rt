@@ -1,0 +1,130 @@
+//! Frames of pages.
+
+ghost use Rattle.std.specs.Prelude.{◌≡◌, ◌≢◌, true, IfOk, IsErr, OnOk};
+ghost use Rattle.press_bits.specs.Page.{blank, is_page_size};
+ghost use Rattle.press_page.specs.Media.{turned};
+ghost use Rattle.press_page.specs.declared.media.Orientation.TheVariants.{Portrait};
+ghost use Rattle.press_canvas.specs.Turned.{frame_page, opposite};
+
+use crate::turning::{turned, white};
+use press_bits::Bitmap;
+use press_page::{Extent, Orientation};
+use std::alloc::{AllocError, Global};
+
+/// The frame of a page: its dots in the order in which marks are painted, and the orientation that turns it into the page.
+#[derive(Drop)]
+pub struct Frame {
+    pub bitmap: Bitmap,
+    pub orientation: Orientation,
+}
+
+/// The orientation that turns a page back.
+fn opposite(orientation: Orientation) -> Orientation
+    ensures { result ≡ opposite orientation }
+{
+    match orientation {
+        Orientation::Portrait => Orientation::Portrait,
+        Orientation::Landscape => Orientation::ReverseLandscape,
+        Orientation::ReversePortrait => Orientation::ReversePortrait,
+        Orientation::ReverseLandscape => Orientation::Landscape,
+    }
+}
+
+/// The size of the frame of a page.
+fn frame_size(orientation: Orientation, page: Extent) -> Extent
+    requires { is_page_size page.width page.height ≡ true }
+    ensures size { result ≡ turned orientation page }
+    ensures fits { is_page_size result.width result.height ≡ true }
+{
+    match orientation {
+        Orientation::Portrait | Orientation::ReversePortrait => page,
+        Orientation::Landscape | Orientation::ReverseLandscape => Extent {
+            width: page.height,
+            height: page.width,
+        },
+    }
+}
+
+impl Frame {
+    /// The frame of a white page.
+    pub(crate) fn blank(
+        alloc: Global,
+        orientation: Orientation,
+        page: Extent,
+    ) -> Result<Self, AllocError>
+        requires { is_page_size page.width page.height ≡ true }
+        ensures { IfOk result (λ frame. frame_page frame ≡ blank page.width page.height) }
+    {
+        let bitmap = white(alloc, frame_size(orientation, page))?;
+        Ok(Frame {
+            bitmap,
+            orientation,
+        })
+    }
+
+    /// An equal frame, in memory of its own.
+    ///
+    /// # Errors
+    ///
+    /// Where memory ran out.
+    pub(crate) fn copy(&self) -> Result<Self, AllocError>
+        ensures { IfOk result (λ frame. frame ≡ self.now) }
+    {
+        Ok(Frame {
+            bitmap: self.bitmap.copy()?,
+            orientation: self.orientation,
+        })
+    }
+
+    /// Lays the frame as an orientation has it. The page is the same.
+    ///
+    /// # Errors
+    ///
+    /// Where memory ran out.
+    pub fn lie_as(&mut self, alloc: Global, orientation: Orientation) -> Result<(), AllocError>
+        ensures same { frame_page self.new ≡ frame_page self.old }
+        ensures lies { OnOk result (self.new.orientation ≡ orientation) }
+    {
+        if self.orientation == orientation {
+            return Ok(());
+        }
+        let page = turned(&self.bitmap, alloc, self.orientation, None)?;
+        let _width = page.width();
+        self.bitmap = turned(&page, alloc, opposite(orientation), None)?;
+        self.orientation = orientation;
+        Ok(())
+    }
+
+    /// The page of the frame, in memory of its own.
+    ///
+    /// # Errors
+    ///
+    /// Where memory ran out.
+    pub(crate) fn page(&self, alloc: Global) -> Result<Bitmap, AllocError>
+        ensures { IfOk result (λ page. page ≡ frame_page self.now) }
+    {
+        turned(&self.bitmap, alloc, self.orientation, None)
+    }
+
+    /// The page of the frame, and the memory of the frame, where the page did not take it. The page may take that of a page that is
+    /// no longer needed.
+    ///
+    /// # Errors
+    ///
+    /// Where memory ran out; where the frame is the page, none is taken.
+    pub(crate) fn turned(
+        self,
+        alloc: Global,
+        spare: Option<Bitmap>,
+    ) -> Result<(Bitmap, Option<Bitmap>), AllocError>
+        ensures page { IfOk result (λ pages. pages.0 ≡ frame_page self) }
+        ensures memory { IsErr result → self.orientation ≢ Portrait }
+    {
+        let _width = self.bitmap.width();
+        if let Orientation::Portrait = self.orientation {
+            return Ok((self.bitmap, spare));
+        }
+        let page = turned(&self.bitmap, alloc, self.orientation, spare)?;
+        Ok((page, Some(self.bitmap)))
+    }
+}
