@@ -1,3 +1,1 @@
-mod AreaLemmas
-mod PlacedLemmas
 mod FillLemmas

@@ -1,6 +1,6 @@
 -- Rectangle fills (PCL 5 Printer Language Technical Reference Manual, "Rectangular Area Fill Graphics").
 use Rattle.std.specs.Prelude.{Option, Some, None}
-use Rattle.press_bits.specs.Mark.{Mark, painted, box_source}
+use Rattle.press_bits.specs.Mark.{Mark, painted, box_mark, box_source}
 use Rattle.press_bits.specs.Page.{Page}
 use Rattle.press_bits.specs.declared.mode.Mode.{Mode}
 use Rattle.press_page.specs.Place.{placed_dot}
@@ -18,6 +18,10 @@ fill_mark orientation page rect tile mode = record {
   mode = mode;
   frame_dot = placed_dot orientation page.width page.height;
 }
+
+-- The mark of a rectangle on the frame itself.
+abbrev pub rect_mark : Rect → Tiling → Mode → Mark
+rect_mark rect tile mode = box_mark rect.x rect.y rect.width rect.height (tile_dot tile) mode
 
 -- The page after a fill. A pattern that does not exist changes nothing.
 abbrev pub filled : Orientation → Rect → Option Ink → Page → Page

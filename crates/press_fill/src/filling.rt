@@ -5,29 +5,13 @@ ghost use Rattle.press_bits.specs.Mark.{painted};
 ghost use Rattle.press_pattern.specs.Ink.{ink_of};
 ghost use Rattle.press_fill.specs.Fill.{fill_mark, filled};
 
-use crate::area::physical_area;
-use crate::paint::fill_area;
-use crate::placement::Placement;
+use crate::paint::fill_rect;
 use crate::rect::Rect;
 use press_bits::{Bitmap, Mode};
-use press_page::{Extent, Orientation, PageEnv};
+use press_canvas::Canvas;
+use press_page::{Orientation, PageEnv};
 use press_pattern::{Ink, Pattern, Patterns};
 use std::alloc::{AllocError, Global};
-
-/// How the frame lies on a page.
-fn placement_on(page: &Bitmap, orientation: Orientation) -> Placement
-    ensures orientation { result.orientation ≡ orientation }
-    ensures width { result.page.width ≡ page.now.width }
-    ensures height { result.page.height ≡ page.now.height }
-{
-    Placement {
-        orientation,
-        page: Extent {
-            width: page.width(),
-            height: page.height(),
-        },
-    }
-}
 
 /// Fills a rectangle of the frame with an ink. Dots outside the page are dropped.
 ///
@@ -38,7 +22,7 @@ fn placement_on(page: &Bitmap, orientation: Orientation) -> Placement
 /// Source: PCL 5 Printer Language Technical Reference Manual, Rectangular Area Fill Graphics, and Logical Page Orientation
 /// command.
 fn fill_with(
-    page: &mut Bitmap,
+    page: &mut Canvas,
     alloc: Global,
     orientation: Orientation,
     rect: Rect,
@@ -48,20 +32,41 @@ fn fill_with(
         ≡ painted page.old (fill_mark orientation page.old rect ink.now.tile ink.now.mode)) }
     ensures unchanged { OnErr result (page.new ≡ page.old) }
 {
-    let placement = placement_on(page, orientation);
-    let area = physical_area(placement, rect);
-    if let Orientation::Portrait = orientation {
-        return fill_area(page, area, &ink.tile, ink.mode);
-    }
-    if ink.tile.is_solid_black() {
-        return fill_area(page, area, &ink.tile, ink.mode);
-    }
-    let tile = placement.placed(alloc, &ink.tile)?;
-    fill_area(page, area, &tile.as_tile(), ink.mode)
+    let frame = page.frame();
+    frame.lie_as(alloc, orientation)?;
+    fill_rect(&mut frame.bitmap, rect, &ink.tile, ink.mode)
 }
 
 /// Fills a rectangle of the frame with a pattern in a mode: all source dots are black, and the pattern's dots lie in the
 /// frame. A pattern that does not exist changes nothing. Dots outside the page are dropped.
+///
+/// # Errors
+///
+/// Where memory ran out for a pattern that exists; the page is then as it was.
+///
+/// Source: PCL 5 Printer Language Technical Reference Manual, Rectangular Area Fill Graphics, and The PCL Print Model.
+pub fn fill_canvas(
+    page: &mut Canvas,
+    environment: &PageEnv,
+    patterns: &Patterns,
+    area: Rect,
+    pattern: Pattern,
+    mode: Mode,
+) -> Result<(), AllocError>
+    ensures filled { OnOk result (page.new ≡ filled environment.now.media.orientation area
+        (ink_of patterns.now pattern mode) page.old) }
+    // a pattern that does not exist takes no memory
+    ensures missing { ink_of patterns.now pattern mode ≡ None → IsOk result }
+    ensures unchanged { OnErr result (page.new ≡ page.old) }
+{
+    let Some(ink) = patterns.ink(pattern, mode) else {
+        return Ok(());
+    };
+    let orientation = environment.media.orientation;
+    fill_with(page, patterns.allocator(), orientation, area, &ink)
+}
+
+/// Fills a rectangle of the frame of a bitmap, as [`fill_canvas`] fills that of a canvas.
 ///
 /// # Errors
 ///
@@ -82,9 +87,11 @@ pub fn fill(
     ensures missing { ink_of patterns.now pattern mode ≡ None → IsOk result }
     ensures unchanged { OnErr result (page.new ≡ page.old) }
 {
-    let Some(ink) = patterns.ink(pattern, mode) else {
+    if patterns.ink(pattern, mode).is_none() {
         return Ok(());
-    };
-    let orientation = environment.media.orientation;
-    fill_with(page, patterns.allocator(), orientation, area, &ink)
+    }
+    let mut canvas = Canvas::of_page(page.copy()?);
+    fill_canvas(&mut canvas, environment, patterns, area, pattern, mode)?;
+    *page = canvas.page(patterns.allocator())?;
+    Ok(())
 }

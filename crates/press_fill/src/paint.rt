@@ -1,12 +1,12 @@
-//! Areas of the page that are painted line by line through a tile.
+//! Rectangles of a page that are painted line by line through a tile.
 
 ghost use Rattle.std.specs.Prelude.{◌≡◌, ℕ, ◌<◌, ◌≤◌, ◌+◌, ◌*◌, ◌⊎◌, min, pos, true, replicate, OnOk, OnErr};
 ghost use Rattle.press_bits.specs.Mark.{IsWhite, painted, repeated, row, row_mark};
 ghost use Rattle.press_bits.specs.Bands.{AreReady};
 ghost use Rattle.press_pattern.specs.Tiling.{IsWhiteTile};
-ghost use Rattle.press_fill.specs.Area.{area_mark};
+ghost use Rattle.press_fill.specs.Fill.{rect_mark};
 
-use crate::area::Area;
+use crate::rect::Rect;
 use press_bits::{Bands, Bitmap, DotRow, Mode, WIDEST_ROW};
 use press_pattern::Tile;
 use std::alloc::AllocError;
@@ -46,16 +46,16 @@ fn paint_line(
     page.paint_known_row(i64::from(x), i64::from(y), source, pattern, mode, solid);
 }
 
-/// Paints an area of the page, whose lines are ready, or white and stay so, through a tile that lies on it. Dots outside the
+/// Paints a rectangle of a page, whose lines are ready, or white and stay so, through a tile. Dots outside the
 /// page are dropped.
-fn paint_area(page: &mut Bands, area: Area, tile: &Tile<'_>, mode: Mode)
+fn paint_rect(page: &mut Bands, rect: Rect, tile: &Tile<'_>, mode: Mode)
     requires ready { IsWhiteTile tile.now
-        ⊎ AreReady page.old (pos area.down.start) area.down.length }
-    ensures { page.new.page ≡ painted page.old.page (area_mark area tile.now mode) }
+        ⊎ AreReady page.old (pos rect.y) rect.height }
+    ensures { page.new.page ≡ painted page.old.page (rect_mark rect tile.now mode) }
 {
-    let (x, y) = (area.across.start, area.down.start);
-    let columns = cut_length(x, area.across.length, page.width());
-    let lines = cut_length(y, area.down.length, page.height());
+    let (x, y) = (rect.x, rect.y);
+    let columns = cut_length(x, rect.width, page.width());
+    let lines = cut_length(y, rect.height, page.height());
     let solid = tile.is_solid_black();
     for line in 0..lines {
         let pattern = DotRow {
@@ -66,36 +66,36 @@ fn paint_area(page: &mut Bands, area: Area, tile: &Tile<'_>, mode: Mode)
     }
 }
 
-/// Makes the lines of an area of the page ready that is painted through a tile. Through a white one, what is white stays so, and
+/// Makes the lines of a rectangle of the page ready that is painted through a tile. Through a white one, what is white stays so, and
 /// no line is made.
-fn ready_area(page: &mut Bands, area: Area, tile: &Tile<'_>) -> Result<(), AllocError>
+fn ready_rect(page: &mut Bands, rect: Rect, tile: &Tile<'_>) -> Result<(), AllocError>
     ensures dots { page.new.page ≡ page.old.page }
     ensures ready { OnOk result (IsWhiteTile tile.now
-        ⊎ AreReady page.new (pos area.down.start) area.down.length) }
+        ⊎ AreReady page.new (pos rect.y) rect.height) }
 {
     if tile.is_white() {
         return Ok(());
     }
-    page.ready(i64::from(area.down.start), area.down.length as usize)
+    page.ready(i64::from(rect.y), rect.height as usize)
 }
 
-/// Fills an area of the page through a tile that lies on it: all lines that it needs are made before the first dot. Dots
+/// Fills a rectangle of a page through a tile: all lines that it needs are made before the first dot. Dots
 /// outside the page are dropped.
 ///
 /// # Errors
 ///
 /// Where memory ran out; the page is then as it was.
-pub(crate) fn fill_area(
+pub(crate) fn fill_rect(
     page: &mut Bitmap,
-    area: Area,
+    rect: Rect,
     tile: &Tile<'_>,
     mode: Mode,
 ) -> Result<(), AllocError>
-    ensures filled { OnOk result (page.new ≡ painted page.old (area_mark area tile.now mode)) }
+    ensures filled { OnOk result (page.new ≡ painted page.old (rect_mark rect tile.now mode)) }
     ensures unchanged { OnErr result (page.new ≡ page.old) }
 {
     let bands = page.bands();
-    ready_area(bands, area, tile)?;
-    paint_area(bands, area, tile, mode);
+    ready_rect(bands, rect, tile)?;
+    paint_rect(bands, rect, tile, mode);
     Ok(())
 }

@@ -1,7 +1,7 @@
 use Rattle.std.proofs.Common.{◌≡◌}
 use Rattle.press_bits.specs.Mark.{painted, box_mark}
 use Rattle.press_pattern.specs.Tiling.{tile_dot}
-use Rattle.press_fill.proofs.paint.paint_area.Given as goal
+use Rattle.press_fill.proofs.paint.paint_rect.Given as goal
 
 -- the lines so far are painted, and the same lines are ready
 abbrev pub invariant-loop-line : goal.invariant-loop-line

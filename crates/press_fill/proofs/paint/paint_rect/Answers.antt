@@ -7,22 +7,22 @@ use Rattle.press_bits.specs.Mark.{Row, repeated, painted, row_mark, box_mark}
 use Rattle.press_bits.proofs.MarkLemmas.{height-painted, painted_box_none, painted_box_row, painted_box_cut, IsAllBlack-replicate}
 use Rattle.press_pattern.specs.Tiling.{Tiling, tile_dot, tile_row}
 use Rattle.press_fill.proofs.FillLemmas.{repeated-tile_row, tile_dot-solid_black}
-use Rattle.press_fill.proofs.paint.paint_area.Goals as goal
+use Rattle.press_fill.proofs.paint.paint_rect.Goals as goal
 
 pub loop-line-init : goal.loop-line-init
 loop-line-init c =
-    (sym (painted_box_none c.args.page.now.page c.args.area.across.start c.args.area.down.start c.cut_length-columns.result (tile_dot c.args.tile.now) c.args.mode c.width.ensures.inside), refl)
+    (sym (painted_box_none c.args.page.now.page c.args.rect.x c.args.rect.y c.cut_length-columns.result (tile_dot c.args.tile.now) c.args.mode c.width.ensures.inside), refl)
 
 pub paint_line-requires-clause-ready : goal.paint_line-requires-clause-ready
 paint_line-requires-clause-ready c =
     elim c.requires.ready [
       | inl white ↦ inl (λ i.
           (λ k. repeated (record { bits = c.row.ensures.row k; dots = width k }) i)
-          ∙ repeated-tile_row c.args.tile.now i (c.args.area.down.start + c.loop-line.line)
-          ∙ white i (c.args.area.down.start + c.loop-line.line))
-      | inr ready ↦ inr (ready_within c.args.page.now c.loop-line.page (pos c.args.area.down.start) (pos (c.args.area.down.start + c.loop-line.line)) c.args.area.down.length 1 c.loop-line.invariant.1
+          ∙ repeated-tile_row c.args.tile.now i (c.args.rect.y + c.loop-line.line)
+          ∙ white i (c.args.rect.y + c.loop-line.line))
+      | inr ready ↦ inr (ready_within c.args.page.now c.loop-line.page (pos c.args.rect.y) (pos (c.args.rect.y + c.loop-line.line)) c.args.rect.height 1 c.loop-line.invariant.1
           (ap (λ (p : Page). p.height) c.loop-line.invariant.0 ∙ height-painted c.args.page.now.page _)
-          (from c.args.area.down.start c.loop-line.line) (before c.args.area.down.start c.loop-line.line c.args.area.down.length (omega arith)) ready)
+          (from c.args.rect.y c.loop-line.line) (before c.args.rect.y c.loop-line.line c.args.rect.height (omega arith)) ready)
     ]
   where
     width : c.from.result ≡ c.args.tile.now.width
@@ -37,17 +37,17 @@ paint_line-requires-clause-ready c =
 pub paint_line-requires-clause-solid : goal.paint_line-requires-clause-solid
 paint_line-requires-clause-solid c = λ solid i.
     (λ k. repeated (record { bits = c.row.ensures.row k; dots = width k }) i)
-    ∙ repeated-tile_row c.args.tile.now i (c.args.area.down.start + c.loop-line.line)
-    ∙ ap (λ (tile : Tiling). tile_dot tile i (c.args.area.down.start + c.loop-line.line)) (c.is_solid_black-solid.ensures solid)
-    ∙ tile_dot-solid_black i (c.args.area.down.start + c.loop-line.line)
+    ∙ repeated-tile_row c.args.tile.now i (c.args.rect.y + c.loop-line.line)
+    ∙ ap (λ (tile : Tiling). tile_dot tile i (c.args.rect.y + c.loop-line.line)) (c.is_solid_black-solid.ensures solid)
+    ∙ tile_dot-solid_black i (c.args.rect.y + c.loop-line.line)
   where
     width : c.from.result ≡ c.args.tile.now.width
     width = omega arith
 
 pub loop-line-preserved : goal.loop-line-preserved
 loop-line-preserved c =
-    let x = c.args.area.across.start in
-    let y = c.args.area.down.start in
+    let x = c.args.rect.x in
+    let y = c.args.rect.y in
     let columns = c.cut_length-columns.result in
     let line = c.loop-line.line in
     let tile : Tiling = c.args.tile.now in
@@ -64,13 +64,13 @@ loop-line-preserved c =
 
 pub returns : goal.returns
 returns c =
-    let x = c.args.area.across.start in
-    let y = c.args.area.down.start in
+    let x = c.args.rect.x in
+    let y = c.args.rect.y in
     let columns = c.cut_length-columns.result in
     let lines = c.cut_length-lines.result in
     let last : c.loop-line.line ≡ lines = omega arith in
-    let right : min (x + columns) c.args.page.now.page.width ≡ min (x + c.args.area.across.length) c.args.page.now.page.width = omega arith in
-    let below : min (y + lines) c.args.page.now.page.height ≡ min (y + c.args.area.down.length) c.args.page.now.page.height = omega arith in
+    let right : min (x + columns) c.args.page.now.page.width ≡ min (x + c.args.rect.width) c.args.page.now.page.width = omega arith in
+    let below : min (y + lines) c.args.page.now.page.height ≡ min (y + c.args.rect.height) c.args.page.now.page.height = omega arith in
     c.loop-line.invariant.0
     ∙ ap (λ (n : ℕ). painted c.args.page.now.page (box_mark x y columns n (tile_dot c.args.tile.now) c.args.mode)) last
-    ∙ painted_box_cut c.args.page.now.page x y columns lines c.args.area.across.length c.args.area.down.length (tile_dot c.args.tile.now) c.args.mode right below
+    ∙ painted_box_cut c.args.page.now.page x y columns lines c.args.rect.width c.args.rect.height (tile_dot c.args.tile.now) c.args.mode right below
