@@ -14,13 +14,15 @@ use Rattle.press_cursor.specs.Cursor.{moved_y}
 use Rattle.press_cursor.specs.CursorState.{CursorState}
 use Rattle.press_page.specs.Environment.{logical_page_of}
 use Rattle.press_page.specs.declared.environment.PageEnv.{PageEnv}
+use Rattle.press_page.specs.declared.media.Orientation.{Orientation}
 use Rattle.press_pattern.specs.declared.ink.Ink.{Ink}
+use Rattle.press_canvas.specs.Turned.{page_of_frame}
 use Rattle.press_rows.specs.Blocks.{Item, count_rows}
 use Rattle.press_rows.specs.Row.{fitted, raster_row}
 use Rattle.press_rows.specs.declared.compression.Method.{Method}
-use Rattle.press_raster.specs.Drawing.{drawn_by, layout, setup_of}
+use Rattle.press_raster.specs.Drawing.{IsSetUp, drawn_by, layout, line_of, one_row_on, setup_of}
 use Rattle.press_raster.specs.Graphics.{RasterGraphics, graphics, is_below_height, most_rows, takes_row, whitened}
-use Rattle.press_raster.specs.Mark.{raster_mark}
+use Rattle.press_raster.specs.Mark.{raster_mark, row_on_frame}
 use Rattle.press_raster.specs.Rows.{Drawn, drawn, with_item, with_items}
 use Rattle.press_raster.specs.Settings.{dot_size, row_height}
 use Rattle.press_raster.specs.Transfer.{row_corner, row_dots}
@@ -30,6 +32,7 @@ use Rattle.press_raster.specs.declared.raster.RasterPosition.{RasterPosition}
 use Rattle.press_raster.specs.declared.raster.RowPlace.{RowPlace}
 use Rattle.press_raster.specs.declared.settings.RasterSettings.{RasterSettings}
 use Rattle.press_raster.proofs.DecodingLemmas.{raster_row-fitted}
+use Rattle.press_raster.proofs.StripLemmas.{row_turned}
 
 -- a white row, cut or filled up, is white
 pub fitted-white : (width n : ℕ) → replicate width 0 ≡ fitted width (replicate n 0)
@@ -145,14 +148,39 @@ layout-painted page page' mark painting ready =
     λ i. record { width = wide i; height = high i; ready = ready i }
 
 -- rows that are drawn from the seed row as it is cut or filled up, where one has effect
-pub drawn-fitted : (setup : RowSetup) (environment : PageEnv) (settings : RasterSettings) (ink : Ink) (width height : ℕ) (position : RasterPosition) (seed : List ℕ)
+pub drawn-fitted : (setup : RowSetup) (environment : PageEnv) (settings : RasterSettings) (ink : Ink) (width : ℕ) (position : RasterPosition) (seed : List ℕ)
     (drawing : Drawing) (page : BandedPage) (whole : Page) (cursor : CursorState) (xs : List Item) →
-    setup ≡ setup_of width height environment settings position.left →
-    drawing.position ≡ position → drawing.seed.items ≡ fitted (bytes_per_line setup.dots) seed → page.page ≡ whole →
+    setup ≡ setup_of width environment settings position.left →
+    drawing.position ≡ position → drawing.seed.items ≡ fitted (bytes_per_line setup.dots) seed → page_of_frame environment.media.orientation page.page ≡ whole →
     takes_row settings (graphics (Some position) seed) ≡ true → list_any is_some xs ≡ true →
-    with_items setup.environment setup.settings ink xs (drawn_by drawing page cursor)
+    with_items setup.environment setup.settings ink xs (drawn_by setup drawing page cursor)
     ≡ with_items environment settings ink xs (drawn (graphics (Some position) seed) whole cursor)
-drawn-fitted setup environment settings ink width height position seed drawing page whole cursor xs same place cut on_page taken some =
-    (λ i. with_items (same i).environment (same i).settings ink xs (drawn (graphics (Some (place i)) (cut i)) (on_page i) cursor))
+drawn-fitted setup environment settings ink width position seed drawing page whole cursor xs same place cut on_page taken some =
+    (λ i. with_items (same i).environment (same i).settings ink xs (drawn (graphics (Some (place i)) (cut i)) ((ap (λ (s : RowSetup). page_of_frame s.environment.media.orientation page.page) same ∙ on_page) i) cursor))
     ∙ with_items-fitted environment settings ink xs (record { left = position.left; rows = position.rows; seed = seed }) whole cursor (bytes_per_line setup.dots)
     (ap (λ (s : RowSetup). bytes_per_line s.dots) same) taken some
+
+-- a row that is painted on the frame, has become the seed row and has moved the cursor, is the next item
+pub row_drawn : (setup : RowSetup) (ink : Ink) (drawing : Drawing) (frame after : BandedPage) (cursor moved : CursorState) (row : Method × List ℕ) (line : ℕ) (source bits seed : List ℕ) (position : RasterPosition) →
+    IsSetUp setup (layout frame) drawing → is_below_height setup.settings.source_height drawing.position.rows ≡ true →
+    bits ≡ raster_row row.0 row.1 drawing.seed.items (bytes_per_line setup.dots) → source ≡ bits → seed ≡ bits →
+    line ≡ line_of setup.environment cursor.y → position ≡ one_row_on drawing.position →
+    moved ≡ moved_y (pos (row_height setup.settings.resolution)) true (logical_page_of setup.environment) cursor →
+    after.page ≡ painted frame.page (row_on_frame (record { x = setup.across.left; y = line }) setup.across.size (record { bits = source; dots = setup.dots }) ink frame.page) →
+    drawn (graphics (Some position) seed) (page_of_frame setup.environment.media.orientation after.page) moved
+    ≡ with_item setup.environment setup.settings ink (drawn_by setup drawing frame cursor) (Some row)
+row_drawn setup ink drawing frame after cursor moved row line source bits seed position is below bits_are source_is seed_is line_is position_is moved_is painting =
+    let o : Orientation = setup.environment.media.orientation in
+    let page : Page = page_of_frame o frame.page in
+    let on : RasterGraphics = record { left = drawing.position.left; rows = drawing.position.rows; seed = drawing.seed.items } in
+    let place : RowPlace = place_at setup.environment setup.settings ink cursor in
+    let left : setup.across.left ≡ (row_corner place on.left).x = ap (λ (s : RowSetup). s.across.left) is.same in
+    let size : setup.across.size ≡ dot_size setup.settings.resolution setup.environment.media.resolution = ap (λ (s : RowSetup). s.across.size) is.same in
+    let dots : setup.dots ≡ row_dots place setup.settings on.left = ap (λ (s : RowSetup). s.dots) is.same in
+    (λ i. drawn (graphics (Some (position_is i)) (seed_is i))
+    (row_turned o frame.page after.page (record { x = setup.across.left; y = line }) setup.across.size (record { bits = source; dots = setup.dots }) ink painting i) (moved_is i))
+    ∙ (λ i. drawn (graphics (Some (one_row_on drawing.position)) bits)
+    (painted page (raster_mark o page (record { x = left i; y = line_is i }) (size i) (record { bits = source_is i; dots = dots i }) ink))
+    (moved_y (pos (row_height setup.settings.resolution)) true (logical_page_of setup.environment) cursor))
+    ∙ ap (with_bits setup.environment setup.settings ink on page cursor) (bits_are ∙ ap (λ n. raster_row row.0 row.1 on.seed (bytes_per_line n)) dots)
+    ∙ sym (with_item-taken setup.environment setup.settings ink on page cursor row below)

@@ -7,18 +7,15 @@ use Rattle.std.proofs.lemmas.Int.{ints}
 use Rattle.press_units.specs.Position.{positions_per_dot}
 use Rattle.press_units.specs.declared.position.Resolution.{Resolution}
 use Rattle.press_units.specs.declared.position.Resolution.TheVariants as print
-use Rattle.press_bits.specs.Bands.{BandedPage}
+use Rattle.press_bits.specs.Bands.{BandedPage, AreReady}
 use Rattle.press_bits.specs.Page.{longest_side}
 use Rattle.press_cursor.specs.Bounds.{nearest_y}
 use Rattle.press_cursor.specs.declared.logical_page.LogicalPage.{LogicalPage}
 use Rattle.press_page.specs.Environment.{logical_page_of}
 use Rattle.press_page.specs.Place.{below_edge}
-use Rattle.press_page.specs.declared.media.Orientation.{Orientation}
-use Rattle.press_page.specs.declared.media.Orientation.TheVariants.{Portrait, Landscape, ReversePortrait, ReverseLandscape}
 use Rattle.press_pattern.specs.declared.ink.Ink.{Ink}
 use Rattle.press_rows.specs.Blocks.{Item}
 use Rattle.press_raster.specs.Across.{AcrossReady}
-use Rattle.press_raster.specs.Along.{StripReady}
 use Rattle.press_raster.specs.Drawing.{Layout, RowsReady, laid_out, last_line, line_of, lines_of_row}
 use Rattle.press_raster.specs.Graphics.{takes_row}
 use Rattle.press_raster.specs.Rows.{Drawn, with_item, with_items, with_row}
@@ -42,31 +39,12 @@ is_from_top a n is = grind (arith, ints)
 is_before_top : (a b n : ℕ) → n < a + b → int_lt (pos n) (pos a +ℤ pos b) ≡ true
 is_before_top a b n is = grind (arith, ints)
 
--- and from its foot
-from_foot : (h a b n : ℕ) → int_le ((pos h -ℤ pos b) -ℤ pos a) (pos n) ≡ true → h ≤ n + b + a
-from_foot h a b n is = grind (arith, ints)
-
-before_foot : (h a b n : ℕ) → int_lt (pos n) (((pos h -ℤ pos b) -ℤ pos a) +ℤ pos b) ≡ true → n + a < h
-before_foot h a b n is = grind (arith, ints)
-
-is_from_foot : (h a b n : ℕ) → h ≤ n + b + a → int_le ((pos h -ℤ pos b) -ℤ pos a) (pos n) ≡ true
-is_from_foot h a b n is = grind (arith, ints)
-
-is_before_foot : (h a b n : ℕ) → n + a < h → int_lt (pos n) (((pos h -ℤ pos b) -ℤ pos a) +ℤ pos b) ≡ true
-is_before_foot h a b n is = grind (arith, ints)
-
--- a part of a strip, as far as the page goes
-pub strip_within : (o : Orientation) (page : BandedPage) (x first lines line size columns : ℕ) → first ≤ line → min page.page.height (line + size) ≤ first + lines →
-    StripReady o page x first columns lines → StripReady o page x line columns size
-strip_within Portrait page x first lines line size columns begins ends ready = λ n from to inside.
+-- a part of a strip, as far as the frame goes
+pub strip_within : (frame : BandedPage) (first lines line size : ℕ) → first ≤ line → min frame.page.height (line + size) ≤ first + lines →
+    AreReady frame (pos first) lines → AreReady frame (pos line) size
+strip_within frame first lines line size begins ends ready = λ n from to inside.
     ready n (is_from_top first n (omega (arith, begins, from_top line n from)))
     (is_before_top first lines n (omega (arith, ends, inside, before_top line size n to))) inside
-strip_within Landscape page x first lines line size columns begins ends ready = ready
-strip_within ReversePortrait page x first lines line size columns begins ends ready = λ n from to inside.
-    let h = page.page.height in
-    ready n (is_from_foot h first lines n (omega (arith, ends, from_foot h line size n from)))
-    (is_before_foot h first lines n (omega (arith, begins, before_foot h line size n to))) inside
-strip_within ReverseLandscape page x first lines line size columns begins ends ready = ready
 
 -- ---- heights of rows
 
@@ -115,7 +93,7 @@ moved_edge y h page =
 pub rows_ready-row : (setup : RowSetup) (page : Layout) (y : ℤ) → RowsReady setup page y 1 → setup.across.size ≤ lines_of_row setup →
     AcrossReady setup.across (laid_out page) (line_of setup.environment y) setup.across.size
 rows_ready-row setup page y ready fits some =
-    strip_within setup.across.orientation (laid_out page) setup.across.left ready.first ready.lines (line_of setup.environment y) setup.across.size setup.across.columns
+    strip_within (laid_out page) ready.first ready.lines (line_of setup.environment y) setup.across.size
     ready.begins (omega (arith, ready.ends, fits)) (ready.ready some)
 
 -- fewer of them

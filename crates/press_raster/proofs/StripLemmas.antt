@@ -16,8 +16,10 @@ use Rattle.press_page.specs.declared.place.Dot.{Dot}
 use Rattle.press_page.specs.declared.place.Extent.{Extent}
 use Rattle.press_pattern.specs.Tiling.{Tiling, tile_dot}
 use Rattle.press_pattern.specs.declared.ink.Ink.{Ink}
-use Rattle.press_raster.specs.Along.{along, along_mark}
-use Rattle.press_raster.specs.Mark.{strip_source, strip_mark, raster_mark}
+use Rattle.press_canvas.specs.Turned.{in_frame, page_of_frame}
+use Rattle.press_canvas.proofs.FrameLemmas.{painted_frame}
+use Rattle.press_raster.specs.Mark.{strip_source, strip_mark, raster_mark, row_on_frame}
+use Rattle.press_raster.specs.Reading.{tile_line}
 
 -- the frame of a page of these sizes
 abbrev pub frame_of : Orientation → (width height : ℕ) → Extent
@@ -38,24 +40,6 @@ module _ (orientation : Orientation) (width height : ℕ) where
   unfolding effect_at strip_source
   effect_at-strip_mark left top columns lines dots tile mode x y =
       chosen (in_box left top columns lines (column_at x y) (line_at x y)) (dots (column_at x y - left)) (tile_dot tile (column_at x y) (line_at x y)) mode
-
-  same_effect : (start line : ℕ) (source pattern : Row) (mode : Mode) (x y : ℕ) →
-      effect_at (along_mark orientation width height start line source pattern mode) x y
-      ≡ effect_at (row_mark (pos start) (pos line) source pattern mode) (along orientation x y) (line_at x y)
-  unfolding effect_at
-  same_effect start line source pattern mode x y = refl
-
-  -- what source dots along a line of the frame do to it
-  pub effect_at-along_mark : (start line : ℕ) (source pattern : Row) (mode : Mode) (x y : ℕ) →
-      effect_at (along_mark orientation width height start line source pattern mode) x y
-      ≡ effect_where ((nat_eq (line_at x y) line && nat_le start (along orientation x y)) && nat_lt (along orientation x y) (start + source.dots)) mode
-      (row_dot source.bits (along orientation x y - start)) (repeated pattern (along orientation x y))
-  effect_at-along_mark start line source pattern mode x y =
-      let c : ℕ = along orientation x y in
-      same_effect start line source pattern mode x y
-      ∙ row_lands (pos start) (pos line) source pattern mode start 0 source.dots line (c + 1 + start + source.dots) c (line_at x y)
-      (ap pos (omega arith)) (inr refl) refl (omega arith) (omega arith)
-      ∙ ap (λ k. effect_where ((nat_eq (line_at x y) line && nat_le start c) && nat_lt c (start + source.dots)) mode (row_dot source.bits k) (repeated pattern c)) (omega arith)
 
   -- a dot of the page lies in the frame
   pub column_within : (x y : ℕ) → x < width → y < height → column_at x y < (frame_of orientation width height).width
@@ -158,49 +142,33 @@ module _ (orientation : Orientation) (page : Page) where
       inner : (left columns column : ℕ) → (left ≤ column) × (column < left + columns) → column - left < columns
       inner left columns column h = omega (arith, h.0, h.1)
 
--- Source dots along a line of the page are those of the columns of the frame from `left` on, through the tile's dots of a line.
-pub record RunsAlong (orientation : Orientation) (width height : ℕ) (left columns line : ℕ) (dots : ℕ → Bool) (tile : Tiling) (start : ℕ) (source pattern : Row) : Type 0 where
-  pub inside : (x y : ℕ) → x < width → y < height →
-      (nat_le start (along orientation x y) && nat_lt (along orientation x y) (start + source.dots))
-      ≡ (nat_le left (placed_dot orientation width height x y).0 && nat_lt (placed_dot orientation width height x y).0 (left + columns))
-  pub source_dots : (x y : ℕ) → x < width → y < height → left ≤ (placed_dot orientation width height x y).0 → (placed_dot orientation width height x y).0 < left + columns →
-      row_dot source.bits (along orientation x y - start) ≡ dots ((placed_dot orientation width height x y).0 - left)
-  pub pattern_dots : (x y : ℕ) → x < width → y < height → repeated pattern (along orientation x y) ≡ tile_dot tile (placed_dot orientation width height x y).0 line
-
-and_pairs : (a b c : Bool) → ((a && b) && c) ≡ (a && (b && c))
-and_pairs true b c = refl
-and_pairs false b c = refl
-
-on_line : (line n x column w : ℕ) → ((nat_eq line n && nat_le x column) && nat_lt column (x + w)) ≡ true → (line ≡ n) × ((x ≤ column) × (column < x + w))
-on_line line n x column w h = grind (arith, nat_tests)
-
 one_line : (x y w column line : ℕ) → ((nat_eq line y && nat_le x column) && nat_lt column (x + w)) ≡ in_box x y w 1 column line
 one_line x y w column line = grind (arith, nat_tests)
 
--- source dots along a line of the frame are a strip of one line
-pub painted_along : (orientation : Orientation) (page : Page) (left columns line : ℕ) (dots : ℕ → Bool) (tile : Tiling) (mode : Mode) (start : ℕ) (source pattern : Row) →
-    RunsAlong orientation page.width page.height left columns line dots tile start source pattern →
-    painted page (along_mark orientation page.width page.height start line source pattern mode)
-    ≡ painted page (strip_mark orientation page.width page.height left line columns 1 dots tile mode)
-painted_along orientation page left columns line dots tile mode start source pattern runs =
-    painted_same_effects page
-    (along_mark orientation page.width page.height start line source pattern mode)
-    (strip_mark orientation page.width page.height left line columns 1 dots tile mode)
+on_line : (line y x column w : ℕ) → ((nat_eq line y && nat_le x column) && nat_lt column (x + w)) ≡ true → line ≡ y
+on_line line y x column w h = grind (arith, nat_tests)
+
+repeated-tile_line : (tile : Tiling) (column line : ℕ) → repeated (tile_line tile line) column ≡ tile_dot tile column line
+unfolding repeated tile_dot
+repeated-tile_line tile column line = refl
+
+-- source dots along a line of the frame, through the dots of a line of a tile, are a strip of one line
+pub painted_row : (frame : Page) (left line : ℕ) (source : Row) (tile : Tiling) (mode : Mode) →
+    painted frame (row_mark (pos left) (pos line) source (tile_line tile line) mode)
+    ≡ painted frame (strip_mark Portrait frame.width frame.height left line source.dots 1 (row_dot source.bits) tile mode)
+painted_row frame left line source tile mode =
+    painted_same_effects frame
+    (row_mark (pos left) (pos line) source (tile_line tile line) mode)
+    (strip_mark Portrait frame.width frame.height left line source.dots 1 (row_dot source.bits) tile mode)
     (λ x y right low.
-    let at = placed_dot orientation page.width page.height x y in
-    let c : ℕ = along orientation x y in
-    let e : Bool = nat_eq at.1 line in
-    effect_at-along_mark orientation page.width page.height start line source pattern mode x y
-    ∙ ap (λ t. effect_where t mode (row_dot source.bits (c - start)) (repeated pattern c))
-    (and_pairs e (nat_le start c) (nat_lt c (start + source.dots))
-    ∙ ap (λ t. e && t) (runs.inside x y right low)
-    ∙ sym (and_pairs e (nat_le left at.0) (nat_lt at.0 (left + columns))))
-    ∙ effect_when ((e && nat_le left at.0) && nat_lt at.0 (left + columns)) mode
-    (row_dot source.bits (c - start)) (dots (at.0 - left)) (repeated pattern c) (tile_dot tile at.0 at.1)
-    (λ h. let k = on_line at.1 line left at.0 columns h in runs.source_dots x y right low k.1.0 k.1.1)
-    (λ h. runs.pattern_dots x y right low ∙ ap (tile_dot tile at.0) (sym (on_line at.1 line left at.0 columns h).0))
-    ∙ ap (λ t. effect_where t mode (dots (at.0 - left)) (tile_dot tile at.0 at.1)) (one_line left line columns at.0 at.1)
-    ∙ sym (effect_at-strip_mark orientation page.width page.height left line columns 1 dots tile mode x y))
+    let inside : Bool = (nat_eq y line && nat_le left x) && nat_lt x (left + source.dots) in
+    row_lands (pos left) (pos line) source (tile_line tile line) mode left 0 source.dots line (x + 1 + left + source.dots) x y
+    (ap pos (omega arith)) (inr refl) refl (omega arith) (omega arith)
+    ∙ ap (λ k. effect_where inside mode (row_dot source.bits k) (repeated (tile_line tile line) x)) (omega arith)
+    ∙ effect_when inside mode (row_dot source.bits (x - left)) (row_dot source.bits (x - left)) (repeated (tile_line tile line) x) (tile_dot tile x y)
+    (λ _. refl) (λ h. repeated-tile_line tile x line ∙ ap (tile_dot tile x) (sym (on_line y line left x source.dots h)))
+    ∙ ap (λ t. effect_where t mode (row_dot source.bits (x - left)) (tile_dot tile x y)) (one_line left line source.dots x y)
+    ∙ sym (effect_at-strip_mark Portrait frame.width frame.height left line source.dots 1 (row_dot source.bits) tile mode x y))
 
 one_line_more : (x y w n column line : ℕ) → (in_box x y w n column line || in_box x (y + n) w 1 column line) ≡ in_box x y w (n + 1) column line
 one_line_more x y w n column line = grind (arith, nat_tests)
@@ -240,3 +208,10 @@ pub painted_raster : (orientation : Orientation) (page : Page) (corner : Dot) (s
 painted_raster orientation page corner size columns source dots ink cut same =
     painted_strip_same orientation page corner.x corner.y columns size dots (λ i. row_dot source.bits (i / size)) ink.tile ink.mode same
     ∙ painted_strip_cut orientation page corner.x corner.y columns size (size * source.dots) size (λ i. row_dot source.bits (i / size)) ink.tile ink.mode (sym cut) refl
+
+-- a row that is painted on the frame is painted on its page
+pub row_turned : (orientation : Orientation) (frame after : Page) (corner : Dot) (size : ℕ) (source : Row) (ink : Ink) →
+    after ≡ painted frame (row_on_frame corner size source ink frame) →
+    page_of_frame orientation after ≡ painted (page_of_frame orientation frame) (raster_mark orientation (page_of_frame orientation frame) corner size source ink)
+row_turned orientation frame after corner size source ink is =
+    ap (page_of_frame orientation) is ∙ painted_frame orientation frame (row_on_frame corner size source ink frame)

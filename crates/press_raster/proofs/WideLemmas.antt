@@ -12,7 +12,7 @@ use Rattle.std.proofs.Math.Nat.{mul_comm, zero-div, mod-eq_of_lt, mul-add-div_ri
 use Rattle.press_bits.specs.Mark.{Row, row_dot, byte_dot, repeated}
 use Rattle.press_pattern.specs.Tiling.{byte_where}
 use Rattle.press_pattern.proofs.ByteLemmas.{bit_of, byte_dot-byte_where}
-use Rattle.press_raster.specs.Reading.{place_from, read_dot, number_where, wide_dot, IsOnce}
+use Rattle.press_raster.specs.Reading.{read_dot, number_where, wide_dot}
 use Rattle.press_raster.proofs.ReadingLemmas.{bit_of_test, number-byte}
 use Rattle.press_raster.specs.declared.reading.Reading.{Reading}
 
@@ -63,17 +63,20 @@ number-byte_of rule size m within =
     ∙ sym (number-byte here)
 
 -- a byte of the widened dots of a byte that was read with each dot once
-pub wide_byte : (reading once : Reading) (source : Row) (byte group m : ℕ) → IsOnce reading once → 1 ≤ reading.size → m < reading.size →
-    byte ≡ byte_where (λ j. read_dot once source (8 * group + j)) →
+pub wide_byte : (reading : Reading) (source : Row) (byte group m : ℕ) → 1 ≤ reading.size → m < reading.size →
+    byte ≡ byte_where (λ j. read_dot (record { size = 1 }) source (8 * group + j)) →
     number_where (wide_dot byte reading.size) (8 * reading.size) / 2 ^ (8 * (reading.size - 1 - m)) % 256
     ≡ byte_where (λ j. read_dot reading source (8 * (reading.size * group + m) + j))
-wide_byte reading once source byte group m is_once some within is =
+wide_byte reading source byte group m some within is =
     number-byte_of (wide_dot byte reading.size) reading.size m within
     ∙ number-byte (λ j. wide_dot byte reading.size (8 * m + j))
     ∙ number-alike 8 (λ j. wide_dot byte reading.size (8 * m + j)) (λ j. read_dot reading source (8 * (reading.size * group + m) + j))
     (λ j low. dot j low)
     ∙ sym (number-byte (λ j. read_dot reading source (8 * (reading.size * group + m) + j)))
   where
+    single : (n : ℕ) → n / 1 ≡ n
+    single n = omega arith
+
     place : (size group m j : ℕ) → 1 ≤ size → (8 * (size * group + m) + j) / size ≡ 8 * group + (8 * m + j) / size
     place size group m j some =
         let x : ℕ = 8 * m + j in
@@ -86,51 +89,8 @@ wide_byte reading once source byte group m is_once some within is =
     dot : (j : ℕ) → j < 8 → wide_dot byte reading.size (8 * m + j) ≡ read_dot reading source (8 * (reading.size * group + m) + j)
     dot j low =
         ap (λ b. byte_dot b ((8 * m + j) / reading.size)) is
-        ∙ byte_dot-byte_where (λ j. read_dot once source (8 * group + j)) ((8 * m + j) / reading.size) (below reading.size m j within low)
-        ∙ ap (read_dot once source) (sym (place reading.size group m j some))
-        ∙ sym (is_once.each source (8 * (reading.size * group + m) + j))
-
--- ---- readings that are in step
-
--- dot r of dot b, from the last of dot a on backwards
-step_back : (d b r size : ℕ) → r < size → ((b + d) * size + (size - 1) - (b * size + r)) / size ≡ d
-step_back d b r size low =
-    let left : (b + d) * size + (size - 1) - (b * size + r) ≡ d * size + (size - 1 - r) = omega (arith, low) in
-    ap (λ n. n / size) left ∙ div-mul-add d size (size - 1 - r) (omega (arith, low))
-
-step_past : (a b r size : ℕ) → a < b → (a * size + (size - 1) - (b * size + r)) / size ≡ 0
-step_past a b r size past =
-    let more : (a + 1) * size ≤ b * size = mul-le (a + 1) size b size (omega (arith, past)) (omega arith) in
-    let none : a * size + (size - 1) - (b * size + r) ≡ 0 = omega (arith, more) in
-    ap (λ n. n / size) none ∙ zero-div size
-
--- the place that is read, of dots that are each read once
-pub in_step : (last size i : ℕ) → 1 ≤ size → last % size ≡ size - 1 → (last - i) / size ≡ last / size - i / size
-in_step last size i some whole =
-    let a : ℕ = last / size in
-    let b : ℕ = i / size in
-    let is_last : last ≡ a * size + (size - 1) = sym (div-add-mod' last size) ∙ ap (λ n. a * size + n) whole in
-    let is_i : i ≡ b * size + i % size = sym (div-add-mod' i size) in
-    (λ t. (is_last t - is_i t) / size)
-    ∙ elim (cases_lt a b) [
-      | inl past ↦ step_past a b (i % size) size past ∙ omega (arith, past)
-      | inr within ↦
-          let whole_of : a ≡ b + (a - b) = omega (arith, within) in
-          ap (λ n. (n * size + (size - 1) - (b * size + i % size)) / size) whole_of
-          ∙ step_back (a - b) b (i % size) size (mod_below i size some)
-    ]
-
-pub once_backward : (reading : Reading) (last : ℕ) → reading.last ≡ Some last → 1 ≤ reading.size → last % reading.size ≡ reading.size - 1 →
-    IsOnce reading (record { size = 1; last = Some (last / reading.size) })
-once_backward reading last back some whole = record {
-  single = refl;
-  each = λ source i.
-      ap (λ from. repeated source (place_from from i / reading.size)) back
-      ∙ ap (repeated source) (in_step last reading.size i some whole ∙ whole_of (last / reading.size - i / reading.size));
-}
-  where
-    whole_of : (n : ℕ) → n ≡ n / 1
-    whole_of n = omega arith
+        ∙ byte_dot-byte_where (λ j. read_dot (record { size = 1 }) source (8 * group + j)) ((8 * m + j) / reading.size) (below reading.size m j within low)
+        ∙ ap (repeated source) (single (8 * group + (8 * m + j) / reading.size) ∙ sym (place reading.size group m j some))
 
 -- ---- eight dots, forward
 
@@ -153,17 +113,17 @@ number_of_bits (suc k) n rule small dots =
     (λ j low. ap (λ b. nat_eq b 1) (sym (bit_at-suc n (k - 1 - j)) ∙ ap (bit_at n) (next j low)) ∙ dots j (omega (arith, low))) t * 2 + lowest t)
 
 -- eight dots of a row that are read forward, each once
-pub eight-read : (source : Row) (byte first : ℕ) (reading : Reading) → reading.last ≡ None → reading.size ≡ 1 → first + 7 < source.dots → byte < 256 →
+pub eight-read : (source : Row) (byte first : ℕ) (reading : Reading) → reading.size ≡ 1 → first + 7 < source.dots → byte < 256 →
     ((j : ℕ) → j < 8 → byte_dot byte j ≡ row_dot source.bits (first + j)) → byte ≡ byte_where (λ j. read_dot reading source (first + j))
 unfolding byte_dot repeated
-eight-read source byte first reading forward once within small dots =
+eight-read source byte first reading once within small dots =
     number_of_bits 8 byte (λ j. read_dot reading source (first + j)) small
     (λ j low.
     (let whole : first + j ≡ (first + j) / 1 = omega arith in
     let inside : (first + j) / 1 < source.dots = omega (arith, low, within) in
     dots j low
     ∙ ap (row_dot source.bits) (whole ∙ sym (mod-eq_of_lt inside))
-    ∙ (λ t. row_dot source.bits (place_from (sym forward t) (first + j) / sym once t % source.dots))))
+    ∙ (λ t. row_dot source.bits ((first + j) / sym once t % source.dots))))
     ∙ sym (number-byte (λ j. read_dot reading source (first + j)))
 
 -- ---- a table of four dots

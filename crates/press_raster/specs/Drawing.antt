@@ -10,6 +10,7 @@ use Rattle.press_cursor.specs.CursorState.{CursorState}
 use Rattle.press_page.specs.Media.{logical_width, logical_length}
 use Rattle.press_page.specs.declared.environment.PageEnv.{PageEnv}
 use Rattle.press_pattern.specs.declared.ink.Ink.{Ink}
+use Rattle.press_canvas.specs.Turned.{page_of_frame}
 use Rattle.press_raster.specs.Across.{HasRoom, AcrossReady, across_of}
 use Rattle.press_raster.specs.Graphics.{graphics, most_rows}
 use Rattle.press_raster.specs.Rows.{Drawn, drawn}
@@ -20,19 +21,18 @@ use Rattle.press_raster.specs.declared.drawing.RowSetup.{RowSetup}
 use Rattle.press_raster.specs.declared.raster.RasterPosition.{RasterPosition}
 use Rattle.press_raster.specs.declared.settings.RasterSettings.{RasterSettings}
 
--- What the rows of a transfer have in common, on a page of this width and height.
-abbrev pub setup_of : (width height : ℕ) → PageEnv → RasterSettings → (left : ℕ) → RowSetup
-setup_of width height environment settings left =
+-- What the rows of a transfer have in common, on a frame of this width.
+abbrev pub setup_of : (width : ℕ) → PageEnv → RasterSettings → (left : ℕ) → RowSetup
+setup_of width environment settings left =
     let dots = dots_of_row settings.source_width settings.resolution (logical_width environment.media) left in record {
       environment = environment;
       settings = settings;
-      across = across_of environment.media.orientation width height
-          (row_corner (record { environment = environment; y = pos 0 }) left).x
+      across = across_of width (row_corner (record { environment = environment; y = pos 0 }) left).x
           (dot_size settings.resolution environment.media.resolution) dots;
       dots = dots;
     }
 
--- width and height of a page, and which of its lines are ready
+-- width and height of a frame, and which of its lines are ready
 pub record Layout : Type 0 where
   pub width : ℕ
   pub height : ℕ
@@ -49,15 +49,17 @@ laid_out page = record {
 }
 
 -- What is drawn has room for the rows of a transfer, and its seed row is as wide as they are.
-pub record IsSetUp (setup : RowSetup) (ink : Ink) (page : Layout) (drawing : Drawing) : Type 0 where
-  pub same : setup ≡ setup_of page.width page.height setup.environment setup.settings drawing.position.left
+pub record IsSetUp (setup : RowSetup) (page : Layout) (drawing : Drawing) : Type 0 where
+  pub same : setup ≡ setup_of page.width setup.environment setup.settings drawing.position.left
   pub seed : length drawing.seed.items ≡ bytes_per_line setup.dots
   pub row : length drawing.row.items ≡ bytes_per_line setup.dots
-  pub room : HasRoom setup.across ink drawing.scratch
+  pub room : HasRoom setup.across drawing.scratch
 
--- raster graphics whose rows are drawn, the page and the cursor
-abbrev pub drawn_by : Drawing → BandedPage → CursorState → Drawn
-drawn_by drawing page cursor = drawn (graphics (Some drawing.position) drawing.seed.items) page.page cursor
+-- raster graphics whose rows are drawn, the page of the frame on which they are, and the cursor
+abbrev pub drawn_by : RowSetup → Drawing → BandedPage → CursorState → Drawn
+drawn_by setup drawing frame cursor =
+    drawn (graphics (Some drawing.position) drawing.seed.items)
+    (page_of_frame setup.environment.media.orientation frame.page) cursor
 
 -- where raster graphics stands after a row
 abbrev pub one_row_on : RasterPosition → RasterPosition

@@ -4,7 +4,6 @@ pub mod Graphics
 pub mod Mark
 pub mod Transfer
 pub mod Rows
-pub mod Along
 pub mod Across
 pub mod Drawing
 pub mod Reading

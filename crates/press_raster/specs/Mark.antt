@@ -5,6 +5,7 @@ use Rattle.press_bits.specs.Mark.{Mark, Row, row_dot}
 use Rattle.press_bits.specs.Page.{Page}
 use Rattle.press_page.specs.Place.{placed_dot}
 use Rattle.press_page.specs.declared.media.Orientation.{Orientation}
+use Rattle.press_page.specs.declared.media.Orientation.TheVariants.{Portrait}
 use Rattle.press_page.specs.declared.place.Dot.{Dot}
 use Rattle.press_pattern.specs.Tiling.{Tiling, tile_dot}
 use Rattle.press_pattern.specs.declared.ink.Ink.{Ink}
@@ -33,3 +34,7 @@ abbrev pub raster_mark : Orientation → Page → (corner : Dot) → (size : ℕ
 raster_mark orientation page corner size row ink =
     strip_mark orientation page.width page.height corner.x corner.y (size * row.dots) size
     (λ i. row_dot row.bits (i / size)) ink.tile ink.mode
+
+-- The mark of a raster row on the frame itself.
+abbrev pub row_on_frame : (corner : Dot) → (size : ℕ) → Row → Ink → Page → Mark
+row_on_frame corner size row ink frame = raster_mark Portrait frame corner size row ink

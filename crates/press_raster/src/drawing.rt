@@ -8,7 +8,7 @@ ghost use Rattle.press_cursor.specs.Cursor.{moved_y};
 ghost use Rattle.press_page.specs.Environment.{logical_page_of};
 ghost use Rattle.press_rows.specs.Blocks.{count_rows};
 ghost use Rattle.press_rows.specs.Row.{fitted};
-ghost use Rattle.press_raster.specs.Across.{HasRoom, page_frame};
+ghost use Rattle.press_raster.specs.Across.{HasRoom};
 ghost use Rattle.press_raster.specs.Drawing.{IsSetUp, RowsReady, drawn_by, last_line, layout, line_of, lines_of_row};
 ghost use Rattle.press_raster.specs.Drawing.{one_row_on, setup_of};
 ghost use Rattle.press_raster.specs.Graphics.{is_below_height};
@@ -39,13 +39,12 @@ pub(crate) struct RowSetup {
 impl RowSetup {
     /// What rows that begin at a distance from the left edge of the logical page have in common.
     pub(crate) fn new(
-        page: &Bands,
+        frame: &Bands,
         environment: &PageEnv,
         settings: RasterSettings,
         left: u32,
     ) -> Self
-        ensures setup { result
-            ≡ setup_of page.now.page.width page.now.page.height environment.now settings left }
+        ensures setup { result ≡ setup_of frame.now.page.width environment.now settings left }
         ensures small { result.dots < 2 ^ 29 }
     {
         let media = environment.media;
@@ -59,7 +58,7 @@ impl RowSetup {
         RowSetup {
             environment: *environment,
             settings,
-            across: Across::new(page, media.orientation, column, size, dots),
+            across: Across::new(frame, column, size, dots),
             dots,
         }
     }
@@ -98,19 +97,17 @@ impl RowSetup {
     /// # Errors
     ///
     /// Where memory ran out; no dot changes.
-    fn ready(&self, page: &mut Bands, cursor: &Cursor, rows: usize) -> Result<(), AllocError>
+    fn ready(&self, frame: &mut Bands, cursor: &Cursor, rows: usize) -> Result<(), AllocError>
         requires most { rows ≤ longest_side }
-        requires within { self.now.across.columns
-            ≤ (page_frame self.now.across.orientation page.old.page).width - self.now.across.left }
-        ensures dots { page.new.page ≡ page.old.page }
+        ensures dots { frame.new.page ≡ frame.old.page }
         ensures ready { OnOk result ((count : ℕ) → rows ≡ min longest_side count
-            → RowsReady self.now (layout page.new) cursor.now.y count) }
+            → RowsReady self.now (layout frame.new) cursor.now.y count) }
     {
         let line = self.line(cursor);
         let first = line.min(self.last_line());
         let lines = (line - first) as usize + rows * self.lines_of_row();
-        let lines = lines.min(page.height() as usize) as u32;
-        self.across.ready(page, first, lines)
+        let lines = lines.min(frame.height() as usize) as u32;
+        self.across.ready(frame, first, lines)
     }
 
     /// Moves the cursor a row down, and says whether it moved.
@@ -156,19 +153,18 @@ impl Drawing {
         position: RasterPosition,
         seed: &[u8],
         setup: &RowSetup,
-        ink: &Ink<'_>,
     ) -> Result<(), AllocError>
         requires { setup.now.dots < 2 ^ 32 }
         ensures position { OnOk result (self.new.position ≡ position) }
         ensures seed { OnOk result (self.new.seed.items
             ≡ fitted (bytes_per_line setup.now.dots) seed.now) }
         ensures row { OnOk result (length self.new.row.items ≡ bytes_per_line setup.now.dots) }
-        ensures room { OnOk result (HasRoom setup.now.across ink.now self.new.scratch) }
+        ensures room { OnOk result (HasRoom setup.now.across self.new.scratch) }
     {
         let width = bytes_for(setup.dots);
         make_room(&mut self.row, width)?;
         make_room(&mut self.seed, width)?;
-        self.scratch.fit(setup.across, ink)?;
+        self.scratch.fit(setup.across)?;
         decode(Method::Unencoded, seed, &self.row, &mut self.seed);
         self.position = position;
         Ok(())
@@ -204,21 +200,22 @@ impl Drawing {
     /// Draws a row, if it has effect, and says whether the same row again may change something.
     fn draw_row(
         &mut self,
-        page: &mut Bands,
+        frame: &mut Bands,
         cursor: &mut Cursor,
         setup: &RowSetup,
         ink: &Ink<'_>,
         row: RowData<'_>,
     ) -> bool
-        requires setup { IsSetUp setup.now ink.now (layout page.old) self.old }
-        requires ready { RowsReady setup.now (layout page.old) cursor.old.y 1 }
-        ensures item { drawn_by self.new page.new cursor.new ≡ with_item setup.now.environment
-            setup.now.settings ink.now (drawn_by self.old page.old cursor.old)
+        requires setup { IsSetUp setup.now (layout frame.old) self.old }
+        requires ready { RowsReady setup.now (layout frame.old) cursor.old.y 1 }
+        ensures item { drawn_by setup.now self.new frame.new cursor.new
+            ≡ with_item setup.now.environment setup.now.settings ink.now (drawn_by setup.now self.old frame.old cursor.old)
             (Some (row.entry.method, row.entry.bytes.now)) }
         ensures same { result ≡ false
-            → drawn_by self.new page.new cursor.new ≡ drawn_by self.old page.old cursor.old }
-        ensures layout { layout page.new ≡ layout page.old }
-        ensures setup { IsSetUp setup.now ink.now (layout page.old) self.new }
+            → drawn_by setup.now self.new frame.new cursor.new
+            ≡ drawn_by setup.now self.old frame.old cursor.old }
+        ensures layout { layout frame.new ≡ layout frame.old }
+        ensures setup { IsSetUp setup.now (layout frame.old) self.new }
     {
         if !self.takes_row(setup) {
             return false;
@@ -228,7 +225,7 @@ impl Drawing {
         let dots = setup.dots;
         let source = DotRow { bits, dots };
         let line = setup.line(cursor);
-        let painted = paint_across(page, setup.across, line, source, ink, &mut self.scratch);
+        let painted = paint_across(frame, setup.across, line, source, ink, &mut self.scratch);
         let moved = setup.move_down(cursor);
         let taken = self.take_row();
         painted || moved || taken
@@ -241,17 +238,18 @@ impl Drawing {
     /// Where memory ran out; no dot changes, and the cursor stays.
     fn draw_one(
         &mut self,
-        page: &mut Bands,
+        frame: &mut Bands,
         cursor: &mut Cursor,
         setup: &RowSetup,
         ink: &Ink<'_>,
         row: RowData<'_>,
     ) -> Result<(), AllocError>
-        requires setup { IsSetUp setup.now ink.now (layout page.old) self.old }
-        ensures item { OnOk result (drawn_by self.new page.new cursor.new
+        requires setup { IsSetUp setup.now (layout frame.old) self.old }
+        ensures item { OnOk result (drawn_by setup.now self.new frame.new cursor.new
             ≡ with_item setup.now.environment setup.now.settings ink.now
-            (drawn_by self.old page.old cursor.old) (Some (row.entry.method, row.entry.bytes.now))) }
-        ensures same_page { OnErr result (page.new.page ≡ page.old.page) }
+            (drawn_by setup.now self.old frame.old cursor.old)
+            (Some (row.entry.method, row.entry.bytes.now))) }
+        ensures same_page { OnErr result (frame.new.page ≡ frame.old.page) }
         ensures same_cursor { OnErr result (cursor.new ≡ cursor.old) }
     {
         if !self.takes_row(setup) {
@@ -262,7 +260,7 @@ impl Drawing {
         let dots = setup.dots;
         let source = DotRow { bits, dots };
         let line = setup.line(cursor);
-        paint_strip(page, setup.across, line, source, ink, &mut self.scratch)?;
+        paint_strip(frame, setup.across, line, source, ink, &mut self.scratch)?;
         setup.move_down(cursor);
         self.take_row();
         Ok(())
@@ -271,24 +269,24 @@ impl Drawing {
     /// Draws so many rows with the same data. Where a row changes nothing more, neither does one behind it.
     fn draw_run(
         &mut self,
-        page: &mut Bands,
+        frame: &mut Bands,
         cursor: &mut Cursor,
         setup: &RowSetup,
         ink: &Ink<'_>,
         row: RowData<'_>,
         count: usize,
     )
-        requires setup { IsSetUp setup.now ink.now (layout page.old) self.old }
-        requires ready { RowsReady setup.now (layout page.old) cursor.old.y count }
-        ensures items { drawn_by self.new page.new cursor.new ≡ with_items setup.now.environment
-            setup.now.settings ink.now
+        requires setup { IsSetUp setup.now (layout frame.old) self.old }
+        requires ready { RowsReady setup.now (layout frame.old) cursor.old.y count }
+        ensures items { drawn_by setup.now self.new frame.new cursor.new
+            ≡ with_items setup.now.environment setup.now.settings ink.now
             (replicate count (Some (row.entry.method, row.entry.bytes.now)))
-            (drawn_by self.old page.old cursor.old) }
-        ensures layout { layout page.new ≡ layout page.old }
-        ensures setup { IsSetUp setup.now ink.now (layout page.old) self.new }
+            (drawn_by setup.now self.old frame.old cursor.old) }
+        ensures layout { layout frame.new ≡ layout frame.old }
+        ensures setup { IsSetUp setup.now (layout frame.old) self.new }
     {
         for drawn in 0..count {
-            if !self.draw_row(page, cursor, setup, ink, row) {
+            if !self.draw_row(frame, cursor, setup, ink, row) {
                 return;
             }
         }
@@ -297,16 +295,17 @@ impl Drawing {
     /// Draws what blocks stand for, a run after another.
     fn draw_blocks(
         &mut self,
-        page: &mut Bands,
+        frame: &mut Bands,
         cursor: &mut Cursor,
         setup: &RowSetup,
         ink: &Ink<'_>,
         mut blocks: Blocks<'_>,
     )
-        requires setup { IsSetUp setup.now ink.now (layout page.old) self.old }
-        requires ready { RowsReady setup.now (layout page.old) cursor.old.y (count_rows blocks) }
-        ensures items { drawn_by self.new page.new cursor.new ≡ with_items setup.now.environment
-            setup.now.settings ink.now blocks.entry (drawn_by self.old page.old cursor.old) }
+        requires setup { IsSetUp setup.now (layout frame.old) self.old }
+        requires ready { RowsReady setup.now (layout frame.old) cursor.old.y (count_rows blocks) }
+        ensures items { drawn_by setup.now self.new frame.new cursor.new
+            ≡ with_items setup.now.environment setup.now.settings ink.now blocks.entry
+            (drawn_by setup.now self.old frame.old cursor.old) }
     {
         while let Some(run) = blocks.next_run() {
             match run {
@@ -320,7 +319,7 @@ impl Drawing {
                         method,
                         bytes: data,
                     };
-                    self.draw_run(page, cursor, setup, ink, row, count);
+                    self.draw_run(frame, cursor, setup, ink, row, count);
                 }
             }
         }
@@ -333,28 +332,28 @@ impl Drawing {
     /// Where memory ran out; no dot changes, and the cursor stays.
     pub(crate) fn draw(
         &mut self,
-        page: &mut Bands,
+        frame: &mut Bands,
         cursor: &mut Cursor,
         setup: &RowSetup,
         ink: &Ink<'_>,
         bytes: &[u8],
     ) -> Result<(), AllocError>
-        requires setup { IsSetUp setup.now ink.now (layout page.old) self.old }
-        ensures items { OnOk result (drawn_by self.new page.new cursor.new
+        requires setup { IsSetUp setup.now (layout frame.old) self.old }
+        ensures items { OnOk result (drawn_by setup.now self.new frame.new cursor.new
             ≡ with_items setup.now.environment setup.now.settings ink.now
             (items_of setup.now.settings.coding bytes.now)
-            (drawn_by self.old page.old cursor.old)) }
-        ensures same_page { OnErr result (page.new.page ≡ page.old.page) }
+            (drawn_by setup.now self.old frame.old cursor.old)) }
+        ensures same_page { OnErr result (frame.new.page ≡ frame.old.page) }
         ensures same_cursor { OnErr result (cursor.new ≡ cursor.old) }
     {
         match setup.settings.coding {
             RowCoding::By(method) => {
-                self.draw_one(page, cursor, setup, ink, RowData { method, bytes })
+                self.draw_one(frame, cursor, setup, ink, RowData { method, bytes })
             }
             RowCoding::Adaptive => {
                 let rows = count_rows(Blocks::new(bytes));
-                setup.ready(page, cursor, rows)?;
-                self.draw_blocks(page, cursor, setup, ink, Blocks::new(bytes));
+                setup.ready(frame, cursor, rows)?;
+                self.draw_blocks(frame, cursor, setup, ink, Blocks::new(bytes));
                 Ok(())
             }
         }

@@ -1,7 +1,6 @@
-//! Raster graphics: rows of dots that are transferred one below the other onto a lent page.
+//! Raster graphics: rows of dots that are transferred one below the other onto a lent canvas.
 #![tactic(auto)]
 
-mod along;
 mod drawing;
 mod raster;
 mod reading;

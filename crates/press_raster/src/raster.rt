@@ -6,10 +6,12 @@ ghost use Rattle.press_raster.specs.Graphics.{raster_position, started, moved_do
 ghost use Rattle.press_raster.specs.Settings.{items_of};
 ghost use Rattle.press_raster.specs.Rows.{drawn, drawn_rows};
 ghost use Rattle.press_raster.specs.Transfer.{row_corner};
+ghost use Rattle.press_canvas.specs.Turned.{page_of_frame};
 
 use crate::drawing::{Drawing, RowSetup};
 use crate::settings::{RasterSettings, RowCoding};
-use press_bits::{Bands, Bitmap};
+use press_bits::Bitmap;
+use press_canvas::Canvas;
 use press_cursor::{Cursor, CursorPosition};
 use press_page::{Dot, PageEnv};
 use press_pattern::Ink;
@@ -245,7 +247,7 @@ impl Raster {
     /// Source: PCL 5 Printer Language Technical Reference Manual, Raster Graphics, Transfer Raster Data by Row command.
     pub fn transfer(
         &mut self,
-        page: &mut Bitmap,
+        page: &mut Canvas,
         environment: &PageEnv,
         cursor: &mut Cursor,
         settings: RasterSettings,
@@ -264,13 +266,15 @@ impl Raster {
             self.pass(settings, data);
             return Ok(());
         }
-        self.draw_rows(page.bands(), environment, cursor, settings, ink, data)
+        let frame = page.frame();
+        frame.lie_as(*self.seed.allocator(), environment.media.orientation)?;
+        self.draw_rows(&mut frame.bitmap, environment, cursor, settings, ink, data)
     }
 
-    /// Draws the rows of a transfer, one of which has effect.
+    /// Draws the rows of a transfer, one of which has effect, on the frame of a page.
     fn draw_rows(
         &mut self,
-        page: &mut Bands,
+        frame: &mut Bitmap,
         environment: &PageEnv,
         cursor: &mut Cursor,
         settings: RasterSettings,
@@ -278,19 +282,21 @@ impl Raster {
         data: &[u8],
     ) -> Result<(), AllocError>
         requires { takes_rows settings «data».now self.old ≡ true }
-        ensures rows { OnOk result (drawn self.new page.new.page cursor.new
+        ensures rows { OnOk result (drawn self.new
+            (page_of_frame environment.now.media.orientation frame.new) cursor.new
             ≡ drawn_rows environment.now settings ink.now «data».now
-            (drawn self.old page.old.page cursor.old)) }
-        ensures same_page { OnErr result (page.new.page ≡ page.old.page) }
+            (drawn self.old (page_of_frame environment.now.media.orientation frame.old) cursor.old)) }
+        ensures same_page { OnErr result (frame.new ≡ frame.old) }
         ensures same_raster { OnErr result (self.new ≡ self.old) }
         ensures same_cursor { OnErr result (cursor.new ≡ cursor.old) }
     {
         let Some(position) = self.position else {
             return Ok(());
         };
-        let setup = RowSetup::new(page, environment, settings, position.left);
-        self.drawing.begin(position, &self.seed, &setup, ink)?;
-        self.drawing.draw(page, cursor, &setup, ink, data)?;
+        let bands = frame.bands();
+        let setup = RowSetup::new(bands, environment, settings, position.left);
+        self.drawing.begin(position, &self.seed, &setup)?;
+        self.drawing.draw(bands, cursor, &setup, ink, data)?;
         self.position = Some(self.drawing.position);
         mem::swap(&mut self.seed, &mut self.drawing.seed);
         Ok(())

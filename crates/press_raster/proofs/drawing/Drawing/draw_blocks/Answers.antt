@@ -15,7 +15,7 @@ draw_run-requires-clause-ready c =
     let all : count_rows c.loop-run.blocks ≡ run.count + count_rows others = ap count_rows front ∙ count_rows-run run.count (run.method, run.data.now) others in
     let some : run.count ≤ count_rows c.loop-run.blocks = omega (arith, all) in
     subst (λ page. RowsReady setup page c.loop-run.cursor.y run.count) (sym c.loop-run.invariant.same_layout)
-    (rows_ready-fewer setup (layout c.args.page.now) c.loop-run.cursor.y run.count (count_rows c.loop-run.blocks) some c.loop-run.invariant.ready)
+    (rows_ready-fewer setup (layout c.args.frame.now) c.loop-run.cursor.y run.count (count_rows c.loop-run.blocks) some c.loop-run.invariant.ready)
 
 pub loop-run-preserved : goal.loop-run-preserved
 loop-run-preserved c =
@@ -24,7 +24,7 @@ loop-run-preserved c =
     let run = c.in-Rows in
     let item : Item = Some (run.method, run.data.now) in
     let others = c.next_run.new.self in
-    let d : Drawn = drawn_by c.loop-run.self c.loop-run.page c.loop-run.cursor in
+    let d : Drawn = drawn_by setup c.loop-run.self c.loop-run.frame c.loop-run.cursor in
     let front : c.loop-run.blocks ≡ replicate run.count item ++ others = c.in-Some.ensures.front ∙ ap (λ run. items_of_run (Some run) ++ others) run.is in
     let all : count_rows c.loop-run.blocks ≡ run.count + count_rows others = ap count_rows front ∙ count_rows-run run.count (run.method, run.data.now) others in
     record {
@@ -34,7 +34,7 @@ loop-run-preserved c =
           ∙ ap (λ xs. with_items setup.environment setup.settings ink xs d) (sym front)
           ∙ c.loop-run.invariant.items;
       same_layout = c.draw_run.ensures.layout ∙ c.loop-run.invariant.same_layout;
-      setup = subst (λ page. IsSetUp setup ink page c.draw_run.new.self) c.loop-run.invariant.same_layout c.draw_run.ensures.setup;
-      ready = subst (λ (e : Drawn). RowsReady setup (layout c.args.page.now) e.cursor.y (count_rows others)) (sym c.draw_run.ensures.items)
-          (rows_ready-after setup ink (layout c.args.page.now) d item run.count (count_rows others) (count_rows c.loop-run.blocks) all c.loop-run.invariant.ready);
+      setup = subst (λ page. IsSetUp setup page c.draw_run.new.self) c.loop-run.invariant.same_layout c.draw_run.ensures.setup;
+      ready = subst (λ (e : Drawn). RowsReady setup (layout c.args.frame.now) e.cursor.y (count_rows others)) (sym c.draw_run.ensures.items)
+          (rows_ready-after setup ink (layout c.args.frame.now) d item run.count (count_rows others) (count_rows c.loop-run.blocks) all c.loop-run.invariant.ready);
     }

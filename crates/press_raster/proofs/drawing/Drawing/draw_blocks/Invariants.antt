@@ -7,11 +7,11 @@ use Rattle.press_raster.proofs.drawing.Drawing.draw_blocks.Given as goal
 -- the items that are left give what all of them give
 abbrev pub invariant-loop-run : goal.invariant-loop-run
 invariant-loop-run l = record {
-  items : with_items l.setup.environment l.setup.settings l.ink l.blocks (drawn_by l.self l.page l.cursor)
-      ≡ with_items l.setup.environment l.setup.settings l.ink l.fn.blocks (drawn_by l.fn.self l.fn.page l.fn.cursor);
-  same_layout : layout l.page ≡ layout l.fn.page;
-  setup : IsSetUp l.setup l.ink (layout l.fn.page) l.self;
-  ready : RowsReady l.setup (layout l.fn.page) l.cursor.y (count_rows l.blocks);
+  items : with_items l.setup.environment l.setup.settings l.ink l.blocks (drawn_by l.setup l.self l.frame l.cursor)
+      ≡ with_items l.setup.environment l.setup.settings l.ink l.fn.blocks (drawn_by l.setup l.fn.self l.fn.frame l.fn.cursor);
+  same_layout : layout l.frame ≡ layout l.fn.frame;
+  setup : IsSetUp l.setup (layout l.fn.frame) l.self;
+  ready : RowsReady l.setup (layout l.fn.frame) l.cursor.y (count_rows l.blocks);
 }
 
 abbrev pub decreases-loop-run : goal.decreases-loop-run

@@ -8,11 +8,11 @@ use Rattle.press_raster.proofs.drawing.RowSetup.ready.Goals as goal
 pub returns-clause-ready : goal.returns-clause-ready
 returns-clause-ready c =
     let setup = c.args.self.now in
-    let high : c.ready.new.page.page.height ≡ c.height.result = ap (λ (p : Page). p.height) c.ready.ensures.dots ∙ sym c.height.ensures.height in
+    let high : c.ready.new.frame.page.height ≡ c.height.result = ap (λ (p : Page). p.height) c.ready.ensures.dots ∙ sym c.height.ensures.height in
     let first : c.min-first.result ≡ min (line_of setup.environment c.args.cursor.now.y) (last_line setup.environment)
     = c.min-first.ensures ∙ (λ i. min (c.line-line.ensures i) (c.last_line.ensures i)) in
     let product : c.args.rows * c.lines_of_row.result ≡ c.args.rows * lines_of_row setup = ap (λ n. c.args.rows * n) c.lines_of_row.ensures.lines in
     on_ok_weaker c.ready.result
-    (λ ready count most. rows_ready-made setup (layout c.ready.new.page) c.args.cursor.now.y c.args.rows count c.min-first.result c.min-lines.result most first
+    (λ ready count most. rows_ready-made setup (layout c.ready.new.frame) c.args.cursor.now.y c.args.rows count c.min-first.result c.min-lines.result most first
     (omega (arith, high, c.height.ensures.most)) (omega (arith, high, product, c.min-lines.ensures, c.line-line.ensures)) ready)
     c.ready.ensures.ready

@@ -1,7 +1,10 @@
 use Rattle.std.proofs.Common.{◌≡◌, ◌∙◌, ◌&&◌, Bool, true, false, Some, is_some, ap, sym, refl}
 use Rattle.std.specs.List.{list_any}
 use Rattle.std.proofs.lemmas.Bool.{true≢false}
+use Rattle.press_bits.specs.Bands.{BandedPage}
 use Rattle.press_bits.specs.Lines.{bytes_per_line}
+use Rattle.press_bits.specs.Page.{Page}
+use Rattle.press_canvas.specs.Turned.{page_of_frame}
 use Rattle.press_rows.specs.Row.{fitted}
 use Rattle.press_raster.specs.Drawing.{drawn_by}
 use Rattle.press_raster.specs.Graphics.{graphics, takes_row}
@@ -22,14 +25,18 @@ returns-clause-rows c =
     let ink = c.args.ink.now in
     let position = c.in-Some.position in
     let seed = c.self.inside.seed.items in
-    let page = c.args.page.now in
+    let setup : RowSetup = c.new-setup.result in
+    let bands : BandedPage = c.bands-bands.result.now in
     let cursor = c.args.cursor.now in
+    let o = environment.media.orientation in
+    let page : Page = page_of_frame o c.args.frame.now in
     let on : graphics (Some position) seed ≡ c.args.self.now = ap (λ place. graphics place seed) (sym c.in-Some.is) ∙ c.self.view_is in
     let taken = second (takes_row settings c.args.self.now) (list_any is_some (items_of settings.coding c.args.data.now)) c.requires in
-    ap (λ v. drawn (graphics (Some c.draw.new.self.position) v.items) c.draw.new.page.page c.draw.new.cursor) c.swap.ensures.x_after
+    let lies = ap (λ (s : RowSetup). s.environment.media.orientation) c.new-setup.ensures.setup in
+    (λ i. drawn (graphics (Some c.draw.new.self.position) (c.swap.ensures.x_after i).items) (page_of_frame (sym lies i) c.draw.new.frame.page) c.draw.new.cursor)
     ∙ c.in_ok-draw.ensures.items
-    ∙ ap (λ coding. with_items c.new-setup.result.environment c.new-setup.result.settings ink (items_of coding c.args.data.now) (drawn_by c.begin.new.self page cursor)) (ap (λ (s : RowSetup). s.settings.coding) c.new-setup.ensures.setup)
-    ∙ drawn-fitted c.new-setup.result environment settings ink page.page.width page.page.height position seed c.begin.new.self page page.page cursor (items_of settings.coding c.args.data.now)
-    c.new-setup.ensures.setup c.in_ok-begin.ensures.position (c.in_ok-begin.ensures.seed ∙ ap (fitted (bytes_per_line c.new-setup.result.dots)) c.deref.ensures.value) refl
+    ∙ ap (λ coding. with_items setup.environment setup.settings ink (items_of coding c.args.data.now) (drawn_by setup c.begin.new.self bands cursor)) (ap (λ (s : RowSetup). s.settings.coding) c.new-setup.ensures.setup)
+    ∙ drawn-fitted setup environment settings ink bands.page.width position seed c.begin.new.self bands page cursor (items_of settings.coding c.args.data.now)
+    c.new-setup.ensures.setup c.in_ok-begin.ensures.position (c.in_ok-begin.ensures.seed ∙ ap (fitted (bytes_per_line setup.dots)) c.deref.ensures.value) (ap (page_of_frame o) c.bands-bands.ensures.value)
     (ap (takes_row settings) on ∙ taken.0) taken.1
-    ∙ ap (λ g. with_items environment settings ink (items_of settings.coding c.args.data.now) (drawn g page.page cursor)) on
+    ∙ ap (λ g. with_items environment settings ink (items_of settings.coding c.args.data.now) (drawn g page cursor)) on

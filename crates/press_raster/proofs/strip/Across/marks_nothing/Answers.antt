@@ -1,18 +1,19 @@
 use Rattle.std.proofs.Common.{◌*◌, ◌/◌}
 use Rattle.press_bits.specs.Mark.{Row, row, row_dot}
-use Rattle.press_raster.proofs.AcrossLemmas.{painted_raster_beside}
+use Rattle.press_page.specs.declared.media.Orientation.TheVariants.{Portrait}
+use Rattle.press_raster.proofs.AcrossLemmas.{painted_beside}
 use Rattle.press_raster.proofs.StripLemmas.{painted_strip_white}
 use Rattle.press_raster.proofs.strip.Across.marks_nothing.Goals as goal
 
 pub returns-then-misses-clause-unmarked : goal.returns-then-misses-clause-unmarked
 returns-then-misses-clause-unmarked c =
     let across = c.args.self in
-    λ _. painted_raster_beside across.orientation c.args.page.now.page (record { x = across.left; y = c.args.line }) across.size across.columns (row c.args.source) c.args.ink.now
+    λ _. painted_beside c.args.frame.now.page (record { x = across.left; y = c.args.line }) across.size across.columns (row c.args.source) c.args.ink.now
     c.misses.ensures.inside c.requires.columns (c.misses.ensures.missed c.if-misses.true)
 
 pub returns-then-not-ink-clause-unmarked : goal.returns-then-not-ink-clause-unmarked
 returns-then-not-ink-clause-unmarked c =
     let source : Row = row c.args.source in
     let across = c.args.self in
-    λ white. painted_strip_white across.orientation c.args.page.now.page across.left c.args.line (across.size * source.dots) across.size (λ i. row_dot source.bits (i / across.size)) c.args.ink.now.tile c.args.ink.now.mode
+    λ white. painted_strip_white Portrait c.args.frame.now.page across.left c.args.line (across.size * source.dots) across.size (λ i. row_dot source.bits (i / across.size)) c.args.ink.now.tile c.args.ink.now.mode
     c.misses.ensures.inside c.if-not-ink.true (λ i. c.is_white.ensures white (i / across.size))
