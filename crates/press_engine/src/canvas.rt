@@ -1,9 +1,10 @@
 //! The page that marks are made on, with the front that waits (PCL 5 Printer Language Technical Reference Manual, The
 //! PCL Print Model).
 
-use press_bits::{Bitmap, BlankError, Mode};
+use press_bits::{Bitmap, Mode};
+use press_canvas::Canvas as Drawn;
 use press_cursor::Cursor;
-use press_fill::{Rect, fill};
+use press_fill::{Rect, fill_canvas};
 use press_page::{Media, PageEnv};
 use press_pattern::{Ink, Pattern, Patterns};
 use press_raster::{Raster, RasterSettings};
@@ -11,10 +12,10 @@ use press_sink::Sheet;
 use std::alloc::{AllocError, Global};
 use std::marker::Model;
 
-/// A page that is being printed, or waits for its back. Contracts see its dots alone.
+/// A page that is being printed. Contracts see its dots alone.
 #[derive(Drop)]
 pub struct Canvas {
-    pub bitmap: Bitmap,
+    page: Drawn,
 }
 
 impl Model for Canvas {
@@ -24,7 +25,7 @@ impl Model for Canvas {
 
     ghost coded = { page_code };
 
-    ghost view = { λ canvas. canvas.bitmap };
+    ghost view = { λ canvas. canvas.page };
 }
 
 impl Canvas {
@@ -34,24 +35,39 @@ impl Canvas {
     ghost use Rattle.press_pattern.specs.Ink.{ink_of};
     ghost use Rattle.press_engine.specs.Place.{blank_page};
 
-    /// The blank physical page of the media.
+    /// The blank page of the media.
     #[tactic(auto, using(crate::proofs::PlaceLemmas::media_fits))]
     pub fn blank(alloc: Global, media: Media) -> Result<Self, AllocError>
         ensures { IfOk result (λ page. page ≡ blank_page media) }
     {
-        let page = media.physical_page();
-        match Bitmap::blank(alloc, page.width, page.height) {
-            Ok(bitmap) => Ok(Canvas { bitmap }),
-            Err(BlankError::NoMemory) => Err(AllocError),
-            Err(BlankError::BadSize) => unreachable!(),
-        }
+        Ok(Canvas {
+            page: Drawn::blank(alloc, media.orientation, media.physical_page())?,
+        })
     }
 
-    /// The page's bitmap.
-    pub fn bitmap(&self) -> &Bitmap
+    /// The page, for one who looks at its dots.
+    pub fn drawn(&self) -> &Drawn
         ensures { result.now ≡ self.now }
     {
-        &self.bitmap
+        &self.page
+    }
+
+    /// The physical page, and memory that it did not take. It may take that of a page that is no longer needed.
+    pub fn turned(
+        self,
+        alloc: Global,
+        spare: Option<Bitmap>,
+    ) -> Result<(Bitmap, Option<Bitmap>), AllocError>
+        ensures { IfOk result (λ pages. pages.0 ≡ self) }
+    {
+        self.page.turned(alloc, spare)
+    }
+
+    /// Takes the memory of another page, which is no longer needed, for the lines that are marked from now on.
+    fn reuse(&mut self, other: Bitmap)
+        ensures { self.new ≡ self.old }
+    {
+        self.page.reuse(other);
     }
 
     /// An equal page, in memory of its own.
@@ -59,7 +75,7 @@ impl Canvas {
         ensures { IfOk result (λ page. page ≡ self.now) }
     {
         Ok(Canvas {
-            bitmap: self.bitmap.copy()?,
+            page: self.page.copy()?,
         })
     }
 
@@ -75,7 +91,7 @@ impl Canvas {
         ensures { IfOk result (λ _. self.new ≡ filled environment.now.media.orientation rect
             (ink_of patterns.now pattern mode) self.old) }
     {
-        fill(&mut self.bitmap, environment, patterns, rect, pattern, mode)
+        fill_canvas(&mut self.page, environment, patterns, rect, pattern, mode)
     }
 
     /// Transfers raster rows.
@@ -91,17 +107,18 @@ impl Canvas {
         ensures { IfOk result (λ _. drawn raster.new self.new cursor.new ≡ drawn_rows environment.now
             settings ink.now bytes.now (drawn raster.old self.old cursor.old)) }
     {
-        raster.transfer(&mut self.bitmap, environment, cursor, settings, ink, bytes)
+        raster.transfer(&mut self.page, environment, cursor, settings, ink, bytes)
     }
 }
 
-/// The page that is being printed, from its first mark on, and the memory of the sheet that went out last, which serves the pages that
-/// come. Contracts see the page alone.
+/// The page that is being printed, from its first mark on, and memory that serves the pages that come: that of the sheet that went
+/// out last, and that of a frame that was turned. Contracts see the page alone.
 #[derive(Drop)]
 pub struct Current {
     page: Option<Canvas>,
     spare: Option<Bitmap>,
     spare_back: Option<Bitmap>,
+    spare_frame: Option<Bitmap>,
 }
 
 impl Model for Current {
@@ -128,6 +145,7 @@ impl Current {
             page: None,
             spare: None,
             spare_back: None,
+            spare_frame: None,
         }
     }
 
@@ -143,6 +161,7 @@ impl Current {
             page,
             spare: None,
             spare_back: None,
+            spare_frame: None,
         })
     }
 
@@ -154,11 +173,11 @@ impl Current {
     }
 
     /// The dots of the page.
-    pub fn bitmap(&self) -> Option<&Bitmap>
+    pub fn drawn(&self) -> Option<&Drawn>
         ensures { option_map (λ page. page.now) result ≡ self.now }
     {
         match &self.page {
-            Some(page) => Some(page.bitmap()),
+            Some(page) => Some(page.drawn()),
             None => None,
         }
     }
@@ -178,18 +197,47 @@ impl Current {
         self.page = Some(page);
     }
 
-    /// The blank physical page of the media, which is not put in. Its marks take the memory that is kept.
+    /// Memory of a page that is no longer needed, where some is kept.
+    fn take_spare(&mut self) -> Option<Bitmap>
+        ensures { self.new ≡ self.old }
+    {
+        match self.spare.take() {
+            Some(spare) => Some(spare),
+            None => self.spare_back.take(),
+        }
+    }
+
+    /// Memory for a frame: that of a frame that was turned, or of a page.
+    fn take_frame(&mut self) -> Option<Bitmap>
+        ensures { self.new ≡ self.old }
+    {
+        match self.spare_frame.take() {
+            Some(spare) => Some(spare),
+            None => self.take_spare(),
+        }
+    }
+
+    /// The blank page of the media, which is not put in. Its marks take the memory that is kept.
     pub fn blank(&mut self, alloc: Global, media: Media) -> Result<Canvas, AllocError>
         ensures page { IfOk result (λ page. page ≡ blank_page media) }
         ensures same { self.new ≡ self.old }
     {
         let mut page = Canvas::blank(alloc, media)?;
-        if let Some(spare) = self.spare.take() {
-            page.bitmap.reuse(spare);
-        } else if let Some(spare) = self.spare_back.take() {
-            page.bitmap.reuse(spare);
+        if let Some(spare) = self.take_frame() {
+            page.reuse(spare);
         }
         Ok(page)
+    }
+
+    /// The physical page of one that was taken out. It takes the memory that is kept, and that of the frame is kept.
+    pub fn turn(&mut self, alloc: Global, page: Canvas) -> Result<Bitmap, AllocError>
+        ensures page { IfOk result (λ turned. turned ≡ page) }
+        ensures same { self.new ≡ self.old }
+    {
+        let spare = self.take_spare();
+        let (turned, left) = page.turned(alloc, spare)?;
+        self.spare_frame = left;
+        Ok(turned)
     }
 
     /// Keeps the memory of a sheet that went out.

@@ -3,6 +3,7 @@
 use crate::canvas::Canvas;
 use crate::effect::{Closer, Effect, FinishedSheet, PageChange, Selection, Sent};
 use crate::state::State;
+use press_bits::Bitmap;
 use press_page::{Orientation, PageSize, Sides};
 use press_pjl::PjlEnv;
 use press_sink::Sheet;
@@ -73,7 +74,7 @@ impl State {
     }
 
     /// Finishes a sheet: it goes out in the copies of now, and is counted in each.
-    fn finish(&mut self, front: Canvas, back: Option<Canvas>) -> FinishedSheet
+    fn finish(&mut self, front: Bitmap, back: Option<Bitmap>) -> FinishedSheet
         ensures state { self.new ≡ with_sheets self.old.environment.settings.copies self.old }
         ensures front { result.sheet.front ≡ front }
         ensures back { result.sheet.back ≡ back }
@@ -84,18 +85,20 @@ impl State {
         let since_job = self.status_count();
         self.sheets = self.sheets.saturating_add(u64::from(copies));
         self.since_job = self.since_job.saturating_add(u64::from(copies));
-        let back = match back {
-            Some(back) => Some(back.bitmap),
-            None => None,
-        };
         FinishedSheet {
-            sheet: Sheet {
-                front: front.bitmap,
-                back,
-            },
+            sheet: Sheet { front, back },
             copies,
             since_job,
         }
+    }
+
+    /// Takes the page out as it lies in the printer, blank where no mark was made.
+    fn take_turned(&mut self, alloc: Global) -> Result<Bitmap, AllocError>
+        ensures page { IfOk result (λ page. page ≡ page_now self.old) }
+        ensures left { IfOk result (λ _. self.new ≡ record self.old { page = None }) }
+    {
+        let page = self.take_page(alloc)?;
+        self.page.turn(alloc, page)
     }
 
     /// Closes the page: it is a side of a sheet, which is finished unless it is a front in duplex.
@@ -103,7 +106,7 @@ impl State {
         ensures { IfOk result (λ finished.
             record { state = self.new; outputs = finished_of finished } ≡ close_page self.old) }
     {
-        let page = self.take_page(alloc)?;
+        let page = self.take_turned(alloc)?;
         self.graphics.end();
         if !self.environment.media.duplex {
             return Ok(Some(self.finish(page, None)));
@@ -131,7 +134,8 @@ impl State {
         ensures memory { IsErr result → (blank_front self.old).pending ≢ self.old.pending }
     {
         if self.environment.media.duplex && self.pending.is_none() {
-            self.pending = Some(Canvas::blank(alloc, self.environment.media)?);
+            let front = self.page.blank(alloc, self.environment.media)?;
+            self.pending = Some(self.page.turn(alloc, front)?);
         }
         Ok(())
     }

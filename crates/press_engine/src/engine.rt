@@ -6,7 +6,7 @@ use crate::fault::EngineError;
 use crate::machine::Machine;
 use crate::sender::send_all;
 use crate::view::View;
-use press_bits::Bitmap;
+use press_canvas::Canvas;
 use press_cmd::{Command, Kind};
 use press_sink::{ReplySink, SheetSink};
 use press_units::Pos;
@@ -302,11 +302,11 @@ impl Engine {
     }
 
     /// The page that is being printed; none is a blank page without a mark. After a fault nothing is said of it.
-    pub fn page(&self) -> Option<&Bitmap>
+    pub fn page(&self) -> Option<&Canvas>
         ensures { IfSome (live self.now) (λ machine.
             option_map (λ page. page.now) result ≡ machine.state.page) }
     {
-        self.machine.state.page.bitmap()
+        self.machine.state.page.drawn()
     }
 
     /// What can be seen of the engine. After a fault nothing is said of it.

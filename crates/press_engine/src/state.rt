@@ -3,8 +3,9 @@
 ghost use Rattle.std.specs.Prelude.{◌≡◌, IfOk};
 ghost use Rattle.press_engine.specs.Outcome.{first_home};
 
-use crate::canvas::{Canvas, Current};
+use crate::canvas::Current;
 use crate::drawing::Drawing;
+use press_bits::Bitmap;
 use press_cursor::{Cursor, LogicalPage};
 use press_macros::MacroStore;
 use press_page::PageEnv;
@@ -42,15 +43,15 @@ pub struct State {
     /// The page that is being printed, from its first mark on; none is a blank page without a mark.
     pub page: Current,
     /// The front that waits for its back.
-    pub pending: Option<Canvas>,
+    pub pending: Option<Bitmap>,
 }
 
-/// An equal page, where there is one, in memory of its own.
-fn copy_page(page: &Option<Canvas>) -> Result<Option<Canvas>, AllocError>
-    ensures { IfOk result (λ copy. copy ≡ page.now) }
+/// An equal front, where one waits, in memory of its own.
+fn copy_front(front: &Option<Bitmap>) -> Result<Option<Bitmap>, AllocError>
+    ensures { IfOk result (λ copy. copy ≡ front.now) }
 {
-    match page {
-        Some(page) => Ok(Some(page.copy()?)),
+    match front {
+        Some(front) => Ok(Some(front.copy()?)),
         None => Ok(None),
     }
 }
@@ -108,11 +109,11 @@ impl State {
     }
 
     /// The page that is being printed, and the front that waits, in memory of their own.
-    fn copy_pages(&self) -> Result<(Current, Option<Canvas>), AllocError>
+    fn copy_pages(&self) -> Result<(Current, Option<Bitmap>), AllocError>
         ensures { IfOk result (λ pages. pages ≡ (self.now.page, self.now.pending)) }
     {
         let page = self.page.copy()?;
-        let pending = copy_page(&self.pending)?;
+        let pending = copy_front(&self.pending)?;
         Ok((page, pending))
     }
 

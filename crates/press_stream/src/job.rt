@@ -5,7 +5,7 @@ use crate::fault::JobError;
 use crate::phase::Phase;
 use crate::reading::{PIECE, ReadCount, read_next};
 use crate::step::{JobStep, Step};
-use press_bits::Bitmap;
+use press_canvas::Canvas;
 use press_engine::{Engine, Sent, View};
 use press_scan::Scanner;
 use press_sink::{ReplySink, SheetSink};
@@ -256,7 +256,7 @@ impl Job {
     }
 
     /// The page that is being printed; none is a blank page without a mark. Of a job that has failed nothing is said.
-    pub fn page(&self) -> Option<&Bitmap>
+    pub fn page(&self) -> Option<&Canvas>
         ensures { IfSome self.now.machine (λ machine.
             option_map (λ page. page.now) result ≡ machine.state.page) }
     {

@@ -1,5 +1,6 @@
 //! Rows of raster graphics on small pages: one below the other, in the room that they take, and as many as may be.
 use press_bits::{Bitmap, Mode};
+use press_canvas::Canvas;
 use press_cursor::Cursor;
 use press_page::{Defaults, PageEnv};
 use press_pattern::Ink;
@@ -40,7 +41,7 @@ fn settings(rt: &impl Abort, resolution: &[u8], width: &[u8], method: &[u8]) -> 
 /// Transfers rows from a line on.
 fn transfer(
     raster: &mut Raster,
-    page: &mut Bitmap,
+    page: &mut Canvas,
     line: u16,
     settings: RasterSettings,
     ink: &Ink<'_>,
@@ -50,6 +51,16 @@ fn transfer(
     let mut cursor = on_line(&environment, line);
     raster.transfer(page, &environment, &mut cursor, settings, ink, data)?;
     Ok(())
+}
+
+/// A white page that lies upright.
+fn white_page(alloc: Global, width: u32, height: u32) -> Result<Canvas, Fail> {
+    Ok(Canvas::of_page(Bitmap::blank(alloc, width, height)?))
+}
+
+/// The dots of a page that lies upright.
+fn bitmap_of<'a>(rt: &impl Abort, page: &'a Canvas) -> &'a Bitmap {
+    page.upright().expect(rt, "it lies upright")
 }
 
 /// The sixteen dots of a line from column 75 on.
@@ -84,10 +95,10 @@ fn expect_lines(
     lines: &[u16],
 ) -> Result<(), Fail> {
     let ink = Ink::black(TRANSPARENT);
-    let mut page = Bitmap::blank(rt.alloc(), 91, 8)?;
+    let mut page = white_page(rt.alloc(), 91, 8)?;
     transfer(raster, &mut page, 1, settings, &ink, data)?;
     for (line, dots) in (0..8).zip(lines) {
-        assert_eq!(rt; dots_of(&page, line), *dots);
+        assert_eq!(rt; dots_of(bitmap_of(rt, &page), line), *dots);
     }
     Ok(())
 }
@@ -118,11 +129,11 @@ fn a_row_that_marks_nothing_makes_no_band(rt: HostRuntime) -> Result<(), Fail> {
     let settings = settings(&rt, b"300", b"16", b"0");
     let mut raster = Raster::new(rt.alloc());
     raster.start(0);
-    let mut page = Bitmap::blank(rt.alloc(), 91, 4)?;
+    let mut page = white_page(rt.alloc(), 91, 4)?;
     for (mode, ready) in [(TRANSPARENT, false), (opaque, true)] {
         let ink = Ink::black(mode);
         transfer(&mut raster, &mut page, 1, settings, &ink, &[0; 2])?;
-        assert_eq!(rt; page.bands().are_ready(1, 1), ready);
+        assert_eq!(rt; page.frame().bitmap.bands().are_ready(1, 1), ready);
     }
     Ok(())
 }
@@ -142,13 +153,13 @@ fn rows_without_end(alloc: Global) -> Result<Vec<u8>, AllocError> {
 fn the_most_rows_of_one_transfer(rt: HostRuntime) -> Result<(), Fail> {
     let mut raster = Raster::new(rt.alloc());
     raster.start(0);
-    let mut page = Bitmap::blank(rt.alloc(), 91, 3300)?;
+    let mut page = white_page(rt.alloc(), 91, 3300)?;
     let settings = settings(&rt, b"300", b"8", b"5");
     let ink = Ink::black(TRANSPARENT);
     let data = rows_without_end(rt.alloc())?;
     transfer(&mut raster, &mut page, 1, settings, &ink, &data)?;
     expect_rows(&rt, &raster, 65_535);
-    assert_eq!(rt; page.count_black(), 8 * 3299);
+    assert_eq!(rt; bitmap_of(&rt, &page).count_black(), 8 * 3299);
     Ok(())
 }
 

@@ -10,6 +10,7 @@ ghost use Rattle.press_trace.specs.Plain.{HasNoFloat, IsPlain};
 ghost use Rattle.press_trace.specs.Pages.{rows_of, row_in, patch_data, size_data, Follows, StartsFrom, IsPageTold};
 
 use press_bits::{Bitmap, Region};
+use press_canvas::Canvas;
 use serde_json::{Map, Value, put};
 use std::alloc::{AllocError, Global};
 
@@ -157,20 +158,17 @@ fn closed(before: Option<Bitmap>) -> PageTold
     }
 }
 
-/// What is told of the open page now, where it was so before. The answer has the page of now, too.
-pub(crate) fn told_page(
+/// What is told of the open page now, which is this one as it lies in the printer, where it was so before.
+fn told_open(
     alloc: Global,
     before: Option<Bitmap>,
-    now: Option<&Bitmap>,
+    after: &Bitmap,
 ) -> Result<(Option<Bitmap>, PageTold), AllocError>
-    ensures told { IfOk result (λ answer. IsPageTold before (option_map (λ page. page.now) now.entry)
+    ensures told { IfOk result (λ answer. IsPageTold before (Some after.now)
         (option_map view answer.1.opened) (option_map view answer.1.page)) }
-    ensures page { IfOk result (λ answer. answer.0 ≡ option_map (λ page. page.now) now.entry) }
+    ensures page { IfOk result (λ answer. answer.0 ≡ Some after.now) }
     ensures plain { IfOk result (λ answer. IsPlain answer.1) }
 {
-    let Some(after) = now else {
-        return Ok((None, closed(before)));
-    };
     let (mut page, opened) = start(alloc, before, after)?;
     let patch = follow(alloc, &mut page, after)?;
     Ok((
@@ -180,4 +178,25 @@ pub(crate) fn told_page(
             page: patch,
         },
     ))
+}
+
+/// What is told of the open page now, where it was so before. The answer has the page of now, too. A page that does not lie upright
+/// is turned first.
+pub(crate) fn told_page(
+    alloc: Global,
+    before: Option<Bitmap>,
+    now: Option<&Canvas>,
+) -> Result<(Option<Bitmap>, PageTold), AllocError>
+    ensures told { IfOk result (λ answer. IsPageTold before (option_map (λ page. page.now) now.entry)
+        (option_map view answer.1.opened) (option_map view answer.1.page)) }
+    ensures page { IfOk result (λ answer. answer.0 ≡ option_map (λ page. page.now) now.entry) }
+    ensures plain { IfOk result (λ answer. IsPlain answer.1) }
+{
+    let Some(after) = now else {
+        return Ok((None, closed(before)));
+    };
+    match after.upright() {
+        Some(page) => told_open(alloc, before, page),
+        None => told_open(alloc, before, &after.page(alloc)?),
+    }
 }
