@@ -1,6 +1,6 @@
 -- Rows of dots that are painted along a line, one word after another.
-use Rattle.std.proofs.Common.{◌≡◌, ℕ, ◌+◌, ◌-◌, ◌*◌, ◌/◌, ◌%◌, ◌^◌, ◌<◌, ◌≤◌, ◌⊎◌, Bool, true, false, ◌&&◌, List, length, replicate, get_or, take, drop, sym, ap, ◌∙◌, inl, inr, arith}
-use Rattle.std.specs.Prelude.{nat_lt, nat_le, if◌then◌else◌}
+use Rattle.std.proofs.Common.{◌≡◌, ℕ, ◌+◌, ◌-◌, ◌*◌, ◌/◌, ◌%◌, ◌^◌, ◌<◌, ◌≤◌, ◌⊎◌, Bool, true, false, ◌&&◌, ◌||◌, List, length, replicate, get_or, take, drop, sym, ap, ◌∙◌, inl, inr, arith}
+use Rattle.std.specs.Prelude.{nat_lt, nat_le, bit_or, if◌then◌else◌}
 use Rattle.std.proofs.lemmas.Bool.{cases_lt}
 use Rattle.std.proofs.lemmas.Bool.Decides.{nat_tests}
 use Rattle.std.proofs.lemmas.List.{get_or-replicate, length-replicate, length-take, length-drop}
@@ -9,12 +9,13 @@ use Rattle.press_bits.specs.DotRows.{mixed_dot}
 use Rattle.press_bits.specs.DotRule.{dot_after}
 use Rattle.press_bits.specs.DotRule.DotEffect.{MadeWhite, Unchanged}
 use Rattle.press_bits.specs.Mark.{row_dot, byte_dot}
+use Rattle.press_bits.specs.Ranges.{IsBlackened}
 use Rattle.press_bits.specs.Words.{word_dot}
 use Rattle.press_bits.specs.declared.mode.Mode.{Mode}
 use Rattle.press_bits.proofs.ByteLemmas.{byte_dot-ones, row_dot-of_byte}
 use Rattle.press_bits.proofs.LineLemmas.{row_dot-slice}
-use Rattle.press_bits.proofs.MixLemmas.{mixed_when, not_mixed}
-use Rattle.press_bits.proofs.WordLemmas.{shifted_right, put_at, put_elsewhere}
+use Rattle.press_bits.proofs.MixLemmas.{mixed_when, not_mixed, or_true, or_false}
+use Rattle.press_bits.proofs.WordLemmas.{word_dot-or, shifted_right, put_at, put_elsewhere}
 
 -- The dots from `from` on and before `to` are painted, the others not.
 abbrev pub IsPaintedBetween : (old new : List ℕ) → Mode → (source tile : ℕ → Bool) → (from to : ℕ) → Type 0
@@ -164,3 +165,37 @@ laid_bytes rows bytes bits mode source tile from first last at begin onward room
   where
     within : first + (last - first) ≤ length rows
     within = omega arith
+
+-- ---- dots that are blackened
+
+or_if : (test dot : Bool) → (dot || test) ≡ (if test then true else dot)
+or_if true dot = or_true dot
+or_if false dot = or_false dot
+
+-- the dots of a mask are laid over those of eight bytes
+pub blackened_word : (old new : List ℕ) (index from to mask before : ℕ) → 8 * index ≤ from → to ≤ 8 * index + 64 →
+    ((j : ℕ) → j < 64 → word_dot mask j ≡ (nat_le from (8 * index + j) && nat_lt (8 * index + j) to)) →
+    ((j : ℕ) → j < 64 → word_dot before j ≡ row_dot old (8 * index + j)) →
+    ((j : ℕ) → j < 64 → row_dot new (8 * index + j) ≡ word_dot (bit_or before mask) j) →
+    ((p : ℕ) → (p < 8 * index) ⊎ (8 * index + 64 ≤ p) → row_dot new p ≡ row_dot old p) → IsBlackened old new from to
+blackened_word old new index from to mask before begun within masks befores here elsewhere p =
+    elim (cases_lt p (8 * index)) [
+      | inl early ↦ elsewhere p (inl early) ∙ ap (λ (t : Bool). if t then true else row_dot old p) (sym (before_test from to p (omega (arith, early, begun))))
+      | inr reached ↦ elim (cases_lt p (8 * index + 64)) [
+        | inl low ↦ inside (p - 8 * index) (omega (arith, reached)) (omega (arith, reached, low))
+        | inr past ↦ elsewhere p (inr past) ∙ ap (λ (t : Bool). if t then true else row_dot old p) (sym (past_test from to p (omega (arith, past, within))))
+      ]
+    ]
+  where
+    inside : (j : ℕ) → p ≡ 8 * index + j → j < 64 → row_dot new p ≡ (if nat_le from p && nat_lt p to then true else row_dot old p)
+    inside j place low =
+        ap (row_dot new) place
+        ∙ here j low
+        ∙ word_dot-or before mask j
+        ∙ (λ i. befores j low i || masks j low i)
+        ∙ or_if (nat_le from (8 * index + j) && nat_lt (8 * index + j) to) (row_dot old (8 * index + j))
+        ∙ ap (λ q. if nat_le from q && nat_lt q to then true else row_dot old q) (sym place)
+
+-- the places of a run
+pub in_run_test : (a b p : ℕ) → (nat_le a p && nat_lt p b) ≡ true → (a ≤ p) × (p < b)
+in_run_test a b p test = grind (arith, nat_tests)

@@ -1,12 +1,10 @@
 -- Pages whose lines stand in bands, which are there only where there are marks.
-use Rattle.std.specs.Prelude.{◌≡◌, ℕ, ◌+◌, ◌*◌, ◌/◌, ◌%◌, ◌<◌, ◌≤◌, ◌⊎◌, Bool, true, false, List, [], map, length, replicate, nat_lt, nat_le, nat_eq, ◌&&◌, slice_index_or, ℤ, pos, ◌+ℤ◌, int_le, int_lt, Result, OnOk, refl}
+use Rattle.std.specs.Prelude.{◌≡◌, ℕ, ◌+◌, ◌*◌, ◌/◌, ◌%◌, ◌<◌, ◌≤◌, ◌⊎◌, Bool, true, false, List, [], map, length, replicate, nat_lt, slice_index_or, ℤ, pos, ◌+ℤ◌, int_le, int_lt, Result, OnOk, refl}
 use Rattle.std.specs.declared.alloc.AllocError.{AllocError}
 use Rattle.std.specs.Coded.{Coded, code_by, coded×, coded_list, coded_bool}
 use Rattle.press_bits.specs.Page.{Page, page_code, page_where, longest_side}
 use Rattle.press_bits.specs.Mark.{row_dot}
-use Rattle.press_bits.specs.DotRows.{mixed_dot, stamped_dot}
 use Rattle.press_bits.specs.Lines.{bytes_per_line}
-use Rattle.press_bits.specs.declared.mode.Mode.{Mode}
 
 -- how many lines a band has
 abbrev pub band_lines : ℕ
@@ -74,17 +72,3 @@ pub record MakesBands (old new : List (List ℕ)) (first end count : ℕ) (resul
   pub same_length : length new ≡ length old
   pub each : (k : ℕ) → (band_at new k ≡ band_at old k) ⊎ ((band_at old k ≡ []) × (band_at new k ≡ replicate count 0))
   pub made : OnOk result ((k : ℕ) → first ≤ k → k < end → is_there (band_at new k) ≡ true)
-
--- The bands after the lines from `first` on and before `end` are stamped down a column: some dots become black, and others are kept.
-pub record StampedDown (old new : List (List ℕ)) (black kept : ℕ → Bool) (bytes column first end : ℕ) : Type 0 where
-  pub same_length : length new ≡ length old
-  pub sizes : (k : ℕ) → length (band_at new k) ≡ length (band_at old k)
-  pub dots : (n c : ℕ) → c < 8 * bytes → line_dot bytes new c n
-      ≡ stamped_dot ((nat_eq c column && nat_le first n) && nat_lt n end) (black n) (kept n) (line_dot bytes old c n)
-
--- The bands after the lines from `first` on and before `end` are painted down a column.
-pub record PaintedDown (old new : List (List ℕ)) (source tile : ℕ → Bool) (mode : Mode) (bytes column first end : ℕ) : Type 0 where
-  pub same_length : length new ≡ length old
-  pub sizes : (k : ℕ) → length (band_at new k) ≡ length (band_at old k)
-  pub dots : (n c : ℕ) → c < 8 * bytes → line_dot bytes new c n
-      ≡ mixed_dot ((nat_eq c column && nat_le first n) && nat_lt n end) mode (source n) (tile n) (line_dot bytes old c n)

@@ -2,11 +2,11 @@
 #![tactic(auto)]
 
 ghost use Rattle.std.specs.Prelude.{◌≡◌, ◌<◌, ◌≤◌, ◌+◌, ◌-◌, ◌*◌, ◌^◌, ◌&&◌, ◌==◌, ℕ, [], nat_lt, nat_le, length, replicate, take, drop, IfOk};
-ghost use Rattle.press_bits.specs.Ranges.{IsPaintedAlong, IsStampedDown};
+ghost use Rattle.press_bits.specs.Ranges.{IsBlackened, IsPaintedAlong};
 ghost use Rattle.press_bits.specs.Bands.{band_lines};
 
-use crate::painting::{paint_across, stamp_down};
-use crate::stroke::{Column, Stamp, Stroke};
+use crate::painting::{blacken, paint_across};
+use crate::stroke::Stroke;
 use std::alloc::{AllocError, Global};
 use std::marker::Model;
 
@@ -97,14 +97,14 @@ impl Band {
         paint_across(&mut self.bytes, line, stroke);
     }
 
-    /// Paints a stamp down a column, from a line on.
-    #[inline(always)]
-    pub(crate) fn stamp(&mut self, column: Column, line: usize, stamp: Stamp)
-        requires within { (line + 8) * column.bytes ≤ length self.old }
+    /// Blackens so many dots, from one on.
+    pub(crate) fn blacken(&mut self, first: usize, dots: usize)
+        requires within { first + dots ≤ 8 * length self.old }
+        requires long { 8 ≤ length self.old }
         requires small { length self.old < 2 ^ 40 }
         ensures long { length self.new ≡ length self.old }
-        ensures dots { IsStampedDown self.old self.new column line 8 stamp }
+        ensures dots { IsBlackened self.old self.new first (first + dots) }
     {
-        stamp_down(&mut self.bytes, column, line, 8, stamp);
+        blacken(&mut self.bytes, first, first + dots);
     }
 }

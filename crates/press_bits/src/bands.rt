@@ -4,19 +4,18 @@
 ghost use Rattle.std.specs.Prelude.{◌≡◌, ℕ, ◌<◌, ◌≤◌, ◌+◌, ◌-◌, ◌*◌, ◌/◌, ◌≢◌, ◌↔◌, ◌⊎◌, [], replicate, length, take, min, pos, true, false, vec_len, MatchOption, IfOk, IsTrue, OnOk, OnErr};
 ghost use Rattle.std.specs.List.{range_with_len, sum_by};
 ghost use Rattle.press_bits.specs.Page.{HasNoDotOutside, black_at, black_in_line, blank, count_black, is_page_size};
-ghost use Rattle.press_bits.specs.Mark.{IsSolid, IsWhite, painted, row, row_mark, column_mark};
+ghost use Rattle.press_bits.specs.Mark.{Row, IsSolid, IsWhite, painted, row, row_mark};
 ghost use Rattle.press_bits.specs.Lines.{bytes_per_line, ArePageLines, IsPageLine};
 ghost use Rattle.press_bits.specs.Bands.{AreReady, StaysReady, band_at, band_lines, is_there};
 
 use crate::band::Band;
 use crate::dot_bytes;
 use crate::dot_row::DotRow;
-use crate::down::paint_down;
 use crate::making::make_bands;
 use crate::mode::Mode;
 use crate::painting::run_within;
 use crate::repeats::Repeats;
-use crate::stroke::{Column, Stroke};
+use crate::stroke::Stroke;
 use std::alloc::{AllocError, Global};
 use std::marker::Model;
 
@@ -324,27 +323,6 @@ impl Bands {
             ≡ painted self.old.page (row_mark x y (row source.entry) (row pattern.entry) mode) }
         ensures ready { self.new.ready ≡ self.old.ready }
     {
-        self.paint_known_row(x, y, source, pattern, mode, false);
-    }
-
-    /// Paints a row as `paint_row` does, of which it may be known that its source dots and its pattern dots are all black: then
-    /// whole bytes are painted at once.
-    pub fn paint_known_row(
-        &mut self,
-        x: i64,
-        y: i64,
-        source: DotRow<'_>,
-        pattern: DotRow<'_>,
-        mode: Mode,
-        solid: bool,
-    )
-        requires some { 1 ≤ pattern.dots }
-        requires ready { IsWhite (row pattern) ⊎ AreReady self.old y 1 }
-        requires solid { solid ≡ true → IsSolid (row source) (row pattern) }
-        ensures painted { self.new.page
-            ≡ painted self.old.page (row_mark x y (row source.entry) (row pattern.entry) mode) }
-        ensures ready { self.new.ready ≡ self.old.ready }
-    {
         let Some(line) = place_within(y, self.height) else {
             return;
         };
@@ -362,50 +340,26 @@ impl Bands {
             source,
             through,
             mode,
-            solid,
             laid: mode.source_opaque && through.is_black(),
         };
         self.bands[line / BAND].paint(start, &stroke);
     }
 
-    /// Paints a column of source dots through a column of a pattern: source dot 0 at column `x` of line `y`, and the others
-    /// below it. The pattern's dot 0 lies at line 0 of the page, and the pattern is repeated down the page. Dots outside the
-    /// page are dropped. Takes no memory.
+    /// Blackens so many dots of a line, from column `x` on, as a row of black dots does through solid black in any mode. Takes no
+    /// memory.
     ///
-    /// Source: PCL 5 Printer Language Technical Reference Manual, The PCL Print Model, and Logical Page Orientation.
-    pub fn paint_column(
-        &mut self,
-        x: i64,
-        y: i64,
-        source: DotRow<'_>,
-        pattern: DotRow<'_>,
-        mode: Mode,
-    )
-        requires some { 1 ≤ pattern.dots }
-        requires ready { AreReady self.old y source.dots }
-        ensures painted { self.new.page
-            ≡ painted self.old.page (column_mark x y (row source.entry) (row pattern.entry) mode) }
+    /// Source: PCL 5 Printer Language Technical Reference Manual, The PCL Print Model.
+    pub fn blacken(&mut self, x: u32, y: u32, dots: u32)
+        requires some { 1 ≤ dots }
+        requires inside { x + dots ≤ self.old.page.width }
+        requires line { y < self.old.page.height }
+        requires ready { AreReady self.old (pos y) 1 }
+        ensures painted { (source pattern : Row) (mode : Mode) → IsSolid source pattern
+            → source.dots ≡ dots
+            → self.new.page ≡ painted self.old.page (row_mark (pos x) (pos y) source pattern mode) }
         ensures ready { self.new.ready ≡ self.old.ready }
     {
-        let Some(place) = place_within(x, self.width) else {
-            return;
-        };
-        let run = run_within(y, source.dots, self.height);
-        if run.count == 0 {
-            return;
-        }
-        let column = Column {
-            bytes: line_bytes(self.width),
-            place,
-        };
-        let stroke = Stroke {
-            run,
-            source,
-            through: Repeats::of(pattern),
-            mode,
-            solid: false,
-            laid: false,
-        };
-        paint_down(&mut self.bands, column, &stroke);
+        let start = y as usize % BAND * line_bytes(self.width);
+        self.bands[y as usize / BAND].blacken(8 * start + x as usize, dots as usize);
     }
 }

@@ -1,4 +1,4 @@
-//! Pages of dots: black-and-white bitmaps, and the marks that rows and columns of dots leave on them.
+//! Pages of dots: black-and-white bitmaps, and the marks that rows of dots leave on them.
 #![tactic(auto)]
 
 mod band;
@@ -8,7 +8,6 @@ mod changes;
 mod comparing;
 mod dot_bytes;
 mod dot_row;
-mod down;
 pub mod laws;
 mod making;
 mod mode;

@@ -1,12 +1,9 @@
 //! Rows of dots that are mixed into the bytes of a page, sixty-four dots at a time.
-ghost use Rattle.std.specs.Prelude.{◌≡◌, ℕ, ◌+◌, ◌-◌, ◌*◌, ◌/◌, ◌%◌, ◌^◌, ◌<◌, ◌≤◌, ◌⊎◌, ◌&&◌, ◌||◌, not, nat_le, nat_lt, min, true, pos, ◌+ℤ◌, length};
-ghost use Rattle.press_bits.specs.Mark.{byte_dot};
-ghost use Rattle.press_bits.specs.DotRows.{stamped_dot};
+ghost use Rattle.std.specs.Prelude.{◌≡◌, ℕ, ◌+◌, ◌-◌, ◌*◌, ◌^◌, ◌<◌, ◌≤◌, ◌⊎◌, ◌&&◌, nat_le, nat_lt, min, pos, ◌+ℤ◌, length};
 ghost use Rattle.press_bits.specs.Words.{word_dot};
-ghost use Rattle.press_bits.specs.Ranges.{IsPaintedAlong, IsPaintedFrom, IsStampedDown};
+ghost use Rattle.press_bits.specs.Ranges.{IsBlackened, IsPaintedAlong, IsPaintedFrom};
 
-use crate::dot_bytes::is_dot_black;
-use crate::stroke::{Column, Run, Stamp, Stroke};
+use crate::stroke::{Run, Stroke};
 use crate::word::{mixed_word, put_word, word_at, word_from};
 
 /// The dots that lie on a side of a page, of a row whose first dot lies at place `at`.
@@ -24,13 +21,6 @@ pub(crate) fn run_within(at: i64, dots: usize, side: u32) -> Run
         .saturating_sub(skip)
         .min((side as usize).saturating_sub(first));
     Run { first, skip, count }
-}
-
-/// Eight dots that are all black, or all white.
-pub(crate) fn eight_alike(black: bool) -> u8
-    ensures { (j : ℕ) → j < 8 → byte_dot result j ≡ black }
-{
-    if black { 0xFF } else { 0 }
 }
 
 /// Dots that stand in the eight bytes from byte `index` on: those from dot `from` on and before dot `to`.
@@ -147,11 +137,7 @@ fn paint_next(
         paint_word(rows, Part { index, from, to }, line, stroke);
         return to;
     }
-    if stroke.solid {
-        rows[first..first + 8 * words].fill(0xFF);
-    } else {
-        lay_words(rows, first, words, line, stroke);
-    }
+    lay_words(rows, first, words, line, stroke);
     from + 64 * words
 }
 
@@ -170,29 +156,41 @@ pub(crate) fn paint_across(rows: &mut [u8], line: usize, stroke: &Stroke<'_, '_>
     }
 }
 
-/// Eight dots of a page, of which those under the mask become black, or are kept, or become white.
-fn stamped(before: u8, mask: u8, black: bool, kept: bool) -> u8
-    ensures { (j : ℕ) → j < 8 → byte_dot result j
-        ≡ stamped_dot (byte_dot mask j) black kept (byte_dot before j) }
+/// Blackens dots from dot `from` on that lie before dot `end`, and says before which: whole words where it begins with a byte, and
+/// else those in the same eight bytes.
+#[inline(always)]
+fn blacken_next(rows: &mut [u8], from: usize, end: usize) -> usize
+    requires some { from < end }
+    requires within { end ≤ 8 * length rows.old }
+    requires long { 8 ≤ length rows.old }
+    requires small { length rows.old < 2 ^ 40 }
+    ensures onward { from < result }
+    ensures within { result ≤ end }
+    ensures black { IsBlackened rows.old rows.new from result }
 {
-    let set = mask & eight_alike(black);
-    let clear = mask & !eight_alike(kept);
-    (before & !clear) | set
+    let first = from / 8;
+    let words = (end - from) / 64;
+    if from % 8 != 0 || words == 0 {
+        let index = first.min(rows.len() - 8);
+        let to = (8 * index + 64).min(end);
+        let dots = word_at(rows, index) | mask_word(Part { index, from, to });
+        put_word(rows, index, dots);
+        return to;
+    }
+    rows[first..first + 8 * words].fill(0xFF);
+    from + 64 * words
 }
 
-/// Paints the first `count` dots of a stamp down a column, from line `first` on.
-#[inline(always)]
-pub(crate) fn stamp_down(rows: &mut [u8], column: Column, first: usize, count: usize, stamp: Stamp)
-    requires few { count ≤ 8 }
-    requires within { (first + count) * column.bytes ≤ length rows.old }
+/// Blackens dots from dot `first` on that lie before dot `end`.
+pub(crate) fn blacken(rows: &mut [u8], first: usize, end: usize)
+    requires order { first ≤ end }
+    requires within { end ≤ 8 * length rows.old }
+    requires long { 8 ≤ length rows.old }
     requires small { length rows.old < 2 ^ 40 }
-    ensures { IsStampedDown rows.old rows.new column first count stamp }
+    ensures { IsBlackened rows.old rows.new first end }
 {
-    let mask = 0x80 >> (column.place % 8);
-    let mut index = first * column.bytes + column.place / 8;
-    for i in 0..count {
-        let (black, kept) = (is_dot_black(stamp.black, i), is_dot_black(stamp.kept, i));
-        rows[index] = stamped(rows[index], mask, black, kept);
-        index += column.bytes;
+    let mut from = first;
+    while from < end {
+        from = blacken_next(rows, from, end);
     }
 }

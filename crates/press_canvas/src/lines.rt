@@ -43,22 +43,6 @@ fn reverse(bits: &[u8], dots: usize, out: &mut [u8])
     }
 }
 
-/// So many dots of a row, from the first one on or from the last one back; there is room for them.
-pub(crate) fn directed<'a>(bits: &'a [u8], dots: usize, back: bool, room: &'a mut [u8]) -> &'a [u8]
-    requires dots { dots ≤ MAX_SIDE }
-    requires enough { dots ≤ 8 * length bits.now }
-    requires room { length room.old ≡ WIDEST_ROW }
-    ensures enough { dots ≤ 8 * length result.now }
-    ensures dots { (x : ℕ) → x < dots → row_dot result.now x ≡ row_dot bits.now (place_at back dots x) }
-{
-    if back {
-        reverse(bits, dots, room);
-        room
-    } else {
-        bits
-    }
-}
-
 /// The one of so many places that stands at a place, from the first on or from the last one back.
 pub(crate) fn place_at(back: bool, places: u32, place: u32) -> u32
     requires { place < places }
@@ -87,4 +71,30 @@ pub(crate) fn put_line(page: &mut Bitmap, y: u32, bits: &[u8]) -> Result<(), All
         return Ok(());
     }
     page.paint_row(0, i64::from(y), source, DotRow::black(), OPAQUE)
+}
+
+/// Writes a row as a line of a page that is white there, from its first dot on or from its last one back; there is room for it.
+///
+/// # Errors
+///
+/// Where memory ran out.
+pub(crate) fn put_row(
+    page: &mut Bitmap,
+    y: u32,
+    bits: &[u8],
+    back: bool,
+    room: &mut [u8],
+) -> Result<(), AllocError>
+    requires enough { page.old.width ≤ 8 * length bits.now }
+    requires room { length room.old ≡ WIDEST_ROW }
+    requires white { (x : ℕ) → x < page.old.width → y < page.old.height → black_at page.old x y ≡ false }
+    ensures put { OnOk result (page.new ≡ with_line page.old y
+        (λ x. row_dot bits.now (place_at back page.old.width x))) }
+    ensures room { length room.new ≡ WIDEST_ROW }
+{
+    if !back {
+        return put_line(page, y, bits);
+    }
+    reverse(bits, page.width() as usize, room);
+    put_line(page, y, room)
 }

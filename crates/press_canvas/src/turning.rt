@@ -7,7 +7,7 @@ ghost use Rattle.press_page.specs.Media.{turned};
 ghost use Rattle.press_canvas.specs.Turned.{extent, page_of_frame, upright};
 
 use crate::columns::put_columns;
-use crate::lines::{directed, place_at, put_line};
+use crate::lines::{place_at, put_row};
 use press_bits::{Bitmap, BlankError, WIDEST_ROW};
 use press_page::{Extent, Orientation};
 use std::alloc::{AllocError, Global};
@@ -48,12 +48,11 @@ fn put_lines(page: &mut Bitmap, frame: &Bitmap, back: bool) -> Result<(), AllocE
     requires { page.old ≡ blank frame.now.width frame.now.height }
     ensures { OnOk result (page.new ≡ page_of_frame (upright back) frame.now) }
 {
-    let (columns, lines) = (frame.width(), frame.height());
+    let lines = frame.height();
+    let mut room = [0; WIDEST_ROW];
     for y in 0..lines {
-        let mut room = [0; WIDEST_ROW];
         let line = frame.line(place_at(back, lines, y));
-        let bits = directed(line, columns as usize, back, &mut room);
-        put_line(page, y, bits)?;
+        put_row(page, y, line, back, &mut room)?;
     }
     Ok(())
 }

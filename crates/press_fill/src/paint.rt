@@ -1,7 +1,7 @@
 //! Rectangles of a page that are painted line by line through a tile.
 
 ghost use Rattle.std.specs.Prelude.{◌≡◌, ℕ, ◌<◌, ◌≤◌, ◌+◌, ◌*◌, ◌⊎◌, min, pos, true, replicate, OnOk, OnErr};
-ghost use Rattle.press_bits.specs.Mark.{IsWhite, painted, repeated, row, row_mark};
+ghost use Rattle.press_bits.specs.Mark.{IsBlack, IsWhite, painted, row, row_mark};
 ghost use Rattle.press_bits.specs.Bands.{AreReady};
 ghost use Rattle.press_pattern.specs.Tiling.{IsWhiteTile};
 ghost use Rattle.press_fill.specs.Fill.{rect_mark};
@@ -31,7 +31,9 @@ fn paint_line(
     mode: Mode,
     solid: bool,
 )
-    requires solid { solid ≡ true → (i : ℕ) → repeated (row pattern) i ≡ true }
+    requires solid { solid ≡ true → IsBlack (row pattern) }
+    requires inside { 0 < columns → x + columns ≤ page.old.page.width }
+    requires line { y < page.old.page.height }
     requires narrow { columns ≤ 8 * WIDEST_ROW }
     requires some { 1 ≤ pattern.dots }
     requires ready { IsWhite (row pattern) ⊎ AreReady page.old (pos y) 1 }
@@ -39,11 +41,15 @@ fn paint_line(
         (record { bits = replicate WIDEST_ROW 255; dots = columns }) (row pattern.entry) mode) }
     ensures ready { page.new.ready ≡ page.old.ready }
 {
+    if solid && columns > 0 {
+        page.blacken(x, y, columns);
+        return;
+    }
     let source = DotRow {
         bits: &[0xFF; WIDEST_ROW],
         dots: columns as usize,
     };
-    page.paint_known_row(i64::from(x), i64::from(y), source, pattern, mode, solid);
+    page.paint_row(i64::from(x), i64::from(y), source, pattern, mode);
 }
 
 /// Paints a rectangle of a page, whose lines are ready, or white and stay so, through a tile. Dots outside the

@@ -1,5 +1,5 @@
 -- The user-defined patterns beside the entries of the index map.
-use Rattle.std.proofs.Common.{◌≡◌, ℕ, List, Bool, Option, Some, None, option_map, cond, nat_eq, nat_cmp, refl, sym, ap, ◌∙◌, filter}
+use Rattle.std.proofs.Common.{◌≡◌, ℕ, List, Bool, Option, Some, None, option_map, cond, nat_eq, refl, sym, ap, ◌∙◌, filter}
 use Rattle.std.specs.Map.{lookup, keys_of}
 use Rattle.std.specs.List.{IsDistinct}
 use Rattle.std.specs.FinMap as maps

@@ -51,10 +51,6 @@ tiling_where width height rule = record {
       (range_with_len 0 (height * bytes_per_line width));
 }
 
--- The tile with columns and lines exchanged.
-abbrev pub transposed : Tiling → Tiling
-transposed tile = tiling_where tile.height tile.width (λ a b. tile_dot tile b a)
-
 -- There are dots both ways, and bytes for each line.
 pub record HasLines (width height : ℕ) (rows : List ℕ) : Type 0 where
   pub some_width : 1 ≤ width

@@ -1,9 +1,9 @@
-//! Tiles, lent and owned, and a tile turned by a quarter.
+//! Tiles, lent and owned.
 
-ghost use Rattle.std.specs.Prelude.{◌≡◌, ℕ, ◌+◌, ◌*◌, ◌/◌, ◌^◌, ◌<◌, ◌≤◌, Bool, length, take, IfOk, IsTrue};
+ghost use Rattle.std.specs.Prelude.{◌≡◌, ◌*◌, ◌≤◌, length, IfOk, IsTrue};
 ghost use Rattle.press_bits.specs.Lines.{bytes_per_line};
 ghost use Rattle.press_pattern.specs.Solid.{solid_black};
-ghost use Rattle.press_pattern.specs.Tiling.{IsWhiteTile, tile_row, tile_dot, byte_where, dots_from, transposed};
+ghost use Rattle.press_pattern.specs.Tiling.{IsWhiteTile, tile_row};
 
 use press_bits::DotRow;
 use std::alloc::{AllocError, Global};
@@ -82,29 +82,6 @@ impl<'a> Tile<'a> {
         &self.rows[start..start + bytes]
     }
 
-    /// The tile with columns and lines exchanged: at column `a` of line `b` it has the dot that this one
-    /// has at column `b` of line `a`.
-    ///
-    /// # Errors
-    ///
-    /// Where memory ran out.
-    pub fn transposed(&self, alloc: Global) -> Result<OwnedTile, AllocError>
-        ensures tile { IfOk result (λ turned. turned ≡ transposed self.now) }
-        ensures dots { IfOk result (λ turned.
-            (a b : ℕ) → tile_dot turned a b ≡ tile_dot self.now b a) }
-    {
-        let rows = self.columns(alloc)?;
-        Ok(OwnedTile::of_rows(self.height, self.width, rows))
-    }
-
-    /// Whether the dot that the tile has for the frame's at column `x` of line `y` is black.
-    pub fn is_black(&self, x: u32, y: u32) -> bool
-        ensures { result ≡ tile_dot self.now x y }
-    {
-        let column = (x % u32::from(self.width)) as usize;
-        (self.row(y)[column / 8] >> (7 - column % 8)) & 1 == 1
-    }
-
     /// Whether no bit of the lines is set: then the tile has no black dot.
     pub fn is_white(&self) -> bool
         ensures { IsTrue result → IsWhiteTile self.now }
@@ -118,34 +95,6 @@ impl<'a> Tile<'a> {
         ensures { IsTrue result → self.now ≡ solid_black }
     {
         self.width == 8 && self.height == 1 && self.rows[0] == 0xFF
-    }
-
-    /// The byte of eight dots of a column, from line `first` on; white below the last line.
-    fn column_byte(&self, column: u32, first: u32) -> u8
-        requires { first < 2 ^ 20 }
-        ensures { result ≡
-            byte_where (dots_from self.now.height (λ a b. tile_dot self.now b a) first column) }
-    {
-        let mut byte = 0;
-        for place in 0..8 {
-            let line = first + place;
-            let black = line < u32::from(self.height) && self.is_black(column, line);
-            byte = byte * 2 + if black { 1 } else { 0 };
-        }
-        byte
-    }
-
-    /// The bytes of all columns from the left, each from a new byte on.
-    fn columns(&self, alloc: Global) -> Result<Vec<u8>, AllocError>
-        ensures { IfOk result (λ rows. rows.items ≡ (transposed self.now).rows) }
-    {
-        let bytes = line_bytes(self.height);
-        let count = usize::from(self.width) * bytes;
-        let mut rows = Vec::with_capacity(alloc, count)?;
-        for index in 0..count {
-            rows.push(self.column_byte((index / bytes) as u32, 8 * (index % bytes) as u32))?;
-        }
-        Ok(rows)
     }
 }
 

@@ -66,46 +66,6 @@ fn a_line_is_its_bytes(rt: HostRuntime) -> Result<(), Fail> {
     Ok(())
 }
 
-/// The source of the modes: 1100 1100 1100 1100.
-const SOURCE: [u8; 2] = [0xCC, 0xCC];
-
-/// A pattern three dots wide: 100.
-const NARROW: [u8; 1] = [0b1000_0000];
-
-#[test]
-fn a_column_goes_down(rt: HostRuntime) -> Result<(), Fail> {
-    let mut page = Bitmap::blank(rt.alloc(), 10, 14)?;
-    let black = DotRow {
-        bits: &[0xFF],
-        dots: 8,
-    };
-    page.paint_column(9, 0, black, DotRow::black(), TRANSPARENT)?;
-    let source = DotRow {
-        bits: &SOURCE,
-        dots: 16,
-    };
-    let pattern = DotRow {
-        bits: &NARROW,
-        dots: 3,
-    };
-    let mode = Mode {
-        source_opaque: true,
-        pattern_opaque: true,
-    };
-    page.paint_column(9, -1, source, pattern, mode)?;
-    page.paint_column(10, 0, source, pattern, mode)?;
-    // the source from its second dot on: 1001 1001 1001 10; the pattern: 1001 0010 0100 10
-    for line in 0..14_u32 {
-        assert_eq!(rt;
-            page.get(9, line),
-            matches!(line, 0 | 3 | 12),
-            "line {line}"
-        );
-    }
-    assert_eq!(rt; page.count_black(), 3);
-    Ok(())
-}
-
 #[test]
 fn bands_are_ready_where_they_were_made(rt: HostRuntime) -> Result<(), Fail> {
     let mut page = Bitmap::blank(rt.alloc(), 10, 144)?;

@@ -150,10 +150,6 @@ fn a_pattern_of_three_dots(rt: HostRuntime) -> Result<(), Fail> {
     let tile = patterns.tile(pattern).expect(&rt, "it was defined");
     assert_eq!(rt; (tile.width(), tile.height()), (3, 2));
     expect_rows(&rt, &tile, &[(4, 0xa0), (5, 0x40)]);
-    let turned = tile.transposed(rt.alloc())?;
-    let columns = turned.as_tile();
-    assert_eq!(rt; (columns.width(), columns.height()), (2, 3));
-    expect_rows(&rt, &columns, &[(0, 0x80), (1, 0x40), (2, 0x80)]);
     Ok(())
 }
 

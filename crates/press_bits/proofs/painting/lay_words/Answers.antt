@@ -1,4 +1,4 @@
-use Rattle.std.proofs.Common.{◌≡◌, ℕ, true, ◌+◌, ◌-◌, ◌*◌, ◌/◌, ◌%◌, ◌≤◌, ap, subst, sym, ◌∙◌, length, take, drop, arith, rules}
+use Rattle.std.proofs.Common.{◌≡◌, ℕ, true, ◌+◌, ◌-◌, ◌*◌, ◌/◌, ap, subst, sym, ◌∙◌, length, take, drop, arith, rules}
 use Rattle.std.proofs.lemmas.List.{length-take, length-drop}
 use Rattle.press_bits.specs.Mark.{row, row_dot, repeated}
 use Rattle.press_bits.specs.Ranges.{IsPaintedFrom}

@@ -1,4 +1,4 @@
-use Rattle.std.proofs.Common.{◌≡◌, ℕ, ◌∙◌, ◌+◌, ◌-◌, ◌*◌, ◌%◌, ◌<◌, List, take, drop, subst, ap, refl, Bool, arith}
+use Rattle.std.proofs.Common.{◌≡◌, ℕ, ◌∙◌, ◌+◌, ◌-◌, ◌*◌, ◌%◌, ◌<◌, List, take, drop, ap, refl, Bool, arith}
 use Rattle.press_bits.specs.Page.{Page}
 use Rattle.press_bits.specs.Mark.{row_dot}
 use Rattle.press_bits.proofs.BandLemmas.{after_ok}
@@ -13,21 +13,21 @@ line_dots strip bytes line count q all is low =
     let at : 8 * (line * 2112) + q ≡ 16896 * line + q = omega arith in
     ap (λ (b : List ℕ). row_dot b q) (is ∙ ap (λ n. take n (drop (line * 2112) strip)) all) ∙ row_dot-slice strip (line * 2112) 2048 q low ∙ ap (row_dot strip) at
 
-pub returns-then-column-columns : goal.returns-then-column-columns
-returns-then-column-columns c = column_past c.args.page.now c.args.back c.args.columns c.args.column _ (omega (arith, c.if-column-columns.true))
+pub returns-then-column-columns-clause-put : goal.returns-then-column-columns-clause-put
+returns-then-column-columns-clause-put c = column_past c.args.page.now c.args.back c.args.columns c.args.column _ (omega (arith, c.if-column-columns.true))
 
-pub returns : goal.returns
-returns c =
+pub returns-clause-put : goal.returns-clause-put
+returns-clause-put c =
     let before : Page = c.args.page.now in
-    let after : Page = c.put_line.new.page in
+    let after : Page = c.put_row.new.page in
     let start : ℕ = c.args.column % 64 * 2112 in
-    let dots : ℕ → Bool = λ x. strip_dot c.args.strip.now (c.args.column % 64) (place_at c.args.back c.args.lines x) in
+    let bits : List ℕ = take (start + 2048 - start) (drop start c.args.strip.now) in
+    let read : ℕ → Bool = λ x. row_dot bits (place_at c.args.back before.width x) in
+    let dots : ℕ → Bool = λ x. strip_dot c.args.strip.now (c.args.column % 64) (place_at c.args.back before.width x) in
     let count : start + 2048 - start ≡ 2048 = omega arith in
-    after_ok {P = after ≡ with_line before c.place_at.result (row_dot c.directed-bits.result.now)} {Q = after ≡ with_column before c.args.back c.args.columns c.args.column dots} c.put_line.result
-    (λ is. is ∙ column_written before c.args.back c.args.columns c.args.column c.place_at.result (row_dot c.directed-bits.result.now) dots (omega (arith, c.if-column-columns.false)) c.place_at.ensures.is
+    after_ok {P = after ≡ with_line before c.place_at.result read} {Q = after ≡ with_column before c.args.back c.args.columns c.args.column dots} c.put_row.result
+    (λ is. is ∙ column_written before c.args.back c.args.columns c.args.column c.place_at.result read dots (omega (arith, c.if-column-columns.false)) c.place_at.ensures.is
     (λ x left.
-    let within : x < c.args.lines = subst (λ n. x < n) c.requires.wide left in
-    let low : place_at c.args.back c.args.lines x < 16384 = omega (arith, place_within c.args.back c.args.lines x within, c.requires.most) in
-    c.directed-bits.ensures.dots x within
-    ∙ line_dots c.args.strip.now _ (c.args.column % 64) (start + 2048 - start) (place_at c.args.back c.args.lines x) count refl low))
-    c.put_line.ensures
+    let low : place_at c.args.back before.width x < 16384 = omega (arith, place_within c.args.back before.width x left, c.requires.most) in
+    line_dots c.args.strip.now bits (c.args.column % 64) (start + 2048 - start) (place_at c.args.back before.width x) count refl low))
+    c.put_row.ensures.put

@@ -4,7 +4,7 @@ use Rattle.std.proofs.lemmas.Int.{ints}
 use Rattle.press_bits.specs.Page.{Page}
 use Rattle.press_bits.proofs.BandLemmas.{ready_within}
 use Rattle.press_bits.specs.Mark.{Row, repeated, painted, row_mark, box_mark}
-use Rattle.press_bits.proofs.MarkLemmas.{height-painted, painted_box_none, painted_box_row, painted_box_cut, IsAllBlack-replicate}
+use Rattle.press_bits.proofs.MarkLemmas.{height-painted, width-painted, painted_box_none, painted_box_row, painted_box_cut, IsAllBlack-replicate}
 use Rattle.press_pattern.specs.Tiling.{Tiling, tile_dot, tile_row}
 use Rattle.press_fill.proofs.FillLemmas.{repeated-tile_row, tile_dot-solid_black}
 use Rattle.press_fill.proofs.paint.paint_rect.Goals as goal
@@ -33,6 +33,16 @@ paint_line-requires-clause-ready c =
 
     before : (y line lines : ℕ) → line < lines → int_le (pos (y + line) +ℤ pos 1) (pos y +ℤ pos lines) ≡ true
     before y line lines inside = grind (arith, ints)
+
+pub paint_line-requires-clause-inside : goal.paint_line-requires-clause-inside
+paint_line-requires-clause-inside c = λ some.
+    let wide : c.loop-line.page.page.width ≡ c.args.page.now.page.width = ap (λ (p : Page). p.width) c.loop-line.invariant.0 ∙ width-painted c.args.page.now.page _ in
+    omega (arith, wide, c.width.ensures.width, c.cut_length-columns.ensures.before some)
+
+pub paint_line-requires-clause-line : goal.paint_line-requires-clause-line
+paint_line-requires-clause-line c =
+    let high : c.loop-line.page.page.height ≡ c.args.page.now.page.height = ap (λ (p : Page). p.height) c.loop-line.invariant.0 ∙ height-painted c.args.page.now.page _ in
+    omega (arith, high, c.height.ensures.height, c.loop-line-test.true, c.cut_length-lines.ensures.before (omega (arith, c.loop-line-test.true)))
 
 pub paint_line-requires-clause-solid : goal.paint_line-requires-clause-solid
 paint_line-requires-clause-solid c = λ solid i.

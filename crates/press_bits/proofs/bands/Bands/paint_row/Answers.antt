@@ -10,7 +10,7 @@ use Rattle.press_bits.specs.Lines.{bytes_per_line}
 use Rattle.press_bits.proofs.MarkLemmas.{unmarked, row_off_line, row_off_columns}
 use Rattle.press_bits.specs.Bands.{BandedPage, is_there, band_at}
 use Rattle.press_bits.proofs.BandLemmas.{width-page_of_bands, height-page_of_bands, no_dot_outside, painted_band, painted_has, stays_white, put_flags, band_ready, at_line, there_long, in_bytes}
-use Rattle.press_bits.proofs.bands.Bands.paint_known_row.Goals as goal
+use Rattle.press_bits.proofs.bands.Bands.paint_row.Goals as goal
 
 pub returns-in_default-clause-painted : goal.returns-in_default-clause-painted
 returns-in_default-clause-painted c =
