@@ -10,7 +10,7 @@ use Rattle.press_page.specs.declared.media.Orientation.TheVariants.{Portrait, La
 use Rattle.press_page.specs.declared.place.Extent.{Extent}
 use Rattle.press_canvas.specs.Turned.{extent, turned_page, page_of_frame, opposite, in_frame, on_page, frame_page}
 use Rattle.press_canvas.specs.declared.frame.Frame.{Frame}
-use Rattle.press_canvas.proofs.TurnedLemmas.{width-turned_page, height-turned_page, turned_page-HasNoDotOutside, turned_back, turned_blank, painted_turned}
+use Rattle.press_canvas.proofs.TurnedLemmas.{width-turned_page, height-turned_page, turned_back, turned_blank, painted_turned}
 
 abbrev sized : (width height : ℕ) → Extent
 sized width height = record { width = width; height = height }
@@ -36,10 +36,6 @@ opposite_twice Portrait = refl
 opposite_twice Landscape = refl
 opposite_twice ReversePortrait = refl
 opposite_twice ReverseLandscape = refl
-
--- no dot lies outside the page of a frame
-pub page_of_frame-HasNoDotOutside : (o : Orientation) (frame : Page) → HasNoDotOutside (page_of_frame o frame)
-page_of_frame-HasNoDotOutside o frame = turned_page-HasNoDotOutside o _ _ frame
 
 -- in portrait the frame is the page
 pub page_upright : (page : Page) → HasNoDotOutside page → page_of_frame Portrait page ≡ page

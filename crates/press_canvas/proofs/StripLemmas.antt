@@ -1,8 +1,8 @@
 -- Blocks in strips, and the dots of bands and of rows that are read backwards.
-use Rattle.std.proofs.Common.{◌≡◌, ℕ, zero, suc, ◌+◌, ◌-◌, ◌*◌, ◌/◌, ◌%◌, ◌<◌, ◌≤◌, ◌≢◌, ◌⊎◌, min, Bool, false, ◌&&◌, List, w64, sym, ap, ◌∙◌, inl, inr, arith}
-use Rattle.std.specs.Prelude.{nat_eq, nat_lt, if◌then◌else◌}
+use Rattle.std.proofs.Common.{◌≡◌, ℕ, zero, suc, ◌+◌, ◌-◌, ◌*◌, ◌/◌, ◌%◌, ◌<◌, ◌≤◌, min, Bool, false, ◌&&◌, List, w64, sym, ap, ◌∙◌, inl, inr, arith}
+use Rattle.std.specs.Prelude.{nat_eq, nat_lt}
 use Rattle.std.specs.Int.{bit_at, reverse_bits, reverse_bits_onto}
-use Rattle.std.proofs.lemmas.Bool.{cases_eq, cases_lt}
+use Rattle.std.proofs.lemmas.Bool.{cases_lt}
 use Rattle.std.proofs.lemmas.Bool.Decides.{nat_tests}
 use Rattle.std.proofs.Math.Nat.{mul-le-mul_right}
 use Rattle.std.proofs.lemmas.Nat.Bits.{bit_at-suc, bit_at_lowest}
@@ -40,48 +40,6 @@ gathered frame lines b band strip i j is «are» low within =
     hidden n h b past = grind (arith, nat_tests)
 
 -- ---- choices
-
-pub picked_here : {n m : ℕ} (d e : Bool) → n ≡ m → (if nat_eq n m then d else e) ≡ d
-picked_here d e same = grind (arith, nat_tests)
-
-pub picked_there : {n m : ℕ} (d e : Bool) → n ≢ m → (if nat_eq n m then d else e) ≡ e
-picked_there d e apart = grind (arith, nat_tests)
-
-pub none_put : (b : Bool) (j : ℕ) (d e : Bool) → e ≡ (if b && nat_lt j 0 then d else e)
-none_put b j d e = grind (arith, nat_tests)
-
-pub all_put : (b : Bool) (j n : ℕ) (d e : Bool) → j < n → (if b && nat_lt j n then d else e) ≡ (if b then d else e)
-all_put b j n d e low = grind (arith, nat_tests)
-
--- the dots of a strip, after a word was put into one of its lines
-pub put_dot : (index line j x : ℕ) (old new d before : Bool) → x < 16896 → index < 256 →
-    (16896 * j + x ≡ 8 * (2112 * line + 8 * index) + x % 64 → j ≡ line → new ≡ d) →
-    ((16896 * j + x < 8 * (2112 * line + 8 * index)) ⊎ (8 * (2112 * line + 8 * index) + 64 ≤ 16896 * j + x) → new ≡ old) →
-    old ≡ (if nat_eq (x / 64) index && nat_lt j line then d else before) →
-    new ≡ (if nat_eq (x / 64) index && nat_lt j (line + 1) then d else before)
-put_dot index line j x old new d before low inside here elsewhere so_far =
-    elim (cases_eq j line) [
-      | inl same ↦ elim (cases_eq (x / 64) index) [
-        | inl at ↦ here (omega (arith, same, at)) same ∙ put_here index line j x d before same at
-        | inr off ↦ elim (cases_lt (16896 * j + x) (8 * (2112 * line + 8 * index))) [
-          | inl early ↦ elsewhere (inl early) ∙ so_far ∙ off_word index line j x d before off
-          | inr late ↦ elsewhere (inr (omega (arith, late, off, same))) ∙ so_far ∙ off_word index line j x d before off
-        ]
-      ]
-      | inr apart ↦ elim (cases_lt j line) [
-        | inl above ↦ elsewhere (inl (omega (arith, above, low))) ∙ so_far ∙ off_line index line j x d before apart
-        | inr below ↦ elsewhere (inr (omega (arith, below, apart, inside))) ∙ so_far ∙ off_line index line j x d before apart
-      ]
-    ]
-  where
-    put_here : (index line j x : ℕ) (d before : Bool) → j ≡ line → x / 64 ≡ index → d ≡ (if nat_eq (x / 64) index && nat_lt j (line + 1) then d else before)
-    put_here index line j x d before same at = grind (arith, nat_tests)
-
-    off_word : (index line j x : ℕ) (d before : Bool) → x / 64 ≢ index → (if nat_eq (x / 64) index && nat_lt j line then d else before) ≡ (if nat_eq (x / 64) index && nat_lt j (line + 1) then d else before)
-    off_word index line j x d before off = grind (arith, nat_tests)
-
-    off_line : (index line j x : ℕ) (d before : Bool) → j ≢ line → (if nat_eq (x / 64) index && nat_lt j line then d else before) ≡ (if nat_eq (x / 64) index && nat_lt j (line + 1) then d else before)
-    off_line index line j x d before apart = grind (arith, nat_tests)
 
 -- ---- bits that are turned round
 

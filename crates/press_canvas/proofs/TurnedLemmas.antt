@@ -9,7 +9,6 @@ use Rattle.press_page.specs.Media.{turned}
 use Rattle.press_page.specs.Place.{placed_dot}
 use Rattle.press_page.specs.declared.media.Orientation.{Orientation}
 use Rattle.press_page.specs.declared.media.Orientation.TheVariants.{Portrait, Landscape, ReversePortrait, ReverseLandscape}
-use Rattle.press_page.specs.declared.place.Extent.{Extent}
 use Rattle.press_canvas.specs.Turned.{turned_page, opposite, in_frame, on_page}
 
 -- ---- size and dots
@@ -41,20 +40,6 @@ placed_inside ReverseLandscape w h x y wide high = (high, omega arith)
 
 -- ---- there and back
 
--- the page's dot, of the frame's dot, of a dot is the dot itself
-pub placed_back : (o : Orientation) (w h x y : ℕ) → x < w → y < h →
-    let frame = turned o (record { width = w; height = h }) in
-    let dot = placed_dot o w h x y in
-    placed_dot (opposite o) frame.width frame.height dot.0 dot.1 ≡ (x, y)
-placed_back Portrait w h x y wide high = refl
-placed_back Landscape w h x y wide high =
-    let same : h - 1 - (h - 1 - y) ≡ y = omega arith in λ i. (x, same i)
-placed_back ReversePortrait w h x y wide high =
-    let same : w - 1 - (w - 1 - x) ≡ x = omega arith in
-    let level : h - 1 - (h - 1 - y) ≡ y = omega arith in λ i. (same i, level i)
-placed_back ReverseLandscape w h x y wide high =
-    let same : w - 1 - (w - 1 - x) ≡ x = omega arith in λ i. (same i, y)
-
 -- and the frame's dot, of the page's dot, of a dot of the frame
 pub placed_forth : (o : Orientation) (w h x y : ℕ) →
     let frame = turned o (record { width = w; height = h }) in
@@ -68,12 +53,6 @@ placed_forth ReversePortrait w h x y wide high =
     let level : h - 1 - (h - 1 - y) ≡ y = omega arith in (omega arith, omega arith, λ i. (same i, level i))
 placed_forth ReverseLandscape w h x y wide high =
     let same : w - 1 - (w - 1 - y) ≡ y = omega arith in (omega arith, wide, λ i. (x, same i))
-
-pub turned_twice : (o : Orientation) (page : Extent) → turned (opposite o) (turned o page) ≡ page
-turned_twice Portrait page = refl
-turned_twice Landscape page = refl
-turned_twice ReversePortrait page = refl
-turned_twice ReverseLandscape page = refl
 
 -- the page of a frame, turned back, is the frame
 pub turned_back : (o : Orientation) (w h : ℕ) (frame : Page) → HasNoDotOutside frame →
