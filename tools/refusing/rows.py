@@ -39,6 +39,8 @@ STREAMS = [
      "ESC&f4y0X ESC*c7a7b0P ESC&f1X ESC&f3y0X ESC*c9a9b0P ESC&f4y2X ESC*p+1X ESC&f1X ESC&f2y0X ESC*p20x20Y ESC*c4a4b0P FF ESC*p+5X ESC&f1X "
      "ESC&f1y0X ESC&f2y2X ESC*p+3X ESC&f1X ESC&f3y4X ESC*p100x100Y ESC*c3a2b0P ESC&f1y2X FF"),
     ("rows on a turned page", "ESC&l1O ESC*t75R ESC*r1A ESC*b3W [FF00FF] ESC*b3W [0F0F0F] ESC*rC FF"),
+    *((f"a rectangle and a row, and the close of the page in orientation {number}",
+       f"ESC&l{number}O ESC*p40x70Y ESC*c9a9b0P ESC*t300R ESC*r1A ESC*b2W [00FF] ESC*rC FF") for number in range(4)),
     ("sides of two sheets, three copies each", "ESC&l1S ESC&l3X ESC*c9a9b0P FF FF FF"),
 ]
 LINES = [

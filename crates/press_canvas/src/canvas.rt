@@ -7,7 +7,8 @@ ghost use Rattle.press_canvas.specs.Turned.{frame_page};
 ghost use Rattle.press_canvas.specs.contracts.canvas.Canvas.{the_row};
 ghost use Rattle.press_canvas.specs.contracts.frame.Frame.{the_row as frame_row};
 
-use crate::frame::Frame;
+use crate::frame::{Frame, frame_size};
+use crate::turning::{turned, white};
 use press_bits::Bitmap;
 use press_page::{Extent, Orientation};
 use std::alloc::{AllocError, Global};
@@ -40,8 +41,12 @@ impl Canvas {
         requires { is_page_size page.width page.height ≡ true }
         ensures { IfOk result (λ canvas. canvas ≡ blank page.width page.height) }
     {
+        let bitmap = white(alloc, frame_size(orientation, page))?;
         Ok(Canvas {
-            frame: Frame::blank(alloc, orientation, page)?,
+            frame: Frame {
+                bitmap,
+                orientation,
+            },
         })
     }
 
@@ -54,7 +59,10 @@ impl Canvas {
         ensures { IfOk result (λ canvas. canvas ≡ self.now) }
     {
         Ok(Canvas {
-            frame: self.frame.copy()?,
+            frame: Frame {
+                bitmap: self.frame.bitmap.copy()?,
+                orientation: self.frame.orientation,
+            },
         })
     }
 
@@ -105,7 +113,7 @@ impl Canvas {
     pub fn page(&self, alloc: Global) -> Result<Bitmap, AllocError>
         ensures { IfOk result (λ page. page ≡ self.now) }
     {
-        self.frame.page(alloc)
+        turned(&self.frame.bitmap, alloc, self.frame.orientation, None)
     }
 
     /// The physical page, and memory that it did not take, for another one. It may take that of a page that is no longer needed.

@@ -1,12 +1,12 @@
 //! Frames of pages.
 
 ghost use Rattle.std.specs.Prelude.{◌≡◌, ◌≢◌, true, IfOk, IsErr, OnOk};
-ghost use Rattle.press_bits.specs.Page.{blank, is_page_size};
+ghost use Rattle.press_bits.specs.Page.{is_page_size};
 ghost use Rattle.press_page.specs.Media.{turned};
 ghost use Rattle.press_page.specs.declared.media.Orientation.TheVariants.{Portrait};
 ghost use Rattle.press_canvas.specs.Turned.{frame_page, opposite};
 
-use crate::turning::{turned, white};
+use crate::turning::turned;
 use press_bits::Bitmap;
 use press_page::{Extent, Orientation};
 use std::alloc::{AllocError, Global};
@@ -31,7 +31,7 @@ fn opposite(orientation: Orientation) -> Orientation
 }
 
 /// The size of the frame of a page.
-fn frame_size(orientation: Orientation, page: Extent) -> Extent
+pub(crate) fn frame_size(orientation: Orientation, page: Extent) -> Extent
     requires { is_page_size page.width page.height ≡ true }
     ensures size { result ≡ turned orientation page }
     ensures fits { is_page_size result.width result.height ≡ true }
@@ -46,36 +46,6 @@ fn frame_size(orientation: Orientation, page: Extent) -> Extent
 }
 
 impl Frame {
-    /// The frame of a white page.
-    pub(crate) fn blank(
-        alloc: Global,
-        orientation: Orientation,
-        page: Extent,
-    ) -> Result<Self, AllocError>
-        requires { is_page_size page.width page.height ≡ true }
-        ensures { IfOk result (λ frame. frame_page frame ≡ blank page.width page.height) }
-    {
-        let bitmap = white(alloc, frame_size(orientation, page))?;
-        Ok(Frame {
-            bitmap,
-            orientation,
-        })
-    }
-
-    /// An equal frame, in memory of its own.
-    ///
-    /// # Errors
-    ///
-    /// Where memory ran out.
-    pub(crate) fn copy(&self) -> Result<Self, AllocError>
-        ensures { IfOk result (λ frame. frame ≡ self.now) }
-    {
-        Ok(Frame {
-            bitmap: self.bitmap.copy()?,
-            orientation: self.orientation,
-        })
-    }
-
     /// Lays the frame as an orientation has it. The page is the same.
     ///
     /// # Errors
@@ -93,17 +63,6 @@ impl Frame {
         self.bitmap = turned(&page, alloc, opposite(orientation), None)?;
         self.orientation = orientation;
         Ok(())
-    }
-
-    /// The page of the frame, in memory of its own.
-    ///
-    /// # Errors
-    ///
-    /// Where memory ran out.
-    pub(crate) fn page(&self, alloc: Global) -> Result<Bitmap, AllocError>
-        ensures { IfOk result (λ page. page ≡ frame_page self.now) }
-    {
-        turned(&self.bitmap, alloc, self.orientation, None)
     }
 
     /// The page of the frame, and the memory of the frame, where the page did not take it. The page may take that of a page that is

@@ -1,6 +1,6 @@
 -- The lines that are ready for rows one below the other.
 use Rattle.std.proofs.Common.{◌≡◌, ◌+◌, ◌-◌, ◌*◌, ◌/◌, ◌<◌, ◌≤◌, ◌⊎◌, ℕ, zero, suc, Bool, true, false, replicate, Some, None, refl, ap, subst, min, inl, inr, arith}
-use Rattle.std.specs.Prelude.{ℤ, pos, negsuc, ◌+ℤ◌, ◌-ℤ◌, int_le, int_lt, if◌then◌else◌}
+use Rattle.std.specs.Prelude.{ℤ, pos, negsuc, ◌+ℤ◌, int_le, int_lt, if◌then◌else◌}
 use Rattle.std.proofs.Math.Nat.{suc-mul, mul-le-mul_right, le-mul_of_pos_right}
 use Rattle.std.proofs.lemmas.Bool.{cases_lt}
 use Rattle.std.proofs.lemmas.Int.{ints}
@@ -63,6 +63,21 @@ size_fits Dpi300 print.Dpi300 = (omega arith, omega arith)
 size_fits Dpi300 print.Dpi600 = (omega arith, omega arith)
 size_fits Dpi600 print.Dpi300 = (omega arith, omega arith)
 size_fits Dpi600 print.Dpi600 = (omega arith, omega arith)
+
+-- a dot of a row is at most eight dots of the page wide
+pub size_most : (rows : RasterResolution) (page : Resolution) → dot_size rows page ≤ 8
+size_most Dpi75 print.Dpi300 = omega arith
+size_most Dpi75 print.Dpi600 = omega arith
+size_most Dpi100 print.Dpi300 = omega arith
+size_most Dpi100 print.Dpi600 = omega arith
+size_most Dpi150 print.Dpi300 = omega arith
+size_most Dpi150 print.Dpi600 = omega arith
+size_most Dpi200 print.Dpi300 = omega arith
+size_most Dpi200 print.Dpi600 = omega arith
+size_most Dpi300 print.Dpi300 = omega arith
+size_most Dpi300 print.Dpi600 = omega arith
+size_most Dpi600 print.Dpi300 = omega arith
+size_most Dpi600 print.Dpi600 = omega arith
 
 -- positions that are so close lie on lines so close
 lines_apart : (page : Resolution) (h a b l : ℕ) → min a l ≤ b → b ≤ a + h →

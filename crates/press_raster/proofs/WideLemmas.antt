@@ -1,20 +1,23 @@
 -- Dots that are widened as numbers.
-use Rattle.std.proofs.Common.{◌≡◌, ℕ, zero, suc, ◌+◌, ◌-◌, ◌*◌, ◌/◌, ◌%◌, ◌^◌, ◌<◌, ◌≤◌, Bool, true, false, cond, List, get_or, map, refl, sym, ap, ◌∙◌, inl, inr, arith}
+use Rattle.std.proofs.Common.{◌≡◌, ℕ, zero, suc, ◌+◌, ◌-◌, ◌*◌, ◌/◌, ◌%◌, ◌^◌, ◌<◌, ◌≤◌, Bool, true, false, cond, List, get_or, map, refl, sym, ap, subst, min, ◌∙◌, inl, inr, arith}
 use native.Mathlib.Numerals.{unary_clauses}
-use Rattle.std.specs.Prelude.{nat_eq, bit_or, Some, None}
+use Rattle.std.specs.Prelude.{nat_eq, bit_or, if◌then◌else◌}
 use Rattle.std.specs.Int.{bit_at}
 use Rattle.std.specs.List.{range_with_len}
 use Rattle.std.proofs.lemmas.List.FromFn.{get_or-map-range_with_len}
-use Rattle.std.proofs.lemmas.Nat.{shr_high, mod_low, div-mul-add, div-add-mod', mod_below, div_below, mul-le, shl_whole, or_shifted}
-use Rattle.std.proofs.lemmas.Nat.Bits.{bit_at-lt, bit_at-suc, bit_at_lowest, bit_at_cat_low, bit_at_cat_high}
+use Rattle.std.proofs.lemmas.Nat.{shr_high, mod_low, div-mul-add, div-add-mod', mod_below, div_below, shl_whole, or_shifted}
+use Rattle.std.proofs.lemmas.Nat.Bits.{bit_at_cat_low, bit_at_cat_high}
 use Rattle.std.proofs.lemmas.Bool.{cases_lt}
-use Rattle.std.proofs.Math.Nat.{mul_comm, zero-div, mod-eq_of_lt, mul-add-div_right}
-use Rattle.press_bits.specs.Mark.{Row, row_dot, byte_dot, repeated}
+use Rattle.std.proofs.Math.Nat.{mul_comm, zero-mul, mul-add-div_right}
+use Rattle.press_bits.specs.Mark.{row_dot, byte_dot}
 use Rattle.press_pattern.specs.Tiling.{byte_where}
-use Rattle.press_pattern.proofs.ByteLemmas.{bit_of, byte_dot-byte_where}
-use Rattle.press_raster.specs.Reading.{read_dot, number_where, wide_dot}
-use Rattle.press_raster.proofs.ReadingLemmas.{bit_of_test, number-byte}
-use Rattle.press_raster.specs.declared.reading.Reading.{Reading}
+use Rattle.press_pattern.proofs.ByteLemmas.{byte_dot-byte_where}
+use Rattle.press_raster.specs.Widening.{number_where, wide_dot}
+
+-- the byte of eight dots as a number
+number-byte : (rule : ℕ → Bool) → byte_where rule ≡ number_where rule 8
+unfolding byte_where number_where
+number-byte rule = refl
 
 bit_step : (b : Bool) (n p : ℕ) → n < p → n * 2 + cond b 1 0 < p * 2
 bit_step true n p below = omega (arith, below)
@@ -31,6 +34,15 @@ unfolding number_where
 number-alike zero r s same = refl
 number-alike (suc n) r s same =
     (λ t. number-alike n r s (λ i low. same i (omega (arith, low))) t * 2 + cond (same n (omega arith) t) 1 0)
+
+-- one more dot of a number
+pub number_more : (rule : ℕ → Bool) (number bit n : ℕ) → number ≡ number_where rule n → bit ≡ (if rule n then 1 else 0) →
+    (number * 2 + bit ≡ number_where rule (n + 1)) × (number * 2 + bit < 2 ^ (n + 1))
+unfolding number_where
+number_more rule number bit n so_far bit_is =
+    let next : suc n ≡ n + 1 = omega arith in
+    let is : number * 2 + bit ≡ number_where rule (n + 1) = (λ t. so_far t * 2 + bit_is t) ∙ ap (number_where rule) next in
+    (is, subst (λ k. k < 2 ^ (n + 1)) (sym is) (number-below rule (n + 1)))
 
 -- the dots of one number behind those of another
 pub number-add : (rule : ℕ → Bool) (a b : ℕ) → number_where rule (a + b) ≡ number_where rule a * 2 ^ b + number_where (λ j. rule (a + j)) b
@@ -62,69 +74,37 @@ number-byte_of rule size m within =
     ∙ mod_low (number_where rule (8 * m)) 8 (number_where here 8) (number-below here 8)
     ∙ sym (number-byte here)
 
--- a byte of the widened dots of a byte that was read with each dot once
-pub wide_byte : (reading : Reading) (source : Row) (byte group m : ℕ) → 1 ≤ reading.size → m < reading.size →
-    byte ≡ byte_where (λ j. read_dot (record { size = 1 }) source (8 * group + j)) →
-    number_where (wide_dot byte reading.size) (8 * reading.size) / 2 ^ (8 * (reading.size - 1 - m)) % 256
-    ≡ byte_where (λ j. read_dot reading source (8 * (reading.size * group + m) + j))
-wide_byte reading source byte group m some within is =
-    number-byte_of (wide_dot byte reading.size) reading.size m within
-    ∙ number-byte (λ j. wide_dot byte reading.size (8 * m + j))
-    ∙ number-alike 8 (λ j. wide_dot byte reading.size (8 * m + j)) (λ j. read_dot reading source (8 * (reading.size * group + m) + j))
-    (λ j low. dot j low)
-    ∙ sym (number-byte (λ j. read_dot reading source (8 * (reading.size * group + m) + j)))
+-- a dot of a byte of the widened dots of eight dots of a row
+pub widened_dot : (bits : List ℕ) (byte group size m j : ℕ) → 1 ≤ size → m < size → j < 8 → ((q : ℕ) → q < 8 → byte_dot byte q ≡ row_dot bits (8 * group + q)) →
+    byte_dot (number_where (wide_dot byte size) (8 * size) / 2 ^ (8 * (size - 1 - m)) % 256) j ≡ row_dot bits ((8 * (size * group + m) + j) / size)
+widened_dot bits byte group size m j some within low dots =
+    ap (λ b. byte_dot b j) (number-byte_of (wide_dot byte size) size m within)
+    ∙ byte_dot-byte_where (λ i. wide_dot byte size (8 * m + i)) j low
+    ∙ dots ((8 * m + j) / size) (div_below (8 * m + j) size 8 (omega (arith, within)) (omega (arith, within, low)))
+    ∙ ap (row_dot bits) (sym place)
   where
-    single : (n : ℕ) → n / 1 ≡ n
-    single n = omega arith
-
-    place : (size group m j : ℕ) → 1 ≤ size → (8 * (size * group + m) + j) / size ≡ 8 * group + (8 * m + j) / size
-    place size group m j some =
+    place : (8 * (size * group + m) + j) / size ≡ 8 * group + (8 * m + j) / size
+    place =
         let x : ℕ = 8 * m + j in
         let split : 8 * (size * group + m) + j ≡ (8 * group + x / size) * size + x % size = omega (arith, div-add-mod' x size, mul_comm size group) in
         ap (λ n. n / size) split ∙ div-mul-add (8 * group + x / size) size (x % size) (mod_below x size some)
 
-    below : (size m j : ℕ) → m < size → j < 8 → (8 * m + j) / size < 8
-    below size m j within low = div_below (8 * m + j) size 8 (omega (arith, within)) (omega (arith, within, low))
+-- where rows cover columns their dots have a size
+pub some_size : (columns size dots rest : ℕ) → 1 ≤ columns → columns ≡ min (size * dots) rest → 1 ≤ size
+some_size columns size dots rest some is =
+    elim (cases_lt 0 size) [
+      | inl more ↦ more
+      | inr none ↦
+          let no : size ≡ 0 = omega (arith, none) in
+          let product : size * dots ≡ 0 = ap (λ n. n * dots) no ∙ zero-mul dots in
+          absurd (omega (arith, some, is, product))
+    ]
 
-    dot : (j : ℕ) → j < 8 → wide_dot byte reading.size (8 * m + j) ≡ read_dot reading source (8 * (reading.size * group + m) + j)
-    dot j low =
-        ap (λ b. byte_dot b ((8 * m + j) / reading.size)) is
-        ∙ byte_dot-byte_where (λ j. read_dot (record { size = 1 }) source (8 * group + j)) ((8 * m + j) / reading.size) (below reading.size m j within low)
-        ∙ ap (repeated source) (single (8 * group + (8 * m + j) / reading.size) ∙ sym (place reading.size group m j some))
-
--- ---- eight dots, forward
-
--- a number whose bits are the dots of a rule
-number_of_bits : (k n : ℕ) (rule : ℕ → Bool) → n < 2 ^ k → ((j : ℕ) → j < k → nat_eq (bit_at n (k - 1 - j)) 1 ≡ rule j) → n ≡ number_where rule k
-unfolding number_where
-number_of_bits zero n rule small dots = omega (arith, small)
-number_of_bits (suc k) n rule small dots =
-    let halves : n ≡ n / 2 * 2 + n % 2 = omega arith in
-    let last : suc k - 1 - k ≡ 0 = omega arith in
-    let next : (j : ℕ) → j < k → suc (k - 1 - j) ≡ suc k - 1 - j = λ j low. omega (arith, low) in
-    let double : n < 2 ^ k * 2 = simp unary_clauses at small in
-    let lowest : n % 2 ≡ cond (rule k) 1 0 =
-    sym (bit_at_lowest n)
-    ∙ bit_of_test (bit_at n 0) (bit_at-lt n 0)
-    ∙ ap (λ p. bit_of (nat_eq (bit_at n p) 1)) (sym last)
-    ∙ ap bit_of (dots k (omega arith)) in
-    halves
-    ∙ (λ t. number_of_bits k (n / 2) rule (omega (arith, double))
-    (λ j low. ap (λ b. nat_eq b 1) (sym (bit_at-suc n (k - 1 - j)) ∙ ap (bit_at n) (next j low)) ∙ dots j (omega (arith, low))) t * 2 + lowest t)
-
--- eight dots of a row that are read forward, each once
-pub eight-read : (source : Row) (byte first : ℕ) (reading : Reading) → reading.size ≡ 1 → first + 7 < source.dots → byte < 256 →
-    ((j : ℕ) → j < 8 → byte_dot byte j ≡ row_dot source.bits (first + j)) → byte ≡ byte_where (λ j. read_dot reading source (first + j))
-unfolding byte_dot repeated
-eight-read source byte first reading once within small dots =
-    number_of_bits 8 byte (λ j. read_dot reading source (first + j)) small
-    (λ j low.
-    (let whole : first + j ≡ (first + j) / 1 = omega arith in
-    let inside : (first + j) / 1 < source.dots = omega (arith, low, within) in
-    dots j low
-    ∙ ap (row_dot source.bits) (whole ∙ sym (mod-eq_of_lt inside))
-    ∙ (λ t. row_dot source.bits ((first + j) / sym once t % source.dots))))
-    ∙ sym (number-byte (λ j. read_dot reading source (first + j)))
+-- there is room for the columns in whole groups
+pub enough_room : (columns size i : ℕ) → 1 ≤ size → i < columns → i < 8 * (size * ((columns / 8 + size) / size))
+enough_room columns size i some within =
+    let room : ℕ = columns / 8 + size in
+    omega (arith, div-add-mod' room size, mod_below room size some, mul_comm size (room / size), within)
 
 -- ---- a table of four dots
 

@@ -1,8 +1,7 @@
 -- How raster rows lie across the frame of a page, and the room that painting them takes (PCL 5 Printer Language Technical
 -- Reference Manual, Raster Graphics). No public clause of this crate cites these.
-use Rattle.std.specs.Prelude.{◌≡◌, ◌≤◌, ℕ, ◌-◌, ◌*◌, nat_eq, min, pos, if◌then◌else◌, length}
+use Rattle.std.specs.Prelude.{◌≡◌, ◌≤◌, ℕ, ◌+◌, ◌-◌, ◌*◌, ◌/◌, nat_eq, min, pos, if◌then◌else◌, length}
 use Rattle.press_bits.specs.Bands.{BandedPage, AreReady}
-use Rattle.press_bits.specs.Lines.{bytes_per_line}
 use Rattle.press_raster.specs.declared.strip.Across.{Across}
 use Rattle.press_raster.specs.declared.strip.Scratch.{Scratch}
 
@@ -23,9 +22,9 @@ across_of width left size dots = record {
 abbrev pub AcrossReady : Across → BandedPage → (line lines : ℕ) → Type 0
 AcrossReady across frame line lines = 1 ≤ across.columns → AreReady frame (pos line) lines
 
--- how many bytes of room the dots of a row take that are widened before they are painted
+-- how many bytes of room the dots of a row take that are widened before they are painted, by whole groups of eight
 abbrev pub room_for : Across → ℕ
-room_for across = if nat_eq across.size 1 then 0 else bytes_per_line across.columns
+room_for across = if nat_eq across.size 1 then 0 else across.columns / 8 + across.size
 
 -- Room for the dots of a row along a line of the frame.
 pub record HasRoom (across : Across) (scratch : Scratch) : Type 0 where

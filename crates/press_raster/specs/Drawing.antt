@@ -9,7 +9,6 @@ use Rattle.press_bits.specs.Lines.{bytes_per_line}
 use Rattle.press_cursor.specs.CursorState.{CursorState}
 use Rattle.press_page.specs.Media.{logical_width, logical_length}
 use Rattle.press_page.specs.declared.environment.PageEnv.{PageEnv}
-use Rattle.press_pattern.specs.declared.ink.Ink.{Ink}
 use Rattle.press_canvas.specs.Turned.{page_of_frame}
 use Rattle.press_raster.specs.Across.{HasRoom, AcrossReady, across_of}
 use Rattle.press_raster.specs.Graphics.{graphics, most_rows}

@@ -6,4 +6,4 @@ pub mod Transfer
 pub mod Rows
 pub mod Across
 pub mod Drawing
-pub mod Reading
+pub mod Widening

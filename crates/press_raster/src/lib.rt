@@ -3,9 +3,9 @@
 
 mod drawing;
 mod raster;
-mod reading;
 mod settings;
 mod strip;
+mod widening;
 
 pub use raster::{Raster, RasterPosition, RowPlace};
 pub use settings::{RasterResolution, RasterSettings, RowCoding};

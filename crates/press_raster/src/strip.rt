@@ -1,6 +1,6 @@
 //! Strips of the frame whose lines have the same dots.
 
-ghost use Rattle.std.specs.Prelude.{◌≡◌, ℕ, ◌+◌, ◌-◌, ◌*◌, ◌/◌, ◌≤◌, ◌<◌, ◌^◌, ◌⊎◌, length, min, pos, true, false, OnOk, OnErr};
+ghost use Rattle.std.specs.Prelude.{◌≡◌, ◌+◌, ◌-◌, ◌*◌, ◌≤◌, ◌<◌, ◌^◌, ◌⊎◌, length, min, pos, true, false, OnOk, OnErr};
 ghost use Rattle.press_bits.specs.Bands.{AreReady};
 ghost use Rattle.press_bits.specs.Lines.{bytes_per_line};
 ghost use Rattle.press_bits.specs.Mark.{painted, row, row_dot};
@@ -8,9 +8,9 @@ ghost use Rattle.press_bits.specs.Page.{HasNoDotOutside};
 ghost use Rattle.press_page.specs.declared.media.Orientation.TheVariants.{Portrait};
 ghost use Rattle.press_raster.specs.Across.{AcrossReady, HasRoom, across_of, covered_columns, room_for};
 ghost use Rattle.press_raster.specs.Mark.{strip_mark, row_on_frame};
-ghost use Rattle.press_raster.specs.Reading.{tile_line};
+ghost use Rattle.press_raster.specs.Widening.{tile_line};
 
-use crate::reading::Reading;
+use crate::widening::widen;
 use press_bits::{Bands, DotRow};
 use press_page::Dot;
 use press_pattern::{Ink, Tile};
@@ -73,18 +73,6 @@ fn paint_lines(frame: &mut Bands, corner: Dot, lines: usize, source: DotRow<'_>,
     }
 }
 
-/// So many dots along a line of the frame, for each dot of a row `size` of them.
-fn spread(source: DotRow<'_>, size: usize, columns: usize, bits: &mut [u8])
-    requires size { 1 ≤ size }
-    requires some { 1 ≤ columns }
-    requires within { columns ≤ size * source.dots }
-    requires long { columns ≤ 8 * length bits.old }
-    requires small { length bits.old < 2 ^ 32 }
-    ensures { (i : ℕ) → i < columns → row_dot bits.new i ≡ row_dot (row source.entry).bits (i / size) }
-{
-    Reading { size }.read(source, bits);
-}
-
 /// How rows of dots lie across the frame of a page.
 #[derive(Clone, Copy)]
 pub(crate) struct Across {
@@ -118,7 +106,7 @@ impl Across {
         if self.size == 1 {
             0
         } else {
-            bytes_for(self.columns as usize)
+            self.columns as usize / 8 + self.size as usize
         }
     }
 
@@ -210,6 +198,7 @@ fn paint_wide(
     scratch: &mut Scratch,
 )
     requires some { 1 ≤ across.columns }
+    requires most { across.size ≤ 8 }
     requires columns { across.columns
         ≡ covered_columns frame.old.page.width across.left across.size source.dots }
     requires ready { AcrossReady across frame.old line across.size }
@@ -231,7 +220,7 @@ fn paint_wide(
         paint_lines(frame, corner, size, DotRow { bits, dots }, ink);
         return;
     }
-    spread(source, size, dots, &mut scratch.dots);
+    widen(source, size, &mut scratch.dots);
     let bits = &scratch.dots;
     paint_lines(frame, corner, size, DotRow { bits, dots }, ink);
 }
@@ -246,6 +235,7 @@ pub(crate) fn paint_across(
     ink: &Ink<'_>,
     scratch: &mut Scratch,
 ) -> bool
+    requires most { across.size ≤ 8 }
     requires columns { across.columns
         ≡ covered_columns frame.old.page.width across.left across.size source.dots }
     requires ready { AcrossReady across frame.old line across.size }
@@ -278,6 +268,7 @@ pub(crate) fn paint_strip(
     ink: &Ink<'_>,
     scratch: &mut Scratch,
 ) -> Result<(), AllocError>
+    requires most { across.size ≤ 8 }
     requires columns { across.columns
         ≡ covered_columns frame.old.page.width across.left across.size source.dots }
     requires room { HasRoom across scratch.old }

@@ -17,8 +17,10 @@ loop-line-init c =
 pub paint_line-requires : goal.paint_line-requires
 paint_line-requires c =
     let high : c.loop-line.frame.page.height ≡ c.args.frame.now.page.height = ap (λ (p : Page). p.height) c.loop-line.invariant.0 ∙ height-painted c.args.frame.now.page _ in
-    record { ready = ready_within c.args.frame.now c.loop-line.frame (pos c.args.corner.y) (pos (c.args.corner.y + c.loop-line.line)) c.args.lines 1 c.loop-line.invariant.1 high
-    (from c.args.corner.y c.loop-line.line) (before c.args.corner.y c.loop-line.line c.args.lines (omega arith)) c.requires.ready; }
+    record {
+      ready = ready_within c.args.frame.now c.loop-line.frame (pos c.args.corner.y) (pos (c.args.corner.y + c.loop-line.line)) c.args.lines 1 c.loop-line.invariant.1 high
+          (from c.args.corner.y c.loop-line.line) (before c.args.corner.y c.loop-line.line c.args.lines (omega arith)) c.requires.ready;
+    }
   where
     from : (y line : ℕ) → int_le (pos y) (pos (y + line)) ≡ true
     from y line = grind (arith, ints)

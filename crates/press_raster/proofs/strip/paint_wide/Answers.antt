@@ -1,4 +1,7 @@
-use Rattle.std.proofs.Common.{◌≡◌, ◌*◌, ◌/◌, ◌∙◌, ◌<◌, ℕ, ap, sym, arith}
+use Rattle.std.specs.Prelude.{nat_eq, if◌then◌else◌}
+use Rattle.std.proofs.lemmas.Bool.Decides.{nat_tests}
+use Rattle.press_raster.proofs.WideLemmas.{enough_room, some_size}
+use Rattle.std.proofs.Common.{◌+◌, ◌-◌, ◌≢◌, Bool, false, length, subst, ◌≡◌, ◌*◌, ◌/◌, ◌∙◌, ◌<◌, ℕ, ap, sym, arith}
 use Rattle.std.proofs.lemmas.List.{with_items_is}
 use Rattle.press_bits.specs.Mark.{Row, painted, row, row_dot}
 use Rattle.press_bits.specs.Page.{Page}
@@ -7,6 +10,9 @@ use Rattle.press_raster.specs.Mark.{strip_mark}
 use Rattle.press_raster.proofs.AcrossLemmas.{covered_end}
 use Rattle.press_raster.proofs.StripLemmas.{painted_raster}
 use Rattle.press_raster.proofs.strip.paint_wide.Goals as goal
+
+not_one : (n : ℕ) → n ≢ 1 → nat_eq n 1 ≡ false
+not_one n apart = grind (arith, nat_tests)
 
 whole : (i : ℕ) → i ≡ i / 1
 whole i = omega arith
@@ -30,10 +36,11 @@ returns-clause-painted c =
     let frame : Page = c.args.frame.now.page in
     let source : Row = row c.args.source in
     let columns = across.columns in
-    let bits = c.spread.new.bits in
-    let read = c.deref.ensures.value ∙ with_items_is c.args.scratch.now.dots bits (c.spread.auto.bits ∙ c.deref_mut.ensures.len) in
+    let bits = c.widen.new.out in
+    let read = c.deref.ensures.value ∙ with_items_is c.args.scratch.now.dots bits (c.widen.auto.out ∙ c.deref_mut.ensures.len) in
+    let long : length c.deref_mut.result.now ≡ columns / 8 + across.size = ap length c.deref_mut.ensures.value ∙ c.requires.room.dots ∙ ap (λ (t : Bool). if t then 0 else columns / 8 + across.size) (not_one across.size c.if-size-eq1.false) in
     c.paint_lines-2.ensures.painted
     ∙ (λ i. painted frame (strip_mark Portrait frame.width frame.height across.left c.args.line columns across.size (row_dot (read i)) c.args.ink.now.tile c.args.ink.now.mode))
     ∙ painted_raster Portrait frame (record { x = across.left; y = c.args.line }) across.size columns source (row_dot bits) c.args.ink.now
     (covered_end across.left (across.size * source.dots) frame.width columns c.requires.columns)
-    c.spread.ensures
+    (λ i within. c.widen.ensures i (subst (λ n. i < 8 * (across.size * (n / across.size))) (sym long) (enough_room columns across.size i (some_size columns across.size source.dots (frame.width - across.left) c.requires.some c.requires.columns) within)))

@@ -8,7 +8,7 @@ use Rattle.press_raster.specs.Drawing.{layout, lines_of_row}
 use Rattle.press_raster.specs.Settings.{dot_size}
 use Rattle.press_raster.specs.declared.drawing.RowSetup.{RowSetup}
 use Rattle.press_raster.proofs.DrawingLemmas.{layout-painted, row_drawn}
-use Rattle.press_raster.proofs.RowsReadyLemmas.{rows_ready-row, size_fits}
+use Rattle.press_raster.proofs.RowsReadyLemmas.{rows_ready-row, size_fits, size_most}
 use Rattle.press_raster.proofs.drawing.Drawing.draw_row.Goals as goal
 
 pub paint_across-painted-requires-clause-ready : goal.paint_across-painted-requires-clause-ready
@@ -48,3 +48,8 @@ returns-else-moved-clause-item c =
     c.requires.setup (sym c.takes_row.ensures ∙ c.if-not-takes_row.false)
     (c.decode.ensures.row ∙ (λ i. raster_row c.args.row.method c.args.row.bytes.now (c.deref.ensures.value i) (long i)))
     (c.deref-2.ensures.value ∙ written) (c.take_row-taken.ensures.seed ∙ written) c.line-line.ensures c.take_row-taken.ensures.position c.move_down-moved.ensures.down c.paint_across-painted.ensures.painted
+
+pub paint_across-painted-requires-clause-most : goal.paint_across-painted-requires-clause-most
+paint_across-painted-requires-clause-most c =
+    let setup = c.args.setup.now in
+    subst (λ n. n ≤ 8) (sym (ap (λ (s : RowSetup). s.across.size) c.requires.setup.same)) (size_most setup.settings.resolution setup.environment.media.resolution)

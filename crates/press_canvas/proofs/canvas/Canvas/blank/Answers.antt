@@ -1,7 +1,7 @@
 use Rattle.std.proofs.Common.{◌∙◌, ap}
 use Rattle.press_canvas.specs.Turned.{page_of_frame}
 use Rattle.press_canvas.proofs.FrameLemmas.{frame_blank}
-use Rattle.press_canvas.proofs.frame.Frame.blank.Goals as goal
+use Rattle.press_canvas.proofs.canvas.Canvas.blank.Goals as goal
 
 pub returns : goal.returns
 returns c =
