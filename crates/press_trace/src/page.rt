@@ -180,8 +180,27 @@ fn told_open(
     ))
 }
 
-/// What is told of the open page now, where it was so before. The answer has the page of now, too. A page that does not lie upright
-/// is turned first.
+/// What is told of the open page now, which is this one, where it was so before. One that does not lie upright is turned first.
+fn told_canvas(
+    alloc: Global,
+    before: Option<Bitmap>,
+    after: &Canvas,
+) -> Result<(Option<Bitmap>, PageTold), AllocError>
+    ensures told { IfOk result (λ answer. IsPageTold before (Some after.now)
+        (option_map view answer.1.opened) (option_map view answer.1.page)) }
+    ensures page { IfOk result (λ answer. answer.0 ≡ Some after.now) }
+    ensures plain { IfOk result (λ answer. IsPlain answer.1) }
+{
+    match after.upright() {
+        Some(page) => told_open(alloc, before, page),
+        None => {
+            let page = after.page(alloc)?;
+            told_open(alloc, before, &page)
+        }
+    }
+}
+
+/// What is told of the open page now, where it was so before. The answer has the page of now, too.
 pub(crate) fn told_page(
     alloc: Global,
     before: Option<Bitmap>,
@@ -192,11 +211,8 @@ pub(crate) fn told_page(
     ensures page { IfOk result (λ answer. answer.0 ≡ option_map (λ page. page.now) now.entry) }
     ensures plain { IfOk result (λ answer. IsPlain answer.1) }
 {
-    let Some(after) = now else {
-        return Ok((None, closed(before)));
-    };
-    match after.upright() {
-        Some(page) => told_open(alloc, before, page),
-        None => told_open(alloc, before, &after.page(alloc)?),
+    match now {
+        Some(after) => told_canvas(alloc, before, after),
+        None => Ok((None, closed(before))),
     }
 }
