@@ -75,77 +75,58 @@ masks_1 = refl
 mask_of : (step fronts : ℕ) → every (masks step fronts) 64 ≡ true → (j : ℕ) → j < 64 → word_dot fronts j ≡ is_front step j
 mask_of step fronts all j low = same_of (word_dot fronts j) (is_front step j) (every_at (masks step fronts) 64 j all low)
 
-pub step_32 : IsStep 32 18446744069414584320
-step_32 = record {
-  some = omega arith;
-  small = omega arith;
-  fits = omega arith;
-  mask = mask_of 32 18446744069414584320 masks_32;
-  front = λ j low test. (grind (arith, nat_tests), grind (arith, nat_tests));
-  rear = λ j low test. (grind (arith, nat_tests), grind (arith, nat_tests));
-  before_front = λ j low test reached. grind (arith, nat_tests);
-  behind_rear = λ j low test. grind (arith, nat_tests);
+-- a step by its mask, and by what it does to a place
+is_step : (step fronts : ℕ) → 1 ≤ step → step < 64 → fronts < 18446744073709551616 → every (masks step fronts) 64 ≡ true →
+    ((j : ℕ) → j < 64 → is_front step j ≡ true → (j + step < 64) × (is_front step (j + step) ≡ false)) →
+    ((j : ℕ) → j < 64 → is_front step j ≡ false → (step ≤ j) × (is_front step (j - step) ≡ true)) →
+    ((j : ℕ) → j < 64 → is_front step j ≡ true → step ≤ j → is_front step (j - step) ≡ false) →
+    ((j : ℕ) → j < 64 → is_front step j ≡ false → is_front step (j + step) ≡ true) → IsStep step fronts
+is_step step fronts some small fits all front rear before_front behind_rear = record {
+  some = some;
+  small = small;
+  fits = fits;
+  mask = mask_of step fronts all;
+  front = front;
+  rear = rear;
+  before_front = before_front;
+  behind_rear = behind_rear;
 }
+
+pub step_32 : IsStep 32 18446744069414584320
+step_32 =
+    is_step 32 18446744069414584320 (omega arith) (omega arith) (omega arith) masks_32
+    (λ j low test. (grind (arith, nat_tests), grind (arith, nat_tests))) (λ j low test. (grind (arith, nat_tests), grind (arith, nat_tests)))
+    (λ j low test reached. grind (arith, nat_tests)) (λ j low test. grind (arith, nat_tests))
 
 pub step_16 : IsStep 16 18446462603027742720
-step_16 = record {
-  some = omega arith;
-  small = omega arith;
-  fits = omega arith;
-  mask = mask_of 16 18446462603027742720 masks_16;
-  front = λ j low test. (grind (arith, nat_tests), grind (arith, nat_tests));
-  rear = λ j low test. (grind (arith, nat_tests), grind (arith, nat_tests));
-  before_front = λ j low test reached. grind (arith, nat_tests);
-  behind_rear = λ j low test. grind (arith, nat_tests);
-}
+step_16 =
+    is_step 16 18446462603027742720 (omega arith) (omega arith) (omega arith) masks_16
+    (λ j low test. (grind (arith, nat_tests), grind (arith, nat_tests))) (λ j low test. (grind (arith, nat_tests), grind (arith, nat_tests)))
+    (λ j low test reached. grind (arith, nat_tests)) (λ j low test. grind (arith, nat_tests))
 
 pub step_8 : IsStep 8 18374966859414961920
-step_8 = record {
-  some = omega arith;
-  small = omega arith;
-  fits = omega arith;
-  mask = mask_of 8 18374966859414961920 masks_8;
-  front = λ j low test. (grind (arith, nat_tests), grind (arith, nat_tests));
-  rear = λ j low test. (grind (arith, nat_tests), grind (arith, nat_tests));
-  before_front = λ j low test reached. grind (arith, nat_tests);
-  behind_rear = λ j low test. grind (arith, nat_tests);
-}
+step_8 =
+    is_step 8 18374966859414961920 (omega arith) (omega arith) (omega arith) masks_8
+    (λ j low test. (grind (arith, nat_tests), grind (arith, nat_tests))) (λ j low test. (grind (arith, nat_tests), grind (arith, nat_tests)))
+    (λ j low test reached. grind (arith, nat_tests)) (λ j low test. grind (arith, nat_tests))
 
 pub step_4 : IsStep 4 17361641481138401520
-step_4 = record {
-  some = omega arith;
-  small = omega arith;
-  fits = omega arith;
-  mask = mask_of 4 17361641481138401520 masks_4;
-  front = λ j low test. (grind (arith, nat_tests), grind (arith, nat_tests));
-  rear = λ j low test. (grind (arith, nat_tests), grind (arith, nat_tests));
-  before_front = λ j low test reached. grind (arith, nat_tests);
-  behind_rear = λ j low test. grind (arith, nat_tests);
-}
+step_4 =
+    is_step 4 17361641481138401520 (omega arith) (omega arith) (omega arith) masks_4
+    (λ j low test. (grind (arith, nat_tests), grind (arith, nat_tests))) (λ j low test. (grind (arith, nat_tests), grind (arith, nat_tests)))
+    (λ j low test reached. grind (arith, nat_tests)) (λ j low test. grind (arith, nat_tests))
 
 pub step_2 : IsStep 2 14757395258967641292
-step_2 = record {
-  some = omega arith;
-  small = omega arith;
-  fits = omega arith;
-  mask = mask_of 2 14757395258967641292 masks_2;
-  front = λ j low test. (grind (arith, nat_tests), grind (arith, nat_tests));
-  rear = λ j low test. (grind (arith, nat_tests), grind (arith, nat_tests));
-  before_front = λ j low test reached. grind (arith, nat_tests);
-  behind_rear = λ j low test. grind (arith, nat_tests);
-}
+step_2 =
+    is_step 2 14757395258967641292 (omega arith) (omega arith) (omega arith) masks_2
+    (λ j low test. (grind (arith, nat_tests), grind (arith, nat_tests))) (λ j low test. (grind (arith, nat_tests), grind (arith, nat_tests)))
+    (λ j low test reached. grind (arith, nat_tests)) (λ j low test. grind (arith, nat_tests))
 
 pub step_1 : IsStep 1 12297829382473034410
-step_1 = record {
-  some = omega arith;
-  small = omega arith;
-  fits = omega arith;
-  mask = mask_of 1 12297829382473034410 masks_1;
-  front = λ j low test. (grind (arith, nat_tests), grind (arith, nat_tests));
-  rear = λ j low test. (grind (arith, nat_tests), grind (arith, nat_tests));
-  before_front = λ j low test reached. grind (arith, nat_tests);
-  behind_rear = λ j low test. grind (arith, nat_tests);
-}
+step_1 =
+    is_step 1 12297829382473034410 (omega arith) (omega arith) (omega arith) masks_1
+    (λ j low test. (grind (arith, nat_tests), grind (arith, nat_tests))) (λ j low test. (grind (arith, nat_tests), grind (arith, nat_tests)))
+    (λ j low test reached. grind (arith, nat_tests)) (λ j low test. grind (arith, nat_tests))
 
 pub front_test : (n : ℕ) → n ≡ 0 → nat_eq n 0 ≡ true
 front_test n is = ap (λ k. nat_eq k 0) is
@@ -391,113 +372,38 @@ IsTurnedDown size old words = (i j : ℕ) → i < 64 → j < 64 → block_dot wo
 abbrev pub Exchanges : (step : ℕ) → (words new : List ℕ) → Type 0
 Exchanges step words new = (i j : ℕ) → i < 64 → j < 64 → block_dot new i j ≡ block_dot words (line_from step i j) (dot_from step i j)
 
-pub down_32 : (old words new : List ℕ) → IsTurnedDown 64 old words → Exchanges 32 words new → IsTurnedDown 32 old new
-down_32 old words new before exchanged i j low_i low_j =
+down : (step size : ℕ) (old words new : List ℕ) → ((i j : ℕ) → i < 64 → j < 64 → line_from step i j < 64) → ((i j : ℕ) → i < 64 → j < 64 → dot_from step i j < 64) →
+    ((i j : ℕ) → dot_from step i j / size * size + line_from step i j % size ≡ j / step * step + i % step) →
+    ((i j : ℕ) → line_from step i j / size * size + dot_from step i j % size ≡ i / step * step + j % step) →
+    IsTurnedDown size old words → Exchanges step words new → IsTurnedDown step old new
+down step size old words new small small_dot line dot before exchanged i j low_i low_j =
     exchanged i j low_i low_j
-    ∙ before (line_from 32 i j) (dot_from 32 i j) (small i j low_i low_j) (small_dot i j low_i low_j)
+    ∙ before (line_from step i j) (dot_from step i j) (small i j low_i low_j) (small_dot i j low_i low_j)
     ∙ (λ t. block_dot old (line i j t) (dot i j t))
-  where
-    small : (i j : ℕ) → i < 64 → j < 64 → line_from 32 i j < 64
-    small i j low_i low_j = grind (arith, nat_tests)
 
-    small_dot : (i j : ℕ) → i < 64 → j < 64 → dot_from 32 i j < 64
-    small_dot i j low_i low_j = grind (arith, nat_tests)
-
-    line : (i j : ℕ) → dot_from 32 i j / 64 * 64 + line_from 32 i j % 64 ≡ j / 32 * 32 + i % 32
-    line i j = grind (arith, nat_tests)
-
-    dot : (i j : ℕ) → line_from 32 i j / 64 * 64 + dot_from 32 i j % 64 ≡ i / 32 * 32 + j % 32
-    dot i j = grind (arith, nat_tests)
+pub down_32 : (old words new : List ℕ) → IsTurnedDown 64 old words → Exchanges 32 words new → IsTurnedDown 32 old new
+down_32 old words new =
+    down 32 64 old words new (λ i j low_i low_j. grind (arith, nat_tests)) (λ i j low_i low_j. grind (arith, nat_tests)) (λ i j. grind (arith, nat_tests)) (λ i j. grind (arith, nat_tests))
 
 pub down_16 : (old words new : List ℕ) → IsTurnedDown 32 old words → Exchanges 16 words new → IsTurnedDown 16 old new
-down_16 old words new before exchanged i j low_i low_j =
-    exchanged i j low_i low_j
-    ∙ before (line_from 16 i j) (dot_from 16 i j) (small i j low_i low_j) (small_dot i j low_i low_j)
-    ∙ (λ t. block_dot old (line i j t) (dot i j t))
-  where
-    small : (i j : ℕ) → i < 64 → j < 64 → line_from 16 i j < 64
-    small i j low_i low_j = grind (arith, nat_tests)
-
-    small_dot : (i j : ℕ) → i < 64 → j < 64 → dot_from 16 i j < 64
-    small_dot i j low_i low_j = grind (arith, nat_tests)
-
-    line : (i j : ℕ) → dot_from 16 i j / 32 * 32 + line_from 16 i j % 32 ≡ j / 16 * 16 + i % 16
-    line i j = grind (arith, nat_tests)
-
-    dot : (i j : ℕ) → line_from 16 i j / 32 * 32 + dot_from 16 i j % 32 ≡ i / 16 * 16 + j % 16
-    dot i j = grind (arith, nat_tests)
+down_16 old words new =
+    down 16 32 old words new (λ i j low_i low_j. grind (arith, nat_tests)) (λ i j low_i low_j. grind (arith, nat_tests)) (λ i j. grind (arith, nat_tests)) (λ i j. grind (arith, nat_tests))
 
 pub down_8 : (old words new : List ℕ) → IsTurnedDown 16 old words → Exchanges 8 words new → IsTurnedDown 8 old new
-down_8 old words new before exchanged i j low_i low_j =
-    exchanged i j low_i low_j
-    ∙ before (line_from 8 i j) (dot_from 8 i j) (small i j low_i low_j) (small_dot i j low_i low_j)
-    ∙ (λ t. block_dot old (line i j t) (dot i j t))
-  where
-    small : (i j : ℕ) → i < 64 → j < 64 → line_from 8 i j < 64
-    small i j low_i low_j = grind (arith, nat_tests)
-
-    small_dot : (i j : ℕ) → i < 64 → j < 64 → dot_from 8 i j < 64
-    small_dot i j low_i low_j = grind (arith, nat_tests)
-
-    line : (i j : ℕ) → dot_from 8 i j / 16 * 16 + line_from 8 i j % 16 ≡ j / 8 * 8 + i % 8
-    line i j = grind (arith, nat_tests)
-
-    dot : (i j : ℕ) → line_from 8 i j / 16 * 16 + dot_from 8 i j % 16 ≡ i / 8 * 8 + j % 8
-    dot i j = grind (arith, nat_tests)
+down_8 old words new =
+    down 8 16 old words new (λ i j low_i low_j. grind (arith, nat_tests)) (λ i j low_i low_j. grind (arith, nat_tests)) (λ i j. grind (arith, nat_tests)) (λ i j. grind (arith, nat_tests))
 
 pub down_4 : (old words new : List ℕ) → IsTurnedDown 8 old words → Exchanges 4 words new → IsTurnedDown 4 old new
-down_4 old words new before exchanged i j low_i low_j =
-    exchanged i j low_i low_j
-    ∙ before (line_from 4 i j) (dot_from 4 i j) (small i j low_i low_j) (small_dot i j low_i low_j)
-    ∙ (λ t. block_dot old (line i j t) (dot i j t))
-  where
-    small : (i j : ℕ) → i < 64 → j < 64 → line_from 4 i j < 64
-    small i j low_i low_j = grind (arith, nat_tests)
-
-    small_dot : (i j : ℕ) → i < 64 → j < 64 → dot_from 4 i j < 64
-    small_dot i j low_i low_j = grind (arith, nat_tests)
-
-    line : (i j : ℕ) → dot_from 4 i j / 8 * 8 + line_from 4 i j % 8 ≡ j / 4 * 4 + i % 4
-    line i j = grind (arith, nat_tests)
-
-    dot : (i j : ℕ) → line_from 4 i j / 8 * 8 + dot_from 4 i j % 8 ≡ i / 4 * 4 + j % 4
-    dot i j = grind (arith, nat_tests)
+down_4 old words new =
+    down 4 8 old words new (λ i j low_i low_j. grind (arith, nat_tests)) (λ i j low_i low_j. grind (arith, nat_tests)) (λ i j. grind (arith, nat_tests)) (λ i j. grind (arith, nat_tests))
 
 pub down_2 : (old words new : List ℕ) → IsTurnedDown 4 old words → Exchanges 2 words new → IsTurnedDown 2 old new
-down_2 old words new before exchanged i j low_i low_j =
-    exchanged i j low_i low_j
-    ∙ before (line_from 2 i j) (dot_from 2 i j) (small i j low_i low_j) (small_dot i j low_i low_j)
-    ∙ (λ t. block_dot old (line i j t) (dot i j t))
-  where
-    small : (i j : ℕ) → i < 64 → j < 64 → line_from 2 i j < 64
-    small i j low_i low_j = grind (arith, nat_tests)
-
-    small_dot : (i j : ℕ) → i < 64 → j < 64 → dot_from 2 i j < 64
-    small_dot i j low_i low_j = grind (arith, nat_tests)
-
-    line : (i j : ℕ) → dot_from 2 i j / 4 * 4 + line_from 2 i j % 4 ≡ j / 2 * 2 + i % 2
-    line i j = grind (arith, nat_tests)
-
-    dot : (i j : ℕ) → line_from 2 i j / 4 * 4 + dot_from 2 i j % 4 ≡ i / 2 * 2 + j % 2
-    dot i j = grind (arith, nat_tests)
+down_2 old words new =
+    down 2 4 old words new (λ i j low_i low_j. grind (arith, nat_tests)) (λ i j low_i low_j. grind (arith, nat_tests)) (λ i j. grind (arith, nat_tests)) (λ i j. grind (arith, nat_tests))
 
 pub down_1 : (old words new : List ℕ) → IsTurnedDown 2 old words → Exchanges 1 words new → IsTurnedDown 1 old new
-down_1 old words new before exchanged i j low_i low_j =
-    exchanged i j low_i low_j
-    ∙ before (line_from 1 i j) (dot_from 1 i j) (small i j low_i low_j) (small_dot i j low_i low_j)
-    ∙ (λ t. block_dot old (line i j t) (dot i j t))
-  where
-    small : (i j : ℕ) → i < 64 → j < 64 → line_from 1 i j < 64
-    small i j low_i low_j = grind (arith, nat_tests)
-
-    small_dot : (i j : ℕ) → i < 64 → j < 64 → dot_from 1 i j < 64
-    small_dot i j low_i low_j = grind (arith, nat_tests)
-
-    line : (i j : ℕ) → dot_from 1 i j / 2 * 2 + line_from 1 i j % 2 ≡ j / 1 * 1 + i % 1
-    line i j = grind (arith, nat_tests)
-
-    dot : (i j : ℕ) → line_from 1 i j / 2 * 2 + dot_from 1 i j % 2 ≡ i / 1 * 1 + j % 1
-    dot i j = grind (arith, nat_tests)
+down_1 old words new =
+    down 1 2 old words new (λ i j low_i low_j. grind (arith, nat_tests)) (λ i j low_i low_j. grind (arith, nat_tests)) (λ i j. grind (arith, nat_tests)) (λ i j. grind (arith, nat_tests))
 
 pub not_turned : (old : List ℕ) → IsTurnedDown 64 old old
 not_turned old i j low_i low_j =
