@@ -1,4 +1,5 @@
 pub mod Ascii
+pub mod Faults
 pub mod Field
 pub mod Limits
 pub mod Measure

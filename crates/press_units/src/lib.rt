@@ -8,7 +8,7 @@ mod fault;
 mod position;
 mod value;
 
-pub use fault::NO_MEMORY;
+pub use fault::{NO_MEMORY, ToldFault};
 pub use position::{
     POSITIONS_PER_INCH, Pos, RESOLUTIONS, Resolution, Unit, UnitOfMeasure, dot, position_of, to_pos,
 };
