@@ -1,12 +1,18 @@
 -- Replies at which a fuse has its fault.
-use Rattle.std.proofs.Common.{◌≡◌, ◌∙◌, ◌<◌, ◌+◌, ℕ, List, [], ◌++◌, Result, Ok, Err, refl, ap, append_assoc, arith}
-use Rattle.std.proofs.KnownBytes.{Appends-nil, Appends-kept}
+use Rattle.std.proofs.Common.{◌≡◌, ◌∙◌, ◌<◌, ◌+◌, ℕ, List, ◌++◌, Result, Ok, Err, sym, ap, subst, append_assoc, arith}
 use Rattle.press_sink.specs.declared.fault.ReplyError.{ReplyError}
-use Rattle.press_sink.specs.declared.fault.ReplyError.TheVariants.{ReplyFault, NoMemory}
+use Rattle.press_sink.specs.declared.fault.ReplyError.TheVariants.{ReplyFault}
 use Rattle.press_sink.specs.Told.{RepliesTold, Replies, most_faults, replies_with_own_faults}
 
--- a front of a reply was handed on, whatever came of it, and one more fault was its own
-pub fuse-fault : (old new : RepliesTold) (own more : ℕ) (front back bytes : List ℕ) (answer : Result (Unit {0}) ReplyError) → bytes ≡ front ++ back → Replies old front answer new → old.faults + own < most_faults → own < more → Replies (replies_with_own_faults old own) bytes (Err ReplyFault) (replies_with_own_faults new more)
-fuse-fault old new own more front back bytes (Ok done) split replied below rises = (front, back, split, replied.0, omega (arith, replied.1))
-fuse-fault old new own more front back bytes (Err ReplyFault) split (first, rest, parts, appends, fault) below rises = (first, rest ++ back, split ∙ ap (λ all. all ++ back) parts ∙ append_assoc first rest back, appends, omega arith)
-fuse-fault old new own more front back bytes (Err NoMemory) split replied below rises = ([], bytes, refl, Appends-kept old.replied old.replied new.replied [] (Appends-nil old.replied) replied.0, omega (arith, replied.1))
+-- a front of a reply was handed on, at which the other sink had a fault
+pub fuse-passed : (old new : RepliesTold) (own : ℕ) (front back bytes : List ℕ) (error : ReplyError) → error ≡ ReplyFault → bytes ≡ front ++ back → Replies old front (Err error) new → old.faults + own < most_faults → Replies (replies_with_own_faults old own) bytes (Err ReplyFault) (replies_with_own_faults new own)
+fuse-passed old new own front back bytes error is split replied below =
+    let (first, rest, parts, appends, fault) = subst (λ (one : ReplyError). Replies old front (Err one) new) is replied in
+    (first, rest ++ back, split ∙ ap (λ all. all ++ back) parts ∙ append_assoc first rest back, appends, omega (arith, fault, below))
+
+-- it was handed on whole, and the fault was the fuse's own
+pub fuse-fault : (old new after : RepliesTold) (own more : ℕ) (front back bytes : List ℕ) (result : Result (Unit {0}) ReplyError) → result ≡ Err ReplyFault → after ≡ new → bytes ≡ front ++ back → Replies old front (Ok tt) new → more ≡ own + 1 → old.faults + own < most_faults → Replies (replies_with_own_faults old own) bytes result (replies_with_own_faults after more)
+fuse-fault old new after own more front back bytes result is same split replied counts below =
+    subst (λ one. Replies (replies_with_own_faults old own) bytes one (replies_with_own_faults after more)) (sym is)
+    (subst (λ (told : RepliesTold). Replies (replies_with_own_faults old own) bytes (Err ReplyFault) (replies_with_own_faults told more)) (sym same)
+    (front, back, split, replied.0, omega (arith, replied.1, counts, below)))

@@ -1,5 +1,5 @@
 -- Outputs that go out one after another.
-use Rattle.std.proofs.Common.{◌≡◌, ◌∙◌, ◌<◌, ℕ, List, [], ◌∷◌, ◌++◌, Option, Some, None, map, option_map, refl, sym, ap, subst}
+use Rattle.std.proofs.Common.{◌≡◌, ◌∙◌, ◌+◌, ℕ, List, [], ◌∷◌, ◌++◌, Option, Some, None, map, option_map, refl, sym, ap, subst}
 use Rattle.std.proofs.lemmas.List.{append_assoc, append-nil, map-append}
 use Rattle.std.proofs.KnownBytes.{Appends-nil, Appends-trans}
 use Rattle.std.specs.Io.KnownBytes.{Appends}
@@ -83,7 +83,7 @@ WentOut-then tag outputs others AtSheet before between after first then = record
   outputs_are = ap (λ more. outputs ++ more) then.outputs_are ∙ sym (append_assoc outputs then.taken (Deliver then.sheet ∷ then.others));
   delivered = delivered-then tag outputs then.taken _ _ _ first.delivered then.delivered;
   replied = replied-then outputs (reply_bytes_of then.taken) _ before.replies.replied between.replies.replied after.replies.replied first.replied then.replied (reply_bytes_of-append outputs then.taken);
-  fault = subst (λ (n : ℕ). n < after.sheets.faults) first.sheet_faults then.fault;
+  fault = then.fault ∙ ap (λ (n : ℕ). n + 1) first.sheet_faults;
   reply_faults = then.reply_faults ∙ first.reply_faults;
 }
 WentOut-then tag outputs others AtReply before between after first then = record {
@@ -95,7 +95,7 @@ WentOut-then tag outputs others AtReply before between after first then = record
   delivered = delivered-then tag outputs then.taken _ _ _ first.delivered then.delivered;
   replied = replied-then outputs (reply_bytes_of then.taken ++ then.front) _ before.replies.replied between.replies.replied after.replies.replied first.replied then.replied (ap (λ more. more ++ then.front) (reply_bytes_of-append outputs then.taken) ∙ append_assoc (reply_bytes_of outputs) (reply_bytes_of then.taken) then.front);
   sheet_faults = then.sheet_faults ∙ first.sheet_faults;
-  fault = subst (λ (n : ℕ). n < after.replies.faults) first.reply_faults then.fault;
+  fault = then.fault ∙ ap (λ (n : ℕ). n + 1) first.reply_faults;
 }
 WentOut-then tag outputs others ForMemory before between after first then = record {
   taken = outputs ++ then.taken;

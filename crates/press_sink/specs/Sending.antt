@@ -1,5 +1,5 @@
 -- Outputs, and how far they went out to the two sinks.
-use Rattle.std.specs.Prelude.{◌≡◌, ◌<◌, ◌++◌, ℕ, List, [], ◌∷◌, map, option_map}
+use Rattle.std.specs.Prelude.{◌≡◌, ◌+◌, ◌++◌, ℕ, List, [], ◌∷◌, map, option_map}
 use Rattle.std.specs.Io.KnownBytes.{Appends}
 use Rattle.press_sink.specs.Sides.{Sides}
 use Rattle.press_sink.specs.declared.sheet.Delivery.{Delivery}
@@ -45,7 +45,7 @@ pub record TookAll (tag : ℕ) (outputs : List Output) (before after : Told) : T
   pub sheet_faults : after.sheets.faults ≡ before.sheets.faults
   pub reply_faults : after.replies.faults ≡ before.replies.faults
 
--- They took the outputs before a sheet, and at that sheet the sheet sink had a fault.
+-- They took the outputs before a sheet, and at that sheet the sheet sink had one fault more.
 pub record StoppedAtSheet (tag : ℕ) (outputs : List Output) (before after : Told) : Type 0 where
   pub taken : List Output
   pub sheet : Sides
@@ -53,10 +53,10 @@ pub record StoppedAtSheet (tag : ℕ) (outputs : List Output) (before after : To
   pub outputs_are : outputs ≡ taken ++ (Deliver sheet ∷ others)
   pub delivered : after.sheets.delivered ≡ option_map (λ all. all ++ under_tag tag (sheets_of taken)) before.sheets.delivered
   pub replied : Appends before.replies.replied after.replies.replied (reply_bytes_of taken)
-  pub fault : before.sheets.faults < after.sheets.faults
+  pub fault : after.sheets.faults ≡ before.sheets.faults + 1
   pub reply_faults : after.replies.faults ≡ before.replies.faults
 
--- They took the outputs before a reply and a front of that reply, and the reply sink had a fault.
+-- They took the outputs before a reply and a front of that reply, and the reply sink had one fault more.
 pub record StoppedAtReply (tag : ℕ) (outputs : List Output) (before after : Told) : Type 0 where
   pub taken : List Output
   pub front : List ℕ
@@ -66,7 +66,7 @@ pub record StoppedAtReply (tag : ℕ) (outputs : List Output) (before after : To
   pub delivered : after.sheets.delivered ≡ option_map (λ all. all ++ under_tag tag (sheets_of taken)) before.sheets.delivered
   pub replied : Appends before.replies.replied after.replies.replied (reply_bytes_of taken ++ front)
   pub sheet_faults : after.sheets.faults ≡ before.sheets.faults
-  pub fault : before.replies.faults < after.replies.faults
+  pub fault : after.replies.faults ≡ before.replies.faults + 1
 
 -- They took the first of the outputs, and then memory ran out.
 pub record StoppedForMemory (tag : ℕ) (outputs : List Output) (before after : Told) : Type 0 where

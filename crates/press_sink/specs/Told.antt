@@ -47,11 +47,11 @@ pub record CanCount (told : Told) : Type 0 where
   pub sheets : told.sheets.faults < most_faults
   pub replies : told.replies.faults < most_faults
 
--- A sheet is delivered: it is added, or the sink had a fault and nothing is added, or memory ran out and nothing changes.
+-- A sheet is delivered: it is added, or the sink had one fault more and nothing is added, or memory ran out and nothing changes.
 abbrev pub Delivers : SheetsTold → Delivery → Result (Unit {0}) SinkError → SheetsTold → Type 0
 Delivers old delivery (Ok _) new =
     (new.delivered ≡ option_map (λ all. all ++ delivery ∷ []) old.delivered) × (new.faults ≡ old.faults)
-Delivers old delivery (Err sink_errors.SinkFault) new = (new.delivered ≡ old.delivered) × (old.faults < new.faults)
+Delivers old delivery (Err sink_errors.SinkFault) new = (new.delivered ≡ old.delivered) × (new.faults ≡ old.faults + 1)
 Delivers old delivery (Err sink_errors.NoMemory) new = (new.delivered ≡ old.delivered) × (new.faults ≡ old.faults)
 
 -- What the sink took last, where it tells what it took, is this.
@@ -59,12 +59,12 @@ abbrev pub TookLast : SheetsTold → Delivery → Type 0
 TookLast told delivery =
     (before : Option (List Delivery)) × (told.delivered ≡ option_map (λ all. all ++ delivery ∷ []) before)
 
--- A reply is written: known bytes grow by it, or the sink had a fault and they grow by a front of it, or memory ran out
+-- A reply is written: known bytes grow by it, or the sink had one fault more and they grow by a front of it, or memory ran out
 -- and they stay as they were.
 abbrev pub Replies : RepliesTold → List ℕ → Result (Unit {0}) ReplyError → RepliesTold → Type 0
 Replies old bytes (Ok _) new = Appends old.replied new.replied bytes × (new.faults ≡ old.faults)
 Replies old bytes (Err reply_errors.ReplyFault) new =
-    (front back : List ℕ) × (bytes ≡ front ++ back) × Appends old.replied new.replied front × (old.faults < new.faults)
+    (front back : List ℕ) × (bytes ≡ front ++ back) × Appends old.replied new.replied front × (new.faults ≡ old.faults + 1)
 Replies old bytes (Err reply_errors.NoMemory) new = Keeps old.replied new.replied × (new.faults ≡ old.faults)
 
 -- A reply was handed on to a sink, whatever that answered.

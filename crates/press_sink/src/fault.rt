@@ -1,41 +1,119 @@
-//! Why sheets and replies do not go out, and what is told then (this profile).
-use press_units::NO_MEMORY;
+//! Why sheets and replies do not go out, and the numbers of these faults (this profile).
+ghost use Rattle.std.specs.Prelude.{◌≡◌};
+ghost use Rattle.press_sink.specs.Faults.{sink_number, reply_number, template_number};
+
+use press_units::ToldFault;
 use std::alloc::AllocError;
-use thiserror::Error;
+use std::error::Error;
+use std::fmt;
 
-/// What is told where a sheet sink had a fault.
-pub const SINK_FAULT: &str = "fault 301";
+/// The number of a sheet sink's fault.
+pub const SINK_FAULT: u16 = 301;
 
-/// What is told where a reply sink had a fault.
-pub const REPLY_FAULT: &str = "fault 302";
+/// The number of a reply sink's fault.
+pub const REPLY_FAULT: u16 = 302;
+
+/// The number of [`TemplateError::BadTemplate`].
+const BAD_TEMPLATE: u16 = 121;
 
 /// Why a sheet was not delivered.
-#[derive(Debug, Drop, Error)]
+#[derive(Debug, Drop)]
 pub enum SinkError {
-    #[error("{text}", text = SINK_FAULT)]
+    /// The sink had a fault.
     SinkFault,
-    #[error("{text}", text = NO_MEMORY)]
     NoMemory,
 }
 
 /// Why a reply was not written, or not all of it.
-#[derive(Debug, Drop, Error)]
+#[derive(Debug, Drop)]
 pub enum ReplyError {
-    #[error("{text}", text = REPLY_FAULT)]
+    /// The sink had a fault.
     ReplyFault,
-    #[error("{text}", text = NO_MEMORY)]
     NoMemory,
 }
 
 /// Why a text is no template of file names.
-#[derive(Debug, Drop, Error)]
+#[derive(Debug, Drop)]
 pub enum TemplateError {
     /// `%d` does not stand in it exactly once.
-    #[error("fault 121")]
     BadTemplate,
-    #[error("{text}", text = NO_MEMORY)]
     NoMemory,
 }
+
+impl SinkError {
+    /// Its number: 301, unless memory ran out.
+    pub fn number(&self) -> Option<u16>
+        ensures { result ≡ sink_number self.now }
+    {
+        match self {
+            SinkError::SinkFault => Some(SINK_FAULT),
+            SinkError::NoMemory => None,
+        }
+    }
+}
+
+impl ReplyError {
+    /// Its number: 302, unless memory ran out.
+    pub fn number(&self) -> Option<u16>
+        ensures { result ≡ reply_number self.now }
+    {
+        match self {
+            ReplyError::ReplyFault => Some(REPLY_FAULT),
+            ReplyError::NoMemory => None,
+        }
+    }
+}
+
+impl TemplateError {
+    /// Its number: 121, unless memory ran out.
+    pub fn number(&self) -> Option<u16>
+        ensures { result ≡ template_number self.now }
+    {
+        match self {
+            TemplateError::BadTemplate => Some(BAD_TEMPLATE),
+            TemplateError::NoMemory => None,
+        }
+    }
+}
+
+impl fmt::Display for SinkError {
+    ghost use Rattle.std.specs.Prelude.{Some};
+    ghost use Rattle.press_units.specs.Faults.{fault_text};
+
+    ghost output = { λ error. Some (fault_text (sink_number error)) };
+
+    fn fmt<W: fmt::Write>(&self, f: &mut fmt::Formatter<W>) -> fmt::Result {
+        write!(f, "{}", ToldFault(self.number()))
+    }
+}
+
+impl Error for SinkError {}
+
+impl fmt::Display for ReplyError {
+    ghost use Rattle.std.specs.Prelude.{Some};
+    ghost use Rattle.press_units.specs.Faults.{fault_text};
+
+    ghost output = { λ error. Some (fault_text (reply_number error)) };
+
+    fn fmt<W: fmt::Write>(&self, f: &mut fmt::Formatter<W>) -> fmt::Result {
+        write!(f, "{}", ToldFault(self.number()))
+    }
+}
+
+impl Error for ReplyError {}
+
+impl fmt::Display for TemplateError {
+    ghost use Rattle.std.specs.Prelude.{Some};
+    ghost use Rattle.press_units.specs.Faults.{fault_text};
+
+    ghost output = { λ error. Some (fault_text (template_number error)) };
+
+    fn fmt<W: fmt::Write>(&self, f: &mut fmt::Formatter<W>) -> fmt::Result {
+        write!(f, "{}", ToldFault(self.number()))
+    }
+}
+
+impl Error for TemplateError {}
 
 impl From<AllocError> for TemplateError {
     ghost use Rattle.std.specs.Prelude.{◌≡◌};

@@ -1,5 +1,5 @@
 //! A reply sink that has one fault, for tests.
-ghost use Rattle.std.specs.Prelude.{◌≡◌, ◌≢◌, ◌<◌, Some, IsErrOf, take};
+ghost use Rattle.std.specs.Prelude.{◌≡◌, ◌≢◌, ◌<◌, ◌+◌, Some, IsErrOf, take};
 ghost use Rattle.press_sink.specs.Told.{Replies, HandsOn, most_faults, replies_with_own_faults};
 ghost use Rattle.press_sink.specs.Kept.{inner_replies, replies_left, passed_front, left_after, own_reply_faults};
 
@@ -32,6 +32,19 @@ impl<S: ReplySink + Drop> FuseReplies<S> {
             front: bytes,
             faults: 0,
         }
+    }
+
+    /// Has the one fault.
+    fn blow(&mut self) -> Result<(), ReplyError>
+        requires { own_reply_faults self.old < most_faults }
+        ensures fault { IsErrOf result ReplyError.ReplyFault }
+        ensures counts { own_reply_faults self.new ≡ own_reply_faults self.old + 1 }
+        ensures sink { inner_replies self.new ≡ inner_replies self.old }
+        ensures left { replies_left self.new ≡ replies_left self.old }
+        ensures front { passed_front self.new ≡ passed_front self.old }
+    {
+        self.faults += 1;
+        Err(ReplyError::ReplyFault)
     }
 
     /// The sink to which replies are passed on.
@@ -68,10 +81,14 @@ impl<S: ReplySink + Drop> ReplySink for FuseReplies<S> {
     {
         match self.left {
             Some(0) => {
-                let _ = self.sink.reply(&bytes[..self.front.min(bytes.len())]);
                 self.left = None;
-                self.faults = self.faults.saturating_add(1);
-                Err(ReplyError::ReplyFault)
+                let front = &bytes[..self.front.min(bytes.len())];
+                match self.sink.reply(front) {
+                    // The other sink had the fault.
+                    Err(ReplyError::ReplyFault) => Err(ReplyError::ReplyFault),
+                    Err(ReplyError::NoMemory) => self.blow(),
+                    Ok(()) => self.blow(),
+                }
             }
             Some(left) => {
                 self.left = Some(left - 1);

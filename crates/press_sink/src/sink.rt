@@ -18,7 +18,7 @@ pub trait SheetSink {
     ///
     /// # Errors
     ///
-    /// `SinkFault` (301): nothing was added, and the count of faults rose. `NoMemory`: nothing changed.
+    /// `SinkFault` (301): nothing was added, and the sink had one fault more. `NoMemory`: nothing changed.
     fn deliver(&mut self, tag: u64, sheet: &Sheet) -> Result<(), SinkError>
         requires { (told self.old).faults < most_faults }
         ensures { Delivers (told self.old)
@@ -52,7 +52,7 @@ pub trait ReplySink {
     ///
     /// # Errors
     ///
-    /// `ReplyFault` (302): a front of them was added, and the count of faults rose. `NoMemory`: nothing changed.
+    /// `ReplyFault` (302): a front of them was added, and the sink had one fault more. `NoMemory`: nothing changed.
     fn reply(&mut self, bytes: &[u8]) -> Result<(), ReplyError>
         requires { (told self.old).faults < most_faults }
         ensures { Replies (told self.old) bytes.now result (told self.new) };

@@ -1,7 +1,14 @@
-use Rattle.std.proofs.Common.{arith, drop, sym, take-append-drop}
-use Rattle.press_sink.proofs.FuseLemmas.{fuse-fault}
+use Rattle.std.proofs.Common.{arith, ap, drop, sym, take, take-append-drop}
+use Rattle.press_sink.proofs.FuseLemmas.{fuse-fault, fuse-passed}
 use Rattle.press_sink.proofs.fuse_replies.FuseRepliesReplySink.reply.Goals as goal
 
-pub returns-in-Some-eq0-clause-replies : goal.returns-in-Some-eq0-clause-replies
-returns-in-Some-eq0-clause-replies g c =
-    fuse-fault _ _ c.args.self.now.faults c.saturating_add-self.result _ (drop c.min.result c.args.bytes.now) c.args.bytes.now c.reply.result (sym (take-append-drop c.min.result c.args.bytes.now)) c.reply.ensures (omega arith) (omega arith)
+pub returns-in-Err-ReplyFault-clause-replies : goal.returns-in-Err-ReplyFault-clause-replies
+returns-in-Err-ReplyFault-clause-replies g c =
+    fuse-passed (g.S.ReplySink.told c.args.self.now.sink) (g.S.ReplySink.told c.reply.new.self) c.args.self.now.faults (take c.min.result c.args.bytes.now) (drop c.min.result c.args.bytes.now) c.args.bytes.now
+    c.in-Err-ReplyFault.field-0 c.in-Err-ReplyFault.field-0-is (sym (take-append-drop c.min.result c.args.bytes.now)) c.in-Err-ReplyFault.ensures (omega arith)
+
+pub returns-in-Ok-clause-replies : goal.returns-in-Ok-clause-replies
+returns-in-Ok-clause-replies g c =
+    fuse-fault (g.S.ReplySink.told c.args.self.now.sink) (g.S.ReplySink.told c.reply.new.self) (g.S.ReplySink.told c.blow-in-Ok.new.self.sink) c.args.self.now.faults c.blow-in-Ok.new.self.faults
+    (take c.min.result c.args.bytes.now) (drop c.min.result c.args.bytes.now) c.args.bytes.now c.blow-in-Ok.result c.blow-in-Ok.ensures.fault (ap (λ s. g.S.ReplySink.told s) c.blow-in-Ok.ensures.sink)
+    (sym (take-append-drop c.min.result c.args.bytes.now)) c.in-Ok.ensures c.blow-in-Ok.ensures.counts (omega arith)
