@@ -4,9 +4,10 @@ ghost use Rattle.std.specs.Prelude.{◌≡◌};
 ghost use Rattle.press_ticket.specs.Faults.{fault_number};
 
 use crate::key::Key;
-use press_units::NO_MEMORY;
+use press_units::ToldFault;
 use std::alloc::AllocError;
-use thiserror::Error;
+use std::error::Error;
+use std::fmt;
 
 /// The number of [`TicketError::NotJson`].
 const NOT_JSON: u16 = 601;
@@ -22,25 +23,19 @@ const BAD_AMOUNT: u16 = 605;
 /// Why a text or a value is no ticket.
 ///
 /// Source: the numbers are this profile's.
-#[derive(Debug, Drop, Error)]
+#[derive(Debug, Drop)]
 pub enum TicketError {
     /// It is no JSON text, or no object.
-    #[error("fault {number}", number = NOT_JSON)]
     NotJson,
     /// This key is unknown, or absent, or has a value that it may not have.
-    #[error("fault {number} key {0}", number = NOT_PROFILE)]
     NotProfile(Key),
     /// The process is none that this press carries out.
-    #[error("fault {number}", number = WRONG_PROCESS)]
     WrongProcess,
     /// The number of pages, or a page, is out of range, or there are too many pages.
-    #[error("fault {number}", number = BAD_RANGE)]
     BadRange,
     /// The number of copies is out of range.
-    #[error("fault {number}", number = BAD_AMOUNT)]
     BadAmount,
     /// Memory ran out.
-    #[error("{text}", text = NO_MEMORY)]
     NoMemory,
 }
 
@@ -59,6 +54,23 @@ impl TicketError {
         }
     }
 }
+
+/// The fault, and the key of one that has a key.
+impl fmt::Display for TicketError {
+    ghost use Rattle.press_ticket.specs.Faults.{told_text};
+
+    ghost output = { told_text };
+
+    fn fmt<W: fmt::Write>(&self, f: &mut fmt::Formatter<W>) -> fmt::Result {
+        let fault = ToldFault(self.number());
+        match self {
+            TicketError::NotProfile(key) => write!(f, "{fault} key {key}"),
+            _ => write!(f, "{fault}"),
+        }
+    }
+}
+
+impl Error for TicketError {}
 
 impl From<AllocError> for TicketError {
     ghost use Rattle.std.specs.Prelude.{◌≡◌};

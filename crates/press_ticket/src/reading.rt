@@ -1,10 +1,11 @@
 //! Tickets read from JSON.
 
-ghost use Rattle.std.specs.Prelude.{◌≡◌, ◌≢◌, IfOk, IfErr, Ok, Err, Some, None};
+ghost use Rattle.std.specs.Prelude.{◌≡◌, ◌≢◌, IfOk, IfErr, IsTrue, Ok, Err, Some, None};
 ghost use Rattle.serde_json.specs.Find.{as_object};
 ghost use Rattle.serde_json.specs.View.{view};
 ghost use Rattle.press_ticket.specs.declared.fault.TicketError.TheVariants.{NoMemory, NotJson};
 ghost use Rattle.press_ticket.specs.Reading.{json_of, ticket_from, ticket_in};
+ghost use Rattle.press_ticket.specs.Ticket.{is_in_range};
 
 use crate::fault::TicketError;
 use crate::ticket::Ticket;
@@ -25,6 +26,7 @@ use std::alloc::Global;
 /// refusals are this profile's.
 pub fn ticket_of(alloc: Global, value: &Value) -> Result<Ticket, TicketError>
     ensures ok { IfOk result (λ ticket. ticket_from (view value.now) ≡ Ok ticket) }
+    ensures limits { IfOk result (λ ticket. IsTrue (is_in_range ticket)) }
     ensures err { IfErr result (λ error. error ≢ NoMemory
         → ticket_from (view value.now) ≡ Err error) }
     ensures no_object { as_object (view value.now) ≡ None → result ≡ Err NotJson }
@@ -50,6 +52,7 @@ pub fn ticket_of(alloc: Global, value: &Value) -> Result<Ticket, TicketError>
 /// Source: as of [`ticket_of`]; JSON is RFC 8259, nested at most 127 deep.
 pub fn read_ticket(alloc: Global, bytes: &[u8]) -> Result<Ticket, TicketError>
     ensures ok { IfOk result (λ ticket. ticket_in bytes.now ≡ Ok ticket) }
+    ensures limits { IfOk result (λ ticket. IsTrue (is_in_range ticket)) }
     ensures err { IfErr result (λ error. error ≢ NoMemory → ticket_in bytes.now ≡ Err error) }
 {
     let value = parse(alloc, bytes)?;

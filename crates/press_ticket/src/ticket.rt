@@ -43,14 +43,14 @@ impl Model for Ticket {
 }
 
 impl Ticket {
-    ghost use Rattle.std.specs.Prelude.{◌≡◌, ◌≢◌, ◌≤◌, ◌<◌, All, IfOk, IfErr, Ok, Err, length, true};
+    ghost use Rattle.std.specs.Prelude.{◌≡◌, ◌≢◌, ◌≤◌, ◌<◌, All, IfOk, IfErr, IsTrue, Ok, Err, length, true};
     ghost use Rattle.std.specs.List.{list_all};
     ghost use Rattle.press_ticket.specs.declared.fault.TicketError.TheVariants.{NoMemory};
     ghost use Rattle.press_ticket.specs.Members.{is_job_id};
     ghost use Rattle.press_ticket.specs.Pages.{page_order};
     ghost use Rattle.press_ticket.specs.Parts.{required_parts, optional_parts};
     ghost use Rattle.press_ticket.specs.Reading.{in_range};
-    ghost use Rattle.press_ticket.specs.Ticket.{is_within};
+    ghost use Rattle.press_ticket.specs.Ticket.{is_in_range, is_within};
 
     /// The ticket that the members make, their numbers held against their ranges.
     pub(crate) fn of(
@@ -61,6 +61,7 @@ impl Ticket {
         requires { is_job_id required.now.job_id.now ≡ true }
         ensures ok { IfOk result (λ ticket.
             in_range (required_parts required.now) (optional_parts optional.now) ≡ Ok ticket) }
+        ensures limits { IfOk result (λ ticket. IsTrue (is_in_range ticket)) }
         ensures err { IfErr result (λ error. error ≢ NoMemory
             → in_range (required_parts required.now) (optional_parts optional.now) ≡ Err error) }
     {
