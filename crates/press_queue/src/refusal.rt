@@ -1,35 +1,29 @@
 //! Why the queue refuses a command, and the return codes.
 
 ghost use Rattle.std.specs.Prelude.{◌≡◌};
-ghost use Rattle.press_queue.specs.Refusal.{return_code_of};
+ghost use Rattle.press_queue.specs.Refusal.{return_code_of, submit_number};
 
-use press_units::NO_MEMORY;
+use press_units::ToldFault;
 use std::alloc::AllocError;
-use thiserror::Error;
+use std::error::Error;
+use std::fmt;
 
 /// Why the queue did not carry a command out. A refusal changes nothing.
-#[derive(Clone, Copy, Debug, PartialEq, Eq, Error)]
+#[derive(Clone, Copy, Debug, PartialEq, Eq)]
 pub enum Refusal {
     /// No entry has this number.
-    #[error("fault 21")]
     Unknown,
     /// The entry has a status at which the command is not legal.
-    #[error("fault 22")]
     WrongStatus,
     /// The queue takes no new entries.
-    #[error("fault 23")]
     Closed,
     /// The queue has as many entries as it may have, or gave its last number.
-    #[error("fault 24")]
     Full,
     /// The priority is not one of 0 to 100.
-    #[error("fault 25")]
     BadPriority,
     /// The position is not one of 0 to the number of entries less one.
-    #[error("fault 26")]
     BadPosition,
     /// As many entries are in flight as may be.
-    #[error("fault 27")]
     InFlightFull,
 }
 
@@ -50,15 +44,51 @@ impl Refusal {
     }
 }
 
+impl fmt::Display for Refusal {
+    ghost use Rattle.std.specs.Prelude.{Some};
+    ghost use Rattle.press_units.specs.Faults.{fault_text};
+
+    ghost output = { λ refusal. Some (fault_text (Some (return_code_of refusal))) };
+
+    fn fmt<W: fmt::Write>(&self, f: &mut fmt::Formatter<W>) -> fmt::Result {
+        write!(f, "{}", ToldFault(Some(u16::from(self.return_code()))))
+    }
+}
+
+impl Error for Refusal {}
+
 /// Why the queue did not take a new entry. Nothing changed.
-#[derive(Debug, Drop, Error)]
+#[derive(Debug, Drop)]
 pub enum SubmitError {
-    #[error("{0}")]
     Refused(Refusal),
     /// Memory ran out.
-    #[error("{text}", text = NO_MEMORY)]
     NoMemory,
 }
+
+impl SubmitError {
+    /// Its number, the return code of the refusal; none where memory ran out.
+    pub fn number(&self) -> Option<u16>
+        ensures { result ≡ submit_number self.now }
+    {
+        match self {
+            SubmitError::Refused(refusal) => Some(u16::from(refusal.return_code())),
+            SubmitError::NoMemory => None,
+        }
+    }
+}
+
+impl fmt::Display for SubmitError {
+    ghost use Rattle.std.specs.Prelude.{Some};
+    ghost use Rattle.press_units.specs.Faults.{fault_text};
+
+    ghost output = { λ error. Some (fault_text (submit_number error)) };
+
+    fn fmt<W: fmt::Write>(&self, f: &mut fmt::Formatter<W>) -> fmt::Result {
+        write!(f, "{}", ToldFault(self.number()))
+    }
+}
+
+impl Error for SubmitError {}
 
 impl From<Refusal> for SubmitError {
     ghost use Rattle.std.specs.Prelude.{◌≡◌};
