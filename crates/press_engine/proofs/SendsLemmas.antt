@@ -43,7 +43,7 @@ Sends-exit tag outputs others first result error before after sends stops exits 
 pub deliver-fault : (old new : SheetsTold) (tag : ℕ) (sheet : Sides) (result : Result (Unit {0}) SinkError) → Delivers old (record { tag = tag; sheet = sheet }) result new → result ≡ Err sink_errors.SinkFault → (replies : RepliesTold) → StoppedAtSheet tag (Deliver sheet ∷ []) (both old replies) (both new replies)
 deliver-fault old new tag sheet result delivers e replies =
     let P : Result (Unit {0}) SinkError → Type 0 = λ answer. Delivers old (record { tag = tag; sheet = sheet }) answer new in
-    let stopped : (new.delivered ≡ old.delivered) × (old.faults < new.faults) = subst P e delivers in
+    let stopped : (new.delivered ≡ old.delivered) × (new.faults ≡ old.faults + 1) = subst P e delivers in
     record {
       taken = [];
       sheet = sheet;

@@ -4,6 +4,7 @@ pub mod Counts
 pub mod Drawing
 pub mod Effects
 pub mod Engine
+pub mod Faults
 pub mod Filling
 pub mod JobLanguage
 pub mod Laws

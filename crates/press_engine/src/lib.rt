@@ -32,7 +32,7 @@ mod view;
 pub use drawing::Drawing;
 pub use effect::{FinishedSheet, Sent, StepOutput};
 pub use engine::Engine;
-pub use fault::EngineError;
+pub use fault::{EngineError, FAILED};
 pub use machine::Last;
 pub use page_kept::may_change_page;
 pub use rectangle::Rectangle;
