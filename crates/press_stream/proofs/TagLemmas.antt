@@ -1,5 +1,5 @@
 -- The same outputs under another tag.
-use Rattle.std.proofs.Common.{◌≡◌, ◌∙◌, ◌<◌, ℕ, List, ◌++◌, Option, Some, None, option_map, refl, sym, ap, subst}
+use Rattle.std.proofs.Common.{◌≡◌, ◌∙◌, ◌+◌, ℕ, List, ◌++◌, Option, Some, None, option_map, refl, sym, ap, subst}
 use Rattle.std.proofs.lemmas.List.{map-append}
 use Rattle.std.proofs.lemmas.Option.{same_Some}
 use Rattle.std.specs.Io.KnownBytes.{Appends}
@@ -69,7 +69,7 @@ WentOut-under tag other outputs AtSheet before after from went same = (
     outputs_are = went.outputs_are;
     delivered = refl;
     replied = subst (λ (told : RepliesTold). Appends told.replied after.replies.replied (reply_bytes_of went.taken)) same.replies went.replied;
-    fault = subst (λ faults. faults < after.sheets.faults) same.sheet_faults went.fault;
+    fault = went.fault ∙ ap (λ (n : ℕ). n + 1) same.sheet_faults;
     reply_faults = went.reply_faults ∙ ap (λ (told : RepliesTold). told.faults) same.replies;
   },
 )
@@ -85,7 +85,7 @@ WentOut-under tag other outputs AtReply before after from went same = (
     delivered = refl;
     replied = subst (λ (told : RepliesTold). Appends told.replied after.replies.replied (reply_bytes_of went.taken ++ went.front)) same.replies went.replied;
     sheet_faults = went.sheet_faults ∙ same.sheet_faults;
-    fault = subst (λ (told : RepliesTold). told.faults < after.replies.faults) same.replies went.fault;
+    fault = went.fault ∙ ap (λ (told : RepliesTold). told.faults + 1) same.replies;
   },
 )
 WentOut-under tag other outputs ForMemory before after from went same =

@@ -1,5 +1,5 @@
 -- What a job answers.
-use Rattle.std.specs.Prelude.{◌≡◌, ◌≢◌, ◌<◌, ◌≤◌, ℕ, List, [], ◌∷◌, ◌++◌, Option, Some, None, IsSome, Result, Ok, Err, true, false, ◌⊎◌, ⊤}
+use Rattle.std.specs.Prelude.{◌≡◌, ◌≢◌, ◌≤◌, ◌+◌, ℕ, List, [], ◌∷◌, ◌++◌, Option, Some, None, IsSome, Result, Ok, Err, true, false, ◌⊎◌, ⊤}
 use Rattle.std.specs.Io.KnownBytes.{Consumes, IsAtEnd}
 use Rattle.press_cmd.specs.Token.{Token, Uel}
 use Rattle.press_cmd.specs.declared.variant.Kind.{Kind}
@@ -173,14 +173,14 @@ abbrev pub fault_of : {X : Type 0} → Result X JobError → Option JobError
 fault_of (Ok _) = None
 fault_of (Err error) = Some error
 
--- The sheet sink's count of faults, by the error that was answered: it rose at 301, and else is as it was.
+-- The sheet sink's count of faults, by the error that was answered: it is one more at 301, and else as it was.
 abbrev pub SheetFaults : Option JobError → (before after : ℕ) → Type 0
-SheetFaults (Some errors.SinkFault) before after = before < after
+SheetFaults (Some errors.SinkFault) before after = after ≡ before + 1
 SheetFaults error before after = after ≡ before
 
--- the reply sink's: it rose at 302
+-- the reply sink's: it is one more at 302
 abbrev pub ReplyFaults : Option JobError → (before after : ℕ) → Type 0
-ReplyFaults (Some errors.ReplyFault) before after = before < after
+ReplyFaults (Some errors.ReplyFault) before after = after ≡ before + 1
 ReplyFaults error before after = after ≡ before
 
 -- the counts of faults of both sinks
