@@ -1,24 +1,64 @@
-//! Why a text is not assembled.
-use press_units::NO_MEMORY;
+//! Why a text is not assembled, and the numbers of these faults (this profile).
+ghost use Rattle.std.specs.Prelude.{◌≡◌};
+ghost use Rattle.press_asm.specs.Faults.{fault_number};
+
+use press_units::ToldFault;
 use std::alloc::AllocError;
-use thiserror::Error;
+use std::error::Error;
+use std::fmt;
+
+/// The number of [`AssembleError::BadLine`].
+const BAD_LINE: u16 = 401;
+/// That of [`AssembleError::BadValue`].
+const BAD_VALUE: u16 = 402;
+/// That of [`AssembleError::BadData`].
+const BAD_DATA: u16 = 403;
 
 /// Why a text is not assembled. Lines are counted from 1.
-#[derive(Debug, Drop, Error)]
+#[derive(Debug, Drop)]
 pub enum AssembleError {
     /// The line has no form.
-    #[error("fault 401 line {0}")]
     BadLine(usize),
     /// The field of the line is no value field.
-    #[error("fault 402 line {0}")]
     BadValue(usize),
     /// The digits of the line are no bytes, its data is not as long as its value says, or it is no PJL line.
-    #[error("fault 403 line {0}")]
     BadData(usize),
     /// Memory ran out.
-    #[error("{text}", text = NO_MEMORY)]
     NoMemory,
 }
+
+impl AssembleError {
+    /// Its number: 401, 402 or 403, unless memory ran out.
+    pub fn number(&self) -> Option<u16>
+        ensures { result ≡ fault_number self.now }
+    {
+        match self {
+            AssembleError::BadLine(_) => Some(BAD_LINE),
+            AssembleError::BadValue(_) => Some(BAD_VALUE),
+            AssembleError::BadData(_) => Some(BAD_DATA),
+            AssembleError::NoMemory => None,
+        }
+    }
+}
+
+impl fmt::Display for AssembleError {
+    ghost use Rattle.std.specs.Prelude.{Some};
+    ghost use Rattle.press_asm.specs.Faults.{told_text};
+
+    ghost output = { λ error. Some (told_text error) };
+
+    fn fmt<W: fmt::Write>(&self, f: &mut fmt::Formatter<W>) -> fmt::Result {
+        let fault = ToldFault(self.number());
+        match self {
+            AssembleError::BadLine(line)
+            | AssembleError::BadValue(line)
+            | AssembleError::BadData(line) => write!(f, "{fault} line {line}"),
+            AssembleError::NoMemory => write!(f, "{fault}"),
+        }
+    }
+}
+
+impl Error for AssembleError {}
 
 /// What is wrong with one line.
 #[derive(Drop)]

@@ -1,8 +1,10 @@
-//! Why the table of breakpoints refuses something.
+//! Why the table of breakpoints refuses something, and the numbers of these refusals (this profile).
 ghost use Rattle.std.specs.Prelude.{◌≡◌};
 ghost use Rattle.press_debug.specs.Breaks.{refusal_number};
 
-use thiserror::Error;
+use press_units::ToldFault;
+use std::error::Error;
+use std::fmt;
 
 /// The number of `TooMany`.
 const TOO_MANY: u16 = 501;
@@ -11,13 +13,11 @@ const TOO_MANY: u16 = 501;
 const NO_SUCH: u16 = 502;
 
 /// Why a breakpoint was not set, or not cleared. Nothing changed.
-#[derive(Clone, Copy, Debug, PartialEq, Eq, Error)]
+#[derive(Clone, Copy, Debug, PartialEq, Eq)]
 pub enum BreakError {
     /// No number is free.
-    #[error("fault {number}", number = TOO_MANY)]
     TooMany,
     /// No breakpoint stands at the number.
-    #[error("fault {number}", number = NO_SUCH)]
     NoSuch,
 }
 
@@ -32,3 +32,16 @@ impl BreakError {
         }
     }
 }
+
+impl fmt::Display for BreakError {
+    ghost use Rattle.std.specs.Prelude.{Some};
+    ghost use Rattle.press_units.specs.Faults.{fault_text};
+
+    ghost output = { λ refusal. Some (fault_text (Some (refusal_number refusal))) };
+
+    fn fmt<W: fmt::Write>(&self, f: &mut fmt::Formatter<W>) -> fmt::Result {
+        write!(f, "{}", ToldFault(Some(self.number())))
+    }
+}
+
+impl Error for BreakError {}
