@@ -1,8 +1,8 @@
 -- How many commands a job has at most.
-use Rattle.std.proofs.Common.{◌≡◌, ◌≤◌, ◌*◌, ◌/◌, ◌%◌, ◌==◌, ℕ, zero, suc, Bool, true, false, if◌then◌else◌, List, [], ◌∷◌, ◌++◌, length, replicate, Option, Some, None, IfSome, sym, ap, subst, arith, length-append}
-use Rattle.std.specs.List.{flat_map}
+use Rattle.std.proofs.Common.{◌≡◌, ◌≤◌, ◌*◌, ◌/◌, ◌%◌, ◌==◌, ℕ, zero, suc, Bool, true, false, if◌then◌else◌, List, [], ◌∷◌, ◌++◌, length, map, replicate, Option, Some, None, IfSome, IsTrue, ◌&&◌, nat_le, ◌∙◌, refl, sym, ap, subst, arith, rules, le_trans, true≢false, length-append}
+use Rattle.std.specs.List.{All, flat_map}
 use Rattle.std.proofs.lemmas.Grind.{flat_map-append}
-use Rattle.std.proofs.lemmas.List.{length-replicate}
+use Rattle.std.proofs.lemmas.List.{length-map, length-replicate}
 use Rattle.std.proofs.lemmas.List.FromFn.{length-map-range_with_len}
 use Rattle.std.proofs.lemmas.Nat.{mul-le}
 use Rattle.press_bits.specs.Page.{Page}
@@ -16,7 +16,7 @@ use Rattle.press_rows.specs.Encoding.{best_method}
 use Rattle.press_rows.specs.declared.compression.Method.{Method}
 use Rattle.press_rows.specs.declared.compression.Method.TheVariants.{Unencoded}
 use Rattle.press_ticket.specs.Pages.{page_order}
-use Rattle.press_ticket.specs.Ticket.{JobTicket}
+use Rattle.press_ticket.specs.Ticket.{JobTicket, is_in_range}
 use Rattle.press_writer.specs.declared.part.Part.{Part}
 use Rattle.press_writer.specs.declared.part.Part.TheVariants.{Tail}
 use Rattle.press_writer.specs.declared.plan.Plan.{Plan}
@@ -25,15 +25,18 @@ use Rattle.press_writer.specs.declared.sequence.Sequence.TheVariants.{Compressio
 use Rattle.press_writer.specs.declared.sheet.SheetPages.{SheetPages}
 use Rattle.press_writer.specs.Fitting.{IsImage, refusal}
 use Rattle.press_writer.specs.Job.{batches, runs_of, page, back_of, form_feed_command, part_commands, sides_of_run, print_runs, job, job_bytes}
+use Rattle.press_writer.specs.Laws.{JobsAreShort, most_sheets}
 use Rattle.press_writer.specs.Left.{most_job_commands}
 use Rattle.press_writer.specs.Picture.{method_number, method_change, left_out, sent, is_white_row, row_commands, raster_rows, rows_of_image, white_row, image_rows, picture}
 use Rattle.press_writer.specs.Plan.{IsPlan, IsSmall}
 use Rattle.press_writer.specs.Sequences.{command}
-use Rattle.press_writer.specs.Wanted.{image_of}
+use Rattle.press_writer.specs.Sheets.{in_order, set_of}
+use Rattle.press_writer.specs.Wanted.{image_of, printed_sheet, wanted}
 use Rattle.press_writer.proofs.Between.{Fits}
-use Rattle.press_writer.proofs.EachLemmas.{Each}
+use Rattle.press_writer.proofs.EachLemmas.{Each, each-from_All}
 use Rattle.press_writer.proofs.FitLemmas.{print_runs-are}
-use Rattle.press_writer.proofs.PlanLemmas.{length-by_sets, length-by_sheets}
+use Rattle.press_writer.proofs.ListLemmas.{length-pieces, same_piece}
+use Rattle.press_writer.proofs.PlanLemmas.{length-by_sets, length-by_sheets, sheets-few}
 use Rattle.press_writer.proofs.SheetLemmas.{IsRun}
 use Rattle.press_writer.proofs.SplitLemmas.{job-closed, room-small}
 
@@ -160,3 +163,47 @@ commands-few ticket images plan none are is small commands closed =
     subst (λ (these : List Token). length these ≤ most_job_commands)
     (closed_once Exit (job_bytes ticket images) (job ticket images) commands (job-closed ticket images each) closed)
     (job-few ticket images each (runs-of-plan ticket plan is small))
+
+-- ---- a ticket that keeps its limits
+
+first : (a b : Bool) → a && b ≡ true → a ≡ true
+first true b both = refl
+first false b both = absurd (true≢false (sym both))
+
+second : (a b : Bool) → a && b ≡ true → b ≡ true
+second true b both = both
+second false b both = absurd (true≢false (sym both))
+
+sets-limit : (ticket : JobTicket) → is_in_range ticket ≡ true → ticket.amount ≤ 9999
+sets-limit ticket within =
+    let is : nat_le ticket.amount 9999 ≡ true = second _ _ (first _ _ (first _ _ (first _ _ within))) in
+    grind (arith, rules, is)
+
+set-limit : (ticket : JobTicket) → is_in_range ticket ≡ true → length (set_of ticket) ≤ 999
+set-limit ticket within =
+    let is : nat_le (length (page_order ticket.run_list)) 999 ≡ true = second _ _ (first _ _ within) in
+    le_trans (sheets-few ticket.sides (page_order ticket.run_list)) (grind (arith, rules, is))
+
+order-length : (collate : Bool) (amount : ℕ) (set : List SheetPages) → length (in_order collate amount set) ≡ amount * length set
+order-length true amount set =
+    ap length (same_piece (λ (these : List SheetPages). these) amount set) ∙ length-pieces (λ _. set) (length set) (λ _. refl) (replicate amount set)
+    ∙ ap (λ n. n * length set) (length-replicate amount set)
+order-length false amount set =
+    let turned : length set * amount ≡ amount * length set = omega arith in
+    length-pieces (replicate amount) amount (λ sheet. length-replicate amount sheet) set ∙ turned
+
+wanted-few : (ticket : JobTicket) (images : List Page) → is_in_range ticket ≡ true → length (wanted ticket images) ≤ most_sheets
+wanted-few ticket images within =
+    subst (λ n. n ≤ most_sheets)
+    (sym (length-map (in_order ticket.collate ticket.amount (set_of ticket)) (printed_sheet ticket images) ∙ order-length ticket.collate ticket.amount (set_of ticket)))
+    (mul-le ticket.amount (length (set_of ticket)) 9999 999 (sets-limit ticket within) (set-limit ticket within))
+
+pub jobs-short : JobsAreShort
+jobs-short = record {
+  commands = λ ticket images within none are commands closed.
+      let each : Each (IsRun ticket images) (print_runs ticket) = print_runs-are ticket images none (each-from_All (λ page. IsImage (image_of images page)) (page_order ticket.run_list) are) in
+      subst (λ (these : List Token). length these ≤ most_job_commands)
+      (closed_once Exit (job_bytes ticket images) (job ticket images) commands (job-closed ticket images each) closed)
+      (job-few ticket images each (sent-few _ ticket.amount (set_of ticket) (set-limit ticket within) (sets-limit ticket within)));
+  sheets = wanted-few;
+}
