@@ -1,9 +1,11 @@
 -- What is known of a number by its history: how its entry was seen last, with what it entered, what was handed out under it, how many
 -- steps were taken for it, and whether it met a fault. One event after another.
-use Rattle.std.proofs.Common.{◌≡◌, ◌≤◌, ◌+◌, ◌-◌, ◌++◌, ◌||◌, ◌&&◌, ℕ, Bool, true, false, not, cond, List, [], length, Option, Some, None, is_some, option_and_then, unwrap_or, refl, sym, ap, subst, ◌∙◌, arith, true≢false, append_assoc, append-nil}
+use Rattle.std.proofs.Common.{◌≡◌, ◌≤◌, ◌+◌, ◌-◌, ◌++◌, ◌||◌, ◌&&◌, ℕ, Bool, true, false, not, cond, List, [], ◌∷◌, length, length-append, Option, Some, None, is_some, option_and_then, unwrap_or, refl, sym, ap, subst, ◌∙◌, arith, true≢false, append_assoc, append-nil}
 use Rattle.std.specs.Option.{option_or}
 use Rattle.std.proofs.lemmas.Option.{same_Some}
+use Rattle.press_units.specs.Limits.{greatest_of_64_bits}
 use Rattle.press_bits.specs.Page.{Page}
+use Rattle.press_engine.specs.Counts.{counted}
 use Rattle.press_engine.specs.Machine.{Run}
 use Rattle.press_queue.specs.declared.entry.Entry.{Entry}
 use Rattle.press_queue.specs.declared.status.Status.{Status}
@@ -14,9 +16,10 @@ use Rattle.press_sink.specs.Sides.{Sides}
 use Rattle.press_ticket.specs.Ticket.{JobTicket}
 use Rattle.press_core.specs.Events.{Happening}
 use Rattle.press_core.specs.History.{AreFirst, AreGiven, IsFront, Seen, both_seen, submitted_by, wanted_of}
-use Rattle.press_core.specs.Laws.{JobsHandOutTheWantedSheets}
+use Rattle.press_core.specs.Laws.{JobsAreShort, JobsHandOutTheWantedSheets}
 use Rattle.press_core.specs.Turns.{IsJobOf, place_in_job, sheets_from}
-use Rattle.press_core.specs.Work.{IsPrintable, Work, at_place, new_work, with_delivered, without_job}
+use Rattle.press_core.specs.Work.{IsPrintable, Work, at_place, counting, new_work, with_delivered, without_job}
+use Rattle.press_core.proofs.HandingLemmas.{counting-append}
 use Rattle.press_core.proofs.JobLemmas.{IsJobOf-one, IsJobOf-some}
 use Rattle.press_core.proofs.Standings.{Change, Stays, Enters, Moves, Steps, Completes, Fails, Aborts, Leaves, FrontOf, Gone, IsIdle, IsOpen, IsProper, Listed, MayStand, Standing, StepsOf, Torn, Unknown, standing_of, aborted_entry, completed_entry, failed_entry}
 use Rattle.press_core.proofs.StepsLemmas.{sheets_from-more}
@@ -50,14 +53,14 @@ first_all : JobsHandOutTheWantedSheets → (work : Work) (items : List Run) (she
     → AreFirst (length items) work sheets → sheets ≡ wanted_of work
 first_all jobs work items sheets printable job first =
     let same : first.items ≡ items = IsJobOf-one work first.items items first.is_job job in
-    first.sheets_are ∙ ap (λ l. sheets_from 0 (length items) l) same ∙ jobs work items printable job
+    first.sheets_are ∙ ap (λ l. sheets_from 0 (length items) l) same ∙ jobs work items printable.fits printable.images_are job
 
 first_front : JobsHandOutTheWantedSheets → (steps : ℕ) (work : Work) (sheets : List Sides) → IsPrintable work.ticket work.images → AreFirst steps work sheets → IsFront sheets (wanted_of work)
 first_front jobs steps work sheets printable first =
     let left = length first.items - steps in
     let all : steps + left ≡ length first.items = omega (arith, first.within) in (
       sheets_from steps left first.items,
-      sym (jobs work first.items printable first.is_job) ∙ ap (λ n. sheets_from 0 n first.items) (sym all) ∙ first-more steps left first.items
+      sym (jobs work first.items printable.fits printable.images_are first.is_job) ∙ ap (λ n. sheets_from 0 n first.items) (sym all) ∙ first-more steps left first.items
           ∙ ap (λ l. l ++ sheets_from steps left first.items) (sym first.sheets_are),
     )
 
@@ -83,17 +86,21 @@ pub record IsKnown (entry : Entry) (work : Work) (sheets : List Sides) (steps : 
   pub front : IsFront sheets (wanted_of work)
   pub unbegun : entry.begun ≡ false → sheets ≡ []
   pub counted : failed ≡ false → AreFirst steps work sheets
+  pub delivered : work.delivered ≡ counting sheets 0
+  pub kept : work.kept ≡ not (has_ended entry.status)
 
 -- an entry that has not ended
 known_open : JobsHandOutTheWantedSheets → (entry : Entry) (work : Work) (sheets : List Sides) (steps : ℕ) (failed : Bool) → IsPrintable work.ticket work.images → IsOpen entry
-    → IsAtPlace entry work sheets steps → IsKnown entry work sheets steps failed
-known_open jobs entry work sheets steps failed printable is_open at = record {
+    → IsAtPlace entry work sheets steps → work.delivered ≡ counting sheets 0 → work.kept ≡ not (has_ended entry.status) → IsKnown entry work sheets steps failed
+known_open jobs entry work sheets steps failed printable is_open at delivered kept = record {
   printable = printable;
   is_open = λ _. at;
   completed = λ is. absurd (true≢false (sym (ap has_ended is) ∙ is_open));
   front = first_front jobs (place_in_job work) work sheets printable at.first;
   unbegun = λ none. no_place work.place refl (sym at.begun ∙ none);
   counted = λ _. subst (λ n. AreFirst n work sheets) (sym at.steps_are) at.first;
+  delivered = delivered;
+  kept = kept;
 } where
   no_place : (o : Option ℕ) → work.place ≡ o → is_some work.place ≡ false → sheets ≡ []
   no_place None is none = at.first.sheets_are ∙ ap (λ o. sheets_from 0 (unwrap_or o 0) at.first.items) is
@@ -140,19 +147,26 @@ known_later entry work sheets steps failed more known = record {
   front = known.front;
   unbegun = known.unbegun;
   counted = λ none. known.counted (none_before failed more none);
+  delivered = known.delivered;
+  kept = known.kept;
 }
 
 known_entered : JobsHandOutTheWantedSheets → (priority : ℕ) (ticket : JobTicket) (images : List Page) (failed : Bool) → IsPrintable ticket images
     → IsKnown (new_entry priority) (new_work ticket images) [] 0 failed
 known_entered jobs priority ticket images failed printable =
     known_open jobs (new_entry priority) (new_work ticket images) [] 0 failed printable refl
-    (record { begun = refl; first = first_none (new_work ticket images); steps_are = refl })
+    (record { begun = refl; first = first_none (new_work ticket images); steps_are = refl }) refl refl
 
 known_moved : JobsHandOutTheWantedSheets → (was is : Entry) (work : Work) (sheets : List Sides) (steps : ℕ) (failed more : Bool) → MayStand was is
     → IsKnown was work sheets steps failed → IsKnown is work sheets steps (failed || more)
 known_moved jobs was is work sheets steps failed more may known =
     let at = known.is_open may.was in
     known_open jobs is work sheets steps (failed || more) known.printable may.is (record { begun = may.begun ∙ at.begun; first = at.first; steps_are = at.steps_are })
+    known.delivered (known.kept ∙ ap not (may.was ∙ sym may.is))
+
+-- the count after more sheets
+more_delivered : (work : Work) (sheets more : List Sides) → work.delivered ≡ counting sheets 0 → (with_delivered more work).delivered ≡ counting (sheets ++ more) 0
+more_delivered work sheets more is = ap (λ n. counting more n) is ∙ sym (counting-append sheets more 0)
 
 known_stepped : JobsHandOutTheWantedSheets → (was : Entry) (work : Work) (items : List Run) (sheets more : List Sides) (steps taken : ℕ) (failed fault : Bool) → IsOpen was
     → StepsOf work items taken more → IsKnown was work sheets steps failed
@@ -160,13 +174,14 @@ known_stepped : JobsHandOutTheWantedSheets → (was : Entry) (work : Work) (item
 known_stepped jobs was work items sheets more steps taken failed fault is_open took known =
     let at = known.is_open is_open in
     let after = at_place (place_in_job work + taken) (with_delivered more work) in
-    known_open jobs (rows.begun_entry was) after (sheets ++ more) (steps + taken) (failed || fault) (record { fits = known.printable.fits; images_are = known.printable.images_are }) refl
+    known_open jobs (rows.begun_entry was) after (sheets ++ more) (steps + taken) (failed || fault) (record { limits = known.printable.limits; fits = known.printable.fits; images_are = known.printable.images_are }) refl
     (record {
       begun = refl;
       first = first_of (place_in_job work + taken) work after (sheets ++ more) (λ l job. job)
           (first_on (place_in_job work) taken work items sheets more at.first took.is_job took.few took.sheets_are);
       steps_are = ap (λ n. n + taken) at.steps_are;
     })
+    (more_delivered work sheets more known.delivered) (known.kept ∙ ap not is_open)
 
 known_completed : JobsHandOutTheWantedSheets → (was : Entry) (work : Work) (items : List Run) (sheets more : List Sides) (steps taken : ℕ) (failed fault : Bool) → IsOpen was
     → StepsOf work items taken more → place_in_job work + taken ≡ length items → IsKnown was work sheets steps failed
@@ -177,13 +192,15 @@ known_completed jobs was work items sheets more steps taken failed fault is_open
     let wanted : sheets ++ more ≡ wanted_of work =
     first_all jobs work items (sheets ++ more) known.printable took.is_job (subst (λ n. AreFirst n work (sheets ++ more)) all first) in
     record {
-      printable = record { fits = known.printable.fits; images_are = known.printable.images_are };
+      printable = record { limits = known.printable.limits; fits = known.printable.fits; images_are = known.printable.images_are };
       is_open = λ not_ended. absurd (true≢false not_ended);
       completed = λ _. wanted;
       front = front_all (sheets ++ more) (wanted_of work) wanted;
       unbegun = λ none. absurd (true≢false none);
       counted = λ _. first_of (steps + taken) work (without_job (with_delivered more work)) (sheets ++ more) (λ l job. job)
           (subst (λ n. AreFirst n work (sheets ++ more)) (sym (ap (λ n. n + taken) at.steps_are)) first);
+      delivered = more_delivered work sheets more known.delivered;
+      kept = refl;
     }
 
 known_failed : JobsHandOutTheWantedSheets → (was : Entry) (work : Work) (items : List Run) (sheets more : List Sides) (steps taken : ℕ) (failed fault : Bool) → IsOpen was
@@ -196,23 +213,27 @@ known_failed jobs was work items sheets more steps taken failed fault is_open pa
     subst (λ l. IsFront l (wanted_of work)) (sym (append_assoc sheets more part.others))
     (first_front jobs (place_in_job work + part.steps) work (sheets ++ (more ++ part.others)) known.printable first) in
     record {
-      printable = record { fits = known.printable.fits; images_are = known.printable.images_are };
+      printable = record { limits = known.printable.limits; fits = known.printable.fits; images_are = known.printable.images_are };
       is_open = λ not_ended. absurd (true≢false not_ended);
       completed = λ is. absurd (aborted_apart is);
       front = front_less (sheets ++ more) part.others (wanted_of work) whole;
       unbegun = λ none. absurd (true≢false none);
       counted = λ none. absurd (true≢false (sym met ∙ none_after failed fault none));
+      delivered = more_delivered work sheets more known.delivered;
+      kept = refl;
     }
 
 known_aborted : (was : Entry) (work : Work) (sheets : List Sides) (steps : ℕ) (failed more : Bool) → IsKnown was work sheets steps failed
     → IsKnown (aborted_entry was) (without_job work) sheets steps (failed || more)
 known_aborted was work sheets steps failed more known = record {
-  printable = record { fits = known.printable.fits; images_are = known.printable.images_are };
+  printable = record { limits = known.printable.limits; fits = known.printable.fits; images_are = known.printable.images_are };
   is_open = λ not_ended. absurd (true≢false not_ended);
   completed = λ is. absurd (aborted_apart is);
   front = known.front;
   unbegun = known.unbegun;
   counted = λ none. first_of steps work (without_job work) sheets (λ l job. job) (known.counted (none_before failed more none));
+  delivered = known.delivered;
+  kept = refl;
 }
 
 -- ---- the account of a number
@@ -336,13 +357,27 @@ account-next jobs old new given happening seen found sheets more steps taken fai
 
 -- ---- what an account says
 
-pub is_given : (entry : Entry) (work : Work) (sheets : List Sides) (steps : ℕ) (failed : Bool) → IsKnown entry work sheets steps failed → AreGiven entry work steps failed sheets
-is_given entry work sheets steps failed known = record {
+-- a count that stays small is the number of sheets
+counting-few : (sheets : List Sides) (count : ℕ) → count + length sheets ≤ greatest_of_64_bits → counting sheets count ≡ count + length sheets
+counting-few [] count few = omega arith
+counting-few (sheet ∷ sheets) count few =
+    let one : counted count 1 ≡ count + 1 = omega (arith, few) in
+    ap (λ n. counting sheets n) one ∙ counting-few sheets (count + 1) (omega (arith, few)) ∙ omega arith
+
+length-front : (sheets all : List Sides) → IsFront sheets all → length sheets ≤ length all
+length-front sheets all (others, is) = omega (arith, ap length is, length-append sheets others)
+
+pub is_given : JobsAreShort → (entry : Entry) (work : Work) (sheets : List Sides) (steps : ℕ) (failed : Bool) → IsKnown entry work sheets steps failed → AreGiven entry work steps failed sheets
+is_given short entry work sheets steps failed known = record {
   in_flight = λ flying. in_flight entry.begun (has_ended entry.status) work.place refl refl refl flying;
   counted = known.counted;
   completed = known.completed;
   front = known.front;
   unbegun = known.unbegun;
+  delivered =
+      let few = short.sheets work.ticket work.images known.printable in
+      known.delivered ∙ counting-few sheets 0 (omega (arith, few, length-front sheets (wanted_of work) known.front)) ∙ omega arith;
+  kept = known.kept;
 } where
   in_flight : (begun ended : Bool) (o : Option ℕ) → entry.begun ≡ begun → has_ended entry.status ≡ ended → work.place ≡ o → begun && not ended ≡ true
       → (work.place ≡ Some steps) × AreFirst steps work sheets
@@ -378,3 +413,12 @@ account-listed true (Some entry) None seen found sheets steps failed account the
 account-listed true None p seen found sheets steps failed account there = absurd (true≢false (sym there))
 account-listed false (Some entry) p seen found sheets steps failed account there = absurd account
 account-listed false None p seen found sheets steps failed account there = absurd (true≢false (sym there))
+
+-- and has its work
+pub account-work : (given : Bool) (o : Option Entry) (p : Option Work) (seen : Option Seen) (found : Option Happening) (sheets : List Sides) (steps : ℕ) (failed : Bool)
+    → Account (standing_of given o p) seen found sheets steps failed → is_some o ≡ true → is_some (both_seen o p) ≡ true
+account-work true (Some entry) (Some work) seen found sheets steps failed account there = refl
+account-work true (Some entry) None seen found sheets steps failed account there = absurd account
+account-work true None p seen found sheets steps failed account there = absurd (true≢false (sym there))
+account-work false (Some entry) p seen found sheets steps failed account there = absurd account
+account-work false None p seen found sheets steps failed account there = absurd (true≢false (sym there))

@@ -45,7 +45,7 @@ IsJobOf-some work =
 -- ---- the beginning
 
 -- each command of a written job is one item, and there are few
-items-few : (work : Work) (items : List Run) → IsJobOf work items → PrintsTheTicket work.ticket work.images (job_bytes work.ticket work.images)
+pub items-few : (work : Work) (items : List Run) → IsJobOf work items → PrintsTheTicket work.ticket work.images (job_bytes work.ticket work.images)
     → ((commands : List Token) → Closed (job_bytes work.ticket work.images) commands → length commands ≤ most_job_commands) → length items ≤ most_job_commands + 1
 items-few work items (closed, is_closed, is) prints few =
     let same = prints.only closed is_closed in

@@ -1,5 +1,5 @@
 -- What each row of the queue, and what follows it, leaves of a press: entries and works go together, and those that run are on engines.
-use Rattle.std.proofs.Common.{◌≡◌, ◌<◌, ◌≤◌, ◌+◌, ◌∙◌, ℕ, zero, suc, add-one, true, nat_eq, length, drop, replicate, slice_set, arith, List, [], ◌∷◌, Option, Some, None, Result, IfSome, IsTrue, refl, sym, ap, subst}
+use Rattle.std.proofs.Common.{◌≡◌, ◌<◌, ◌≤◌, ◌+◌, ◌∙◌, ℕ, zero, suc, add-one, true, false, nat_eq, length, drop, replicate, slice_set, arith, List, [], ◌∷◌, Option, Some, None, Result, IfSome, IsTrue, refl, sym, ap, subst}
 use Rattle.std.specs.Map.{set_value}
 use Rattle.press_queue.specs.declared.refusal.Refusal.{Refusal}
 use Rattle.press_queue.specs.declared.status.End.{End}
@@ -28,9 +28,9 @@ IsPress-same old new works engines same press = subst (λ q. IsPress q works eng
 
 -- an entry that ran ends, and leaves its engine
 pub IsPress-ended : (number : ℕ) (end : End) (queue : QueueState) (works : List (ℕ × Work)) (engines : List (Option ℕ)) (work : Work) → IsTrue (rows.entry_runs number queue) → work.place ≡ None
-    → IsPress queue works engines → IsPress (rows.finish_entry number end queue) (set_value (nat_eq number) works work) (left_by number engines)
-IsPress-ended number end queue works engines work runs none press = record {
-  sound = IsSound-ended number end queue works work runs none press.sound;
+    → work.kept ≡ false → IsPress queue works engines → IsPress (rows.finish_entry number end queue) (set_value (nat_eq number) works work) (left_by number engines)
+IsPress-ended number end queue works engines work runs none gone press = record {
+  sound = IsSound-ended number end queue works work runs none gone press.sound;
   on_engines = on_engines-left number queue (rows.finish_entry number end queue) engines (finish-but number end queue) press.on_engines;
 }
 
@@ -45,7 +45,7 @@ IsPress-finished number end queue works engines runs press = record {
 pub IsPress-begun : (queue new : QueueState) (works : List (ℕ × Work)) (engines : List (Option ℕ)) (engine number : ℕ) → engine < length engines → slot engines engine ≡ None → Waited queue new number
     → IsPress queue works engines → IsPress new (begun_works number works) (slice_set engines engine (Some number))
 IsPress-begun queue new works engines engine number within free it press = record {
-  sound = IsSound-begun queue new works number it.begins press.sound;
+  sound = IsSound-begun queue new works number it press.sound;
   on_engines = on_engines-taken number engine queue new engines within free (begun_still queue new number it) (begun-but queue new number it.begins) press.on_engines;
 }
 

@@ -16,11 +16,11 @@ use Rattle.press_ticket.specs.Ticket.{JobTicket}
 use Rattle.press_core.specs.Engines.{RunsOnEngines, are_engines}
 use Rattle.press_core.specs.Events.{Event, EventAnswer, Happening, Happens, IsRun, Leads, Message, Nothing, Operator, Response, TurnOn, Turned}
 use Rattle.press_core.specs.History.{Seen, TakesInAll, both_seen, entering, handed_under, sheets_under, is_fault_of, last_seen, met_fault, seen_after, steps_answered, steps_in, submitted_by}
-use Rattle.press_core.specs.Laws.{EntriesAreBounded, EntriesDoNotInterfere, GivenUnder, JobsHandOutTheWantedSheets, SheetsAreGiven, StaysGone}
+use Rattle.press_core.specs.Laws.{EntriesAreBounded, EntriesDoNotInterfere, GivenUnder, JobsAreShort, JobsHandOutTheWantedSheets, SheetsAreGiven, StaysGone}
 use Rattle.press_core.specs.Turns.{IsJobOf, sheets_from}
 use Rattle.press_core.specs.Work.{new_work}
 use Rattle.press_core.specs.World.{World, is_listed, new_world}
-use Rattle.press_core.proofs.AccountLemmas.{Account, EnteredBy, IsKnown, account-listed, account-never, account-next, account-seen, found_now, given_as, is_given, seen_now-is}
+use Rattle.press_core.proofs.AccountLemmas.{Account, EnteredBy, IsKnown, account-listed, account-never, account-work, account-next, account-seen, found_now, given_as, is_given, seen_now-is}
 use Rattle.press_core.proofs.EngineLemmas.{on_engines-new, running-bound}
 use Rattle.press_core.proofs.HandedLemmas.{handed-append}
 use Rattle.press_core.proofs.JobLemmas.{IsJobOf-one, IsJobOf-some}
@@ -178,11 +178,13 @@ run-from-new jobs law n happenings last run =
 
 -- ---- given sheets
 
-given-under : JobsHandOutTheWantedSheets → EachRowKeepsTheQueue → (happenings : List Happening) (last : World) (number : ℕ) → (run : IsRun happenings last) → GivenUnder (new_world run.engines) happenings last number
-given-under jobs law happenings last number run = record {
-  given = λ seen is. let known = of seen is in is_given seen.entry seen.work _ _ _ known.1;
+given-under : JobsHandOutTheWantedSheets → JobsAreShort → EachRowKeepsTheQueue → (happenings : List Happening) (last : World) (number : ℕ) → (run : IsRun happenings last) → GivenUnder (new_world run.engines) happenings last number
+given-under jobs short law happenings last number run = record {
+  given = λ seen is. let known = of seen is in is_given short seen.entry seen.work _ _ _ known.1;
   entered = λ seen is. (of seen is).0;
   listed = account-listed (nat_le number last.queue.last) (entry_numbered number last.queue.entries) (lookup (nat_eq number) last.works) (last_seen number happenings) _ _ _ _ account;
+  has_work = account-work (nat_le number last.queue.last) (entry_numbered number last.queue.entries) (lookup (nat_eq number) last.works) (last_seen number happenings) _ _ _ _ account;
+  few = λ seen is items job. short.steps seen.work items (of seen is).1.printable job;
   never = λ is. let none = account-never (standing number last.queue last.works) _ _ _ _ (subst (λ o. Account (standing number last.queue last.works) o (entering number happenings) (handed_under number happenings) (steps_in number happenings) (met_fault number (new_world run.engines) happenings)) is account) in (none.no_sheets, none.no_steps);
 } where
   account : Account (standing number last.queue last.works) (last_seen number happenings) (entering number happenings) (handed_under number happenings) (steps_in number happenings) (met_fault number (new_world run.engines) happenings)
@@ -218,8 +220,8 @@ stays-gone law before after mid last number run leads below absent =
       absent = gone_absent (nat_le number last.queue.last) (entry_numbered number last.queue.entries) (lookup (nat_eq number) last.works) rest.1;
     }
 
-pub sheets-are-given : JobsHandOutTheWantedSheets → EachRowKeepsTheQueue → SheetsAreGiven
-sheets-are-given jobs law = record { under = given-under jobs law; gone = stays-gone law }
+pub sheets-are-given : JobsHandOutTheWantedSheets → JobsAreShort → EachRowKeepsTheQueue → SheetsAreGiven
+sheets-are-given jobs short law = record { under = given-under jobs short law; gone = stays-gone law }
 
 -- ---- no interference
 

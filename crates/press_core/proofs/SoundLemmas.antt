@@ -68,7 +68,7 @@ set_status_keeps : (number : ℕ) (status : Status) (entry : Entry) (queue : Que
     → has_ended status ≡ false → is_running status ≡ false → Keeps queue (rows.set_status number status entry queue)
 set_status_keeps number status entry queue there was is still =
     let new : Entry = record entry { status = status } in
-    let stands : StandsFor entry new = record { in_flight = ap (λ b. entry.begun && not b) (is ∙ sym was); begun = λ runs. absurd (true≢false (sym runs ∙ still)) } in
+    let stands : StandsFor entry new = record { in_flight = ap (λ b. entry.begun && not b) (is ∙ sym was); ended = is ∙ sym was; begun = λ runs. absurd (true≢false (sym runs ∙ still)) } in
     (λ works sound. changed_entry number entry new queue (rows.set_status number status entry queue) works there stands (λ n. set_lookup n number queue.entries new (ap is_some there)) sound)
 
 hold_open : (status : Status) → is_legal commands.Hold status ≡ true → has_ended status ≡ false
@@ -121,7 +121,7 @@ moved_keeps : (i number priority : ℕ) (entry : Entry) (queue : QueueState) →
 moved_keeps i number priority entry queue distinct there still =
     let new : Entry = record entry { priority = priority } in
     let after = rows.with_entries (insert (without_entry number queue.entries) i (number, new)) queue in
-    let stands : StandsFor entry new = record { in_flight = refl; begun = λ runs. absurd (true≢false (sym runs ∙ still)) } in
+    let stands : StandsFor entry new = record { in_flight = refl; ended = refl; begun = λ runs. absurd (true≢false (sym runs ∙ still)) } in
     (λ works sound. changed_entry number entry new queue after works there stands (λ n. moved_lookup n i number queue.entries new distinct) sound)
 
 -- where neither priority nor place may change, the entry runs
@@ -241,13 +241,13 @@ IsSound-finished number end queue works runs sound =
 
 -- it ends, and another work without a job stands for its own
 pub IsSound-ended : (number : ℕ) (end : End) (queue : QueueState) (works : List (ℕ × Work)) (work : Work) → IsTrue (rows.entry_runs number queue) → work.place ≡ None
-    → IsSound queue works → IsSound (rows.finish_entry number end queue) (set_value (nat_eq number) works work)
-IsSound-ended number end queue works work runs none sound =
+    → work.kept ≡ false → IsSound queue works → IsSound (rows.finish_entry number end queue) (set_value (nat_eq number) works work)
+IsSound-ended number end queue works work runs none gone sound =
     let it = runs_as number queue runs in
     let has = has_work queue works number it.entry it.there sound in
     let ended : Entry = record it.entry { status = status_at_end end } in
     subst (λ o. IsSound (rows.finish_entry_at o number end queue) (set_value (nat_eq number) works work)) (sym it.there)
-    (set_both number queue works it.entry ended has.work work it.there has.is (ended_together ended work (over_at_end end) (still_at_end end) none) sound)
+    (set_both number queue works it.entry ended has.work work it.there has.is (ended_together ended work (over_at_end end) (still_at_end end) none gone) sound)
 
 -- ---- entries that leave the list
 
@@ -362,12 +362,12 @@ submit_err_same priority queue new (submissions.Refused refusal) h = submit_refu
 submit_err_same priority queue new submissions.NoMemory h = h.0
 
 pub IsSound-entered : (priority : ℤ) (queue new : QueueState) (number : ℕ) (work : Work) (works after : List (ℕ × Work)) → (new, Ok number) ≡ rows.submit priority queue
-    → entry_numbered number queue.entries ≡ None → work.place ≡ None → after ≡ works ++ (number, work) ∷ [] → IsSound queue works → IsSound new after
-IsSound-entered priority queue new number work works after is fresh none added sound =
+    → entry_numbered number queue.entries ≡ None → work.place ≡ None → work.kept ≡ true → after ≡ works ++ (number, work) ∷ [] → IsSound queue works → IsSound new after
+IsSound-entered priority queue new number work works after is fresh none kept added sound =
     let submitted = submitted_is priority queue new number is in
     let entry : Entry = new_entry submitted.priority in
     rw (added, submitted.is)
     (IsSound-at number queue (record queue { entries = put number entry queue.entries; last = number }) works (works ++ (number, work) ∷ []) (Some entry) (Some work)
     (λ n. inserted_lookup n (place_of submitted.priority queue.entries) number queue.entries entry fresh)
     (λ n. added_lookup n number works work (no_work queue works number fresh sound))
-    (record { in_flight = ap is_some none; begun = λ runs. absurd (true≢false (sym runs)) }) sound)
+    (record { in_flight = ap is_some none; kept = kept; begun = λ runs. absurd (true≢false (sym runs)) }) sound)

@@ -1,5 +1,6 @@
 -- A work whose job stands at its place.
-use Rattle.std.proofs.Common.{◌≡◌, ◌∙◌, ◌+◌, ◌<◌, ◌≤◌, ◌↔◌, ℕ, List, [], length, nat_eq, IsTrue, Bool, Option, Some, IfSome, Result, Ok, Err, OnErr, option_map, unwrap_or, sym, ap, subst}
+use Rattle.std.proofs.Common.{◌≡◌, ◌∙◌, ◌+◌, ◌<◌, ◌≤◌, ◌↔◌, ℕ, List, [], length, nat_eq, IsTrue, Bool, Option, Some, IfSome, Result, Ok, Err, OnErr, Vec, Global, option_map, unwrap_or, sym, ap, subst}
+use Rattle.press_bits.specs.Page.{Page}
 use Rattle.press_engine.specs.Machine.{Run}
 use Rattle.press_sink.specs.Sides.{Sides}
 use Rattle.press_stream.specs.Left.{LeftWith}
@@ -9,6 +10,10 @@ use Rattle.press_core.specs.Jobs.{IsAt, JobGoesOn}
 use Rattle.press_core.specs.Turns.{IsJobOf, place_in_job, sheets_from}
 use Rattle.press_core.specs.Work.{Work, at_place}
 use Rattle.press_core.proofs.JobLemmas.{IsJobOf-one, IsJobOf-some, over_is}
+
+-- the images that are kept are those with which it entered
+pub same_images : (o : Option (Vec Page Global)) (images : Vec Page Global) (entered : List Page) → o ≡ Some images → IfSome o (λ kept. kept.items ≡ entered) → images.items ≡ entered
+same_images o images entered is same = subst (λ x. IfSome x (λ (kept : Vec Page Global). kept.items ≡ entered)) is same
 
 -- a job that begins stands at the first place
 pub begins : (work : Work) (running : RunningJob) → ((items : List Run) → IsJobOf work items → IsAt items work.images running) → IsJobAt work running

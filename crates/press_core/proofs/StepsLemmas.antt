@@ -174,9 +174,9 @@ stopped_in_step number taken most old now next sheets error before between after
           (with_one (place_in_job old) taken items took.sheets hands.handed hands.others so_far.1 (step.here items job)) in
           (front.0, front.1, hands.fault);
       left =
-          ap (λ (w : Work). record w { delivered = count; place = None }) step.next_is
-          ∙ ap (λ (w : Work). record w { delivered = count; place = None }) took.left
-          ∙ ap (λ n. record old { delivered = n; place = None }) (counts_on number taken old now next sheets (Err error) before between after count took hands step.next_is);
+          ap (λ (w : Work). record w { delivered = count; place = None; kept = false }) step.next_is
+          ∙ ap (λ (w : Work). record w { delivered = count; place = None; kept = false }) took.left
+          ∙ ap (λ n. record old { delivered = n; place = None; kept = false }) (counts_on number taken old now next sheets (Err error) before between after count took hands step.next_is);
       were = record { told = were.told; faults = were.faults };
     }
 

@@ -1,5 +1,5 @@
 -- Turns: the entry that an engine takes, and what its steps leave of the press.
-use Rattle.std.proofs.Common.{◌≡◌, ℕ, ◌+◌, slice_set, Bool, true, false, List, [], Option, Some, None, Result, Ok, Err, IfErr, IsSome, IsTrue, MatchBool, OnErr, is_ok, is_some, nat_eq, nat_lt, if◌then◌else◌, length, option_and_then, ◌==◌, refl, sym, ap, subst, ◌∙◌, arith, rules, true≢false}
+use Rattle.std.proofs.Common.{◌≡◌, ℕ, ◌+◌, slice_set, Bool, true, false, List, [], Option, Some, None, Result, Ok, Err, IfErr, IfSome, IsSome, not, IsTrue, MatchBool, OnErr, is_ok, is_some, nat_eq, nat_lt, if◌then◌else◌, length, option_and_then, ◌==◌, refl, sym, ap, subst, ◌∙◌, arith, rules, true≢false}
 use Rattle.std.specs.declared.alloc.AllocError.{AllocError}
 use Rattle.std.specs.List.{IsDistinct}
 use Rattle.std.specs.Map.{keys_of, lookup, set_value}
@@ -15,7 +15,7 @@ use Rattle.press_queue.specs.declared.status.Status.TheVariants as statuses
 use Rattle.press_queue.specs.Entries.{entry_numbered, with_entry}
 use Rattle.press_queue.specs.Rows as rows
 use Rattle.press_queue.specs.State.{QueueState}
-use Rattle.press_queue.specs.Status.{is_running, is_waiting, status_at_end}
+use Rattle.press_queue.specs.Status.{has_ended, is_running, is_waiting, status_at_end}
 use Rattle.press_queue.proofs.FirstLemmas.{next_is_numbered}
 use Rattle.press_sink.specs.declared.sheet.Delivery.{Delivery}
 use Rattle.press_sink.specs.Sending.{under_tag}
@@ -47,13 +47,13 @@ runs_placed number queue works runs sound =
     subst (λ o. IsSome (option_and_then (λ work. work.place) o)) (sym has.is) (running_place it.entry has.work it.runs has.together)
 
 -- another that stands at a place may stand for it
-pub IsSound-placed : (number : ℕ) (queue : QueueState) (works : List (ℕ × Work)) (work : Work) → IsTrue (rows.entry_runs number queue) → IsSome work.place → IsSound queue works
-    → IsSound queue (set_value (nat_eq number) works work)
-IsSound-placed number queue works work runs placed sound =
+pub IsSound-placed : (number : ℕ) (queue : QueueState) (works : List (ℕ × Work)) (work : Work) → IsTrue (rows.entry_runs number queue) → IsSome work.place
+    → ((was : Work) → lookup (nat_eq number) works ≡ Some was → work.kept ≡ was.kept) → IsSound queue works → IsSound queue (set_value (nat_eq number) works work)
+IsSound-placed number queue works work runs placed stays sound =
     let it = runs_as number queue runs in
     let has = has_work queue works number it.entry it.there sound in
     let flies = sym has.together.in_flight ∙ running_place it.entry has.work it.runs has.together in
-    set_work number queue works it.entry has.work work it.there has.is (record { in_flight = placed ∙ sym flies; begun = has.together.begun }) sound
+    set_work number queue works it.entry has.work work it.there has.is (record { in_flight = placed ∙ sym flies; kept = stays has.work has.is ∙ has.together.kept; begun = has.together.begun }) sound
 
 -- ---- an entry that begins
 
@@ -108,16 +108,35 @@ begun_runs queue new number begins =
     ap (λ (q : QueueState). rows.entry_runs number q) begins.is
     ∙ ap (λ o. option_map_or (λ entry. is_running entry.status) o false) (there_set number queue.entries begins.entry (rows.begun_entry begins.entry) begins.there)
 
--- its work has begun
-begun_together : (entry : Entry) (work : Work) → AreTogether (rows.begun_entry entry) (begun_work work)
-begun_together entry work = record { in_flight = refl; begun = λ runs. refl }
+-- and has not ended, so its images are kept
+waits_open : (status : Status) → is_waiting status ≡ true → has_ended status ≡ false
+waits_open statuses.Waiting is = refl
+waits_open statuses.Running is = refl
+waits_open statuses.Held is = refl
+waits_open statuses.Suspended is = refl
+waits_open statuses.Completed is = absurd (true≢false (sym is))
+waits_open statuses.Aborted is = absurd (true≢false (sym is))
 
-pub IsSound-begun : (queue new : QueueState) (works : List (ℕ × Work)) (number : ℕ) → IsBegun queue new number → IsSound queue works → IsSound new (begun_works number works)
-IsSound-begun queue new works number begins sound =
+waited_kept : (queue new : QueueState) (number : ℕ) → (waited : Waited queue new number) → (work : Work) → AreTogether waited.begins.entry work → work.kept ≡ true
+waited_kept queue new number waited work together = together.kept ∙ ap not (waits_open waited.begins.entry.status waited.waited)
+
+pub begun_kept : (queue new : QueueState) (works : List (ℕ × Work)) (number : ℕ) → Waited queue new number → IsSound queue works
+    → IfSome (lookup (nat_eq number) works) (λ work. work.kept ≡ true)
+begun_kept queue new works number waited sound =
+    let has = has_work queue works number waited.begins.entry waited.begins.there sound in
+    subst (λ o. IfSome o (λ (work : Work). work.kept ≡ true)) (sym has.is) (waited_kept queue new number waited has.work has.together)
+
+-- its work has begun
+begun_together : (entry : Entry) (work : Work) → work.kept ≡ true → AreTogether (rows.begun_entry entry) (begun_work work)
+begun_together entry work kept = record { in_flight = refl; kept = kept; begun = λ runs. refl }
+
+pub IsSound-begun : (queue new : QueueState) (works : List (ℕ × Work)) (number : ℕ) → Waited queue new number → IsSound queue works → IsSound new (begun_works number works)
+IsSound-begun queue new works number waited sound =
+    let begins = waited.begins in
     let has = has_work queue works number begins.entry begins.there sound in
     let works_are : begun_works number works ≡ set_value (nat_eq number) works (begun_work has.work) = ap (λ o. changed_by o (λ w all. set_value (nat_eq number) all (begun_work w)) works) has.is in
     rw (works_are, begins.is)
-    (set_both number queue works begins.entry (rows.begun_entry begins.entry) has.work (begun_work has.work) begins.there has.is (begun_together begins.entry has.work) sound)
+    (set_both number queue works begins.entry (rows.begun_entry begins.entry) has.work (begun_work has.work) begins.there has.is (begun_together begins.entry has.work (waited_kept queue new number waited has.work has.together)) sound)
 
 -- ---- the entry that runs
 

@@ -77,6 +77,7 @@ set_work number queue works entry was work there was_is together sound =
 -- Another entry may stand for one.
 pub record StandsFor (old new : Entry) : Type 0 where
   pub in_flight : is_in_flight new ≡ is_in_flight old
+  pub ended : has_ended new.status ≡ has_ended old.status
   pub begun : is_running new.status ≡ true → new.begun ≡ true
 
 pub changed_entry : (number : ℕ) (old new : Entry) (queue after : QueueState) (works : List (ℕ × Work)) → entry_numbered number queue.entries ≡ Some old → StandsFor old new
@@ -85,7 +86,11 @@ changed_entry number old new queue after works there stands are sound =
     let has = has_work queue works number old there sound in
     IsSound-at number queue after works works (Some new) (Some has.work) are
     (λ n. kept_lookup n number works ∙ ap (λ o. cond (nat_eq number n) o (lookup (nat_eq n) works)) has.is)
-    (record { in_flight = has.together.in_flight ∙ sym stands.in_flight; begun = stands.begun }) sound
+    (record {
+      in_flight = has.together.in_flight ∙ sym stands.in_flight;
+      kept = has.together.kept ∙ sym (ap not stands.ended);
+      begun = stands.begun;
+    }) sound
 
 -- ---- a work without its job
 
@@ -93,9 +98,11 @@ and_false : (b : Bool) → b && false ≡ false
 and_false true = refl
 and_false false = refl
 
-pub ended_together : (entry : Entry) (work : Work) → has_ended entry.status ≡ true → is_running entry.status ≡ false → work.place ≡ None → AreTogether entry work
-ended_together entry work ended still none = record {
+pub ended_together : (entry : Entry) (work : Work) → has_ended entry.status ≡ true → is_running entry.status ≡ false → work.place ≡ None → work.kept ≡ false
+    → AreTogether entry work
+ended_together entry work ended still none gone = record {
   in_flight = ap is_some none ∙ sym (ap (λ b. entry.begun && not b) ended ∙ and_false entry.begun);
+  kept = gone ∙ sym (ap not ended);
   begun = λ runs. absurd (true≢false (sym runs ∙ still));
 }
 
@@ -109,4 +116,4 @@ pub ended_entry : (number : ℕ) (old new : Entry) (queue : QueueState) (works :
 ended_entry number old new queue works there ended still sound =
     let has = has_work queue works number old there sound in
     rw (without_job_is number works has.work has.is)
-    (set_both number queue works old new has.work (without_job has.work) there has.is (ended_together new (without_job has.work) ended still refl) sound)
+    (set_both number queue works old new has.work (without_job has.work) there has.is (ended_together new (without_job has.work) ended still refl refl) sound)

@@ -1,5 +1,5 @@
 -- What a run of events tells of a number: what was handed out under it, how its entry was seen last, and with what it entered.
-use Rattle.std.specs.Prelude.{◌≡◌, ◌≤◌, ◌++◌, ◌==◌, ◌||◌, ◌&&◌, ℕ, nat_le, List, [], ◌∷◌, length, filter, find, Bool, true, false, if◌then◌else◌, Option, Some, None, option_map, option_and_then, Ok, Err}
+use Rattle.std.specs.Prelude.{◌≡◌, ◌≤◌, ◌++◌, ◌==◌, ◌||◌, ◌&&◌, ℕ, nat_le, List, [], ◌∷◌, length, filter, find, Bool, true, false, not, if◌then◌else◌, Option, Some, None, option_map, option_and_then, Ok, Err}
 use Rattle.std.specs.List.{flat_map, sum_by}
 use Rattle.std.specs.Option.{option_or}
 use Rattle.press_bits.specs.Page.{Page}
@@ -7,7 +7,7 @@ use Rattle.press_engine.specs.Machine.{Run}
 use Rattle.press_queue.specs.declared.entry.Entry.{Entry}
 use Rattle.press_queue.specs.declared.status.Status.TheVariants.{Completed}
 use Rattle.press_queue.specs.Entries.{entry_numbered}
-use Rattle.press_queue.specs.Status.{is_in_flight}
+use Rattle.press_queue.specs.Status.{has_ended, is_in_flight}
 use Rattle.press_sink.specs.declared.sheet.Delivery.{Delivery}
 use Rattle.press_sink.specs.Sending.{sheets_in}
 use Rattle.press_sink.specs.Sides.{Sides}
@@ -47,13 +47,16 @@ pub record AreFirst (steps : ℕ) (work : Work) (sheets : List Sides) : Type 0 w
 
 -- What was handed out for an entry, of whose job its turns took so many steps, and perhaps met a fault: where it is in flight, the sheets of
 -- these steps, behind which it stands in its job; and where no turn met a fault, whatever became of it, the sheets of these steps. Where it is
--- completed, all sheets that are wanted. In each case they are the first of those, and there are none where it never began.
+-- completed, all sheets that are wanted. In each case they are the first of those, and there are none where it never began; the work counts
+-- them; and its images are kept until it ends.
 pub record AreGiven (entry : Entry) (work : Work) (steps : ℕ) (failed : Bool) (sheets : List Sides) : Type 0 where
   pub in_flight : is_in_flight entry ≡ true → (work.place ≡ Some steps) × AreFirst steps work sheets
   pub counted : failed ≡ false → AreFirst steps work sheets
   pub completed : entry.status ≡ Completed → sheets ≡ wanted_of work
   pub front : IsFront sheets (wanted_of work)
   pub unbegun : entry.begun ≡ false → sheets ≡ []
+  pub delivered : work.delivered ≡ length sheets
+  pub kept : work.kept ≡ not (has_ended entry.status)
 
 -- ---- how an entry was seen
 

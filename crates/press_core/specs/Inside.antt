@@ -1,12 +1,12 @@
 -- What is true of a press and of its works. No public clause cites this.
-use Rattle.std.specs.Prelude.{◌≡◌, ℕ, List, true, Option, Some, None, IfSome, IsSome, option_map, option_and_then, is_some, nat_eq, Result, Ok, Err}
+use Rattle.std.specs.Prelude.{◌≡◌, ℕ, List, not, true, Option, Some, None, IfSome, IsSome, option_map, option_and_then, is_some, nat_eq, Result, Ok, Err}
 use Rattle.std.specs.declared.alloc.AllocError.{AllocError}
 use Rattle.std.specs.Map.{lookup}
 use Rattle.press_engine.specs.Machine.{Run}
 use Rattle.press_queue.specs.declared.entry.Entry.{Entry}
 use Rattle.press_queue.specs.State.{QueueState}
 use Rattle.press_queue.specs.Entries.{entry_numbered}
-use Rattle.press_queue.specs.Status.{is_in_flight, is_running}
+use Rattle.press_queue.specs.Status.{has_ended, is_in_flight, is_running}
 use Rattle.press_core.specs.declared.work.RunningJob.{RunningJob}
 use Rattle.press_core.specs.declared.work.Work.TheInside.{Inside}
 use Rattle.press_core.specs.Engines.{RunsOnEngines}
@@ -18,28 +18,33 @@ use Rattle.press_core.specs.World.{work_changed, World, work_numbered}
 abbrev pub work_of : Inside → Work
 work_of work = record {
   ticket = work.ticket;
-  images = work.images.items;
+  images = work.entered.value.items;
   delivered = work.delivered;
   place = option_map (λ running. running.steps) work.running;
+  kept = is_some work.images;
 }
 
 -- it is at its place in the job of the work
 abbrev pub IsJobAt : Work → RunningJob → Type 0
 IsJobAt work running = (items : List Run) × IsJobOf work items × IsAt items work.images running
 
--- Its ticket is printed with its images, and its job stands at its place.
+-- Its ticket is printed with its images, and its job stands at its place. The images that are kept are those with which it entered,
+-- and while it has a job they are kept.
 pub record IsSoundWork (work : Inside) : Type 0 where
   pub printable : IsPrintable (work_of work).ticket (work_of work).images
   pub stands : IfSome work.running (λ running. IsJobAt (work_of work) running)
+  pub same : IfSome work.images (λ images. images.items ≡ work.entered.value.items)
+  pub needed : IfSome work.running (λ running. IsSome work.images)
 
 -- the entry of this number has begun: its work has a place in its job
 abbrev pub HasPlace : List (ℕ × Work) → (number : ℕ) → Type 0
 HasPlace works number = IsSome (option_and_then (λ work. work.place) (lookup (nat_eq number) works))
 
--- An entry and its work: the work stands at a place of its job exactly where the entry is in flight; and an entry that runs has
--- begun.
+-- An entry and its work: the work stands at a place of its job exactly where the entry is in flight; its images are kept exactly where
+-- the entry has not ended; and an entry that runs has begun.
 pub record AreTogether (entry : Entry) (work : Work) : Type 0 where
   pub in_flight : is_some work.place ≡ is_in_flight entry
+  pub kept : work.kept ≡ not (has_ended entry.status)
   pub begun : is_running entry.status ≡ true → entry.begun ≡ true
 
 abbrev pub GoTogether : Option Entry → Option Work → Type 0

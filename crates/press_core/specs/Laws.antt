@@ -1,11 +1,16 @@
 -- The laws of jobs and of runs of events, as statements.
-use Rattle.std.specs.Prelude.{◌≡◌, ◌≤◌, ℕ, List, [], length, false, true, Some, None}
+use Rattle.std.specs.Prelude.{◌≡◌, ◌≤◌, ◌+◌, ℕ, List, [], length, false, true, IsSome, Some, None}
+use Rattle.std.specs.List.{All}
 use Rattle.press_bits.specs.Page.{Page}
 use Rattle.press_engine.specs.Machine.{Run}
 use Rattle.press_queue.specs.Entries.{running_ones}
 use Rattle.press_queue.specs.EveryQueue.{IsQueue}
+use Rattle.press_ticket.specs.Pages.{page_order}
 use Rattle.press_ticket.specs.Ticket.{JobTicket}
-use Rattle.press_writer.specs.Wanted.{wanted}
+use Rattle.press_writer.specs.Fitting.{IsImage, refusal}
+use Rattle.press_writer.specs.Laws.{most_sheets}
+use Rattle.press_writer.specs.Left.{most_job_commands}
+use Rattle.press_writer.specs.Wanted.{image_of, wanted}
 use Rattle.press_core.specs.Engines.{RunsOnEngines}
 use Rattle.press_core.specs.Events.{Happening, IsRun, Leads}
 use Rattle.press_core.specs.History.{AreGiven, Seen, TakesInAll, entered_with, handed_under, last_seen, met_fault, seen_in, steps_in}
@@ -16,19 +21,32 @@ use Rattle.press_core.specs.World.{World, is_listed, new_world}
 -- The sheets of all steps of a work's job are those that its ticket wants, where the ticket is printed with its images.
 abbrev pub JobsHandOutTheWantedSheets : Type 0
 JobsHandOutTheWantedSheets =
-    (work : Work) (items : List Run) → IsPrintable work.ticket work.images → IsJobOf work items
+    (work : Work) (items : List Run) → refusal work.ticket work.images ≡ None
+    → All (λ page. IsImage (image_of work.images page)) (page_order work.ticket.run_list) → IsJobOf work items
     → sheets_from 0 (length items) items ≡ wanted work.ticket work.images
+
+-- the most steps of a job
+abbrev pub most_steps : ℕ
+most_steps = most_job_commands + 1
+
+-- The job of a ticket that is printed with its images has at most so many steps, and at most so many sheets are wanted.
+pub record JobsAreShort : Type 0 where
+  pub steps : (work : Work) (items : List Run) → IsPrintable work.ticket work.images → IsJobOf work items → length items ≤ most_steps
+  pub sheets : (ticket : JobTicket) (images : List Page) → IsPrintable ticket images → length (wanted ticket images) ≤ most_sheets
 
 -- In a run of events from a first world what was handed out under a number is what its entry says, as it was seen last, with the steps that
 -- the answers to its turns tell in all, and whether one of them met a fault: an entry of the list as it stands there, one that left it as it
--- stood before. It has the ticket and the images with which it entered. Under a number that was never seen nothing was handed out, and
--- no step was taken.
+-- stood before. It has the ticket and the images with which it entered, and its job has at most so many steps. An entry of the list has its
+-- work. Under a number that was never seen nothing was handed out, and no step was taken.
 pub record GivenUnder (first : World) (happenings : List Happening) (last : World) (number : ℕ) : Type 0 where
   pub given : (seen : Seen) → last_seen number happenings ≡ Some seen
       → AreGiven seen.entry seen.work (steps_in number happenings) (met_fault number first happenings) (handed_under number happenings)
   pub entered : (seen : Seen) → last_seen number happenings ≡ Some seen
       → entered_with number happenings ≡ Some (seen.work.ticket, seen.work.images)
   pub listed : is_listed number last.queue ≡ true → last_seen number happenings ≡ seen_in number last
+  pub has_work : is_listed number last.queue ≡ true → IsSome (seen_in number last)
+  pub few : (seen : Seen) → last_seen number happenings ≡ Some seen
+      → (items : List Run) → IsJobOf seen.work items → length items ≤ most_steps
   pub never : last_seen number happenings ≡ None → (handed_under number happenings ≡ []) × (steps_in number happenings ≡ 0)
 
 -- From a world of a run on, nothing is handed out under a number whose entry left the list, and it has no entry again.

@@ -4,16 +4,41 @@ ghost use Rattle.std.specs.Prelude.{◌≡◌, ◌<◌, if◌then◌else◌, Non
 ghost use Rattle.press_core.specs.Engines.{are_engines, is_number, left_by};
 
 use crate::fault::BAD_ENGINES;
+use press_units::ToldFault;
+use std::error::Error;
+use std::fmt;
 use std::marker::Model;
-use thiserror::Error;
 
 /// The most engines that a press has.
 pub const MOST_ENGINES: usize = 4;
 
 /// A press has one to four engines.
-#[derive(Debug, Drop, Error)]
-#[error("fault {number}", number = BAD_ENGINES)]
+#[derive(Debug, Drop)]
 pub struct BadEngines;
+
+impl BadEngines {
+    ghost use Rattle.press_core.specs.TurnErrors.{bad_engines};
+
+    /// Its number: 701.
+    pub fn number(&self) -> u16
+        ensures { result ≡ bad_engines }
+    {
+        BAD_ENGINES
+    }
+}
+
+impl fmt::Display for BadEngines {
+    ghost use Rattle.press_units.specs.Faults.{fault_text};
+    ghost use Rattle.press_core.specs.TurnErrors.{bad_engines};
+
+    ghost output = { λ error. Some (fault_text (Some bad_engines)) };
+
+    fn fmt<W: fmt::Write>(&self, f: &mut fmt::Formatter<W>) -> fmt::Result {
+        write!(f, "{}", ToldFault(Some(self.number())))
+    }
+}
+
+impl Error for BadEngines {}
 
 /// The engines of a press. Contracts see for each the number of the entry that it runs, if it runs one.
 #[derive(Drop)]

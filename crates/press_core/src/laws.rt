@@ -1,17 +1,26 @@
 //! The laws of a press: of its jobs, and of every run of events. Each is the contract of a function that does nothing but call those
 //! whose laws it takes.
 
-ghost use Rattle.press_core.specs.Laws.{JobsHandOutTheWantedSheets, SheetsAreGiven, EntriesDoNotInterfere, EntriesAreBounded};
+ghost use Rattle.press_core.specs.Laws.{JobsAreShort, JobsHandOutTheWantedSheets, SheetsAreGiven, EntriesDoNotInterfere, EntriesAreBounded};
 
 use press_queue::laws::each_row_keeps_the_queue;
-use press_writer::laws::jobs_print_their_tickets;
+use press_writer::laws as jobs;
 
 /// The job of a ticket that is printed with its images hands out the wanted sheets in its steps, in order, and nothing else. So
 /// the sheets of an entry that is completed, which took all of them, are those that its ticket wants.
 pub fn jobs_hand_out_the_wanted_sheets()
     ensures { JobsHandOutTheWantedSheets }
 {
-    jobs_print_their_tickets();
+    jobs::jobs_print_their_tickets();
+}
+
+/// The job of a ticket that is printed with its images has at most 4,000,000,000,001 steps, and it wants at most 9,989,001 sheets. So a
+/// turn of that many steps completes its entry, unless it meets a fault.
+pub fn jobs_are_short()
+    ensures { JobsAreShort }
+{
+    jobs::jobs_print_their_tickets();
+    jobs::jobs_are_short();
 }
 
 /// In every run of events, whatever messages, turns, operators and faults it has: what was handed out under the number of an
@@ -21,6 +30,7 @@ pub fn sheets_are_given()
     ensures { SheetsAreGiven }
 {
     jobs_hand_out_the_wanted_sheets();
+    jobs_are_short();
     each_row_keeps_the_queue();
 }
 

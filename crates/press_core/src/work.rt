@@ -1,6 +1,6 @@
 //! What an entry of the queue is to print, and how far that has come.
 
-ghost use Rattle.std.specs.Prelude.{◌≡◌, ◌≤◌, ◌<◌, List, length, None, Some, IfOk, OnOk, OnErr, IsSome, nat_eq, false};
+ghost use Rattle.std.specs.Prelude.{◌≡◌, ◌≤◌, ◌<◌, List, length, None, Some, IfOk, OnOk, OnErr, IsSome, nat_eq, false, true};
 ghost use Rattle.press_engine.specs.Machine.{Run};
 ghost use Rattle.press_engine.specs.Outputs.{all_outputs};
 ghost use Rattle.press_sink.specs.Sending.{sheets_of};
@@ -23,6 +23,7 @@ use press_ticket::Ticket;
 use press_writer::JobWriter;
 use std::alloc::{AllocError, Global};
 use std::marker::Model;
+use std::snapshot::Snapshot;
 
 /// The job of an entry that is in flight: an engine of its own, what is still to be written of the job, and how far it has come.
 #[derive(Drop)]
@@ -34,11 +35,14 @@ pub struct RunningJob {
 }
 
 /// What an entry is to print: its ticket, the images of its pages, how many sheets it delivered; and while it is in flight,
-/// its job. Contracts see of the job how many steps were taken.
+/// its job. Contracts see of the job how many steps were taken. The images go when the entry ends; of those contracts alone know then.
 #[derive(Drop)]
 pub struct Work {
     ticket: Ticket,
-    images: Vec<Bitmap>,
+    /// The images, until the entry ends.
+    images: Option<Vec<Bitmap>>,
+    /// The images with which it entered.
+    entered: Snapshot<Vec<Bitmap>>,
     delivered: u64,
     running: Option<RunningJob>,
 }
@@ -141,9 +145,12 @@ impl Work {
         requires { IsPrintable ticket images.now }
         ensures { IfOk result (λ work. work ≡ new_work ticket images.now) }
     {
+        let images = copies(alloc, images)?;
+        let entered = Snapshot::of(&images);
         Ok(Work {
             ticket,
-            images: copies(alloc, images)?,
+            images: Some(images),
+            entered,
             delivered: 0,
             running: None,
         })
@@ -158,13 +165,17 @@ impl Work {
 
     /// Its job begins, unless it did.
     pub fn begin(&mut self, alloc: Global) -> Result<(), AllocError>
+        requires { self.old.kept ≡ true }
         ensures ok { OnOk result (self.new ≡ begun_work self.old) }
         ensures err { OnErr result (self.new ≡ self.old) }
     {
         if self.running.is_some() {
             return Ok(());
         }
-        self.running = Some(RunningJob::open(alloc, &self.ticket, &self.images)?);
+        let Some(images) = &self.images else {
+            unreachable!()
+        };
+        self.running = Some(RunningJob::open(alloc, &self.ticket, images)?);
         Ok(())
     }
 
@@ -181,7 +192,8 @@ impl Work {
         }
     }
 
-    /// Carries out the next step of its job, and gives what goes out in it. Where memory ran out, the job is given up.
+    /// Carries out the next step of its job, and gives what goes out in it. Where memory ran out, the job is given up, and its
+    /// images go.
     pub fn advance(&mut self, alloc: Global) -> Result<Vec<Sent>, AllocError>
         requires begun { IsSome self.old.place }
         requires going { (items : List Run) → IsJobOf self.old items
@@ -193,8 +205,12 @@ impl Work {
         let Some(mut running) = self.running.take() else {
             unreachable!()
         };
-        let sent = running.step(alloc, &self.images)?;
+        let Some(images) = self.images.take() else {
+            unreachable!()
+        };
+        let sent = running.step(alloc, &images)?;
         self.running = Some(running);
+        self.images = Some(images);
         Ok(sent)
     }
 
@@ -215,15 +231,26 @@ impl Work {
         while taken < most && !self.is_over() {
             let sent = self.advance(alloc)?;
             hand_over(number, &sent, sink, &mut self.delivered)?;
+            self.reuse(sent);
             taken += 1;
         }
         Ok(taken)
     }
 
-    /// Drops its job, which is given up or at its end.
+    /// Takes the memory of what went out, for the pages that come. Nothing changes that can be seen.
+    fn reuse(&mut self, sent: Vec<Sent>)
+        ensures { self.new ≡ self.old }
+    {
+        if let Some(running) = &mut self.running {
+            running.job.reuse(sent);
+        }
+    }
+
+    /// Drops its job, which is given up or at its end, and its images.
     pub fn drop_job(&mut self)
         ensures { self.new ≡ without_job self.old }
     {
         self.running = None;
+        self.images = None;
     }
 }

@@ -15,8 +15,8 @@ delivered_sheets [] = refl
 delivered_sheets (sheet ∷ sheets) = ap (λ l. sheet ∷ l) (delivered_sheets sheets)
 
 pub returns : goal.returns
-returns c = λ work items printable (closed, is_closed, is).
-    let prints = c.jobs_print_their_tickets.ensures work.ticket work.images printable.fits printable.images_are in
+returns c = λ work items fits images_are (closed, is_closed, is).
+    let prints = c.jobs_print_their_tickets.ensures work.ticket work.images fits images_are in
     let same = prints.only closed is_closed in
     ap (λ these. sheets_of (joined these)) (take_all (length items) items (omega arith) ∙ is)
     ∙ ap (λ (commands : List Token). sheets_of (meaning_of (with_exit commands)).outputs) same
