@@ -1,6 +1,7 @@
 -- The calls of a job, one after another.
-use Rattle.std.proofs.Common.{◌≡◌, ◌∙◌, ◌<◌, ◌+◌, ℕ, List, [], ◌∷◌, ◌++◌, length, take, drop, get_or, Ok, Err, Result, Option, Some, None, IsSome, OnOk, IfErr, false, refl, sym, ap, subst, append_assoc}
+use Rattle.std.proofs.Common.{◌≡◌, ◌∙◌, ◌<◌, ◌+◌, ℕ, List, [], ◌∷◌, ◌++◌, length, take, drop, get_or, Ok, Err, Result, Option, Some, None, IsSome, is_some, OnOk, OnErr, IfErr, false, refl, sym, ap, subst, append_assoc}
 use Rattle.std.specs.List.{flat_map}
+use Rattle.std.proofs.KnownBytes.{Consumes-nil}
 use Rattle.std.proofs.lemmas.Grind.{flat_map-append}
 use Rattle.std.proofs.lemmas.Bool.{true≢false}
 use Rattle.std.proofs.lemmas.List.{append-nil, take_more, take-append-drop}
@@ -10,14 +11,15 @@ use Rattle.press_sink.specs.Sending.{Complete, AtSheet, AtReply, ForMemory}
 use Rattle.press_engine.specs.declared.machine.Machine.{Machine}
 use Rattle.press_stream.specs.declared.fault.JobError.{JobError}
 use Rattle.press_stream.specs.declared.fault.JobError.TheVariants as errors
-use Rattle.press_stream.specs.State.{JobState, opened}
-use Rattle.press_stream.specs.Answers.{Pushes, Takes, Feeds, Finishes, Faults, FaultsBefore, StepFaults}
+use Rattle.press_stream.specs.State.{IsOver, JobState, opened}
+use Rattle.press_stream.specs.Answers.{Pushes, Takes, Feeds, Finishes, Faults, FaultsBefore, RunsReader, RunsThrough, StepFaults, fault_of}
 use Rattle.press_stream.specs.declared.step.Step.{Step}
 use Rattle.press_stream.specs.declared.step.Step.TheVariants as steps
 use Rattle.press_stream.specs.Chain.{CallsGo, PrintsAll}
 use Rattle.press_stream.specs.Meaning.{Goes}
 use Rattle.press_stream.specs.Printed.{Prints, PrintedTo}
 use Rattle.press_stream.proofs.Going.{Goes-ran, taken-ended}
+use Rattle.press_theorem.specs.Calls.{PrintsCalls}
 
 -- the bytes of the first pieces, and of one more
 pub pieces-next : {A : Type 0} (f : A → List ℕ) (pieces : List A) (i : ℕ) (other : A) → i < length pieces → flat_map f (take (i + 1) pieces) ≡ flat_map f (take i pieces) ++ f (get_or pieces i other)
@@ -52,6 +54,12 @@ Prints-end calls prints bytes all given tag job new result done before middle af
     let P : Result (Unit {0}) JobError → Type 0 = λ one. Finishes job tag one new middle after in
     let last = subst P answer finishes in
     prints.at_end all (given ++ last.0) tag new before after (Goes-more calls bytes [] all given last.0 tag job new before middle after (is ∙ sym (append-nil bytes)) first last.1) last.2
+
+-- a job that was finished is over
+pub finish-over : (job new : JobState) (tag : ℕ) (result : Result (Unit {0}) JobError) (done : Unit {0}) (before after : Told) → result ≡ Ok done → Finishes job tag result new before after → IsOver new
+finish-over job new tag result done before after answer finishes =
+    let P : Result (Unit {0}) JobError → Type 0 = λ one. Finishes job tag one new before after in
+    (subst P answer finishes).2
 
 -- a piece that was pushed
 pub pushed : CallsGo → (old new : JobState) (piece : List ℕ) (tag : ℕ) (result : Result (Unit {0}) JobError) (told : Told) → Pushes old piece result new → OnOk result ((given : List Token) × Goes old piece given tag new told told)
@@ -122,6 +130,24 @@ fed-fault old new piece tag errors.Failed before after going feeds = feeds
 fed-fault old new piece tag errors.ReadFault before after going feeds = feeds
 fed-fault old new piece tag errors.AfterEnd before after going feeds = absurd (true≢false (sym feeds.0.1 ∙ going))
 
+-- what is left at an error, whatever the answer is
+pub on_err : {A E P : Type 0} (r : Result A E) → P → OnErr r P
+on_err (Ok a) p = tt
+on_err (Err e) p = p
+
+-- a piece that was fed
+pub fed : (old new : JobState) (piece : List ℕ) (tag : ℕ) (result : Result (Unit {0}) JobError) (before after : Told) → Feeds old piece tag result new before after → OnOk result ((given : List Token) × Goes old piece given tag new before after)
+fed old new piece tag (Ok done) before after feeds = (feeds.0, feeds.1)
+fed old new piece tag (Err error) before after feeds = tt
+
+pub fed-going : (old new : JobState) (piece : List ℕ) (tag : ℕ) (result : Result (Unit {0}) JobError) (before after : Told) → Feeds old piece tag result new before after → OnOk result (new.held.ended ≡ false)
+fed-going old new piece tag (Ok done) before after feeds = feeds.2.going
+fed-going old new piece tag (Err error) before after feeds = tt
+
+pub fed-faults : (old new : JobState) (piece : List ℕ) (tag : ℕ) (result : Result (Unit {0}) JobError) (before after : Told) → old.held.ended ≡ false → Feeds old piece tag result new before after → IfErr result (λ error. FaultsBefore old piece tag error new before after)
+fed-faults old new piece tag (Ok done) before after going feeds = tt
+fed-faults old new piece tag (Err error) before after going feeds = fed-fault old new piece tag error before after going feeds
+
 -- of a piece that was pushed
 pub pushed-fault : CallsGo → (old new : JobState) (piece : List ℕ) (tag : ℕ) (result : Result (Unit {0}) JobError) (told : Told) → IsSome old.machine → old.held.ended ≡ false → Pushes old piece result new → IfErr result (λ error. FaultsBefore old piece tag error new told told)
 pushed-fault calls old new piece tag (Ok done) told running going pushes = tt
@@ -142,6 +168,71 @@ stepped-fault calls old new tag errors.NoMemory before after faults = λ more no
 stepped-fault calls old new tag errors.Failed before after faults = λ more none_after. faults
 stepped-fault calls old new tag errors.ReadFault before after faults = absurd faults
 stepped-fault calls old new tag errors.AfterEnd before after faults = absurd faults
+
+-- a job that stopped has failed
+none_runs : (machine : Option Machine) → IsSome machine → machine ≡ None → ⊥
+none_runs machine some none = cc
+
+stopped-by : (job new : JobState) (bytes : List ℕ) (tag : ℕ) (error : JobError) (before after : Told) → IsSome job.machine → Faults job bytes tag error new before after → new.machine ≡ None
+stopped-by job new bytes tag errors.SinkFault before after runs faults = faults.0
+stopped-by job new bytes tag errors.ReplyFault before after runs faults = faults.0
+stopped-by job new bytes tag errors.NoMemory before after runs faults = faults.0
+stopped-by job new bytes tag errors.Failed before after runs faults = absurd (none_runs job.machine runs faults.0)
+stopped-by job new bytes tag errors.ReadFault before after runs faults = absurd faults
+stopped-by job new bytes tag errors.AfterEnd before after runs faults = absurd faults
+
+pub stopped-failed : (job new : JobState) (piece : List ℕ) (tag : ℕ) (error : JobError) (before after : Told) → IsSome job.machine → job.held.ended ≡ false → FaultsBefore job piece tag error new before after → new.machine ≡ None
+stopped-failed job new piece tag error before after runs going faults =
+    stopped-by job new (piece ++ []) tag error before after runs (faults [] (λ ended. absurd (true≢false (sym ended ∙ going))))
+
+pub on_failed : (job new : JobState) (piece : List ℕ) (tag : ℕ) (result : Result (Unit {0}) JobError) (before after : Told) → IsSome job.machine → job.held.ended ≡ false → IfErr result (λ error. FaultsBefore job piece tag error new before after) → OnErr result (new.machine ≡ None)
+on_failed job new piece tag (Ok done) before after runs going faults = tt
+on_failed job new piece tag (Err error) before after runs going faults = stopped-failed job new piece tag error before after runs going faults
+
+-- what went out where a job stopped, whatever machine is left
+PrintedTo-any : (error : JobError) (bytes : List ℕ) (tag : ℕ) (one other : Option Machine) (before after : Told) → PrintedTo (Some error) bytes tag one before after → PrintedTo (Some error) bytes tag other before after
+PrintedTo-any errors.SinkFault bytes tag one other before after printed = printed
+PrintedTo-any errors.ReplyFault bytes tag one other before after printed = printed
+PrintedTo-any errors.NoMemory bytes tag one other before after printed = printed
+PrintedTo-any errors.Failed bytes tag one other before after printed = absurd printed
+PrintedTo-any errors.ReadFault bytes tag one other before after printed = printed
+PrintedTo-any errors.AfterEnd bytes tag one other before after printed = absurd printed
+
+-- a call stopped, and nothing was read
+pub PrintsCalls-stopped : (bytes : List ℕ) (had : Option (List ℕ)) (tag : ℕ) (error : JobError) (job : JobState) (before after : Told) → PrintedTo (Some error) bytes tag None before after → PrintsCalls bytes had had tag (Err error) job before after
+PrintsCalls-stopped bytes had tag error job before after printed = record {
+  read = [];
+  reads = record { lost = Consumes-nil had; at_end = λ none. absurd (cc) };
+  printed = subst (λ (all : List ℕ). PrintedTo (Some error) all tag job.machine before after) (sym (append-nil bytes)) (PrintedTo-any error bytes tag None job.machine before after printed);
+}
+
+-- what a reader has behind the calls
+pub PrintsCalls-read : PrintsAll → (bytes all : List ℕ) (given : List Token) (had left : Option (List ℕ)) (tag : ℕ) (result : Result (Unit {0}) JobError) (job new : JobState) (before middle after : Told) → all ≡ bytes → Goes opened bytes given tag job before middle → job.held.ended ≡ false → RunsReader job had left tag result new middle after → PrintsCalls all had left tag result new before after
+PrintsCalls-read prints bytes all given had left tag result job new before middle after is goes going runs = record {
+  read = runs.bytes;
+  reads = runs.read;
+  printed = subst (λ (front : List ℕ). PrintedTo (fault_of result) (front ++ runs.bytes) tag new.machine before after) (sym is) (prints.runs_on bytes given had left tag result job new before middle after goes going runs);
+}
+
+-- it is over then, or has failed
+pub read-over : (job new : JobState) (bytes : List ℕ) (tag : ℕ) (result : Result (Unit {0}) JobError) (before after : Told) → RunsThrough job bytes tag result new before after → OnOk result (IsOver new)
+read-over job new bytes tag (Ok done) before after runs = runs.2
+read-over job new bytes tag (Err error) before after runs = tt
+
+pub read-failed : (job new : JobState) (bytes : List ℕ) (tag : ℕ) (result : Result (Unit {0}) JobError) (before after : Told) → IsSome job.machine → job.held.ended ≡ false → RunsThrough job bytes tag result new before after → OnErr result (new.machine ≡ None)
+read-failed job new bytes tag (Ok done) before after some going runs = tt
+read-failed job new bytes tag (Err errors.ReadFault) before after some going runs = runs.0
+read-failed job new bytes tag (Err errors.AfterEnd) before after some going runs = absurd (true≢false (sym runs.0.1 ∙ going))
+read-failed job new bytes tag (Err errors.SinkFault) before after some going runs = stopped-by job new bytes tag errors.SinkFault before after some runs
+read-failed job new bytes tag (Err errors.ReplyFault) before after some going runs = stopped-by job new bytes tag errors.ReplyFault before after some runs
+read-failed job new bytes tag (Err errors.NoMemory) before after some going runs = stopped-by job new bytes tag errors.NoMemory before after some runs
+read-failed job new bytes tag (Err errors.Failed) before after some going runs = stopped-by job new bytes tag errors.Failed before after some runs
+
+-- a job that goes on runs
+pub runs-on : (bytes : List ℕ) (given : List Token) (tag : ℕ) (job : JobState) (before after : Told) → Goes opened bytes given tag job before after → IsSome job.machine
+runs-on bytes given tag job before after goes = some job.machine _ goes.carried.ends where
+  some : (machine : Option Machine) (one : Machine) → machine ≡ Some one → IsSome machine
+  some machine one is = ap is_some is
 
 -- there was no memory for a job
 pub PrintedTo-none : CallsGo → PrintsAll → (all : List ℕ) (tag : ℕ) (told : Told) → PrintedTo (Some errors.NoMemory) all tag None told told

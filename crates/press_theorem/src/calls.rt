@@ -1,30 +1,34 @@
-//! A stream in pieces, with steps between them.
-ghost use Rattle.std.specs.Prelude.{◌≡◌, List, Some, None, IsSome, false, IfOk, IfErr, OnOk};
+//! A stream by any calls of a job, and by a reader behind them.
+ghost use Rattle.std.specs.Prelude.{◌≡◌, List, Some, None, IsSome, false, IfOk, IfErr, OnErr, OnOk};
 ghost use Rattle.std.specs.List.{flat_map};
 ghost use Rattle.press_sink.specs.Told.{both, CanCount};
 ghost use Rattle.press_sink.specs.Sending.{Complete};
 ghost use Rattle.press_stream.specs.Answers.{FaultsBefore};
 ghost use Rattle.press_stream.specs.Meaning.{Goes};
 ghost use Rattle.press_stream.specs.Printed.{Prints, PrintedTo};
+ghost use Rattle.press_stream.specs.State.{IsOver, opened};
 ghost use Rattle.press_cmd.specs.Token.{Token};
-ghost use Rattle.press_theorem.specs.Calls.{bytes_of};
+ghost use Rattle.press_theorem.specs.Calls.{PrintsCalls, bytes_of};
 
 use press_sink::{ReplySink, SheetSink};
 use press_stream::{Job, JobError, laws};
-use std::alloc::Global;
+use std::alloc::{AllocError, Global};
+use std::io::Read;
 
 /// A call of a job while its stream comes.
 #[derive(Clone, Copy)]
 pub enum Call<'a> {
     /// This piece is pushed, and nothing is carried out.
     Push(&'a [u8]),
+    /// This piece is taken, and the commands so far are carried out.
+    Feed(&'a [u8]),
     /// A table step is taken: a command of the innermost body that runs, or else of the stream, if a whole one is there.
     Step,
 }
 
-/// Prints a stream whose pieces are pushed, with steps between them in any order, from power on; and then the end of input is
-/// given. The job is handed back. Whatever the calls are, the sheets, the replies and the machine are those of the commands of
-/// the bytes, carried out one after another.
+/// Prints a stream whose pieces are pushed or fed, with steps between them in any order, from power on; and then the end of input is
+/// given. The job is handed back, and no step of it is left. Whatever the calls are, the sheets, the replies and the machine are those of
+/// the commands of the bytes, carried out one after another.
 ///
 /// # Errors
 ///
@@ -41,6 +45,7 @@ pub fn print_calls<S: SheetSink, P: ReplySink>(
     ensures ok { IfOk result (λ job. Prints (flat_map bytes_of calls.now) tag Complete job.machine
         (both (S.told sheets.old) (P.told replies.old))
         (both (S.told sheets.new) (P.told replies.new))) }
+    ensures over { IfOk result IsOver }
     ensures err { IfErr result (λ error.
         PrintedTo (Some error) (flat_map bytes_of calls.now) tag None
         (both (S.told sheets.old) (P.told replies.old))
@@ -53,6 +58,72 @@ pub fn print_calls<S: SheetSink, P: ReplySink>(
     }
     job.finish(tag, sheets, replies)?;
     Ok(job)
+}
+
+/// A stream that was printed by calls of a job and then by a reader: the job, and why it stopped early, where it did.
+#[derive(Drop)]
+pub struct PrintedStream {
+    pub job: Job,
+    pub result: Result<(), JobError>,
+}
+
+/// Prints a stream from power on: first by any calls, and then what a reader has behind them, to its end. Whatever the calls are, and
+/// however the reader gives its bytes, the sheets, the replies and the machine are those of the commands of all bytes, carried out one
+/// after another, and one more universal exit. No step of the job is left then.
+///
+/// Where it stopped early, the job has failed, and answers 303 from then on: at `SinkFault` (301) and `ReplyFault` (302) a sink had a
+/// fault, at `ReadFault` (304) a read failed, or memory ran out. What went out by then is a front of what the whole stream prints, at
+/// 304 all of the commands so far.
+///
+/// # Errors
+///
+/// Where there is no memory for a job; nothing was read, and nothing went out.
+pub fn print_stream<R: Read, S: SheetSink, P: ReplySink>(
+    alloc: Global,
+    calls: &[Call<'_>],
+    reader: &mut R,
+    tag: u64,
+    sheets: &mut S,
+    replies: &mut P,
+) -> Result<PrintedStream, AllocError>
+    requires { CanCount (both (S.told sheets.old) (P.told replies.old)) }
+    ensures prints { IfOk result (λ printed. PrintsCalls (flat_map bytes_of calls.now)
+        (R.remaining reader.old) (R.remaining reader.new) tag printed.result printed.job
+        (both (S.told sheets.old) (P.told replies.old))
+        (both (S.told sheets.new) (P.told replies.new))) }
+    ensures over { IfOk result (λ printed. OnOk printed.result (IsOver printed.job)) }
+    ensures failed { IfOk result (λ printed. OnErr printed.result (printed.job.machine ≡ None)) }
+    ensures nothing { OnErr result ((reader.new ≡ reader.old) × (sheets.new ≡ sheets.old)
+        × (replies.new ≡ replies.old)) }
+{
+    let mut job = Job::open(alloc)?;
+    let result = run_calls(&mut job, calls, reader, tag, sheets, replies);
+    Ok(PrintedStream { job, result })
+}
+
+/// Makes calls of a job that was opened, and then runs what a reader has.
+fn run_calls<R: Read, S: SheetSink, P: ReplySink>(
+    job: &mut Job,
+    calls: &[Call<'_>],
+    reader: &mut R,
+    tag: u64,
+    sheets: &mut S,
+    replies: &mut P,
+) -> Result<(), JobError>
+    requires opened { job.old ≡ opened }
+    requires can_count { CanCount (both (S.told sheets.old) (P.told replies.old)) }
+    ensures prints { PrintsCalls (flat_map bytes_of calls.now)
+        (R.remaining reader.old) (R.remaining reader.new) tag result job.new
+        (both (S.told sheets.old) (P.told replies.old))
+        (both (S.told sheets.new) (P.told replies.new)) }
+    ensures over { OnOk result (IsOver job.new) }
+    ensures failed { OnErr result (job.new.machine ≡ None) }
+{
+    laws::chain();
+    for call in calls {
+        make(job, *call, tag, sheets, replies)?;
+    }
+    job.run(reader, tag, sheets, replies)
 }
 
 /// Makes one call of a job that takes more bytes.
@@ -71,6 +142,7 @@ fn make<S: SheetSink, P: ReplySink>(
         (both (S.told sheets.old) (P.told replies.old))
         (both (S.told sheets.new) (P.told replies.new))) }
     ensures going { OnOk result (job.new.held.ended ≡ false) }
+    ensures failed { OnErr result (job.new.machine ≡ None) }
     ensures faults { IfErr result (λ error.
         FaultsBefore job.old (bytes_of call.entry) tag error job.new
         (both (S.told sheets.old) (P.told replies.old))
@@ -79,6 +151,7 @@ fn make<S: SheetSink, P: ReplySink>(
     laws::chain();
     match call {
         Call::Push(piece) => job.push(piece),
+        Call::Feed(piece) => job.feed(piece, tag, sheets, replies),
         Call::Step => {
             job.step(tag, sheets, replies)?;
             Ok(())

@@ -4,13 +4,11 @@
 #![tactic(auto)]
 
 mod calls;
-mod delivered;
 mod events;
 mod pieces;
 mod tickets;
 
-pub use calls::{Call, print_calls};
-pub use delivered::Delivered;
+pub use calls::{Call, PrintedStream, print_calls, print_stream};
 pub use events::{PressEvent, carry_out_events};
 pub use pieces::print_pieces;
-pub use tickets::{NotPrinted, print_ticket};
+pub use tickets::{Delivered, NotPrinted, print_ticket};

@@ -4,7 +4,7 @@ use Rattle.std.proofs.lemmas.List.{take_all}
 use Rattle.std.proofs.lemmas.Result.{err_from_is_err_and}
 use Rattle.press_theorem.specs.declared.calls.Call.TheVariants.{Push}
 use Rattle.press_theorem.specs.Calls.{bytes_of}
-use Rattle.press_theorem.proofs.ChainLemmas.{opened-going, pieces-next, Goes-opened, Goes-more, can_count-after, Prints-end, pieces-rest, PrintedTo-before, PrintedTo-none, PrintedTo-end}
+use Rattle.press_theorem.proofs.ChainLemmas.{opened-going, pieces-next, Goes-opened, Goes-more, can_count-after, finish-over, Prints-end, pieces-rest, PrintedTo-before, PrintedTo-none, PrintedTo-end}
 use Rattle.press_theorem.proofs.calls.print_calls.Goals as goal
 
 pub loop-call-init : goal.loop-call-init
@@ -35,6 +35,9 @@ returns-clause-ok g c =
     let pieces = c.args.calls.now in
     let i = c.loop-call.call-index in
     Prints-end c.chain.ensures.calls c.chain.ensures.prints (flat_map bytes_of (take i pieces)) (flat_map bytes_of pieces) c.loop-call.invariant.given c.args.tag c.loop-call.job c.finish.new.self c.finish.result c.in_ok-finish.field-0 _ _ _ c.in_ok-finish.was (sym (ap (flat_map bytes_of) (take_all i pieces c.loop-call-test.false))) c.loop-call.invariant.goes c.finish.ensures.finishes
+
+pub returns-clause-over : goal.returns-clause-over
+returns-clause-over g c = finish-over c.loop-call.job c.finish.new.self c.args.tag c.finish.result c.in_ok-finish.field-0 _ _ c.in_ok-finish.was c.finish.ensures.finishes
 
 pub make-requires-clause-going : goal.make-requires-clause-going
 make-requires-clause-going g c = c.loop-call.invariant.going

@@ -1,0 +1,23 @@
+use Rattle.std.proofs.Common.{◌≡◌, ◌++◌, ℕ, List, [], length, false}
+use Rattle.press_cmd.specs.Token.{Token}
+use Rattle.press_sink.specs.Kept.{deliveries, replied}
+use Rattle.press_stream.specs.Meaning.{Goes}
+use Rattle.press_stream.specs.State.{opened}
+use Rattle.press_writer.specs.Left.{HasImages, bytes_left}
+use Rattle.press_theorem.proofs.TicketLemmas.{told_by}
+use Rattle.press_theorem.proofs.tickets.print_job.Given as goal
+
+-- so much of the job was given and fed, and this is left
+abbrev pub invariant-loop-piece : goal.invariant-loop-piece
+invariant-loop-piece l = record {
+  images : HasImages (length l.images) l.writer;
+  done : List ℕ;
+  left : bytes_left l.fn.writer l.images ≡ done ++ bytes_left l.writer l.images;
+  held : l.piece.items ≡ [];
+  given : List Token;
+  goes : Goes opened done given l.tag l.job (told_by [] []) (told_by (deliveries l.sheets) (replied l.replies));
+  going : l.job.held.ended ≡ false;
+}
+
+abbrev pub decreases-loop-piece : goal.decreases-loop-piece
+decreases-loop-piece l = length (bytes_left l.writer l.images)
