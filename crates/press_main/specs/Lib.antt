@@ -5,6 +5,7 @@ pub mod Defaults
 pub mod EntryListing
 pub mod EntrySheets
 pub mod EventLines
+pub mod Faults
 pub mod Files
 pub mod Folders
 pub mod Jobs

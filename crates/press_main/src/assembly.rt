@@ -9,29 +9,44 @@ use crate::telling::{NO_OUTPUT, told, write_flushed};
 use press_asm::{AssembleError, assemble};
 use press_disasm::disassemble;
 use press_pbm::WRITE_FAULT;
-use press_units::NO_MEMORY;
+use press_units::ToldFault;
 use std::alloc::{AllocError, Global};
+use std::error::Error;
+use std::fmt;
 use std::io::{Read, Write};
-use thiserror::Error;
 
 /// Why an input was not assembled or disassembled.
-#[derive(Debug, Drop, Error)]
+#[derive(Debug, Drop)]
 pub enum TextError {
     /// The input was not read to its end.
-    #[error("{0}")]
     Input(InputError),
     /// The text is refused.
-    #[error("{0}")]
     Refused(AssembleError),
     /// The stream of a text cannot be written, or its file not made.
-    #[error("{text}", text = WRITE_FAULT)]
     WriteFault,
     /// The text of a stream cannot be written.
-    #[error("{text}", text = NO_OUTPUT)]
     NoOutput,
-    #[error("{text}", text = NO_MEMORY)]
     NoMemory,
 }
+
+impl fmt::Display for TextError {
+    ghost use Rattle.press_main.specs.Faults.{told_of_text};
+    ghost use Rattle.std.specs.Prelude.{Some};
+
+    ghost output = { λ error. Some (told_of_text error) };
+
+    fn fmt<W: fmt::Write>(&self, f: &mut fmt::Formatter<W>) -> fmt::Result {
+        match self {
+            TextError::Input(error) => write!(f, "{error}"),
+            TextError::Refused(error) => write!(f, "{error}"),
+            TextError::WriteFault => write!(f, "{}", ToldFault(Some(WRITE_FAULT))),
+            TextError::NoOutput => write!(f, "{NO_OUTPUT}"),
+            TextError::NoMemory => write!(f, "{}", ToldFault(None)),
+        }
+    }
+}
+
+impl Error for TextError {}
 
 impl From<InputError> for TextError {
     ghost use Rattle.std.specs.Prelude.{◌≡◌};

@@ -26,23 +26,38 @@ use press_asm::write_kind;
 use press_cmd::{Kind, LINE_FEED};
 use press_debug::{Break, BreakError, Debugger, Stop, Watch};
 use press_engine::View;
-use press_units::NO_MEMORY;
+use press_units::ToldFault;
 use std::alloc::{AllocError, Global};
+use std::error::Error;
+use std::fmt;
 use std::io::{self, Read, Write};
-use thiserror::Error;
 
 /// Why a session with a debugger ended early.
-#[derive(Debug, Drop, Error)]
+#[derive(Debug, Drop)]
 pub enum DebugError {
     /// The stream cannot be opened or read, or the lines cannot be read.
-    #[error("{0}")]
     Input(InputError),
     /// An answer cannot be written.
-    #[error("{text}", text = NO_OUTPUT)]
     Output(io::Error),
-    #[error("{text}", text = NO_MEMORY)]
     NoMemory,
 }
+
+impl fmt::Display for DebugError {
+    ghost use Rattle.press_main.specs.Faults.{told_of_debugger};
+    ghost use Rattle.std.specs.Prelude.{Some};
+
+    ghost output = { λ error. Some (told_of_debugger error) };
+
+    fn fmt<W: fmt::Write>(&self, f: &mut fmt::Formatter<W>) -> fmt::Result {
+        match self {
+            DebugError::Input(error) => write!(f, "{error}"),
+            DebugError::Output(_) => write!(f, "{NO_OUTPUT}"),
+            DebugError::NoMemory => write!(f, "{}", ToldFault(None)),
+        }
+    }
+}
+
+impl Error for DebugError {}
 
 impl From<InputError> for DebugError {
     ghost use Rattle.std.specs.Prelude.{◌≡◌};

@@ -3,20 +3,47 @@ ghost use Rattle.std.specs.Prelude.{IfOk};
 ghost use Rattle.press_main.specs.Assembly.{ReadWhole};
 
 use press_stream::{PIECE, READ_FAULT, ReadCount, ReadFailed, read_next};
-use press_units::NO_MEMORY;
+use press_units::ToldFault;
 use std::alloc::{AllocError, Global};
+use std::error::Error;
+use std::fmt;
 use std::io::Read;
-use thiserror::Error;
 
 /// Why an input was not read to its end.
-#[derive(Debug, Drop, Error)]
+#[derive(Debug, Drop)]
 pub enum InputError {
     /// It cannot be opened, a read failed, or there were too many.
-    #[error("{text}", text = READ_FAULT)]
     ReadFault,
-    #[error("{text}", text = NO_MEMORY)]
     NoMemory,
 }
+
+impl InputError {
+    ghost use Rattle.std.specs.Prelude.{◌≡◌};
+    ghost use Rattle.press_main.specs.Faults.{input_number};
+
+    /// Its number: 304, unless memory ran out.
+    pub fn number(&self) -> Option<u16>
+        ensures { result ≡ input_number self.now }
+    {
+        match self {
+            InputError::ReadFault => Some(READ_FAULT),
+            InputError::NoMemory => None,
+        }
+    }
+}
+
+impl fmt::Display for InputError {
+    ghost use Rattle.press_main.specs.Faults.{input_text};
+    ghost use Rattle.std.specs.Prelude.{Some};
+
+    ghost output = { λ error. Some (input_text error) };
+
+    fn fmt<W: fmt::Write>(&self, f: &mut fmt::Formatter<W>) -> fmt::Result {
+        write!(f, "{}", ToldFault(self.number()))
+    }
+}
+
+impl Error for InputError {}
 
 impl From<ReadFailed> for InputError {
     ghost use Rattle.std.specs.Prelude.{◌≡◌};

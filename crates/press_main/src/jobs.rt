@@ -21,30 +21,44 @@ use crate::telling::told;
 use press_bits::Bitmap;
 use press_pbm::{ReadPbmError, read_pbm};
 use press_ticket::{Ticket, TicketError, read_ticket};
-use press_units::NO_MEMORY;
+use press_units::ToldFault;
 use press_writer::{WriterError, write_job};
 use std::alloc::Global;
+use std::error::Error;
+use std::fmt;
 use std::io::{Read, Write};
-use thiserror::Error;
 
 /// Why no job was written.
-#[derive(Debug, Drop, Error)]
+#[derive(Debug, Drop)]
 pub enum JobFileError {
     /// The ticket or an image cannot be opened, or the ticket cannot be read.
-    #[error("{0}")]
     Input(InputError),
     /// The ticket is refused.
-    #[error("{0}")]
     Ticket(TicketError),
     /// An image is refused, or cannot be read.
-    #[error("{0}")]
     Image(ReadPbmError),
     /// The ticket is not printed with the images, or the job cannot be made or written.
-    #[error("{0}")]
     Writer(WriterError),
-    #[error("{text}", text = NO_MEMORY)]
     NoMemory,
 }
+
+impl fmt::Display for JobFileError {
+    ghost use Rattle.press_main.specs.Faults.{told_of_job};
+
+    ghost output = { told_of_job };
+
+    fn fmt<W: fmt::Write>(&self, f: &mut fmt::Formatter<W>) -> fmt::Result {
+        match self {
+            JobFileError::Input(error) => write!(f, "{error}"),
+            JobFileError::Ticket(error) => write!(f, "{error}"),
+            JobFileError::Image(error) => write!(f, "{error}"),
+            JobFileError::Writer(error) => write!(f, "{error}"),
+            JobFileError::NoMemory => write!(f, "{}", ToldFault(None)),
+        }
+    }
+}
+
+impl Error for JobFileError {}
 
 impl From<InputError> for JobFileError {
     ghost use Rattle.std.specs.Prelude.{◌≡◌};

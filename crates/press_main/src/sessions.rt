@@ -38,29 +38,43 @@ use crate::listing::list_delivered;
 use crate::named_inputs::{NamedInputs, open_named};
 use crate::telling::{NO_OUTPUT, told, write_flushed};
 use press_core::{BadEngines, OperatorCommand, Press, Turn, TurnError, laws};
-use press_units::NO_MEMORY;
+use press_units::ToldFault;
 use std::alloc::{AllocError, Global};
+use std::error::Error;
+use std::fmt;
 use std::io::{self, Read, Write};
-use thiserror::Error;
 
 /// Why a session ended early.
-#[derive(Debug, Drop, Error)]
+#[derive(Debug, Drop)]
 pub enum SessionError {
     /// No press has so many engines.
-    #[error("{0}")]
     Engines(BadEngines),
     /// The file or an image of a message cannot be opened or read, or an image is refused; or the lines cannot be read.
-    #[error("{0}")]
     File(JobFileError),
     /// A turn had a fault, or is of an engine that there is not.
-    #[error("{0}")]
     Turn(TurnError),
     /// An answer or the listing cannot be written.
-    #[error("{text}", text = NO_OUTPUT)]
     Output(io::Error),
-    #[error("{text}", text = NO_MEMORY)]
     NoMemory,
 }
+
+impl fmt::Display for SessionError {
+    ghost use Rattle.press_main.specs.Faults.{told_of_session};
+
+    ghost output = { told_of_session };
+
+    fn fmt<W: fmt::Write>(&self, f: &mut fmt::Formatter<W>) -> fmt::Result {
+        match self {
+            SessionError::Engines(error) => write!(f, "{error}"),
+            SessionError::File(error) => write!(f, "{error}"),
+            SessionError::Turn(error) => write!(f, "{error}"),
+            SessionError::Output(_) => write!(f, "{NO_OUTPUT}"),
+            SessionError::NoMemory => write!(f, "{}", ToldFault(None)),
+        }
+    }
+}
+
+impl Error for SessionError {}
 
 impl From<BadEngines> for SessionError {
     ghost use Rattle.std.specs.Prelude.{◌≡◌};

@@ -6,23 +6,38 @@ ghost use Rattle.press_main.specs.Traced.{StopsTelling, Traced, Tracing};
 use crate::inputs::{InputError, read_all};
 use crate::telling::{NO_OUTPUT, told, write_flushed};
 use press_trace::{TraceError, trace_lines};
-use press_units::NO_MEMORY;
+use press_units::ToldFault;
 use std::alloc::Global;
+use std::error::Error;
+use std::fmt;
 use std::io::{Read, Write};
-use thiserror::Error;
 
 /// Why a trace was not told to its end.
-#[derive(Debug, Drop, Error)]
+#[derive(Debug, Drop)]
 pub enum TracedError {
     /// The stream was not read to its end.
-    #[error("{0}")]
     Input(InputError),
     /// A line cannot be written.
-    #[error("{text}", text = NO_OUTPUT)]
     Output,
-    #[error("{text}", text = NO_MEMORY)]
     NoMemory,
 }
+
+impl fmt::Display for TracedError {
+    ghost use Rattle.press_main.specs.Faults.{told_of_trace};
+    ghost use Rattle.std.specs.Prelude.{Some};
+
+    ghost output = { λ error. Some (told_of_trace error) };
+
+    fn fmt<W: fmt::Write>(&self, f: &mut fmt::Formatter<W>) -> fmt::Result {
+        match self {
+            TracedError::Input(error) => write!(f, "{error}"),
+            TracedError::Output => write!(f, "{NO_OUTPUT}"),
+            TracedError::NoMemory => write!(f, "{}", ToldFault(None)),
+        }
+    }
+}
+
+impl Error for TracedError {}
 
 impl From<InputError> for TracedError {
     ghost use Rattle.std.specs.Prelude.{◌≡◌};
