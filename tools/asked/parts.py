@@ -1,13 +1,13 @@
 """All rows of what the program is asked and answers with a status and a print, by the module in which they stand.
 
-Those of `sizes` are for the program alone: the model would take too long for them. So are those of `traces`, which it does not tell.
+Those of `sizes` are for the program alone: the model would take too long for them.
 """
 
 from asked import assembly, debugging, fields, job_language, jobs, lines, marks, pages, places, sessions, sheets, sizes, traces, words
 
 PARTS = {"words": words, "assembly": assembly, "debugging": debugging, "job_language": job_language, "jobs": jobs, "lines": lines,
-         "pages": pages, "fields": fields, "marks": marks, "places": places, "sessions": sessions, "sheets": sheets}
-EVERY = PARTS | {"sizes": sizes, "traces": traces}
+         "pages": pages, "fields": fields, "marks": marks, "places": places, "sessions": sessions, "sheets": sheets, "traces": traces}
+EVERY = PARTS | {"sizes": sizes}
 
 
 def shown(asked, given):

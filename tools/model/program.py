@@ -1,16 +1,17 @@
-"""What the program answers to the words of its command line: status, print, faults, and the files that it makes.
+"""What the program answers to the words of its command line: status, print, faults, traces, pages, and the files that it makes.
 
 Texts of help and of usage are not the model's: words that ask for help, or that are refused, have no answer here. A job that `write`
 makes is not told byte by byte: what stands in its file is the ticket and its images, whose sheets any job of them has.
 """
 
+import collections
+import itertools
 import json
 from pathlib import Path
 from typing import NamedTuple
 
-from . import asm, debug_lines, pbm, press, press_lines, runs, ticket
+from . import asm, debug_lines, defaults, pages, pbm, press, press_lines, runs, ticket, trace_lines
 from .engine import Deliver
-from .pages import listing
 from .press_lines import FileFault, read_file, read_image
 
 READ_FAULT = 304
@@ -64,7 +65,8 @@ class Program:
 
     def answer(self, words):
         """What is answered to these words; `{}` is a file of what is given on standard input."""
-        calls = {"print": self.print, "asm": self.asm, "disasm": self.disasm, "debug": self.debug, "write": self.write}
+        calls = {"print": self.print, "asm": self.asm, "disasm": self.disasm, "debug": self.debug, "write": self.write,
+                 "trace": self.trace, "page": self.page}
         if words and words[0] == "press":
             return self.press(words[1:])
         if words and words[0] not in calls:
@@ -106,7 +108,7 @@ class Program:
         self.opens(names[0])
         if lists:
             outcome = runs.run_stream(self.read(names[0]))
-            self.out += listing(outcome.sheets, outcome.replies)
+            self.out += pages.listing(outcome.sheets, outcome.replies)
             return
         if names[1].count(NUMBER) != 1:
             raise Fault(str(BAD_TEMPLATE))
@@ -151,6 +153,20 @@ class Program:
             raise NoAnswer()
         self.out += debug_lines.DebugLines(self.read(source)).run(self.given).encode()
 
+    def trace(self, words):
+        front, words = with_defaults(words)
+        source, = exactly(1, words)
+        self.out += b"".join(trace_lines.lines(front + self.read(source)))
+
+    def page(self, words):
+        """The open page behind so many steps, a white one where none has a mark; past the end that of the end."""
+        front, words = with_defaults(words)
+        source, steps, target = exactly(3, words)
+        if (most := press_lines.number_of(steps.encode())) is None:
+            raise NoAnswer()
+        items = itertools.islice(trace_lines.opened(front + self.read(source)), most + 1)
+        self.make(target, pbm.bytes_of_side(collections.deque(items, 1)[0]), PAGE_FAULT)
+
     def write(self, words):
         """Inputs are read and judged in the order of the words; then the images are; then the file is made."""
         if len(words) < 2 or words[1] == "-":
@@ -169,6 +185,19 @@ class Program:
             raise NoAnswer()
         status, out, err = press_lines.played(words, self.given, self.folder, job_of=self.job_of)[0]
         return Answer(status, out, err, {})
+
+
+def with_defaults(words):
+    """The bytes that stand in front of the stream for the defaults, and the other words."""
+    chosen = []
+    while words[:1] == [defaults.OPTION] and len(words) > 1:
+        chosen, words = [*chosen, words[1]], words[2:]
+    if any(word.startswith("--") for word in words):
+        raise NoAnswer()
+    try:
+        return defaults.front(chosen), words
+    except defaults.Refused:
+        raise NoAnswer() from None
 
 
 def exactly(count, words):

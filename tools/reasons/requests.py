@@ -13,6 +13,7 @@ NOT_MADE, NOT_ASSEMBLED, NOT_WRITTEN = 301, 115, 614
 BAD_TEMPLATE = 121
 HEADER_BYTES = 16
 LEAST_JOB = 64   # bytes: its head and its tail
+LEAST_PAGE = 857_000   # bytes of the smallest page
 
 
 def findings(asked, chosen=program.PROGRAM):
@@ -26,7 +27,7 @@ def findings(asked, chosen=program.PROGRAM):
         return [found.finding]
 
 
-def judge_print(request, _chosen):
+def judge_print(request, chosen):
     name = request.names[0]
     files.open_input(name, "IN")
     if not request.listed:
@@ -34,9 +35,9 @@ def judge_print(request, _chosen):
         check_sides(name, request.names[1])
     shown = "standard input" if name == "-" else name
     stream = files.read_input(name, "IN")
-    found, printed = streams.looked_at(shown, stream, defaults.front(request.defaults))
+    found, printed = streams.looked_at(shown, stream, defaults.front(request.defaults), chosen)
     if printed and not request.listed:
-        size = sum(copies * (HEADER_BYTES + side.height() * ((side.width() + 7) // 8)) for side, _, _, copies in printed)
+        size = sum(copies * (HEADER_BYTES + side.height * ((side.width + 7) // 8)) for side, _, _, copies in printed)
         for number in range(1, sum(copies for *_, copies in printed) + 1):
             files.check_apart(request.names[1].replace("%d", str(number)), NOT_MADE, [name])
         files.check_output(request.names[1].replace("%d", "1"), NOT_MADE, size)
@@ -72,6 +73,20 @@ def judge_disasm(request, _chosen):
         yield Finding(None, f"{files.describe('IN', request.names[0])} is empty, and so is its text", "Look at what made it")
 
 
+def judge_trace(request, _chosen):
+    name = request.names[0]
+    if not files.read_input(name, "IN"):
+        yield Finding(None, f"{files.describe('IN', name)} is empty, and its trace is the universal exit that the press adds", "Look at what made it")
+
+
+def judge_page(request, _chosen):
+    name, _, made = request.names
+    files.read_input(name, "IN")
+    files.check_apart(made, NOT_MADE, [name])
+    files.check_output(made, NOT_MADE, LEAST_PAGE)
+    yield from replaced(made)
+
+
 def judge_write(request, _chosen):
     name, made, *image_names = request.names
     ticket = tickets.ticket_in(name, files.read_input(name, "TICKET"))
@@ -100,5 +115,5 @@ def judge_press(request, chosen):
     yield from sessions.findings(files.read_input("-", "IN"), request.engines, chosen)
 
 
-JUDGES = {"print": judge_print, "asm": judge_asm, "disasm": judge_disasm, "debug": judge_debug,
+JUDGES = {"print": judge_print, "asm": judge_asm, "disasm": judge_disasm, "debug": judge_debug, "trace": judge_trace, "page": judge_page,
           "write": judge_write, "press": judge_press}

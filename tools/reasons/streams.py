@@ -1,6 +1,6 @@
 """Why a stream prints nothing, or a blank page, or other dots than were meant. None of this is a fault: the status is 0."""
 
-from seen import happenings
+from seen import happenings, listing, program
 
 from . import kinds
 from .finding import Finding, counted
@@ -13,27 +13,26 @@ BLANK_FRONT = ("asks for a blank front by ESC&a2G", "Send a page for the front, 
 HIDDEN = ("has dots there that white ones replace", "Look at the patterns and transparencies: ESC*v#T, ESC*v#N, ESC*v#O")
 
 
-def looked_at(shown, stream, front=b""):
+def looked_at(shown, stream, front=b"", chosen=program.PROGRAM):
     """The findings on a stream that is read to its end, the weightiest first; and its sides."""
     if not stream:
         return [Finding(None, f"{shown} is empty, and an empty stream prints no sheet", "Look at what made it")], []
     kind = kinds.kind_of(stream)
     if kind and kind != "a print stream":
         return [Finding(None, f"{shown} is {kind}; {READS}", AS_PCL)], []
-    run = happenings.Run(stream, front=front, together=True)
-    judge = Judge(run)
+    run = happenings.Run(stream, front=front, together=True, chosen=chosen)
+    judge, sides = Judge(run), listing.sides(run)
     met = judge.groups(run.happenings)
-    causes = list(blanks(judge, met))
+    causes = list(blanks(judge, met, sides))
     found = [Finding(None, f"{shown} {which}: it {cause}" if cause else f"{shown} {which}", advice) for which, cause, advice, _ in causes]
     used = {(group.reason, group.key) for _, _, _, group in causes if group}
     found += [Finding(None, f"{shown} {cause}", group.advised(judge), group.reason.harmless)
               for group in met if (group.reason, group.key) not in used and (cause := group.told(judge))]
-    return found + list(still_open(shown, run)), run.sides()
+    return found + list(still_open(shown, run)), sides
 
 
-def blanks(judge, met):
+def blanks(judge, met, sides):
     """For each cause of a blank side, and of no sheet: what is blank, the cause, what to do, and its group, if it has one."""
-    sides = judge.run.sides()
     if not sides:
         yield nothing(judge, met)
         return

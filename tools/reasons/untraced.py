@@ -179,6 +179,8 @@ def fills_nothing(_, happening):
     if not with_row(happening, "*cP") or happening.marks or happening.sent.lost() or not named_values.NAMED["*cP"].takes(
             happening.placed.command.value(), happening.before):
         return None
+    if happening.fills and happening.before["rectangle_width"] and happening.before["rectangle_height"]:
+        return None   # its dots were so before
     return "fills"
 
 
@@ -492,8 +494,8 @@ class Judge:
     def goes_out_alone(self, happening):
         """Whether a sheet without a back goes out by it."""
         numbers = {number for number, _ in happening.sheets}
-        return any(sheet.back is None for sheet, number, _ in self.run.sheets if number in numbers)
+        return any(sheet.back is None for sheet in self.run.leaves.sheets if sheet.number in numbers)
 
     def pages_follow(self, happening):
         """Whether another sheet goes out behind it."""
-        return self.run.sheets[-1][1] > happening.sheets[-1][0]
+        return self.run.leaves.sheets[-1].number > happening.sheets[-1][0]

@@ -14,6 +14,8 @@ USAGES = {
     "asm": ["IN", "OUT"],
     "disasm": ["IN"],
     "debug": ["IN"],
+    "trace": ["IN"],
+    "page": ["IN", "K", "OUT"],
     "write": ["TICKET", "OUT", "[IMG..]"],
     "press": [],
 }
@@ -21,7 +23,7 @@ OPTIONS = {"print": "--list"} | ({"press": "--engines N"} if table.includes(tabl
 HELP = ("-h", "--help", "help", "-V", "--version")
 
 
-WITH_DEFAULTS = ("print", "debug") if defaults.BUILT else ()
+WITH_DEFAULTS = ("print", "debug", "trace", "page") if defaults.BUILT else ()
 
 
 class Request(NamedTuple):
@@ -125,7 +127,9 @@ def check_count(what, names, listed):
         refuse(f"{needed[len(names)]} is missing", usage(what))
     if len(names) > len(wanted) and not any(".." in word for word in wanted):
         refuse(f"The word {names[len(wanted)]} is one too many", usage(what))
-    if what in ("asm", "write") and names[1] == "-":
+    if what == "page" and number_of(names[1].encode()) is None:
+        refuse(f"K is {names[1]}, and no number of steps", usage(what))
+    if what in ("asm", "write", "page") and names[-1 if what == "page" else 1] == "-":
         refuse("OUT is -, which is no file", "Give the name of a file, or /dev/stdout for standard output")
     if what == "debug" and names == ["-"]:
         refuse("IN is standard input, on which the lines stand", "Give the name of a file: press debug page.pcl < lines.txt")

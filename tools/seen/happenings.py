@@ -1,35 +1,28 @@
 """What a stream does, command by command: where each command stands in the file, what it changes, marks and sends.
 
-The places of the cursor, the fields and the marks are those of `model`, the press in Python that is compared with the program.
+All of it is read from the lines of the trace, which are the program's where it stands, else the model's.
 """
 
+import itertools
 import re
 from typing import NamedTuple, Optional
 
-from model import commands, engine, marks, pages, table
-from model.engine import Deliver, Reply
+from model import commands, marks, pages, table
+from model.trace_lines import placed as placed_in
 
-from . import sent
+from . import program, sent, traced
+from .bodies import Follower, Placed
+from .fields import Fields, State, changes, power_on
+from .leaves import Leaves
+from .patches import Page
 
 FIELDS_OF_NOTHING = ()
-
-
 TEXT = re.compile(rb"[^\x00-\x1f]+")
-
-
-class Placed(NamedTuple):
-    """A command, and the bytes of the file that it takes; of bytes of text or of another language that stand together the first, and all."""
-    offset: int
-    length: int
-    command: tuple
-
-    def count(self):
-        """How many commands it stands for."""
-        return self.length if isinstance(self.command, (commands.Text, commands.Foreign)) else 1
+UNLIKE_TEXT = (b'"view":', b'"page":', b'"recorded":')
 
 
 class Mark(NamedTuple):
-    """The box of the dots that a command had to do with on the page of this number; its ends are within."""
+    """The box of the dots that a command changed on the page of this number; its ends are within."""
     page: int
     left: int
     top: int
@@ -56,37 +49,28 @@ class Happening(NamedTuple):
     resolution: int          # behind it, in dots per inch
     before: dict             # the fields before it
     sent: sent.Sent          # by it and the bodies that it runs, and what of that falls beside the page
+    fills: bool              # whether the pattern of a fill is there
 
 
 def placed_commands(stream):
-    """The commands of a stream, at its end those of its rest, each with its place."""
-    mode, place = commands.EXIT, 0
-    while (found := commands.head(mode, stream, place)) is not None:
-        command, after, mode = found
-        yield Placed(place, after - place, command)
-        place = after
-    rest = commands.closing(mode, stream[place:])
-    each = (len(stream) - place) // max(1, len(rest))
-    for number, command in enumerate(rest):
-        yield Placed(place + number * each, each, command)
+    """The commands of a stream, at its end those of its rest, each with its place; without the exit that is added."""
+    return [Placed(*each) for each in placed_in(stream)][:-1]
 
 
 def placed_together(stream):
     """The same, with one for bytes of text, or of another language, that stand together; but for text behind data that was taken."""
-    mode, place, alone = commands.EXIT, 0, False
-    while (found := commands.head(mode, stream, place)) is not None:
-        command, after, mode = found
-        if isinstance(command, commands.Foreign):
-            after = max(after, end_of_foreign(stream, place))
-        elif isinstance(command, commands.Text) and not alone:
-            after = TEXT.match(stream, place).end()
-        yield Placed(place, after - place, command)
-        alone = takes_data(command) or (alone and isinstance(command, commands.Text))
-        place = after
-    rest = commands.closing(mode, stream[place:])
-    each = (len(stream) - place) // max(1, len(rest))
-    for number, command in enumerate(rest):
-        yield Placed(place + number * each, each, command)
+    end, alone = 0, False
+    for placed in map(Placed._make, placed_in(stream)):
+        if placed.offset < end or placed.length == 0:
+            continue
+        if isinstance(placed.command, commands.Foreign):
+            end = max(placed.offset + placed.length, end_of_foreign(stream, placed.offset))
+        elif isinstance(placed.command, commands.Text) and not alone and (found := TEXT.match(stream, placed.offset)):
+            end = found.end()
+        else:
+            end = placed.offset + placed.length
+        yield placed._replace(length=end - placed.offset)
+        alone = takes_data(placed.command) or (alone and isinstance(placed.command, commands.Text))
 
 
 def end_of_foreign(stream, place):
@@ -102,88 +86,69 @@ def takes_data(command):
     return isinstance(command, commands.Param) and bool(command.data) and table.row_of(command) is None
 
 
-class WatchedPage(pages.Bitmap):
-    """A page that notes the lines and columns in which marks are made."""
+class Marks:
+    """The open page, and the boxes of what was changed on it since they were asked for last."""
 
-    def __init__(self, size, orientation, note):
-        super().__init__(size, orientation)
-        self.note = note
+    def __init__(self):
+        self.page = None
+        self.boxes = {}
 
-    def paint(self, line, covered, source, pattern, source_opaque, pattern_opaque):
-        super().paint(line, covered, source, pattern, source_opaque, pattern_opaque)
-        width, height = pages.frame(self.size, self.orientation)
-        dots = (covered if source_opaque else source) & ((1 << width) - 1)
-        if dots and 0 <= line < height:
-            self.note((dots & -dots).bit_length() - 1, dots.bit_length() - 1, line)
+    def go_on(self, line, number):
+        """Goes on by a line; `number` is that of the page that is open before the step."""
+        patch = line.get("page", ())
+        if "opened" in line:
+            self.page = Page(*line["opened"])
+        if patch is None:
+            self.page = None
+        elif patch:
+            self.note(patch, self.page.lay(patch), number)
 
+    def note(self, patch, old, number):
+        """Notes the box of the dots that are others than before."""
+        left, size = patch["x"] // 8, len(patch["rows"][0]) // 2
+        changed = [int.from_bytes(row[left:left + size]) ^ int(text, 16) for row, text in zip(old, patch["rows"])]
+        dots, lines = 0, [line for line, some in enumerate(changed, patch["y"]) if some]
+        for some in changed:
+            dots |= some
+        first, last = patch["x"] + 8 * size - dots.bit_length(), patch["x"] + 8 * size - (dots & -dots).bit_length()
+        box = self.boxes.get(number, (first, lines[0], last, lines[-1]))
+        self.boxes[number] = (min(box[0], first), min(box[1], lines[0]), max(box[2], last), max(box[3], lines[-1]))
 
-class WatchedEngine(engine.Engine):
-    """An engine that notes the boxes of marks, and the pages in the order in which they close."""
-
-    def __init__(self, rows):
-        super().__init__(rows)
-        self.boxes = {}    # of the command that runs, by the number of the page
-        self.closed = []
-        self.watcher = sent.Watcher()
-        self.sent = sent.NOTHING
-
-    def run(self, command):
-        """Each command comes by here, those of bodies too."""
-        state = self.state
-        if state.defining is None and not state.hpgl:
-            self.sent = self.sent.plus(self.watcher.of(state, command))
-        yield from super().run(command)
-
-    def page_to_mark(self):
-        state = self.state
-        if state.page is None:
-            state.page = WatchedPage(state.size, state.orientation, self.note)
-        return super().page_to_mark()
-
-    def note(self, first, last, line):
-        """A page is marked in one orientation only, so its first and last dots turn together."""
-        number = len(self.closed)
-        left, top, right, bottom, turned = self.boxes.get(number, (first, line, last, line, None))
-        turned = turned or (self.state.size, self.state.orientation)
-        self.boxes[number] = (min(left, first), min(top, line), max(right, last), max(bottom, line), turned)
-
-    def physical_boxes(self):
-        """The boxes of the command that ran, on the physical page."""
-        for number, (left, top, right, bottom, turned) in self.boxes.items():
-            corners = [pages.to_physical(*turned, *corner) for corner in ((left, top), (right, bottom))]
-            across, down = sorted(corner[0] for corner in corners), sorted(corner[1] for corner in corners)
-            yield Mark(number, across[0], down[0], across[1], down[1])
-
-    def close_page(self):
-        pending = self.state.pending_front
-        yield from super().close_page()
-        state = self.state
-        if state.pending_front is not None and state.pending_front is not pending:
-            self.closed.append(state.pending_front)
-            return
-        sheet = next(output.sheet for output in reversed(self.outputs) if isinstance(output, Deliver))
-        self.closed.append(sheet.back if pending is not None else sheet.front)
+    def taken(self):
+        boxes, self.boxes = self.boxes, {}
+        return tuple(Mark(number, *box) for number, box in boxes.items())
 
 
 class Run:
-    """The happenings of a stream, its sheets, and which page of these each closed page is. What stands in front of it sets the defaults."""
+    """The happenings of a stream, and its sheets. What stands in front of it sets the defaults."""
 
-    def __init__(self, stream, rows=table.BUILT_ROWS, front=b"", together=False):
+    def __init__(self, stream, front=b"", together=False, chosen=program.PROGRAM):
         self.stream = stream
-        self.engine = WatchedEngine(rows)
-        self.fields = self.engine.state.view()
-        self.sheet_count = 0
-        self.sheets = []      # the distinct ones, with their copies
+        self.whole = front + stream
+        self.chosen = chosen
+        self.who = traced.who(chosen)
+        self.texts = iter(traced.lines(self.whole, chosen))
+        fields = Fields()
+        self.first = fields.go_on(power_on())
+        self.fields, self.follower, self.leaves, self.marks = fields, Follower(self.first, self.row_of), Leaves(), Marks()
+        self.watcher = sent.Watcher()
+        self.shift = 0
         self.front = [self.carry_out(placed) for placed in placed_commands(front)]
+        self.shift = len(front)
         every = placed_together(stream) if together else placed_commands(stream)
         self.happenings = [happening for placed in every for happening in self.happenings_of(placed)]
         self.end = self.carry_out(Placed(len(stream), 0, commands.Uel()))
+        if next(self.texts, None) is not None:
+            raise ValueError("the trace goes on behind the end of the stream")
+
+    def row_of(self, command):
+        return table.row_of(command)
 
     def happenings_of(self, placed):
         """Those of a command; bytes that stand together are passed over at once, unless they are recorded."""
         if placed.count() == 1:
             yield self.carry_out(placed)
-        elif self.engine.state.defining is None:
+        elif self.fields.now["defining"] is None:
             yield self.pass_over(placed)
         else:
             for number in range(placed.length):
@@ -192,79 +157,70 @@ class Run:
 
     def pass_over(self, placed):
         """Bytes that have no row, and change nothing but the number of steps."""
-        running, state = self.engine, self.engine.state
-        running.taken += placed.count()
-        return Happening(placed, None, self.how(placed.command, None), None, FIELDS_OF_NOTHING, (), 0, (), b"", 0, len(running.closed),
-                         self.cursor_dot(), (state.x, state.y), running.taken, 0, state.resolution, self.fields, sent.NOTHING)
+        before, count, line = self.follower.fields, placed.count(), None
+        for line in itertools.islice(self.texts, count):
+            if "view" in line and before is not self.first or "page" in line or line["depth"]:
+                raise ValueError(f"step {line['step']} of the trace is no byte that is passed over")
+        now = self.follower.fields = self.fields.go_on(line)
+        how = "HP-GL/2" if now["hpgl"] and isinstance(placed.command, commands.Text) else "no row"
+        return Happening(placed, None, how, None, FIELDS_OF_NOTHING, (), 0, (), b"", 0, self.leaves.closed, cursor_dot(now),
+                         (now["x"], now["y"]), line["step"], 0, now["resolution"], before, sent.NOTHING, False)
 
     def carry_out(self, placed):
-        """Runs a command; the last one of a stream is the universal exit that the press adds."""
-        running = self.engine
-        state, row = running.state, table.row_of(placed.command)
-        how, recorded_in, fields = self.how(placed.command, row), state.defining, self.fields
-        running.boxes, running.sent, before, open_page, depth = {}, sent.NOTHING, running.taken, len(running.closed), 0
-        for _ in running.run(placed.command):
-            depth = max(depth, running.depth)
-        outputs, running.outputs = running.outputs, []
-        replies = b"".join(output.reply for output in outputs if isinstance(output, Reply))
+        """Goes on by a command of the stream, and by the bodies that it starts."""
+        before, first, depth, closes, sheets, replies, count, gone = self.follower.fields, None, 0, 0, [], "", 0, sent.NOTHING
+        while first is None or self.follower.bodies:
+            line = next(self.texts)
+            if line["at"] != placed.offset + self.shift or line["bytes"] != placed.length:
+                raise ValueError(f"step {line['step']} stands at byte {line['at']}, and the command at {placed.offset + self.shift}")
+            step, closed, sheet, one = self.take(line, placed)
+            first = first or step
+            depth, closes, count, gone = max(depth, line["depth"]), closes + closed, count + 1, gone.plus(one) if one is not sent.NOTHING else gone
+            replies += line.get("reply", "")
+            sheets += [(sheet.number, sheet.copies)] if sheet else []
+        now = self.fields.now
+        row = self.row_of(placed.command)
         return Happening(
-            placed, row and row.name, how, recorded_in if how == "recorded" else None, self.changes(),
-            tuple(running.physical_boxes()), len(running.closed) - open_page, self.numbered(outputs), replies,
-            running.taken - before - 1, len(running.closed), self.cursor_dot(), (state.x, state.y), running.taken, depth,
-            state.resolution, fields, running.sent)
+            placed, row and row.name, first.how, first.recorded_in, changes(before, now),
+            self.marks.taken(), closes, tuple(sheets), replies.encode("latin-1"), count - 1, self.leaves.closed, cursor_dot(now),
+            (now["x"], now["y"]), line["step"], depth, now["resolution"], before, gone, self.has_pattern(placed.command, before))
 
-    def how(self, command, row):
-        state = self.engine.state
-        if state.defining is not None and not engine.ends_or_passes_definition(command):
-            return "recorded"
-        if state.hpgl and not engine.passes_hpgl(command):
-            return "HP-GL/2"
-        return "row" if row else "no row"
+    def take(self, line, placed):
+        """A line: its step, whether a page closes, the sheet that goes out or None, and what is sent."""
+        before, command = self.follower.fields, (self.follower.next_of_body() or placed).command
+        quiet = before["defining"] is None and not before["hpgl"]
+        one = self.watcher.of(State(before), command) if quiet and sent.letters(command) in sent.SENDING else sent.NOTHING
+        step = self.follower.go_on(line, placed, self.fields.go_on(line))
+        self.marks.go_on(line, self.leaves.closed)
+        return step, *self.leaves.go_on(line, step), one
 
-    def changes(self):
-        before, fields = self.fields, self.engine.state.view()
-        if before == fields:
-            return FIELDS_OF_NOTHING
-        self.fields = fields
-        return tuple((name, before[name], value) for name, value in self.fields.items() if before[name] != value)
+    def has_pattern(self, command, before):
+        """Whether the pattern of a fill is there."""
+        which = command.value().whole() if sent.letters(command) == "*cP" else 0
+        return which not in (1, 2, 3, 4) or self.follower.patterns.tile(which, before["pattern_id"]) is not None
 
-    def numbered(self, outputs):
-        """The sheets that go out, each with its number and its copies; copies of one sheet are one object."""
-        gone = []
-        for output in outputs:
-            if not isinstance(output, Deliver):
-                continue
-            self.sheet_count += 1
-            if gone and gone[-1][2] is output.sheet:
-                gone[-1][1] += 1
-            else:
-                gone.append([self.sheet_count, 1, output.sheet])
-        self.sheets += [(sheet, number, copies) for number, copies, sheet in gone]
-        return tuple((number, copies) for number, copies, _ in gone)
-
-    def cursor_dot(self):
-        state = self.engine.state
-        return pages.to_physical(state.size, state.orientation, *marks.frame_dot(state))
-
-    def sides(self):
+    def pages_of_sides(self):
         """The sides that went out, without copies: for each its page, the number of its sheet, `front` or `back`, and copies."""
-        return [(side, number, name, copies) for sheet, number, copies in self.sheets for name, side in sheet.sides()]
+        return [(page, sheet.number, name, sheet.copies) for sheet in self.leaves.sheets
+                for name, page in (("front", sheet.front), ("back", sheet.back)) if page is not None]
 
     def side_of_page(self):
         """For each page in the order in which they closed, the number of its side among those that went out."""
-        places = {id(side): place for place, (side, _, _, _) in enumerate(self.sides())}
-        return [places.get(id(page)) for page in self.engine.closed]
+        places = {page: place for place, (page, _, _, _) in enumerate(self.pages_of_sides())}
+        return [places.get(page) for page in range(self.leaves.closed)]
 
     def page_of_side(self):
         """For each side that went out, the number of its page among those that closed; None where no page was open."""
-        places = {id(page): number for number, page in enumerate(self.engine.closed)}
-        return [places.get(id(side)) for side, _, _, _ in self.sides()]
+        return [page if page >= 0 else None for page, _, _, _ in self.pages_of_sides()]
+
+
+def cursor_dot(now):
+    """The physical dot of the cursor."""
+    state = State(now)
+    return pages.to_physical(state.size, state.orientation, *marks.frame_dot(state))
 
 
 def with_pattern_ids(some):
     """Each happening with the pattern ID that holds when it begins."""
-    number = 0
     for happening in some:
-        yield happening, number
-        for name, _, value in happening.changes:
-            number = value if name == "pattern_id" else number
+        yield happening, happening.before["pattern_id"]

@@ -56,7 +56,7 @@ def data_of(run, printed, who, size):
              for number, (happening, _) in enumerate(every) for mark in happening.marks]
     return {
         "facts": f"{remarks.plural(size, 'byte')}, {remarks.plural(len(run.happenings), 'command')}, "
-                 f"{remarks.plural(sum(side.copies for side in printed), 'side')}; pages printed by {who}",
+                 f"{remarks.plural(sum(side.copies for side in printed), 'side')}; pages printed by {who}, steps told by {run.who}",
         "pages": [page_of(number, side) for number, side in enumerate(printed)],
         "text": texts,
         "remark": [remarks.told(happening, pattern_id, judge.because(happening)) for happening, pattern_id in every],

@@ -1,4 +1,4 @@
-"""What a row transfer or a fill sends, and how much of it falls beside the page: counted from the model's state before it."""
+"""What a row transfer or a fill sends, and how much of it falls beside the page: counted from the fields before it."""
 
 from typing import NamedTuple
 
@@ -25,6 +25,7 @@ class Sent(NamedTuple):
 
 
 NOTHING = Sent()
+SENDING = ("*bW", "*cP", "*bY")   # those that send, or change what a row is read against
 
 
 def letters(command):

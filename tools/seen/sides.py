@@ -2,7 +2,10 @@
 
 from typing import NamedTuple
 
-from . import png, program
+from model import runs
+
+from . import listing, png, program
+from .pages_of import RESOLUTIONS
 
 MOST_FILES = 400   # a file of a side has a megabyte
 
@@ -17,35 +20,40 @@ class Side(NamedTuple):
     resolution: int   # in dots per inch
 
 
-def sides_of(run, stream, chosen=program.PROGRAM):
+def sides_of(run):
     """The sides of a run, and who printed them."""
-    sides = run.sides()
-    files = sum(copies for _, _, _, copies in sides)
-    if not program.stands(chosen):
-        return modelled(sides), "the model in Python, since the proved program is not built"
+    files = sum(copies for _, _, _, copies in run.pages_of_sides())
+    if not program.stands(run.chosen):
+        return modelled(run), "the model in Python, since the proved program is not built"
     if files > MOST_FILES:
-        return modelled(sides), f"the model in Python, since the copies have {files} sides"
-    return printed(sides, stream, chosen), "the proved program"
+        return modelled(run), f"the model in Python, since the copies have {files} sides"
+    return printed(run), "the proved program"
 
 
-def modelled(sides):
-    return [Side(number, name, copies, *png.lines_of_side(side), side.count_black(), side.size.resolution)
-            for side, number, name, copies in sides]
+def modelled(run):
+    wanted = {(number, name): copies for _, number, name, copies in run.pages_of_sides()}
+    return [Side(number, name, wanted[number, name], *png.lines_of_side(side), side.count_black(), side.size.resolution)
+            for number, sheet in enumerate(runs.run_stream(run.whole).sheets, 1) for name, side in sheet.sides() if (number, name) in wanted]
 
 
-def printed(sides, stream, chosen):
-    """The program's files; where its sides are others than the model's, nothing is shown."""
-    found, made = {}, []
-    for place, data in zip(places_of_files(sides), program.printed_sides(stream, chosen)):
-        if place not in found:
-            found[place] = png.read_p4(data)
-    for place, (side, number, name, copies) in enumerate(sides):
-        width, lines = found.get(place, (0, []))
-        black = sum(line.count(1) for line in lines)
-        if (width, len(lines), black) != (side.width(), side.height(), side.count_black()):
-            raise ValueError(f"sheet {number} {name}: the program and the model differ; tools/compare says how")
-        made.append(Side(number, name, copies, width, lines, black, side.size.resolution))
-    return made
+def printed(run):
+    """The program's files; where they are others than its listing and its trace say, nothing is shown."""
+    wanted, listed, found = run.pages_of_sides(), listing.sides(run), {}
+    places = list(places_of_files(wanted))
+    files = 0
+    for files, data in enumerate(program.printed_sides(run.whole, run.chosen), 1):
+        if files <= len(places) and places[files - 1] not in found:
+            found[places[files - 1]] = png.read_p4(data)
+    if files != len(places):
+        raise ValueError(f"press print made {files} files, and the trace has {len(places)} sides")
+    return [side_of(found[place], *each) for place, each in enumerate(listed)]
+
+
+def side_of(page, told, number, name, copies):
+    width, lines = page
+    if (width, len(lines), sum(line.count(1) for line in lines)) != told:
+        raise ValueError(f"sheet {number} {name}: its file and the listing differ")
+    return Side(number, name, copies, width, lines, told.black, RESOLUTIONS[width, len(lines)])
 
 
 def places_of_files(sides):

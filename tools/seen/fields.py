@@ -1,0 +1,90 @@
+"""The fields of a stream's state behind a step, by the names that the tools use, from the `view` of the lines of a trace."""
+
+from model import pages
+from model.values import POSITIONS_PER_INCH
+
+SIZES = {1: "Executive", 2: "Letter", 3: "Legal", 6: "Ledger", 26: "A4", 27: "A3"}
+BINDINGS = {1: "LONGEDGE", 2: "SHORTEDGE"}
+NAMES = {
+    "drawing": {"height": "rectangle_height", "width": "rectangle_width", "id": "pattern_id", "pattern_opaque": "pattern_opaque",
+                "source_opaque": "source_opaque"},
+    "macros": {"defining": "defining", "id": "macro_id", "overlay": "overlay"},
+    "margins": {"left": "left_margin", "right": "right_margin", "top": "top_margin", "text_length": "text_length"},
+    "page": {"duplex": "duplex", "marked": "marked", "orientation": "orientation", "resolution": "resolution"},
+    "raster": {"method": "method", "resolution": "raster_resolution", "height": "source_height", "width": "source_width"},
+    "settings": {"copies": "copies", "horizontal_motion": "hmi", "vertical_motion": "vmi", "hp_gl": "hpgl", "page_status": "pjl_status",
+                 "perforation_skip": "perforation_skip", "sheets_of_job": "since_job"},
+}
+# In the order in which changes are told.
+ORDER = [
+    "x", "y", "size", "unit", "vmi", "hmi", "line_termination", "perforation_skip", "copies", "raster_resolution", "method", "source_width",
+    "source_height", "rectangle_width", "rectangle_height", "pattern_id", "current_pattern", "source_opaque", "pattern_opaque", "macro_id",
+    "left_margin", "right_margin", "top_margin", "text_length", "resolution", "orientation", "duplex", "binding", "stack", "overlay", "hpgl",
+    "raster_on", "raster_left", "row_count", "marked", "defining", "total", "since_job", "pjl_current", "pjl_default", "pjl_status",
+]
+
+
+def variables(told):
+    """The job language's variables as pairs of name and value, in its own words."""
+    return (
+        (b"COPIES", b"%d" % told["copies"]), (b"PAPER", SIZES[told["page_size"]].upper().encode()),
+        (b"ORIENTATION", (b"PORTRAIT", b"LANDSCAPE")[told["orientation"]]), (b"DUPLEX", b"ON" if told["duplex"] else b"OFF"),
+        (b"BINDING", BINDINGS[told["binding"]].encode()), (b"RESOLUTION", b"%d" % told["resolution"]))
+
+
+class Fields:
+    """All fields, line by line. `now` is replaced, and never written into."""
+
+    def __init__(self):
+        self.view = {}
+        self.now = {}
+
+    def go_on(self, line):
+        """The fields behind this line."""
+        now = {**self.now, "x": line["x"], "y": line["y"], "total": line["sheets"]}
+        for name, told in line.get("view", {}).items():
+            self.view[name] = whole = {**self.view.get(name, {}), **told}
+            names = NAMES.get(name, {})
+            now.update((names[key], value) for key, value in told.items() if key in names)
+            if name in OTHERS:
+                now.update(OTHERS[name](whole))
+        self.now = now
+        return now
+
+
+OTHERS = {
+    "current": lambda told: {"pjl_current": variables(told)},
+    "default": lambda told: {"pjl_default": variables(told)},
+    "cursor": lambda told: {"stack": tuple(map(tuple, told["pushed"]))},
+    "drawing": lambda told: {"current_pattern": (told["pattern_kind"], told["pattern"])},
+    "page": lambda told: {"size": SIZES[told["size"]], "binding": BINDINGS[told["binding"]]},
+    "raster": lambda told: {"raster_on": told["left"] is not None, "raster_left": told["left"] or 0, "row_count": told["rows"] or 0},
+    "settings": lambda told: {"unit": POSITIONS_PER_INCH // told["unit"],
+                              "line_termination": told["feed_after_return"] + 2 * told["return_before_feed"]},
+}
+
+
+def changes(before, after):
+    """Name, value before and value after of each field that is another."""
+    return tuple((name, before[name], after[name]) for name in ORDER if before[name] != after[name])
+
+
+class State:
+    """Fields as those of the model's state, for what asks where rows and fills go."""
+
+    def __init__(self, now):
+        self.__dict__.update(now)
+        self.size = pages.SIZES[now["size"]].at(now["resolution"])
+
+    def logical_width(self):
+        return pages.logical_page(self.size, self.orientation)[0]
+
+    def logical_length(self):
+        return pages.logical_page(self.size, self.orientation)[1]
+
+
+def power_on():
+    """The fields before the first command."""
+    from model.trace_lines import Teller, view_of
+    state = Teller(frozenset()).engine.state
+    return {"x": state.x, "y": state.y, "sheets": 0, "view": view_of(state)}

@@ -1,0 +1,102 @@
+"""Pages as the lines of a trace tell them: a white page, and patches that are laid over it."""
+
+import json
+
+
+class Page:
+    """The dots of a page: a row is bytes, the most significant bit left, 1 black. Rows are replaced, and never written into."""
+
+    def __init__(self, width, height):
+        self.width = width
+        self.height = height
+        self.rows = [bytes(-(-width // 8))] * height
+
+    def lay(self, patch):
+        """Lays a patch over the page, and gives the rows that it replaced."""
+        left, top, old = patch["x"] // 8, patch["y"], []
+        for number, text in enumerate(patch["rows"], top):
+            row, new = self.rows[number], bytes.fromhex(text)
+            old.append(row)
+            self.rows[number] = row[:left] + new + row[left + len(new):]
+        return old
+
+    def copy(self):
+        other = Page(self.width, 0)
+        other.height, other.rows = self.height, list(self.rows)
+        return other
+
+
+class Open:
+    """The page that is open behind each line; None where none has a mark."""
+
+    def __init__(self):
+        self.page = None
+
+    def go_on(self, line):
+        """Goes on by what a line tells."""
+        patch = line.get("page", ())
+        if "opened" in line:
+            self.page = Page(*line["opened"])
+        if patch is None:
+            self.page = None
+        elif patch:
+            self.page.lay(patch)
+
+
+def wrong_patch(page, patch):
+    """What is wrong with a patch by itself, or None: it lies in the page and its rows are as wide and as many as it says."""
+    left, top, width, height, rows = (patch[key] for key in ("x", "y", "width", "height", "rows"))
+    if left % 8 or left < 0 or top < 0 or width < 1 or height < 1 or left + width > page.width or top + height > page.height:
+        return "the box does not lie in the page, or begins within a byte"
+    if width % 8 and left + width != page.width:
+        return "the box ends within a byte, and not at the edge of the page"
+    if len(rows) != height or any(len(row) != 2 * -(-width // 8) for row in rows):
+        return "there are other rows than the box has"
+    if width % 8 and any(int(row[-2:], 16) & (1 << -width % 8) - 1 for row in rows):
+        return "a dot is told beside the page"
+    return None
+
+
+def without_page(line):
+    return {key: told for key, told in line.items() if key != "page"}
+
+
+class Comparison:
+    """Two traces, line by line: all as texts but for boxes, which may differ as long as the pages do not."""
+
+    def __init__(self):
+        self.ours, self.theirs = Open(), Open()
+
+    def difference(self, our, their):
+        """What differs in two lines of these texts, or None."""
+        ours, theirs = json.loads(our), json.loads(their)
+        if our != their and json.dumps(theirs, ensure_ascii=False, separators=(",", ":"), sort_keys=True).encode() + b"\n" != their:
+            return "the program's line is no compact JSON with its keys in byte order"
+        if without_page(ours) != without_page(theirs):
+            return "fields differ"
+        if ("page" in ours, ours.get("page") is None) != ("page" in theirs, theirs.get("page") is None):
+            return "only one tells a change of the page"
+        self.ours.go_on(ours)
+        if theirs.get("page") and (wrong := wrong_patch(self.ours.page, theirs["page"])):
+            return wrong
+        self.theirs.go_on(theirs)
+        return self.other_rows(ours.get("page"), theirs.get("page"))
+
+    def other_rows(self, *boxes):
+        """Whether the pages differ in a row of these boxes; in the others they are as they were."""
+        for box in filter(None, boxes):
+            rows = slice(box["y"], box["y"] + box["height"])
+            if self.ours.page.rows[rows] != self.theirs.page.rows[rows]:
+                return "dots of the page differ"
+        return None
+
+
+def difference_of(ours, theirs):
+    """The number of the first line that differs, counted from 1, what differs, and both lines; None where none does."""
+    comparing = Comparison()
+    for number in range(max(len(ours), len(theirs))):
+        our, their = (some[number] if number < len(some) else b"" for some in (ours, theirs))
+        what = comparing.difference(our, their) if our and their else "one trace ends"
+        if what:
+            return number + 1, what, our, their
+    return None
