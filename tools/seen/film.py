@@ -1,0 +1,148 @@
+"""A trace to walk in, forwards and back: which command each step takes, and fields and page behind any number of steps.
+
+The lines stand in a file, and the fields and the page are kept now and then, so that those of any step are made from a few lines.
+"""
+
+import array
+import json
+import tempfile
+
+from model import commands, table
+
+from . import program, traced
+from .bodies import Follower, Placed
+from .fields import Fields, power_on
+from .happenings import placed_commands
+from .patches import Open
+
+MOST_LINES, MOST_BYTES = 256, 1_000_000   # between two places that are kept
+MOST_RECENT = 64
+
+
+class Kept:
+    """Fields and page behind a number of steps."""
+
+    def __init__(self, count, fields, page):
+        self.count = count
+        self.view, self.now = dict(fields.view), fields.now
+        self.page = page
+
+    def fields(self):
+        fields = Fields()
+        fields.view, fields.now = dict(self.view), self.now
+        return fields
+
+
+class Film:
+    """The steps of a stream. Behind 0 steps it stands at power on."""
+
+    def __init__(self, stream, front=b"", chosen=program.PROGRAM):
+        self.stream = stream
+        self.shift = len(front)
+        self.who = traced.who(chosen)
+        self.lines, self.ends = tempfile.TemporaryFile(), array.array("Q", [0])
+        self.taken, self.stacks, self.depths, self.starts = [], [], array.array("B", [0]), []
+        self.kept = []
+        self.read(front + stream, front, chosen)
+
+    def read(self, whole, front, chosen):
+        """Goes through the lines once."""
+        fields, page = Fields(), Open()
+        follower = Follower(fields.go_on(power_on()), table.row_of)
+        every = iter([*placed_commands(front), *(placed._replace(offset=placed.offset + self.shift) for placed in placed_commands(self.stream))])
+        end = Placed(len(whole), 0, commands.Uel())
+        placed, changed = None, True
+        self.keep(fields, page, changed)
+        for text in traced.texts(whole, chosen):
+            line = json.loads(text)
+            if not follower.bodies:
+                placed = next(every, end)
+                self.starts.append(len(self.taken))
+            step = follower.go_on(line, placed, fields.go_on(line))
+            page.go_on(line)
+            changed = changed or "page" in line or "opened" in line
+            self.lines.write(text)
+            self.ends.append(self.ends[-1] + len(text))
+            self.depths.append(line["depth"])
+            self.taken.append(step.placed)
+            self.stacks.append(self.stacks[-1] if self.stacks and self.stacks[-1] == step.stack else step.stack)
+            if len(self.taken) - self.kept[-1].count >= MOST_LINES or self.ends[-1] - self.ends[self.kept[-1].count] >= MOST_BYTES:
+                self.keep(fields, page, changed)
+                changed = False
+
+    def keep(self, fields, page, changed):
+        """Keeps a place; a page that did not change since is the one that was kept before."""
+        held = (page.page and page.page.copy()) if changed or not self.kept else self.kept[-1].page
+        self.kept.append(Kept(len(self.taken), fields, held))
+
+    def __len__(self):
+        """How many steps there are."""
+        return len(self.taken)
+
+    def line(self, count):
+        """What the line of this step tells, counted from 1."""
+        start, end = self.ends[count - 1], self.ends[count]
+        self.lines.seek(start)
+        return json.loads(self.lines.read(end - start))
+
+    def from_kept(self, count):
+        """The last place that is kept before so many steps, and the lines from there on."""
+        low, high = 0, len(self.kept)
+        while high - low > 1:
+            middle = (low + high) // 2
+            low, high = (middle, high) if self.kept[middle].count <= count else (low, middle)
+        kept = self.kept[low]
+        return kept, (self.line(number) for number in range(kept.count + 1, count + 1))
+
+    def state(self, count):
+        """The fields behind so many steps, by the names of the tools, and as the view nests them."""
+        kept, lines = self.from_kept(count)
+        fields = kept.fields()
+        for line in lines:
+            fields.go_on(line)
+        return fields.now, fields.view
+
+    def page(self, count):
+        """The open page behind so many steps, or None."""
+        kept, lines = self.from_kept(count)
+        page = Open()
+        page.page = kept.page and kept.page.copy()
+        for line in lines:
+            page.go_on(line)
+        return page.page
+
+    def depth(self, count):
+        return self.depths[count]
+
+    def next(self, count):
+        """The command that the step behind so many takes; None at the end."""
+        return self.taken[count] if count < len(self) else None
+
+    def stack(self, count):
+        """The bodies that run behind so many steps, the innermost last."""
+        return self.stacks[count] if count < len(self) else ()
+
+    def over(self, count):
+        """How many steps were taken behind the next command and all that it runs."""
+        depth, count = self.depth(count), min(len(self), count + 1)
+        while self.depth(count) > depth:
+            count += 1
+        return count
+
+    def out(self, count):
+        """How many steps were taken where the innermost body that runs has ended."""
+        depth = self.depth(count)
+        while count < len(self) and self.depth(count) >= max(1, depth):
+            count += 1
+        return count if depth else len(self)
+
+    def back_over(self, count):
+        """How many steps were taken before the command that was taken last in this body, and before all that it ran."""
+        depth, count = self.depth(count), max(0, count - 1)
+        while count > 0 and self.depth(count) > depth:
+            count -= 1
+        return count
+
+    def recent(self, count):
+        """The commands that were taken last, oldest first."""
+        return self.taken[max(0, count - MOST_RECENT):count]
