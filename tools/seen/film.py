@@ -14,9 +14,13 @@ from .bodies import Follower, Placed
 from .fields import Fields, power_on
 from .happenings import placed_commands
 from .patches import Open
+from .sent import letters
 
 MOST_LINES, MOST_BYTES = 256, 1_000_000   # between two places that are kept
 MOST_RECENT = 64
+SHEET, REPLY, IDLE, RECORDED = 1, 2, 4, 8      # what is noted of a step
+CHANGES = ("view", "page", "opened", "delivered", "reply", "recorded")
+UNSEEN = ("*cW", "*cQ", "&fX")                 # what these change is no field
 
 
 class Kept:
@@ -42,6 +46,7 @@ class Film:
         self.who = traced.who(chosen)
         self.lines, self.ends = tempfile.TemporaryFile(), array.array("Q", [0])
         self.taken, self.stacks, self.depths, self.starts = [], [], array.array("B", [0]), []
+        self.flags, self.versions = array.array("B", [0]), array.array("L", [0])   # and how often the page changed by then
         self.kept = []
         self.read(front + stream, front, chosen)
 
@@ -60,7 +65,8 @@ class Film:
                 self.starts.append(len(self.taken))
             step = follower.go_on(line, placed, fields.go_on(line))
             page.go_on(line)
-            changed = changed or "page" in line or "opened" in line
+            self.note(line, step)
+            changed = changed or self.versions[-1] != self.versions[-2]
             self.lines.write(text)
             self.ends.append(self.ends[-1] + len(text))
             self.depths.append(line["depth"])
@@ -69,6 +75,14 @@ class Film:
             if len(self.taken) - self.kept[-1].count >= MOST_LINES or self.ends[-1] - self.ends[self.kept[-1].count] >= MOST_BYTES:
                 self.keep(fields, page, changed)
                 changed = False
+
+    def note(self, line, step):
+        """Notes what went out in a step, whether it did nothing, and how often the page changed by then."""
+        still = (line["x"], line["y"]) == (step.before["x"], step.before["y"]) and line["depth"] == len(step.stack)
+        unseen = step.how == "row" and letters(step.placed.command) in UNSEEN or isinstance(step.placed.command, (commands.PjlLine, commands.Uel))
+        idle = still and not unseen and not any(key in line for key in CHANGES[1 if not self.taken else 0:])
+        self.flags.append(SHEET * ("delivered" in line) + REPLY * ("reply" in line) + IDLE * idle + RECORDED * ("recorded" in line))
+        self.versions.append(self.versions[-1] + ("page" in line or "opened" in line))
 
     def keep(self, fields, page, changed):
         """Keeps a place; a page that did not change since is the one that was kept before."""
@@ -101,6 +115,14 @@ class Film:
         for line in lines:
             fields.go_on(line)
         return fields.now, fields.view
+
+    def told(self, count):
+        """What can be asked of a number of steps, by name: the fields as `object.field`, and `page`, which is how often it changed by then."""
+        now, view = self.state(count)
+        last = commands.kind(self.taken[count - 1].command) if count else None
+        told = {"step": count, "depth": self.depth(count), "x": now["x"], "y": now["y"], "sheets": now["total"], "last": last,
+                "recorded": bool(self.flags[count] & RECORDED), "page": self.versions[count]}
+        return told | {f"{name}.{key}": value for name, some in view.items() for key, value in some.items()}
 
     def page(self, count):
         """The open page behind so many steps, or None."""

@@ -1,0 +1,1 @@
+"""The debug adapter: the Debug Adapter Protocol over the trace of a stream."""
