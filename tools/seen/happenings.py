@@ -120,9 +120,11 @@ class Marks:
 
 
 class Run:
-    """The happenings of a stream, and its sheets. What stands in front of it sets the defaults."""
+    """The happenings of a stream, and its sheets. What stands in front of it sets the defaults. `watch` is handed each line, before the page goes on by it,
+    with the step that it is of; of bytes that are passed over at once the last line alone, without a step."""
 
-    def __init__(self, stream, front=b"", together=False, chosen=program.PROGRAM):
+    def __init__(self, stream, front=b"", together=False, chosen=program.PROGRAM, watch=None):
+        self.watch = watch or (lambda run, line, step: None)
         self.stream = stream
         self.whole = front + stream
         self.chosen = chosen
@@ -162,6 +164,7 @@ class Run:
             if "view" in line and before is not self.first or "page" in line or line["depth"]:
                 raise ValueError(f"step {line['step']} of the trace is no byte that is passed over")
         now = self.follower.fields = self.fields.go_on(line)
+        self.watch(self, line, None)
         how = "HP-GL/2" if now["hpgl"] and isinstance(placed.command, commands.Text) else "no row"
         return Happening(placed, None, how, None, FIELDS_OF_NOTHING, (), 0, (), b"", 0, self.leaves.closed, cursor_dot(now),
                          (now["x"], now["y"]), line["step"], 0, now["resolution"], before, sent.NOTHING, False)
@@ -191,6 +194,7 @@ class Run:
         quiet = before["defining"] is None and not before["hpgl"]
         one = self.watcher.of(State(before), command) if quiet and sent.letters(command) in sent.SENDING else sent.NOTHING
         step = self.follower.go_on(line, placed, self.fields.go_on(line))
+        self.watch(self, line, step)
         self.marks.go_on(line, self.leaves.closed)
         return step, *self.leaves.go_on(line, step), one
 

@@ -2,7 +2,7 @@
 
 from typing import NamedTuple
 
-from model import runs
+from model import pbm, runs
 
 from . import listing, png, program
 from .pages_of import RESOLUTIONS
@@ -20,33 +20,38 @@ class Side(NamedTuple):
     resolution: int   # in dots per inch
 
 
-def sides_of(run):
-    """The sides of a run, and who printed them."""
+def who(run):
+    """Who prints the sides of a run."""
     files = sum(copies for _, _, _, copies in run.pages_of_sides())
     if not program.stands(run.chosen):
-        return modelled(run), "the model in Python, since the proved program is not built"
-    if files > MOST_FILES:
-        return modelled(run), f"the model in Python, since the copies have {files} sides"
-    return printed(run), "the proved program"
+        return "the model in Python, since the proved program is not built"
+    return f"the model in Python, since the copies have {files} sides" if files > MOST_FILES else "the proved program"
 
 
-def modelled(run):
-    wanted = {(number, name): copies for _, number, name, copies in run.pages_of_sides()}
-    return [Side(number, name, wanted[number, name], *png.lines_of_side(side), side.count_black(), side.size.resolution)
-            for number, sheet in enumerate(runs.run_stream(run.whole).sheets, 1) for name, side in sheet.sides() if (number, name) in wanted]
+def packed_sides(run):
+    """The P4 file of each side of a run, one after another."""
+    if who(run) == "the proved program":
+        yield from printed(run)
+        return
+    wanted = {(number, name) for _, number, name, _ in run.pages_of_sides()}
+    for number, sheet in enumerate(runs.run_stream(run.whole).sheets, 1):
+        yield from (pbm.bytes_of_rows(side.physical_rows()) for name, side in sheet.sides() if (number, name) in wanted)
 
 
 def printed(run):
-    """The program's files; where they are others than its listing and its trace say, nothing is shown."""
-    wanted, listed, found = run.pages_of_sides(), listing.sides(run), {}
-    places = list(places_of_files(wanted))
+    """The program's files, without copies; where they are others than its trace says, nothing is shown."""
+    places = list(places_of_files(run.pages_of_sides()))
     files = 0
     for files, data in enumerate(program.printed_sides(run.whole, run.chosen), 1):
-        if files <= len(places) and places[files - 1] not in found:
-            found[places[files - 1]] = png.read_p4(data)
+        if files <= len(places) and places[files - 1] not in places[:files - 1]:
+            yield data
     if files != len(places):
         raise ValueError(f"press print made {files} files, and the trace has {len(places)} sides")
-    return [side_of(found[place], *each) for place, each in enumerate(listed)]
+
+
+def sides_of(run):
+    """The sides of a run, and who printed them."""
+    return [side_of(png.read_p4(data), *each) for data, each in zip(packed_sides(run), listing.sides(run))], who(run)
 
 
 def side_of(page, told, number, name, copies):

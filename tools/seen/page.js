@@ -1,0 +1,301 @@
+"use strict";
+// The page: what was chosen, the line of time, the list and the pane of fields. The canvas is in paper.js.
+
+const HIGH = 42, LEAP = 100, PLAY_MOST = 40;
+const at = name => document.getElementById(name);
+const film = new Film(data);
+const state = {entry: -1, from: -1, side: -1, playing: 0, shown: [], here: -1, drawn: 0};
+
+function element(name, values, ...inside) {
+  const made = document.createElement(name);
+  for (const [key, value] of Object.entries(values || {})) made.setAttribute(key, value);
+  made.append(...inside);
+  return made;
+}
+
+// The list: a row is an element that stays for as long as it is seen, so that a click is no matter of how the mouse moves.
+
+const rowsOfList = new Map();
+
+function drawList() {
+  const list = at("list"), {first, end, top} = seenRows(list.scrollTop, list.clientHeight, state.shown.length, HIGH);
+  const wanted = new Set();
+  for (let place = first; place < end; place++) {
+    const number = state.shown[place];
+    wanted.add(number);
+    let row = rowsOfList.get(number);
+    if (!row) {
+      row = element("div", {class: "row", role: "option", id: "row-" + number}, element("b"), element("div"));
+      row.dataset.number = number;
+      rowsOfList.set(number, row);
+      at("all").append(row);
+      fillRow(number, row);
+    }
+    row.style.top = top + (place - first) * HIGH + "px";
+    row.setAttribute("aria-posinset", place + 1);
+    row.setAttribute("aria-setsize", state.shown.length);
+    row.classList.toggle("here", number === state.here);
+    row.setAttribute("aria-selected", number === state.here);
+  }
+  for (const [number, row] of rowsOfList) if (!wanted.has(number)) { row.remove(); rowsOfList.delete(number); }
+  if (rowsOfList.has(state.here)) list.setAttribute("aria-activedescendant", "row-" + state.here);
+}
+
+async function fillRow(number, row) {
+  const [text, remark, flags] = film.rowNow(number) || await film.row(number);
+  row.firstChild.textContent = text;
+  row.lastChild.textContent = remark;
+  row.classList.toggle("ignored", (flags & 1) !== 0);
+  row.classList.toggle("gone", (flags & 2) !== 0);
+  row.classList.toggle("reply", (flags & 4) !== 0);
+}
+
+async function choose() {
+  const words = wordsOf(at("find").value), which = at("which").value, token = ++state.search;
+  const marking = which === "page" ? await rowsThatMark() : null, found = [];
+  for (let number = 0; number < film.rowCount; number++) {
+    if (marking && !marking.has(number)) continue;
+    if (words.length || which === "out" || which === "ignored") {
+      const [text, remark, flags] = film.rowNow(number) || await film.row(number);
+      if (token !== state.search) return;
+      if (which === "out" && !(flags & 6) || which === "ignored" && !(flags & 1) || !matches(words, text, remark)) continue;
+    }
+    found.push(number);
+  }
+  state.shown = found;
+  at("count").textContent = found.length.toLocaleString("en") + " of " + film.rowCount.toLocaleString("en");
+  at("all").style.height = heightOf(found.length, HIGH) + "px";
+  drawList();
+  showRow();
+}
+state.search = 0;
+
+async function rowsThatMark() {
+  const number = shownPage();
+  return new Set(number < 0 ? [] : Array.from(await film.marksOf(number), entry => film.rowOf(entry)));
+}
+
+function shownPage() {
+  if (state.side >= 0) return data.sides[state.side].page;
+  return state.entry >= 0 ? film.page[state.entry] : -1;
+}
+
+function showRow() {
+  const place = placeOf(state.here), list = at("list");
+  if (place >= 0) list.scrollTop = scrollToRow(place, list.scrollTop, list.clientHeight, state.shown.length, HIGH);
+  drawList();
+}
+
+function placeOf(number) {
+  const place = lastUpTo(state.shown, number);
+  return state.shown[place] === number ? place : -1;
+}
+
+// Moves in time
+
+async function goTo(entry, from, side) {
+  const token = ++state.drawn;
+  state.entry = Math.max(-1, Math.min(film.count - 1, entry));
+  state.from = from === undefined ? state.entry - 1 : from;
+  state.side = side ?? (state.entry >= 0 && film.page[state.entry] < 0 ? film.sidesOf(state.entry)[0] ?? -1 : -1);
+  state.here = state.entry < 0 ? -1 : film.rowOf(state.entry);
+  at("slider").value = state.entry + 1;
+  tellPlace();
+  showRow();
+  await Promise.all([tellCommand(token), tellFields(token), showPage(token)]);
+  markStrip();
+}
+
+function goToRow(number) {
+  const [first, last] = film.entriesOf(number);
+  return goTo(last, first - 1);
+}
+
+function tellPlace() {
+  const step = state.entry < 0 ? 0 : film.step[state.entry], most = film.step[film.count - 1];
+  at("where").textContent = `step ${step.toLocaleString("en")} of ${most.toLocaleString("en")}`;
+  at("slider").setAttribute("aria-valuetext", at("where").textContent);
+}
+
+async function tellCommand(token) {
+  const told = at("told"), {entry} = state;
+  if (entry < 0) {
+    told.replaceChildren("Before the first command, as at power on. Point at a command or walk by j and k: the page stands as it was behind each step.");
+    return;
+  }
+  const [text, remark] = await film.row(state.here), own = film.own[entry];
+  const body = own >= 0 ? await film.row(own) : null;
+  if (token !== state.drawn) return;
+  const parts = [element("code", {}, text), element("div", {}, remark)];
+  if (body) parts.unshift(element("div", {}, `In ${film.data.stacks[film.stack[entry]].at(-1)[0]}: `, element("code", {}, body[0]), " recorded " + body[1]),
+    element("div", {class: "soft"}, "which was started by"));
+  told.replaceChildren(...parts);
+  told.scrollTop = 0;
+}
+
+async function tellFields(token) {
+  const {now, changed: others} = await film.fields(state.entry);
+  if (token !== state.drawn) return;
+  const rows = [["x", state.entry < 0 ? 0 : film.x[state.entry]], ["y", state.entry < 0 ? 900 : film.y[state.entry]],
+    ["sheets so far", state.entry < 0 ? 0 : film.sheets[state.entry]]].map(([name, value]) => fieldRow(name, value, changedColumn(name)));
+  for (const [name, some] of Object.entries(now).sort()) {
+    for (const [key, value] of Object.entries(some)) rows.push(fieldRow(name + "." + key, value, others.has(name + "." + key)));
+  }
+  at("fields").tBodies[0].replaceChildren(...rows);
+  tellStack();
+}
+
+function changedColumn(name) {
+  const some = {x: film.x, y: film.y, "sheets so far": film.sheets}[name], {entry} = state;
+  return entry >= 0 && some[entry] !== (entry > 0 ? some[entry - 1] : name === "y" ? 900 : 0);
+}
+
+function fieldRow(name, value, other) {
+  const shown = value === null ? "none" : Array.isArray(value) ? value.map(place => place.join(", ")).join("; ") || "none" : String(value);
+  const row = element("tr", {}, element("th", {scope: "row"}, name.replaceAll("_", " ")), element("td", {}, shown));
+  if (other) { row.className = "changed"; row.title = "changed by this step"; }
+  return row;
+}
+
+function tellStack() {
+  const {entry} = state, stack = entry < 0 ? [] : film.data.stacks[film.stack[entry]];
+  at("stack").replaceChildren(...[...stack].reverse().map(([name, row]) => {
+    const button = element("button", {"data-row": row}, name + ", started by row " + (row + 1));
+    return element("li", {}, button);
+  }));
+  at("stack-title").textContent = stack.length ? "Bodies that ran it" : "No body ran it";
+  const replies = data.replies.filter(([made]) => made <= entry).slice(-20);
+  at("replies").replaceChildren(...replies.map(([made, text]) => element("li", {}, element("button", {"data-entry": made}, text))));
+}
+
+// The strip of sides
+
+function drawStrip() {
+  at("strip").replaceChildren(...data.sides.map((side, number) => {
+    const button = element("button", {"data-side": number, title: side.label, "aria-label": side.label});
+    if (side.picture) button.append(element("img", {src: side.picture, alt: "", decoding: "async", loading: "lazy"}));
+    button.append(side.sheet + " " + side.name);
+    return button;
+  }));
+  at("strip").hidden = data.sides.length === 0;
+}
+
+function markStrip() {
+  for (const button of at("strip").children) button.setAttribute("aria-pressed", Number(button.dataset.side) === state.side);
+}
+
+// The entry in which a side goes out, or its page closes.
+function entryOfSide(number) {
+  const side = data.sides[number];
+  let entry = film.sheets.findIndex(sheets => sheets >= side.sheet);
+  return side.page >= 0 ? Math.min(entry, film.pages[side.page].last) : entry;
+}
+
+// Play: a step a picture, and more of them where there are many
+
+function play(on) {
+  state.playing = on ? 1 : 0;
+  at("play").setAttribute("aria-pressed", on);
+  at("play").textContent = on ? "pause" : "play";
+  at("play").setAttribute("aria-label", on ? "pause" : "play");
+  if (on) playOn();
+}
+
+async function playOn() {
+  if (state.entry >= film.count - 1) state.entry = -1;
+  const by = Math.max(1, Math.floor(film.count / (60 * PLAY_MOST)));
+  while (state.playing && state.entry < film.count - 1) {
+    await goTo(state.entry + by, state.entry);
+    await new Promise(resolve => setTimeout(resolve, 1000 / PLAY_MOST));
+  }
+  if (state.playing) play(false);
+}
+
+// Keys and buttons
+
+const KEYS = {
+  j: () => goTo(state.entry + 1), k: () => goTo(state.entry - 1), PageDown: () => goTo(state.entry + LEAP), PageUp: () => goTo(state.entry - LEAP),
+  Home: () => goTo(-1), End: () => goTo(film.count - 1), p: () => play(!state.playing), "+": () => zoomBy(2), "=": () => zoomBy(2), "-": () => zoomBy(.5),
+  0: () => zoomTo(0), 1: () => zoomTo(1 / devicePixelRatio), "/": () => at("find").focus(), g: () => toggle("show-grid"), l: () => toggle("show-loupe"),
+  n: () => nextFound(1), N: () => nextFound(-1),
+};
+
+function toggle(name) {
+  at(name).checked = !at(name).checked;
+  at(name).dispatchEvent(new Event("change"));
+}
+
+function nextFound(step) {
+  const place = lastUpTo(state.shown, state.here), next = state.shown[step > 0 ? place + 1 : state.shown[place] === state.here ? place - 1 : place];
+  if (next !== undefined) goToRow(next);
+}
+
+function moveInList(event) {
+  const step = {ArrowDown: 1, ArrowUp: -1}[event.key];
+  if (!step) return false;
+  nextFound(step);
+  return true;
+}
+
+addEventListener("keydown", event => {
+  const to = event.target, types = to.matches("input[type=search], select");
+  if (event.ctrlKey || event.altKey || event.metaKey || types && event.key !== "Escape") return;
+  if (types) { to.blur(); return; }
+  if (to === at("list") && moveInList(event)) { event.preventDefault(); return; }
+  if (to === at("slider") && !["j", "k", "p"].includes(event.key) && !["PageDown", "PageUp", "Home", "End"].includes(event.key)) return;
+  const call = KEYS[event.key];
+  if (!call) return;
+  event.preventDefault();
+  if (event.key !== "p" && state.playing) play(false);
+  call();
+});
+
+function rowOfEvent(event) {
+  const row = event.target.closest(".row");
+  return row ? Number(row.dataset.number) : -1;
+}
+
+// A row that is pointed at is told beside its page and loses that again; a click chooses it. What was pressed and let go over one row is a click on it.
+let pressed = -1;
+at("list").addEventListener("pointerdown", event => { pressed = rowOfEvent(event); });
+at("list").addEventListener("pointerup", event => {
+  const number = rowOfEvent(event);
+  if (number >= 0 && number === pressed && event.button === 0) { play(false); goToRow(number); }
+  pressed = -1;
+});
+at("list").addEventListener("pointermove", event => {
+  const near = rowOfEvent(event);
+  for (const [number, row] of rowsOfList) row.classList.toggle("near", number === near);
+});
+at("list").addEventListener("scroll", () => requestAnimationFrame(drawList));
+at("strip").addEventListener("click", event => {
+  const button = event.target.closest("button");
+  if (button) goTo(entryOfSide(Number(button.dataset.side)), undefined, Number(button.dataset.side));
+});
+at("stack").addEventListener("click", event => { if (event.target.dataset.row) goToRow(Number(event.target.dataset.row)); });
+at("replies").addEventListener("click", event => { if (event.target.dataset.entry) goTo(Number(event.target.dataset.entry)); });
+at("slider").addEventListener("input", () => { play(false); goTo(Number(at("slider").value) - 1); });
+for (const [name, key] of [["first", "Home"], ["back", "k"], ["play", "p"], ["on", "j"], ["last", "End"], ["less", "-"], ["fit", "0"], ["dots", "1"], ["more", "+"]]) {
+  at(name).addEventListener("click", () => { if (name !== "play" && state.playing) play(false); KEYS[key](); });
+}
+at("find").addEventListener("input", choose);
+at("find").addEventListener("keydown", event => { if (event.key === "Enter") { nextFound(event.shiftKey ? -1 : 1); } });
+at("which").addEventListener("change", choose);
+addEventListener("resize", () => { drawList(); resizePaper(); });
+addEventListener("hashchange", followHash);
+
+function followHash() {
+  const number = numberIn(location.hash, film.rowCount);
+  return number === null ? null : goToRow(number - 1);
+}
+
+async function begin() {
+  at("facts").textContent = data.facts;
+  await film.load();
+  at("slider").max = film.count;
+  drawStrip();
+  await choose();
+  await (followHash() ?? (data.sides.length ? goTo(entryOfSide(0), undefined, 0) : goTo(film.count - 1)));
+  document.body.dataset.ready = "yes";
+}
+begin();

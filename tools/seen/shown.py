@@ -1,0 +1,203 @@
+"""All that the page of tools/show knows, packed: rows of the list, steps, fields, patches of the pages, and the sides that went out.
+
+An entry is a table step, or bytes that are passed over at once. Columns and chunks are deflated, and spelled in base 64; the scripts of the page
+take them apart when they are needed.
+"""
+
+import array
+import base64
+import bisect
+import json
+import sys
+import zlib
+
+from . import happenings, png, remarks, sides
+from .explained import of_end, rows
+from .listing import sides as listed_sides
+
+ROWS_IN_CHUNK, ENTRIES_IN_CHUNK, BYTES_IN_CHUNK = 500, 500, 1 << 20
+LEVEL = 6
+LONGEST_LINE, LONGEST_REMARK = 120, 1000
+IGNORED, SENDS, REPLIES = 1, 2, 4
+MOST_PICTURES = 500
+NONE = -1
+
+
+def packed(data):
+    return base64.b64encode(zlib.compress(data, LEVEL)).decode()
+
+
+def column(numbers):
+    """Whole numbers of 32 bits, the lowest byte first, as differences: the first bytes of all, then the second ones.."""
+    differences = array.array("i", [numbers[0], *map(int.__sub__, numbers[1:], numbers)] if numbers else [])
+    if sys.byteorder == "big":
+        differences.byteswap()
+    data = differences.tobytes()
+    return packed(b"".join(data[place::4] for place in range(4)))
+
+
+def chunked(items, size):
+    """Values as chunks of JSON."""
+    return [packed(json.dumps(items[start:start + size], ensure_ascii=False, separators=(",", ":")).encode()) for start in range(0, len(items), size)]
+
+
+class FilmPage:
+    """A page that was open: its patches, each with its entry and its box in bytes and lines, and their rows behind one another."""
+
+    def __init__(self, width, height, first):
+        self.width, self.height, self.first, self.last = width, height, first, NONE
+        self.boxes = [[], [], [], [], []]   # entry, left byte, top, bytes across, lines
+        self.data, self.chunks = bytearray(), []
+        self.hashes = None
+
+    def add(self, entry, patch):
+        rows = bytes.fromhex("".join(patch["rows"]))
+        for some, number in zip(self.boxes, (entry, patch["x"] // 8, patch["y"], len(patch["rows"][0]) // 2, len(patch["rows"]))):
+            some.append(number)
+        self.data += rows
+        while len(self.data) >= BYTES_IN_CHUNK:
+            self.chunks.append(packed(bytes(self.data[:BYTES_IN_CHUNK])))
+            del self.data[:BYTES_IN_CHUNK]
+
+    def close(self, entry, page):
+        """It closes in this entry; of its rows a hash is kept."""
+        self.last, self.hashes = entry, [hash(row) for row in page.rows]
+        self.end()
+
+    def end(self):
+        if self.data:
+            self.chunks.append(packed(bytes(self.data)))
+            self.data.clear()
+
+    def value(self):
+        return {"width": self.width, "height": self.height, "first": self.first, "last": self.last, "boxes": [column(some) for some in self.boxes],
+                "chunks": self.chunks}
+
+
+class Recorder:
+    """Watches a run, and keeps what the page shows of each entry."""
+
+    def __init__(self):
+        self.columns = {name: [] for name in ("step", "x", "y", "across", "down", "own", "stack", "page", "sheets")}
+        self.flags, self.pages, self.replies, self.fields, self.part = bytearray(), [], [], [], []
+        self.stacks = {}
+        self.film_of = {}     # the page of the film, by its number among those that closed
+        self.open = None
+
+    def __call__(self, run, line, step):
+        entry, now = len(self.flags), run.fields.now
+        self.follow_page(run, line, entry)
+        stack = tuple((body.name(), body.starter.offset) for body in step.stack) if step else ()
+        across, down = happenings.cursor_dot(now)
+        told = (line["step"], line["x"], line["y"], across, down, step.placed.offset if stack else NONE, self.stacks.setdefault(stack, len(self.stacks)),
+                NONE if self.open is None else len(self.pages) - 1, line["sheets"])
+        for some, number in zip(self.columns.values(), told):
+            some.append(number)
+        self.flags.append(line["depth"] + 8 * ("delivered" in line) + 16 * ("reply" in line) + 32 * ("recorded" in line))
+        if "reply" in line:
+            self.replies.append([entry, remarks.readable(line["reply"].encode("latin-1"), 400)])
+        self.keep_fields(run, line)
+
+    def follow_page(self, run, line, entry):
+        patch = line.get("page", ())
+        if "opened" in line:
+            self.pages.append(FilmPage(*line["opened"], entry))
+            self.open = self.pages[-1]
+        if patch is None:
+            self.film_of[run.leaves.closed] = len(self.pages) - 1
+            self.open.close(entry, run.marks.page)
+            self.open = None
+        elif patch:
+            self.open.add(entry, patch)
+
+    def keep_fields(self, run, line):
+        """What changed; a chunk begins with all fields."""
+        if not self.part:
+            self.part.append({name: dict(some) for name, some in run.fields.view.items()})
+        self.part.append(line.get("view", 0))
+        if len(self.part) > ENTRIES_IN_CHUNK:
+            self.end_fields()
+
+    def end_fields(self):
+        if self.part:
+            self.fields.append(packed(json.dumps(self.part, separators=(",", ":")).encode()))
+            self.part = []
+
+    def end(self):
+        self.end_fields()
+        if self.open is not None:
+            self.open.end()
+
+
+def flags_of(row):
+    first = row.happenings[0]
+    ignored = first.how in ("no row", "HP-GL/2")
+    return IGNORED * ignored + SENDS * any(each.sheets for each in row.happenings) + REPLIES * any(each.replies for each in row.happenings)
+
+
+def shortened(line, most=LONGEST_LINE):
+    return line if len(line) <= most else f"{line[:most]}.."
+
+
+def picture(width, rows):
+    """A small picture of a side, as a value of a link: a dot of it is 8 by 8 dots."""
+    shades = [png.PAPER - png.PAPER * black // 64 for black in range(65)]
+    counts = bytes(byte.bit_count() for byte in range(256))
+    made = []
+    for top in range(0, len(rows), 8):
+        some = sum(int.from_bytes(row.translate(counts), "big") for row in rows[top:top + 8])
+        made.append(bytes(shades[black] for black in some.to_bytes(-(-width // 8), "big")))
+    return "data:image/png;base64," + base64.b64encode(png.png(made)).decode()
+
+
+def side_value(run, recorder, number, data, each):
+    """What is shown of a side: what is told of it, its page of the film, what it has beyond that, and a picture."""
+    told, sheet, name, copies = each
+    header = png.HEADER.match(data)
+    stride = (told.width + 7) // 8
+    rows = [data[start:start + stride] for start in range(header.end(), len(data), stride)]
+    page = recorder.film_of.get(run.pages_of_sides()[number][0], NONE)
+    known = recorder.pages[page].hashes if page != NONE else [hash(bytes(stride))] * told.height
+    other = [line for line, row in enumerate(rows) if hash(row) != known[line]]
+    more = {"top": other[0], "rows": packed(b"".join(rows[other[0]:other[-1] + 1]))} if other else None
+    times = f", {copies} copies" if copies > 1 else ""
+    return {"label": f"Sheet {sheet} {name}{times}, {told.width} x {told.height} dots, {told.black} of them black", "sheet": sheet, "name": name,
+            "width": told.width, "height": told.height, "page": page, "more": more, "picture": picture(told.width, rows) if number < MOST_PICTURES else ""}
+
+
+def data_of(stream, front, chosen, name):
+    """All that the page shows, as one value."""
+    recorder = Recorder()
+    run = happenings.Run(stream, front=front, together=True, chosen=chosen, watch=recorder)
+    recorder.end()
+    every = list(rows(run))
+    starts, firsts, entry = [row.offset + len(front) for row in every], [], sum(1 + each.bodies for each in run.front)
+    for row in every:
+        firsts.append(entry)
+        entry += sum(1 + each.bodies for each in row.happenings)
+    starts.append(len(front) + len(stream))
+    firsts.append(entry)
+    columns = recorder.columns
+    columns["own"] = [NONE if offset < 0 else bisect.bisect_right(starts, offset) - 1 for offset in columns["own"]]
+    texts = [[shortened(row.text), shortened(row.remark, LONGEST_REMARK), flags_of(row)] for row in every]
+    texts.append(["the end of the stream (the press adds: uel)", of_end(run), flags_of_end(run)])
+    printed = [side_value(run, recorder, number, data, each)
+               for number, (data, each) in enumerate(zip(sides.packed_sides(run), listed_sides(run)))]
+    return {
+        "name": name,
+        "facts": f"{remarks.plural(len(stream), 'byte')}, {remarks.plural(sum(each.placed.count() for each in run.happenings), 'command')}, "
+                 f"{remarks.plural(sum(copies for _, _, _, copies in run.pages_of_sides()), 'side')}; "
+                 f"pages printed by {sides.who(run)}, steps told by {run.who}",
+        "rows": {"count": len(texts), "size": ROWS_IN_CHUNK, "chunks": chunked(texts, ROWS_IN_CHUNK), "first": column(firsts)},
+        "entries": {"count": len(recorder.flags), "size": ENTRIES_IN_CHUNK, "columns": {key: column(some) for key, some in columns.items()},
+                    "flags": packed(bytes(recorder.flags)), "fields": recorder.fields},
+        "stacks": [[[body, bisect.bisect_right(starts, offset) - 1] for body, offset in stack] for stack in recorder.stacks],
+        "pages": [page.value() for page in recorder.pages],
+        "sides": printed,
+        "replies": recorder.replies,
+        "start": happenings.power_on()["view"],
+    }
+
+
+def flags_of_end(run):
+    return SENDS * bool(run.end.sheets) + REPLIES * bool(run.end.replies)
