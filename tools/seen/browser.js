@@ -88,7 +88,7 @@ class Browser {
   }
 
   async mouse(type, x, y, more = {}) {
-    await this.call("Input.dispatchMouseEvent", {type, x, y, button: type === "mouseMoved" ? "none" : "left", clickCount: type === "mouseMoved" ? 0 : 1, ...more});
+    await this.call("Input.dispatchMouseEvent", {type, x, y, button: type === "mouseMoved" && !more.buttons ? "none" : "left", clickCount: type === "mouseMoved" ? 0 : 1, ...more});
   }
 
   // A press and a let go, between which the mouse may move.
@@ -118,7 +118,9 @@ class Browser {
   stop() {
     this.socket.close();
     this.process.removeAllListeners("exit");
-    this.process.on("exit", () => rmSync(this.folder, {recursive: true, force: true, maxRetries: 5}));
+    this.process.on("exit", () => setTimeout(() => {
+      try { rmSync(this.folder, {recursive: true, force: true, maxRetries: 5}); } catch { /* a child of it still writes */ }
+    }, 300));
     this.process.kill();
   }
 }

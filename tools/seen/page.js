@@ -82,7 +82,8 @@ function shownPage() {
 
 function showRow() {
   const place = placeOf(state.here), list = at("list");
-  if (place >= 0) list.scrollTop = scrollToRow(place, list.scrollTop, list.clientHeight, state.shown.length, HIGH);
+  if (state.here < 0) list.scrollTop = 0;
+  else if (place >= 0) list.scrollTop = scrollToRow(place, list.scrollTop, list.clientHeight, state.shown.length, HIGH);
   drawList();
 }
 
@@ -225,15 +226,17 @@ function toggle(name) {
   at(name).dispatchEvent(new Event("change"));
 }
 
-function nextFound(step) {
-  const place = lastUpTo(state.shown, state.here), next = state.shown[step > 0 ? place + 1 : state.shown[place] === state.here ? place - 1 : place];
-  if (next !== undefined) goToRow(next);
+// The next row that is listed, or the one before; from the last one the first again, where that is wanted.
+function nextFound(step, round = true) {
+  const {shown, here} = state, place = lastUpTo(shown, here), next = step > 0 ? place + 1 : shown[place] === here ? place - 1 : place;
+  const found = shown[next] ?? (round ? shown[step > 0 ? 0 : shown.length - 1] : undefined);
+  if (found !== undefined) goToRow(found);
 }
 
 function moveInList(event) {
   const step = {ArrowDown: 1, ArrowUp: -1}[event.key];
   if (!step) return false;
-  nextFound(step);
+  nextFound(step, false);
   return true;
 }
 
