@@ -131,10 +131,14 @@ async function time(browser, path) {
 
 async function zooms(browser, path) {
   await browser.open(path);
-  await browser.key("End");
+  await browser.value("goTo(film.pages[0].last - 3)");
+  await settled(browser);
   const fits = await browser.value("scale()");
   for (let time = 0; time < 7; time++) await browser.key("+");
   same(await browser.value("scale() >= 4 && scale() > 8 * " + fits), true, "dots can be seen");
+  await browser.value("new Promise(resolve => requestAnimationFrame(() => requestAnimationFrame(resolve)))");
+  const [wide, high] = await browser.value("[view.clientWidth, view.clientHeight]");
+  await browser.value(`view.scrollLeft = film.across[state.entry] * scale() - ${wide / 3}, view.scrollTop = film.down[state.entry] * scale() - ${high / 2}`);
   await browser.value("new Promise(resolve => requestAnimationFrame(() => requestAnimationFrame(resolve)))");
   await browser.picture(join(PICTURES, "dots.png"));
   const scroll = await browser.value("[view.scrollLeft, view.scrollTop]");

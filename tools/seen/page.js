@@ -293,7 +293,7 @@ function followHash() {
 }
 
 async function begin() {
-  at("facts").textContent = data.facts;
+  at("facts").textContent = at("facts").title = data.facts;
   await film.load();
   at("slider").max = film.count;
   drawStrip();

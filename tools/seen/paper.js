@@ -17,7 +17,7 @@ async function showPage(token) {
     const open = await film.pageAt(entry);
     shown = open ? {bits: open.bits, width: open.page.width, height: open.page.height, stride: open.page.stride} : await whitePage(entry);
     if (open) before = await bitsBefore(open, from);
-    label = open ? `Page ${open.number + 1}, open, ${shown.width} x ${shown.height} dots` : "No page is open: none has a mark yet";
+    label = open ? `Page ${open.number + 1}, open, ${shown.width} x ${shown.height} dots` : "No page with a mark is open";
   }
   if (token !== state.drawn) return;
   const other = shown.width !== picture.width || shown.height !== picture.height;
