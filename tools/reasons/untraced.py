@@ -412,6 +412,12 @@ REASONS = [
 BY_NAME = {reason.name: reason for reason in REASONS}
 
 
+def is_plain_row(happening):
+    """A row that comes out whole meets none of them; it is asked first, since most commands of a driver are rows."""
+    sent = happening.sent
+    return happening.how == "row" and happening.row == "*bW" and not (sent.right or sent.below or sent.late)
+
+
 class Judge:
     """The reasons that the happenings of a run meet."""
 
@@ -429,7 +435,7 @@ class Judge:
         return self.found[place]
 
     def find_reason(self, happening):
-        if happening.how == "recorded":
+        if happening.how == "recorded" or is_plain_row(happening):
             return None
         for reason in REASONS:
             key = reason.met(self, happening)
