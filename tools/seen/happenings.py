@@ -3,6 +3,7 @@
 All of it is read from the lines of the trace, which are the program's where it stands, else the model's.
 """
 
+import functools
 import itertools
 import re
 from typing import NamedTuple, Optional
@@ -218,10 +219,15 @@ class Run:
         return [page if page >= 0 else None for page, _, _, _ in self.pages_of_sides()]
 
 
+@functools.lru_cache(maxsize=4096)
+def dot_of(x, y, size, orientation, resolution, top_margin):
+    state = State({"x": x, "y": y, "size": size, "orientation": orientation, "resolution": resolution, "top_margin": top_margin})
+    return pages.to_physical(state.size, state.orientation, *marks.frame_dot(state))
+
+
 def cursor_dot(now):
     """The physical dot of the cursor."""
-    state = State(now)
-    return pages.to_physical(state.size, state.orientation, *marks.frame_dot(state))
+    return dot_of(now["x"], now["y"], now["size"], now["orientation"], now["resolution"], now["top_margin"])
 
 
 def with_pattern_ids(some):

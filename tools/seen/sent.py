@@ -28,10 +28,17 @@ NOTHING = Sent()
 SENDING = ("*bW", "*cP", "*bY")   # those that send, or change what a row is read against
 
 
+LETTERS = {}   # those that were asked for, since most streams have few
+
+
 def letters(command):
+    """Character, group and end of a parameterized command; empty for any other."""
     if not isinstance(command, Param):
         return ""
-    return chr(command.character) + ("" if command.group is None else chr(command.group)) + chr(command.end)
+    key = command.character, command.group, command.end
+    if key not in LETTERS:
+        LETTERS[key] = chr(command.character) + ("" if command.group is None else chr(command.group)) + chr(command.end)
+    return LETTERS[key]
 
 
 class Watcher:
