@@ -175,6 +175,14 @@ def comes_late(_, happening):
     return "rows" if happening.sent.late else None
 
 
+def because_of_late(_, happening):
+    """A body may set the height itself, and send rows past it."""
+    height = happening.before["source_height"]
+    if height is None or happening.bodies:
+        return f"{counted(happening.sent.late, 'row')} of a body stand past its raster height"
+    return f"the raster height is {counted(height, 'row')}, and it stands past them"
+
+
 def fills_nothing(_, happening):
     if not with_row(happening, "*cP") or happening.marks or happening.sent.lost() or not named_values.NAMED["*cP"].takes(
             happening.placed.command.value(), happening.before):
@@ -377,7 +385,7 @@ REASONS = [
     Reason("a fill of nothing", fills_nothing, lambda *_: "it marks nothing",
            "Its rectangle has no size, lies outside the page, or its pattern does not exist", groups.fills, True),
     Reason("pattern", refuses_pattern, because_of_pattern, "It is 00 00 01 00, height and width of 16 bits each, and the rows", blanks=True),
-    Reason("rows past the raster height", comes_late, lambda _, each: f"the raster height is {counted(each.before['source_height'], 'row')}, and it stands past them",
+    Reason("rows past the raster height", comes_late, because_of_late,
            "Have the driver send ESC*r#T with the rows that the picture has, or leave it out", groups.late, True),
     Reason("a row that is cut", is_cut, because_of_cut, "It was cut: copy or make it again", groups.plain, True),
     Reason("broken", lambda _, each: "broken" if has_no_row(each, Broken) else None, lambda *_: "ignored",
