@@ -74,8 +74,9 @@ def fills(_, some, __):
 
 
 def late(_, some, __):
-    rows = sum(each.sent.late for each in some)
-    return f"has {counted(rows, 'row')} past the raster height of {some[0].before['source_height']:,} from byte {some[0].placed.offset:,} on"
+    rows, height = sum(each.sent.late for each in some), some[0].before["source_height"]
+    height = f" of {height:,}" if height is not None else ""
+    return f"has {counted(rows, 'row')} past the raster height{height} from byte {some[0].placed.offset:,} on"
 
 
 def lost(_, some, __):

@@ -420,10 +420,13 @@ REASONS = [
 BY_NAME = {reason.name: reason for reason in REASONS}
 
 
-def is_plain_row(happening):
-    """A row that comes out whole meets none of them; it is asked first, since most commands of a driver are rows."""
+def is_plain(happening):
+    """A row that comes out whole meets none of them, and no place to which the cursor goes; it is asked first, since a driver sends many of these."""
     sent = happening.sent
-    return happening.how == "row" and happening.row == "*bW" and not (sent.right or sent.below or sent.late)
+    return happening.how == "row" and happening.row in PLAIN and bool(happening.changes) and not (sent.right or sent.below or sent.late)
+
+
+PLAIN = ("*bW", "*pX", "*pY")
 
 
 class Judge:
@@ -443,7 +446,7 @@ class Judge:
         return self.found[place]
 
     def find_reason(self, happening):
-        if happening.how == "recorded" or is_plain_row(happening):
+        if happening.how == "recorded" or is_plain(happening):
             return None
         for reason in REASONS:
             key = reason.met(self, happening)

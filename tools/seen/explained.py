@@ -37,7 +37,7 @@ def bytes_of(placed, stream):
 def rows(run):
     """The rows of a run, without the exit that is added at the end."""
     judge = Judge(run)
-    every = [(happening, pattern_id, judge.because(happening)) for happening, pattern_id in with_pattern_ids(run.happenings)]
+    every = ((happening, pattern_id, judge.because(happening)) for happening, pattern_id in with_pattern_ids(run.happenings))
     for key, some in itertools.groupby(every, lambda each: run_of(each[0], each[2])):
         some = list(some)
         if key is not None and (len(some) > 1 or some[0][0].placed.count() > 1):

@@ -23,6 +23,8 @@ ORDER = [
     "raster_on", "raster_left", "row_count", "marked", "defining", "total", "since_job", "pjl_current", "pjl_default", "pjl_status",
 ]
 
+OWN = ["x", "y", "row_count", "total"]   # of these those that change at most steps
+
 
 def variables(told):
     """The job language's variables as pairs of name and value, in its own words."""
@@ -32,24 +34,49 @@ def variables(told):
         (b"BINDING", BINDINGS[told["binding"]].encode()), (b"RESOLUTION", b"%d" % told["resolution"]))
 
 
+class Now:
+    """The fields behind a step by their names. Those that change at most steps stand by themselves; the others are shared by all steps with the same."""
+
+    __slots__ = ("base", "x", "y", "total", "row_count")
+
+    def __init__(self, base, x, y, total, row_count):
+        self.base, self.x, self.y, self.total, self.row_count = base, x, y, total, row_count
+
+    def __getitem__(self, name):
+        return self.base[name] if name in self.base else getattr(self, name)
+
+    def own(self):
+        return {"x": self.x, "y": self.y, "total": self.total, "row_count": self.row_count}
+
+
 class Fields:
     """All fields, line by line. `now` is replaced, and never written into."""
 
     def __init__(self):
         self.view = {}
-        self.now = {}
+        self.now = Now({}, 0, 0, 0, 0)
 
     def go_on(self, line):
         """The fields behind this line."""
-        now = {**self.now, "x": line["x"], "y": line["y"], "total": line["sheets"]}
-        for name, told in line.get("view", {}).items():
-            self.view[name] = whole = {**self.view.get(name, {}), **told}
-            names = NAMES.get(name, {})
-            now.update((names[key], value) for key, value in told.items() if key in names)
-            if name in OTHERS:
-                now.update(OTHERS[name](whole))
-        self.now = now
-        return now
+        base, row_count, view = self.now.base, self.now.row_count, line.get("view")
+        if view:
+            for name, told in view.items():
+                self.view[name] = {**self.view.get(name, {}), **told}
+            row_count = self.view["raster"]["rows"] or 0
+            if view.keys() != {"raster"} or view["raster"].keys() != {"rows"} or view["raster"]["rows"] is None:
+                base = {**base, **named(view, self.view)}
+        self.now = Now(base, line["x"], line["y"], line["sheets"], row_count)
+        return self.now
+
+
+def named(told, view):
+    """The fields of the objects in which something is told, by their names."""
+    found = {}
+    for name in told:
+        found.update((NAMES[name][key], value) for key, value in view[name].items() if key in NAMES.get(name, ()))
+        if name in OTHERS:
+            found.update(OTHERS[name](view[name]))
+    return found
 
 
 OTHERS = {
@@ -58,7 +85,7 @@ OTHERS = {
     "cursor": lambda told: {"stack": tuple(map(tuple, told["pushed"]))},
     "drawing": lambda told: {"current_pattern": (told["pattern_kind"], told["pattern"])},
     "page": lambda told: {"size": SIZES[told["size"]], "binding": BINDINGS[told["binding"]]},
-    "raster": lambda told: {"raster_on": told["left"] is not None, "raster_left": told["left"] or 0, "row_count": told["rows"] or 0},
+    "raster": lambda told: {"raster_on": told["left"] is not None, "raster_left": told["left"] or 0},
     "settings": lambda told: {"unit": POSITIONS_PER_INCH // told["unit"],
                               "line_termination": told["feed_after_return"] + 2 * told["return_before_feed"]},
 }
@@ -66,14 +93,16 @@ OTHERS = {
 
 def changes(before, after):
     """Name, value before and value after of each field that is another."""
-    return tuple((name, before[name], after[name]) for name in ORDER if before[name] != after[name])
+    some = ORDER if before.base is not after.base else OWN
+    return tuple((name, before[name], after[name]) for name in some if before[name] != after[name])
 
 
 class State:
     """Fields as those of the model's state, for what asks where rows and fills go."""
 
     def __init__(self, now):
-        self.__dict__.update(now)
+        self.__dict__.update(now.base)
+        self.__dict__.update(now.own())
         self.size = pages.SIZES[now["size"]].at(now["resolution"])
 
     def logical_width(self):

@@ -13,7 +13,7 @@ from model.trace_lines import placed as placed_in
 
 from . import program, sent, traced
 from .bodies import Follower, Placed
-from .fields import Fields, State, changes, power_on
+from .fields import Fields, Now, State, changes, power_on
 from .leaves import Leaves
 from .patches import Page
 
@@ -221,7 +221,7 @@ class Run:
 
 @functools.lru_cache(maxsize=4096)
 def dot_of(x, y, size, orientation, resolution, top_margin):
-    state = State({"x": x, "y": y, "size": size, "orientation": orientation, "resolution": resolution, "top_margin": top_margin})
+    state = State(Now({"size": size, "orientation": orientation, "resolution": resolution, "top_margin": top_margin}, x, y, 0, 0))
     return pages.to_physical(state.size, state.orientation, *marks.frame_dot(state))
 
 

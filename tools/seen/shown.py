@@ -7,6 +7,7 @@ take them apart when they are needed.
 import array
 import base64
 import bisect
+import itertools
 import json
 import sys
 import zlib
@@ -29,7 +30,7 @@ def packed(data):
 
 def column(numbers):
     """Whole numbers of 32 bits, the lowest byte first, as differences: the first bytes of all, then the second ones.."""
-    differences = array.array("i", [numbers[0], *map(int.__sub__, numbers[1:], numbers)] if numbers else [])
+    differences = array.array("i", map(int.__sub__, numbers, itertools.chain([0], numbers)))
     if sys.byteorder == "big":
         differences.byteswap()
     data = differences.tobytes()
@@ -37,8 +38,10 @@ def column(numbers):
 
 
 def chunked(items, size):
-    """Values as chunks of JSON."""
-    return [packed(json.dumps(items[start:start + size], ensure_ascii=False, separators=(",", ":")).encode()) for start in range(0, len(items), size)]
+    """Values as chunks of JSON; they are taken one after another."""
+    items = iter(items)
+    while some := list(itertools.islice(items, size)):
+        yield packed(json.dumps(some, ensure_ascii=False, separators=(",", ":")).encode())
 
 
 class FilmPage:
@@ -78,7 +81,7 @@ class Recorder:
     """Watches a run, and keeps what the page shows of each entry."""
 
     def __init__(self):
-        self.columns = {name: [] for name in ("step", "x", "y", "across", "down", "own", "stack", "page", "sheets")}
+        self.columns = {name: array.array("i") for name in ("step", "x", "y", "across", "down", "own", "stack", "page", "sheets")}
         self.flags, self.pages, self.replies, self.fields, self.part = bytearray(), [], [], [], []
         self.stacks = {}
         self.film_of = {}     # the page of the film, by its number among those that closed
@@ -129,6 +132,28 @@ class Recorder:
             self.open.end()
 
 
+class Listing:
+    """The rows of a run, one after another, and for each where it starts and its first entry."""
+
+    def __init__(self, run, shift):
+        self.run, self.shift = run, shift
+        self.starts, self.firsts = array.array("q"), array.array("i")
+        self.entry = sum(1 + each.bodies for each in run.front)
+
+    def note(self, offset, entries):
+        self.starts.append(offset + self.shift)
+        self.firsts.append(self.entry)
+        self.entry += entries
+
+    def texts(self):
+        """Text, remark and flags of each row, and of the end."""
+        for row in rows(self.run):
+            self.note(row.offset, sum(1 + each.bodies for each in row.happenings))
+            yield [shortened(row.text), shortened(row.remark, LONGEST_REMARK), flags_of(row)]
+        self.note(len(self.run.stream), 1)
+        yield ["the end of the stream (the press adds: uel)", of_end(self.run), flags_of_end(self.run)]
+
+
 def flags_of(row):
     first = row.happenings[0]
     ignored = first.how in ("no row", "HP-GL/2")
@@ -170,17 +195,10 @@ def data_of(stream, front, chosen, name):
     recorder = Recorder()
     run = happenings.Run(stream, front=front, together=True, chosen=chosen, watch=recorder)
     recorder.end()
-    every = list(rows(run))
-    starts, firsts, entry = [row.offset + len(front) for row in every], [], sum(1 + each.bodies for each in run.front)
-    for row in every:
-        firsts.append(entry)
-        entry += sum(1 + each.bodies for each in row.happenings)
-    starts.append(len(front) + len(stream))
-    firsts.append(entry)
-    columns = recorder.columns
+    listed = Listing(run, len(front))
+    texts = list(chunked(listed.texts(), ROWS_IN_CHUNK))
+    starts, columns = listed.starts, recorder.columns
     columns["own"] = [NONE if offset < 0 else bisect.bisect_right(starts, offset) - 1 for offset in columns["own"]]
-    texts = [[shortened(row.text), shortened(row.remark, LONGEST_REMARK), flags_of(row)] for row in every]
-    texts.append(["the end of the stream (the press adds: uel)", of_end(run), flags_of_end(run)])
     printed = [side_value(run, recorder, number, data, each)
                for number, (data, each) in enumerate(zip(sides.packed_sides(run), listed_sides(run)))]
     return {
@@ -188,7 +206,7 @@ def data_of(stream, front, chosen, name):
         "facts": f"{remarks.plural(len(stream), 'byte')}, {remarks.plural(sum(each.placed.count() for each in run.happenings), 'command')}, "
                  f"{remarks.plural(sum(copies for _, _, _, copies in run.pages_of_sides()), 'side')}; "
                  f"pages printed by {sides.who(run)}, steps told by {run.who}",
-        "rows": {"count": len(texts), "size": ROWS_IN_CHUNK, "chunks": chunked(texts, ROWS_IN_CHUNK), "first": column(firsts)},
+        "rows": {"count": len(starts), "size": ROWS_IN_CHUNK, "chunks": texts, "first": column(listed.firsts)},
         "entries": {"count": len(recorder.flags), "size": ENTRIES_IN_CHUNK, "columns": {key: column(some) for key, some in columns.items()},
                     "flags": packed(bytes(recorder.flags)), "fields": recorder.fields},
         "stacks": [[[body, bisect.bisect_right(starts, offset) - 1] for body, offset in stack] for stack in recorder.stacks],
