@@ -160,11 +160,13 @@ class Teller:
         self.engine = Watched(rows)
         self.view = None
         self.page = None
+        self.outputs = []    # of all steps so far
 
     def line(self, at, size):
         """The line of the step that was just taken; the outputs of the engine are those of it."""
         engine, state = self.engine, self.engine.state
         outputs, engine.outputs = engine.outputs, []
+        self.outputs += outputs
         told = {"at": at, "bytes": size, "depth": engine.depth, "last": engine.kind, "sheets": state.total, "step": engine.taken,
                 "x": state.x, "y": state.y, **self.page_told()}
         delivered = sum(isinstance(output, Deliver) for output in outputs)
@@ -187,7 +189,10 @@ class Teller:
 
 def steps(stream, rows=BUILT_ROWS):
     """What each line tells, in order."""
-    teller = Teller(rows)
+    return told_by(Teller(rows), stream)
+
+
+def told_by(teller, stream):
     for at, size, command in placed(stream):
         for _ in teller.engine.run(command):
             yield teller.line(at, size)
