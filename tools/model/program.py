@@ -4,8 +4,6 @@ Texts of help and of usage are not the model's: words that ask for help, or that
 makes is not told byte by byte: what stands in its file is the ticket and its images, whose sheets any job of them has.
 """
 
-import collections
-import itertools
 import json
 from pathlib import Path
 from typing import NamedTuple
@@ -61,6 +59,7 @@ class Program:
         self.given = given
         self.job_of = job_of
         self.out = b""
+        self.err = b""
         self.made = {}
 
     def answer(self, words):
@@ -77,7 +76,7 @@ class Program:
             return Answer(1, self.out, b"fault %s\n" % fault.text.encode(), self.made)
         except FileFault as fault:
             return Answer(1, self.out, b"fault %d\n" % fault.number, self.made)
-        return Answer(0, self.out, b"", self.made)
+        return Answer(0, self.out, self.err, self.made)
 
     def read(self, name):
         if name in ("-", "{}"):
@@ -159,13 +158,17 @@ class Program:
         self.out += b"".join(trace_lines.lines(front + self.read(source)))
 
     def page(self, words):
-        """The open page behind so many steps, a white one where none has a mark; past the end that of the end."""
+        """The open page behind so many steps, a white one where none has a mark; past the end that of the end, which is said."""
         front, words = with_defaults(words)
         source, steps, target = exactly(3, words)
         if (most := press_lines.number_of(steps.encode())) is None:
             raise NoAnswer()
-        items = itertools.islice(trace_lines.opened(front + self.read(source)), most + 1)
-        self.make(target, pbm.bytes_of_side(collections.deque(items, 1)[0]), PAGE_FAULT)
+        for step, page in enumerate(trace_lines.opened(front + self.read(source))):
+            if step == most:
+                break
+        self.make(target, pbm.bytes_of_side(page), TEXT_FAULT)
+        if step < most:
+            self.err += b"the stream ends behind step %d\n" % step
 
     def write(self, words):
         """Inputs are read and judged in the order of the words; then the images are; then the file is made."""

@@ -82,8 +82,8 @@ def judge_trace(request, _chosen):
 def judge_page(request, _chosen):
     name, _, made = request.names
     files.read_input(name, "IN")
-    files.check_apart(made, NOT_MADE, [name])
-    files.check_output(made, NOT_MADE, LEAST_PAGE)
+    files.check_apart(made, NOT_ASSEMBLED, [name])
+    files.check_output(made, NOT_ASSEMBLED, LEAST_PAGE)
     yield from replaced(made)
 
 
