@@ -441,12 +441,14 @@ class Judge:
     def reason_of(self, happening):
         """A reason and its key, or None; it is asked for again."""
         place = id(happening)
+        if is_plain(happening):
+            return None
         if place not in self.found:
             self.found[place] = self.find_reason(happening)
         return self.found[place]
 
     def find_reason(self, happening):
-        if happening.how == "recorded" or is_plain(happening):
+        if happening.how == "recorded":
             return None
         for reason in REASONS:
             key = reason.met(self, happening)

@@ -82,6 +82,9 @@ async function marks(browser, path) {
   await browser.click(...await middleOf(browser, "at('strip').children[1]"));
   await browser.until("paper.dataset.drawn.endsWith(':1')");
   const [x, y] = await browser.value("(() => { const box = paper.getBoundingClientRect(); return [box.left + 200 * scale(), box.top + 765 * scale()]; })()");
+  await browser.mouse("mouseMoved", x, y);
+  await browser.until("paper.title.includes('Fill Rectangular Area')", 5000);
+  looked++;   // a mark that is pointed at tells its command
   await browser.click(x, y);
   await browser.until("state.side < 0");
   await settled(browser);

@@ -55,6 +55,7 @@ class Fields:
     def __init__(self):
         self.view = {}
         self.now = Now({}, 0, 0, 0, 0)
+        self.places = {}    # numbers that came before, so that each is kept once
 
     def go_on(self, line):
         """The fields behind this line."""
@@ -65,7 +66,8 @@ class Fields:
             row_count = self.view["raster"]["rows"] or 0
             if view.keys() != {"raster"} or view["raster"].keys() != {"rows"} or view["raster"]["rows"] is None:
                 base = {**base, **named(view, self.view)}
-        self.now = Now(base, line["x"], line["y"], line["sheets"], row_count)
+        x, y, kept = line["x"], line["y"], self.places
+        self.now = Now(base, kept.setdefault(x, x), kept.setdefault(y, y), line["sheets"], row_count)
         return self.now
 
 

@@ -18,6 +18,7 @@ from .leaves import Leaves
 from .patches import Page
 
 FIELDS_OF_NOTHING = ()
+MOST_KEPT = 10000     # commands that come again and are one value
 TEXT = re.compile(rb"[^\x00-\x1f]+")
 UNLIKE_TEXT = (b'"view":', b'"page":', b'"recorded":')
 
@@ -60,8 +61,9 @@ def placed_commands(stream):
 
 def placed_together(stream):
     """The same, with one for bytes of text, or of another language, that stand together; but for text behind data that was taken."""
-    end, alone = 0, False
+    end, alone, kept = 0, False, {}
     for placed in map(Placed._make, placed_in(stream)):
+        placed = placed._replace(command=kept.setdefault((type(placed.command), placed.command), placed.command)) if len(kept) < MOST_KEPT else placed
         if placed.offset < end or placed.length == 0:
             continue
         if isinstance(placed.command, commands.Foreign):

@@ -258,7 +258,7 @@ function rowOfEvent(event) {
   return row ? Number(row.dataset.number) : -1;
 }
 
-// A row that is pointed at is told beside its page and loses that again; a click chooses it. What was pressed and let go over one row is a click on it.
+// A row that is pointed at is shaded; a click chooses it. What was pressed and let go over one row is a click on it.
 let pressed = -1;
 at("list").addEventListener("pointerdown", event => { pressed = rowOfEvent(event); });
 at("list").addEventListener("pointerup", event => {

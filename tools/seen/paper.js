@@ -4,7 +4,8 @@
 const view = at("view"), paper = at("paper"), ink = paper.getContext("2d");
 const picture = {bits: null, width: 0, height: 0, stride: 0, tint: null, entry: -1, side: -1, resolution: 300};
 let zoom = 0, asked = 0;      // CSS pixels a dot; 0 is the whole page. A picture is drawn once a frame.
-const LOUPE_DOTS = 26, RULER = 22, LEAST_GRID = 4, SMALLEST = 1 / 64, LARGEST = 32;
+let resting = 0;
+const REST = 120, LOUPE_DOTS = 26, RULER = 22, LEAST_GRID = 4, SMALLEST = 1 / 64, LARGEST = 32;
 const blocks = document.createElement("canvas");
 
 async function showPage(token) {
@@ -212,10 +213,20 @@ async function entryOf(dot) {
   return patch < 0 ? -1 : page.entry[patch];
 }
 
-async function pointAt(event) {
-  const dot = dotUnder(event);
+// Where the pointer is, and, when it rests, what made the mark that is there.
+function pointAt(event) {
+  const dot = dotUnder(event), where = dot ? `dot ${dot.x}, ${dot.y}; ${(dot.x / picture.resolution).toFixed(3)}, ${(dot.y / picture.resolution).toFixed(3)} inches` : "";
   drawLoupe(dot);
-  paper.title = dot ? `dot ${dot.x}, ${dot.y}; ${(dot.x / picture.resolution).toFixed(3)}, ${(dot.y / picture.resolution).toFixed(3)} inches` : "";
+  paper.title = where;
+  clearTimeout(resting);
+  if (dot) resting = setTimeout(() => tellMark(dot, where), REST);
+}
+
+async function tellMark(dot, where) {
+  const black = blackNear(dot), entry = black ? await entryOf(black) : -1;
+  if (entry < 0) return;
+  const [text, remark] = await film.row(film.own[entry] >= 0 ? film.own[entry] : film.rowOf(entry));
+  if (paper.title === where) paper.title = `${where}\n${text}\n${remark}`;
 }
 
 async function clickAt(event) {
