@@ -67,10 +67,16 @@ def dots_in(page, left, top, right, bottom):
     if page.orientation in (pages.REVERSE_PORTRAIT, pages.REVERSE_LANDSCAPE):
         rows = [row[::-1] for row in reversed(rows)]
     if page.orientation == pages.LANDSCAPE:
-        rows = ["".join(column) for column in zip(*rows)][::-1]
+        rows = columns_of(rows)[::-1]
     if page.orientation == pages.REVERSE_LANDSCAPE:
-        rows = ["".join(column) for column in zip(*rows)][::-1]
+        rows = columns_of(rows)[::-1]
     return rows
+
+
+def columns_of(rows):
+    """The columns of rows of text, the first one first."""
+    text, width = "".join(rows), len(rows[0])
+    return [text[column::width] for column in range(width)]
 
 
 def frame_dot(page, x, y):

@@ -66,11 +66,23 @@ class Comparison:
 
     def __init__(self):
         self.ours, self.theirs = Open(), Open()
+        self.equal = []     # lines of both, by which the pages have not gone on yet
+
+    def catch_up(self):
+        """Both pages go on by the lines that were equal."""
+        for line in map(json.loads, self.equal):
+            self.ours.go_on(line)
+            self.theirs.go_on(line)
+        self.equal.clear()
 
     def difference(self, our, their):
         """What differs in two lines of these texts, or None."""
+        if our == their:
+            self.equal.append(our)
+            return None
+        self.catch_up()
         ours, theirs = json.loads(our), json.loads(their)
-        if our != their and json.dumps(theirs, ensure_ascii=False, separators=(",", ":"), sort_keys=True).encode() + b"\n" != their:
+        if json.dumps(theirs, ensure_ascii=False, separators=(",", ":"), sort_keys=True).encode() + b"\n" != their:
             return "the program's line is no compact JSON with its keys in byte order"
         if without_page(ours) != without_page(theirs):
             return "fields differ"
