@@ -150,16 +150,6 @@ outputs_in-last listed other next bytes count is last =
     ap (λ n. outputs_in (slice_set listed (n - 1) next)) is
     ∙ outputs_in-set listed other next bytes (last ∙ ap (λ n. record (output_of (slice_index_or listed (n - 1) other)) { holds = bytes }) is)
 
--- a front was written, whatever the answer
-pub front_written : {E : Type 0} → (result : Result (Unit {0}) E) (first last : Option (List ℕ)) (file : List ℕ) → OnOk result (Appends first last file) → OnErr result (AppendsFront first last file) → AppendsFront first last file
-front_written (Ok done) first last file all front = (file, [], sym (append-nil file), all)
-front_written (Err error) first last file all front = front
-
--- all was written where the answer is no error
-pub all_written : {E : Type 0} → (result : Result (Unit {0}) E) (first last : Option (List ℕ)) (file : List ℕ) → is_err result ≡ false → OnOk result (Appends first last file) → Appends first last file
-all_written (Ok done) first last file good all = all
-all_written (Err error) first last file good all = cc
-
 -- what holds whatever the answer
 pub at_ok : {X E : Type 0} {P : Type 0} → (result : Result X E) → P → OnOk result P
 at_ok (Ok value) holds = holds

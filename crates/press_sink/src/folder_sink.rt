@@ -6,12 +6,11 @@ ghost use Rattle.press_sink.specs.Template.{IsTemplate, IsNoTemplate, number_aft
 ghost use Rattle.press_sink.specs.Told.{Delivers, most_faults, nothing_told};
 
 use crate::fault::{SinkError, TemplateError};
-use crate::named_outputs::NamedOutputs;
+use crate::named_outputs::{NamedOutputs, write_page};
 use crate::sheet::Sheet;
 use crate::sink::SheetSink;
 use crate::template::Template;
 use press_bits::Bitmap;
-use press_pbm::write_pbm;
 use std::alloc::Global;
 
 /// A sheet sink that makes an output of its own for each side, a P4 file, whose name is a template with the number of the side,
@@ -117,14 +116,7 @@ fn make_side<O: NamedOutputs>(outputs: &mut O, side: &Side<'_>) -> Result<(), Si
         (O.made outputs.old) (O.made outputs.new) }
     ensures fault { IfErr result (λ error. error ≡ SinkError.SinkFault) }
 {
-    let Ok(mut output) = outputs.make(side.name.as_str()) else {
-        return Err(SinkError::SinkFault);
-    };
-    if write_pbm(side.page, &mut output).is_err() {
-        outputs.abandon(output);
-        return Err(SinkError::SinkFault);
-    }
-    match outputs.close(output) {
+    match write_page(outputs, side.name.as_str(), side.page) {
         Ok(()) => Ok(()),
         Err(_) => Err(SinkError::SinkFault),
     }

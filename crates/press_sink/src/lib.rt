@@ -24,7 +24,7 @@ pub use fuse_sink::FuseSink;
 pub use list_outputs::{ListOutputs, ListedOutput};
 pub use list_replies::ListReplies;
 pub use list_sink::ListSink;
-pub use named_outputs::{NamedOutputs, write_output};
+pub use named_outputs::{NamedOutputs, write_output, write_page};
 pub use output_file::OutputFile;
 pub use sheet::{Delivery, Sheet};
 pub use sink::{ReplySink, SheetSink};

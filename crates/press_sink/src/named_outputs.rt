@@ -1,8 +1,10 @@
 //! Outputs that are made by their names, one after another (this profile).
 ghost use Rattle.std.specs.Prelude.{◌≡◌, ◌∷◌, [], List, Option, option_map, IfOk, OnOk, OnErr};
+ghost use Rattle.press_pbm.specs.Spelling.{file_of};
 ghost use Rattle.press_sink.specs.Outputs.{MadeOutput, MakesFront, Closes, GivesUp, opened, holding, with_outputs};
 
-use press_pbm::write_whole;
+use press_bits::Bitmap;
+use press_pbm::{WritePbmError, write_pbm, write_whole};
 use std::alloc::AllocError;
 use std::io::{self, Write};
 
@@ -67,5 +69,35 @@ pub fn write_output<O: NamedOutputs>(outputs: &mut O, name: &str, bytes: &[u8]) 
             outputs.abandon(output);
             Err(error)
         }
+    }
+}
+
+/// Makes the output of this name, the P4 file of a page.
+///
+/// # Errors
+///
+/// `WriteFault` (115) where it cannot be made or written; a front of it was made then.
+///
+/// Source: Netpbm, the raw form of the PBM format.
+pub fn write_page<O: NamedOutputs>(
+    outputs: &mut O,
+    name: &str,
+    page: &Bitmap,
+) -> Result<(), WritePbmError>
+    ensures made { OnOk result (O.made outputs.new
+        ≡ with_outputs (holding name.now (file_of page.now) ∷ []) (O.made outputs.old)) }
+    ensures fault { OnErr result (MakesFront (holding name.now (file_of page.now) ∷ [])
+        (O.made outputs.old) (O.made outputs.new)) }
+{
+    let Ok(mut output) = outputs.make(name) else {
+        return Err(WritePbmError::WriteFault);
+    };
+    if let Err(error) = write_pbm(page, &mut output) {
+        outputs.abandon(output);
+        return Err(error);
+    }
+    match outputs.close(output) {
+        Ok(()) => Ok(()),
+        Err(_) => Err(WritePbmError::WriteFault),
     }
 }
