@@ -11,5 +11,5 @@ mod watch;
 pub use breakpoints::{Break, MOST_BREAKS};
 pub use debugger::{Debugger, Stop, WATCH};
 pub use fault::BreakError;
-pub use stepper::RECENT;
+pub use stepper::{RECENT, Stepper, Taken};
 pub use watch::Watch;

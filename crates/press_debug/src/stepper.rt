@@ -5,6 +5,7 @@ ghost use Rattle.press_engine.specs.Engine.{view_of};
 ghost use Rattle.press_stream.specs.State.{IsOver};
 
 use circular_buffer::HeapCircularBuffer;
+use press_canvas::Canvas;
 use press_cmd::Kind;
 use press_engine::View;
 use press_engine::laws::{at_most_four_bodies, trace_tells_the_run};
@@ -52,7 +53,7 @@ impl Model for Stepper {
 }
 
 impl Stepper {
-    ghost use Rattle.std.specs.Prelude.{◌≤◌, length, slice_get, IsTrue, IsFalse, IsSome, None, ◌↔◌, []};
+    ghost use Rattle.std.specs.Prelude.{◌≤◌, length, slice_get, IsTrue, IsFalse, IsSome, None, ◌↔◌, [], option_map};
     ghost use Rattle.press_debug.specs.declared.stepper.Taken.TheVariants.{Steps, Nothing, Fault};
     ghost use Rattle.press_debug.specs.Steps.{at_start, Advances, TakesOne, TakesOver, IsOutside, IsDeeper, IsBack, Remains, most_recent};
 
@@ -86,6 +87,7 @@ impl Stepper {
         match self.job.take_step() {
             Ok(JobStep::Ran(step)) => {
                 self.recent.push_back(step.kind);
+                self.job.reuse(step.sent);
                 Taken::Steps
             }
             Ok(JobStep::Hungry) => unreachable!(),
@@ -154,6 +156,14 @@ impl Stepper {
             (λ machine. result.stack.now ≡ machine.state.cursor.stack) }
     {
         self.job.view()
+    }
+
+    /// The page that is being printed; none is a blank page without a mark. Where memory ran out nothing is said.
+    pub fn page(&self) -> Option<&Canvas>
+        ensures { IfSome self.now.job.machine (λ machine.
+            option_map (λ page. page.now) result ≡ machine.state.page) }
+    {
+        self.job.page()
     }
 
     /// The kind of one of the last commands that were taken, the oldest at 0.

@@ -6,8 +6,8 @@ use Rattle.press_debug.proofs.stepper.Stepper.take.Goals as goal
 
 pub invariant_of-self : goal.invariant_of-self
 invariant_of-self c =
-    IsSound-ran c.self.inside.job c.take_step.new.self c.in-Ok-Ran.field-0 c.in-Ok-Ran.step c.self.inside.recent c.push_back.new.self c.self.inside.failed c.self.invariant
-    c.in-Ok-Ran.field-0-is c.in-Ok-Ran.ensures.takes c.push_back.ensures.items
+    rw c.reuse.ensures (IsSound-ran c.self.inside.job c.take_step.new.self c.in-Ok-Ran.field-0 c.in-Ok-Ran.step c.self.inside.recent c.push_back.new.self c.self.inside.failed c.self.invariant
+    c.in-Ok-Ran.field-0-is c.in-Ok-Ran.ensures.takes c.push_back.ensures.items)
 
 pub invariant_of-self-in-Err : goal.invariant_of-self-in-Err
 invariant_of-self-in-Err c =
@@ -16,8 +16,8 @@ invariant_of-self-in-Err c =
 
 pub returns-in-Ok-Ran-clause-takes : goal.returns-in-Ok-Ran-clause-takes
 returns-in-Ok-Ran-clause-takes c =
-    takes_one c.what_is_left.ensures c.self.inside.job c.take_step.new.self c.in-Ok-Ran.field-0 c.in-Ok-Ran.step c.self.inside.recent c.push_back.new.self c.args.self.now
-    c.self.view_is c.self.invariant.capacity c.in-Ok-Ran.field-0-is c.in-Ok-Ran.ensures.takes c.push_back.ensures.items
+    rw c.reuse.ensures (takes_one c.what_is_left.ensures c.self.inside.job c.take_step.new.self c.in-Ok-Ran.field-0 c.in-Ok-Ran.step c.self.inside.recent c.push_back.new.self c.args.self.now
+    c.self.view_is c.self.invariant.capacity c.in-Ok-Ran.field-0-is c.in-Ok-Ran.ensures.takes c.push_back.ensures.items)
 
 pub returns-in-Ok-Ended-clause-none : goal.returns-in-Ok-Ended-clause-none
 returns-in-Ok-Ended-clause-none c = λ _.
