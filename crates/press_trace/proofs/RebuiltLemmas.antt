@@ -1,6 +1,7 @@
 -- Pages rebuilt of what is told.
-use Rattle.std.proofs.Common.{◌≡◌, ◌∙◌, ◌+◌, ◌-◌, ◌*◌, ◌<◌, ◌≤◌, ◌⊎◌, ℕ, [], ◌∷◌, Bool, true, false, inl, inr, refl, arith}
+use Rattle.std.proofs.Common.{◌≡◌, ◌∙◌, ◌+◌, ◌-◌, ◌*◌, ◌<◌, ◌≤◌, ◌⊎◌, ℕ, zero, suc, List, [], ◌∷◌, map, min, take, Option, None, Some, Bool, true, false, inl, inr, refl, sym, ap, subst, codes, arith}
 use Rattle.std.proofs.lemmas.Bool.{cases_lt}
+use Rattle.std.proofs.lemmas.Simd.{map-map}
 use Rattle.std.proofs.lemmas.List.FromFn.{get_or-map-range_with_len}
 use Rattle.press_bits.specs.Lines.{bytes_per_line, IsPageLine}
 use Rattle.press_bits.specs.Mark.{row_dot}
@@ -11,8 +12,18 @@ use Rattle.press_bits.proofs.LineLemmas.{row_dot-past}
 use Rattle.press_bits.proofs.PatchLemmas.{rows_are_the_patch, patches_are_the_page}
 use Rattle.press_pbm.specs.Spelling.{line_bytes}
 use Rattle.press_pbm.proofs.ReadBack.{length-line_bytes, row_dot-line_bytes}
-use Rattle.press_trace.specs.Pages.{row_in}
-use Rattle.press_trace.specs.Rebuilt.{RowsAreThePage, told_patch}
+use Rattle.std.specs.List.{range_with_len}
+use Rattle.hex.specs.Hex.{encode_upper}
+use Rattle.serde_json.specs.Data.{Data, number, unsigned, string, array, object, no_members, put}
+use Rattle.serde_json.specs.View.{items_of}
+use Rattle.press_bits.specs.Page.{blank}
+use Rattle.press_bits.specs.Patches.{ChangedIn, laid_over}
+use Rattle.press_engine.specs.declared.machine.Machine.{Machine}
+use Rattle.press_trace.specs.Lines.{IsLine, AreLines, page_if}
+use Rattle.press_trace.specs.Pages.{row_in, row_data, rows_of, patch_data, size_data, IsPageTold, StartsFrom, Follows}
+use Rattle.press_trace.specs.Places.{Placed}
+use Rattle.press_trace.specs.Rebuilt.{RowsAreThePage, LinesRebuildThePages, Rebuild, Say, Says, PageStep, Stays, Closes, Lays, Opens, told_patch, patch_told, page_after, page_after_all, opened_member, page_member}
+use Rattle.press_trace.specs.Traced.{last_of}
 
 -- the bytes of a line are a line of the page
 line_is : (page : Page) (y : ℕ) → HasNoDotOutside page → IsPageLine page y (line_bytes page y)
@@ -46,3 +57,90 @@ pub rows_are_the_page : RowsAreThePage
 rows_are_the_page before after region changed none =
     let patched = rows_are_the_patch before after region (told_patch after region).rows changed.differ (told_rows after region none) none in
     patches_are_the_page before after (told_patch after region ∷ []) (after, patched, refl)
+
+-- ---- a line, and all lines
+
+-- the patch of a region is told as the region is
+told_as_patch : (page : Page) (region : Region) → patch_data page region ≡ patch_told page.width (told_patch page region)
+told_as_patch page region =
+    let rows : rows_of page region ≡ map (λ row. string (encode_upper row)) (told_patch page region).rows =
+    sym (map-map (λ row. string (encode_upper row)) (λ y. row_in region (line_bytes page y)) (range_with_len region.top (region.bottom - region.top))) in
+    ap (λ (all : List Data). object (
+    put (codes "y") (number (unsigned region.top))
+    (put (codes "x") (number (unsigned (8 * region.left)))
+    (put (codes "width") (number (unsigned (min (8 * region.right) page.width - 8 * region.left)))
+    (put (codes "rows") (array (items_of all))
+    (put (codes "height") (number (unsigned (region.bottom - region.top))) no_members)))))) rows
+
+-- What is told of the open page is one step, which leads to the page after.
+record Leads (before after : Option Page) (opened told : Option Data) : Type 0 where
+  pub step : PageStep
+  pub opened_is : opened ≡ opened_member step
+  pub told_is : told ≡ page_member step before
+  pub leads : page_after before step ≡ after
+
+patch_leads : (before after : Page) (region : Region) → ChangedIn before after region → HasNoDotOutside after → (told : Option Data) → told ≡ Some (patch_data after region)
+    → (told ≡ Some (patch_told before.width (told_patch after region))) × (laid_over before (told_patch after region) ≡ after)
+patch_leads before after region changed none told is = (
+  is ∙ ap (λ (said : Data). Some said) (told_as_patch after region ∙ ap (λ w. patch_told w (told_patch after region)) changed.differ.width),
+  rows_are_the_page before after region changed none,
+)
+
+-- on the page before
+follows_on : (from after : Page) (opened told : Option Data) → opened ≡ None → Follows from after told → Leads (Some from) (Some after) opened told
+follows_on from after opened told none (inl (same, nothing)) = record { step = Stays; opened_is = none; told_is = nothing; leads = ap (λ (page : Page). Some page) same }
+follows_on from after opened told none (inr (region, changed, inside, is)) =
+    let leads = patch_leads from after region changed inside told is in
+    record { step = Lays (told_patch after region); opened_is = none; told_is = leads.0; leads = ap (λ (page : Page). Some page) leads.1 }
+
+-- on a white page
+follows_white : (before : Option Page) (from after : Page) (opened told : Option Data) → after.width ≡ from.width → from ≡ blank after.width after.height
+    → opened ≡ Some (size_data after) → Follows from after told → Leads before (Some after) opened told
+follows_white before from after opened told wide white is (inl (same, nothing)) = record {
+  step = Opens after.width after.height None;
+  opened_is = is;
+  told_is = nothing;
+  leads = ap (λ (page : Page). Some page) (sym white ∙ same);
+}
+follows_white before from after opened told wide white is (inr (region, changed, inside, says)) =
+    let patch = told_patch after region in
+    let leads = patch_leads from after region changed inside told says in
+    record {
+      step = Opens after.width after.height (Some patch);
+      opened_is = is;
+      told_is = leads.0 ∙ ap (λ w. Some (patch_told w patch)) (sym wide);
+      leads = ap (λ (page : Page). Some page) (ap (λ (page : Page). laid_over page patch) (sym white) ∙ leads.1);
+    }
+
+leads_open : (before : Option Page) (after : Page) (opened told : Option Data) → (from : Page) → StartsFrom before after from opened → Follows from after told → Leads before (Some after) opened told
+leads_open before after opened told from (wide, high, inl (same, none)) follows =
+    subst (λ (page : Option Page). Leads page (Some after) opened told) (sym same) (follows_on from after opened told none follows)
+leads_open before after opened told from (wide, high, inr (white, is)) follows = follows_white before from after opened told wide white is follows
+
+leads : (before after : Option Page) (opened told : Option Data) → IsPageTold before after opened told → Leads before after opened told
+leads None None opened told (none, nothing) = record { step = Stays; opened_is = none; told_is = nothing; leads = refl }
+leads (Some before) None opened told (none, closes) = record { step = Closes; opened_is = none; told_is = closes; leads = refl }
+leads None (Some after) opened told (from, starts, follows) = leads_open None after opened told from starts follows
+leads (Some before) (Some after) opened told (from, starts, follows) = leads_open (Some before) after opened told from starts follows
+
+-- the first lines and the last machine, one more
+rebuilt_more : (before : Option Machine) (placed : Placed) (others : List Placed) (step : PageStep) (steps : List PageStep) → page_after (page_if before) step ≡ placed.run.machine.state.page
+    → ((count : ℕ) → page_after_all placed.run.machine.state.page (take count steps) ≡ page_if (last_of (Some placed.run.machine) (take count others)))
+    → (count : ℕ) → page_after_all (page_if before) (take count (step ∷ steps)) ≡ page_if (last_of before (take count (placed ∷ others)))
+rebuilt_more before placed others step steps one more zero = refl
+rebuilt_more before placed others step steps one more (suc count) = ap (λ (page : Option Page). page_after_all page (take count steps)) one ∙ more count
+
+no_lines : (before : Option Machine) (count : ℕ) → page_after_all (page_if before) (take count []) ≡ page_if (last_of before (take count []))
+no_lines before zero = refl
+no_lines before (suc count) = refl
+
+pub lines_rebuild : LinesRebuildThePages
+lines_rebuild before [] text none = record { steps = []; say = none; pages = no_lines before }
+lines_rebuild before (placed ∷ others) text (line, rest, is_line, are_lines, joined) =
+    let first = leads (page_if before) placed.run.machine.state.page is_line.opened is_line.page is_line.page_is in
+    let more = lines_rebuild (Some placed.run.machine) others rest are_lines in
+    record {
+      steps = first.step ∷ more.steps;
+      say = (line, rest, record { is_line = is_line; opened = first.opened_is; page = first.told_is }, more.say, joined);
+      pages = rebuilt_more before placed others first.step more.steps first.leads more.pages;
+    }

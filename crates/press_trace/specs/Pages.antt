@@ -4,7 +4,7 @@ use Rattle.std.specs.List.{range_with_len}
 use Rattle.hex.specs.Hex.{encode_upper}
 use Rattle.serde_json.specs.Data.{Data, null, number, unsigned, string, array, object, item, no_items, no_members, put}
 use Rattle.serde_json.specs.View.{items_of}
-use Rattle.press_bits.specs.Page.{Page, blank}
+use Rattle.press_bits.specs.Page.{Page, HasNoDotOutside, blank}
 use Rattle.press_bits.specs.Patches.{ChangedIn}
 use Rattle.press_bits.specs.declared.region.Region.{Region}
 use Rattle.press_pbm.specs.Spelling.{line_bytes}
@@ -32,11 +32,13 @@ patch_data page region = object (
 abbrev pub size_data : Page → Data
 size_data page = array (item (number (unsigned page.width)) (item (number (unsigned page.height)) no_items))
 
--- What changed from a page to a later one of its size: nothing, where they are equal; else a region outside of which they agree.
+-- What changed from a page to a later one of its size: nothing, where they are equal; else a region outside of which they agree, and
+-- no dot of the later one lies beyond its sides.
 abbrev pub Follows : (before after : Page) → (told : Option Data) → Type 0
 Follows before after told =
     ((before ≡ after) × (told ≡ None))
-    ⊎ ((region : Region) × ChangedIn before after region × (told ≡ Some (patch_data after region)))
+    ⊎ ((region : Region) × ChangedIn before after region × HasNoDotOutside after
+    × (told ≡ Some (patch_data after region)))
 
 -- The page on which a change is told: the one before, of the size of the one after; or a white one, of which the size is told.
 abbrev pub StartsFrom : Option Page → (after from : Page) → (opened : Option Data) → Type 0

@@ -146,8 +146,8 @@ pub(crate) fn seen_line(
 ) -> Result<Vec<u8>, AllocError>
     requires { IsPlain page }
     ensures { IfOk result (λ line. (seen : Option View) × IsAlikeIf before.now seen
-        × (line.items ≡ line_text (line_members place went.now.sheets went.now.replies.items seen now.now
-        (option_map view page.opened) (option_map view page.page)))) }
+        × (line.items ≡ line_text (line_members place went.now.sheets went.now.replies.items
+        seen now.now (option_map view page.opened) (option_map view page.page)))) }
 {
     match before {
         Some(before) => step_line(alloc, place, went, Some(&before.view()), now, page),

@@ -72,7 +72,8 @@ fn rows_value(alloc: Global, page: &Bitmap, region: Region) -> Result<Vec<Value>
 /// A region of a page, with its rows.
 fn patch_value(alloc: Global, page: &Bitmap, region: Region) -> Result<Value, AllocError>
     requires { LiesOn page.now region }
-    ensures { IfOk result (λ value. view value ≡ patch_data page.now region) }
+    ensures value { IfOk result (λ value. view value ≡ patch_data page.now region) }
+    ensures inside { HasNoDotOutside page.now }
 {
     let mut members = Map::new(alloc);
     let width = page.width() as usize;
@@ -147,7 +148,8 @@ fn follow(alloc: Global, page: &mut Bitmap, after: &Bitmap) -> Result<Option<Val
 /// What is told where no page is open.
 fn closed(before: Option<Bitmap>) -> PageTold
     ensures plain { IsPlain result }
-    ensures told { IsPageTold before None (option_map view result.opened) (option_map view result.page) }
+    ensures told { IsPageTold before None
+        (option_map view result.opened) (option_map view result.page) }
 {
     PageTold {
         opened: None,

@@ -70,7 +70,8 @@ fn place_value(alloc: Global, place: CursorPosition) -> Result<Value, AllocError
 
 /// Places as values.
 fn places_of(alloc: Global, places: &[CursorPosition]) -> Result<Vec<Value>, AllocError>
-    ensures { IfOk result (λ values. items_view values.items ≡ items_of (map place_data places.now)) }
+    ensures { IfOk result (λ values.
+        items_view values.items ≡ items_of (map place_data places.now)) }
 {
     let mut values = Vec::new(alloc);
     for place in places {
