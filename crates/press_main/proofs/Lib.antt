@@ -9,6 +9,7 @@ mod LineLemmas
 pub mod ListingLemmas
 mod NumberLemmas
 mod NumberingLemmas
+mod PagingLemmas
 pub mod PrintedLemmas
 mod SessionLemmas
 mod WordLemmas

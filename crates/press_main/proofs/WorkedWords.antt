@@ -1,7 +1,7 @@
 -- What some words ask for.
 use Rattle.std.specs.Prelude.{◌≡◌, [], ◌∷◌, Some, None, codes, refl}
 use Rattle.clap.proofs.OnLiterals.{clap_on_literals}
-use Rattle.press_main.specs.Words.{Standard, FileNamed, Listed, FilesBy, Answered, AsText, DebuggedOf, TracedOf, StreamTo, JobTo, asked}
+use Rattle.press_main.specs.Words.{Standard, FileNamed, Listed, FilesBy, Answered, AsText, DebuggedOf, TracedOf, PageTo, StreamTo, JobTo, asked}
 
 nothing : asked (codes "press" ∷ []) ≡ Some (record { source = Standard; made = Listed [] })
 nothing = refl
@@ -127,3 +127,17 @@ other_subcommand = refl
 help : asked (codes "press" ∷ codes "--help" ∷ []) ≡ None
 unfolding clap_on_literals
 help = refl
+
+-- the page of a step, a number of steps that is none, and standard output, which is no file
+page_of_a_step : asked (codes "press" ∷ codes "page" ∷ codes "a.pcl" ∷ codes "17" ∷ codes "b" ∷ [])
+    ≡ Some (record { source = FileNamed (codes "a.pcl"); made = PageTo [] 17 (codes "b") })
+unfolding clap_on_literals
+page_of_a_step = refl
+
+page_of_no_step : asked (codes "press" ∷ codes "page" ∷ codes "a.pcl" ∷ codes "1x" ∷ codes "b" ∷ []) ≡ None
+unfolding clap_on_literals
+page_of_no_step = refl
+
+page_of_no_file : asked (codes "press" ∷ codes "page" ∷ codes "a.pcl" ∷ codes "17" ∷ codes "-" ∷ []) ≡ None
+unfolding clap_on_literals
+page_of_no_file = refl

@@ -15,6 +15,8 @@ use Rattle.press_main.specs.declared.inputs.InputError.{InputError}
 use Rattle.press_main.specs.declared.inputs.InputError.TheVariants as inputs
 use Rattle.press_main.specs.declared.jobs.JobFileError.{JobFileError}
 use Rattle.press_main.specs.declared.jobs.JobFileError.TheVariants as jobs
+use Rattle.press_main.specs.declared.paging.PagingError.{PagingError}
+use Rattle.press_main.specs.declared.paging.PagingError.TheVariants as pages
 use Rattle.press_main.specs.declared.sessions.SessionError.{SessionError}
 use Rattle.press_main.specs.declared.sessions.SessionError.TheVariants as sessions
 use Rattle.press_main.specs.declared.traced.TracedError.{TracedError}
@@ -45,6 +47,12 @@ abbrev pub told_of_trace : TracedError → List ℕ
 told_of_trace (traces.Input error) = input_text error
 told_of_trace traces.Output = output_text
 told_of_trace traces.NoMemory = fault_text None
+
+-- of the page of a step
+abbrev pub told_of_page : PagingError → List ℕ
+told_of_page (pages.Input error) = input_text error
+told_of_page pages.WriteFault = fault_text (Some pbm.write_fault)
+told_of_page pages.NoMemory = fault_text None
 
 -- of a debugger
 abbrev pub told_of_debugger : DebugError → List ℕ

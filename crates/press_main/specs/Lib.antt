@@ -15,6 +15,7 @@ pub mod Listed
 pub mod Listing
 pub mod Measured
 pub mod Numbering
+pub mod Paging
 pub mod Printing
 pub mod Program
 pub mod Sessions

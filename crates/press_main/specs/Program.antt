@@ -2,13 +2,14 @@
 use Rattle.std.specs.Prelude.{◌≡◌, ◌≢◌, ◌⊎◌, ℕ, List, Option, Some, None, map}
 use Rattle.clap.specs.Words.{Text}
 use Rattle.press_sink.specs.Outputs.{MadeOutput}
-use Rattle.press_main.specs.Words.{Source, Standard, FileNamed, Made, Listed, FilesBy, Answered, AsText, DebuggedOf, TracedOf, StreamTo, JobTo, Asked}
+use Rattle.press_main.specs.Words.{Source, Standard, FileNamed, Made, Listed, FilesBy, Answered, AsText, DebuggedOf, TracedOf, PageTo, StreamTo, JobTo, Asked}
 use Rattle.press_main.specs.Assembly.{AssembledInto, StopsMaking, DisassembledTo, StopsDisassembling}
 use Rattle.press_main.specs.Debugging.{Debugs, StopsDebugging}
 use Rattle.press_main.specs.Defaults.{HoldsBehind, with_front}
 use Rattle.press_main.specs.Files.{PrintsFiles, DoesNothing}
 use Rattle.press_main.specs.Jobs.{MakesTheTicket, StopsMakingJob}
 use Rattle.press_main.specs.Listing.{PrintsListing}
+use Rattle.press_main.specs.Paging.{Paging}
 use Rattle.press_main.specs.Sessions.{Plays, Stops}
 use Rattle.press_main.specs.Traced.{Tracing}
 use Rattle.press_main.specs.declared.assembly.TextError.{TextError}
@@ -54,6 +55,8 @@ Makes AsText inputs status had left old new before after = Disassembling status 
 Makes (DebuggedOf front name) inputs status had left old new before after = Debugging status (with_front front (inputs name)) had left old new × (after ≡ before)
 Makes (TracedOf front) inputs status had left old new before after =
     HoldsBehind front had left (λ had left. Tracing status had left old new) × (after ≡ before)
+Makes (PageTo front steps name) inputs status had left old new before after =
+    HoldsBehind front had left (λ had left. Paging steps name status had left before after) × (new ≡ old)
 Makes (StreamTo name) inputs status had left old new before after = Assembling name status had left before after × (new ≡ old)
 Makes (JobTo name images) inputs status had left old new before after = Writing name status had left (map inputs images) before after × (new ≡ old)
 

@@ -10,7 +10,7 @@ use Rattle.press_main.specs.declared.words.Output.TheVariants as outputs
 use Rattle.press_main.specs.declared.words.Request.{Request}
 use Rattle.press_main.specs.declared.words.Refusal.{Refusal}
 use Rattle.press_main.specs.declared.words.Refusal.TheVariants.{Words, NoName, NoDefault}
-use Rattle.press_main.specs.Words.{Source, Standard, FileNamed, Made, Listed, FilesBy, Answered, AsText, DebuggedOf, TracedOf, StreamTo, JobTo, Asked}
+use Rattle.press_main.specs.Words.{Source, Standard, FileNamed, Made, Listed, FilesBy, Answered, AsText, DebuggedOf, TracedOf, PageTo, StreamTo, JobTo, Asked}
 
 -- an input by the text of its name
 abbrev pub source_seen : Input → Source
@@ -25,6 +25,7 @@ made_seen (outputs.Session engines) = Answered engines
 made_seen outputs.Text = AsText
 made_seen (outputs.Debugged front name) = DebuggedOf front.items name.now
 made_seen (outputs.Traced front) = TracedOf front.items
+made_seen (outputs.Page front steps name) = PageTo front.items steps name.now
 made_seen (outputs.Assembled name) = StreamTo name.now
 made_seen (outputs.Job name images) = JobTo name.now (map (λ image. image.now) images.items)
 

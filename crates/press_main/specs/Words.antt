@@ -8,7 +8,7 @@ use Rattle.press_pjl.specs.Variables.{is_assignment}
 use Rattle.press_main.specs.Defaults.{front_of}
 use Rattle.press_main.specs.Lines.{number_word}
 use Rattle.press_main.specs.declared.words.Subcommand.{Subcommand}
-use Rattle.press_main.specs.declared.words.Subcommand.TheVariants.{Print, Asm, Disasm, Debug, Trace, Write, Press}
+use Rattle.press_main.specs.declared.words.Subcommand.TheVariants.{Print, Asm, Disasm, Debug, Trace, Page, Write, Press}
 use Rattle.clap.specs.declared.builder.action.ArgAction.TheVariants.{Append, SetTrue}
 
 -- Where an input is read: from standard input, or from the file of this name.
@@ -19,7 +19,8 @@ pub data Source : Type 0 where
 -- What is made of an input: of a stream, with these bytes in front of it, a listing, or files by this template; its assembly text; of
 -- assembly text the file of this name; of a ticket the file of this name, its job with the images of these files; of lines of events the
 -- answers of a press with so many engines, and the listing of what it delivered; of lines of a debugger its answers, over the stream of
--- this file, with these bytes in front of it; of a stream, with these bytes in front of it, its trace.
+-- this file, with these bytes in front of it; of a stream, with these bytes in front of it, its trace, or the file of this name, of the page
+-- that is open behind so many of its steps.
 pub data Made : Type 0 where
   Listed : (front : List ℕ) → Made
   FilesBy : (front : List ℕ) (template : Text) → Made
@@ -27,6 +28,7 @@ pub data Made : Type 0 where
   AsText : Made
   DebuggedOf : (front : List ℕ) (name : Text) → Made
   TracedOf : (front : List ℕ) → Made
+  PageTo : (front : List ℕ) (steps : ℕ) (name : Text) → Made
   StreamTo : Text → Made
   JobTo : (name : Text) (images : List Text) → Made
 
@@ -65,6 +67,12 @@ debug_app = with_rule (with_rule (new_app (codes "debug")) default_rule) (needed
 abbrev pub trace_app : App
 trace_app = with_rule (with_rule (new_app (codes "trace")) default_rule) (needed_rule (codes "IN"))
 
+-- The words of `page`: any number of defaults, the input, how many steps, and the output.
+abbrev pub page_app : App
+page_app =
+    with_rule (with_rule (with_rule (with_rule (new_app (codes "page")) default_rule) (needed_rule (codes "IN"))) (needed_rule (codes "K")))
+    (needed_rule (codes "OUT"))
+
 -- The words of `write`: the ticket, the output, and any number of images.
 abbrev pub images_rule : Rule
 images_rule = record (new_rule (codes "IMG")) { action = Some Append }
@@ -86,8 +94,8 @@ program_app = record { top = record (new_app (codes "press")).top { has_version 
 -- The command line: the subcommands of the program.
 abbrev pub press_app : App
 press_app =
-    with_subcommand (with_subcommand (with_subcommand (with_subcommand (with_subcommand (with_subcommand (with_subcommand program_app
-    print_app.top) asm_app.top) disasm_app.top) debug_app.top) trace_app.top) write_app.top) session_app.top
+    with_subcommand (with_subcommand (with_subcommand (with_subcommand (with_subcommand (with_subcommand (with_subcommand (with_subcommand
+    program_app print_app.top) asm_app.top) disasm_app.top) debug_app.top) trace_app.top) page_app.top) write_app.top) session_app.top
 
 -- a flag is set where its value is `true`
 abbrev pub is_set : Text → List Row → Bool
@@ -153,6 +161,18 @@ trace_asked rows =
     option_and_then (λ front. option_map (λ name. record { source = source_of name; made = TracedOf front })
     (first_of (codes "IN") rows)) (front_in rows)
 
+-- what `page` asks for: the steps are a number, and the page is made a file
+abbrev pub steps_in : List Row → Option ℕ
+steps_in rows = option_and_then number_word (first_of (codes "K") rows)
+
+abbrev pub page_to : (front : List ℕ) (steps : ℕ) → List Row → Option Asked
+page_to front steps rows =
+    option_and_then (λ source. option_map (λ name. record { source = source_of source; made = PageTo front steps name }) (made_in rows))
+    (first_of (codes "IN") rows)
+
+abbrev pub page_asked : List Row → Option Asked
+page_asked rows = option_and_then (λ front. option_and_then (λ steps. page_to front steps rows) (steps_in rows)) (front_in rows)
+
 -- how many engines `press` asks for: one where nothing is said of them
 abbrev pub engines_of : List Row → Option ℕ
 engines_of rows = option_map_or number_word (first_of (codes "engines") rows) (Some 1)
@@ -169,6 +189,7 @@ subcommand_named name =
     else if bytes_eq name (codes "disasm") then Some Disasm
     else if bytes_eq name (codes "debug") then Some Debug
     else if bytes_eq name (codes "trace") then Some Trace
+    else if bytes_eq name (codes "page") then Some Page
     else if bytes_eq name (codes "write") then Some Write
     else if bytes_eq name (codes "press") then Some Press
     else None
@@ -180,6 +201,7 @@ asked_of Asm rows = asm_asked rows
 asked_of Disasm rows = disasm_asked rows
 asked_of Debug rows = debug_asked rows
 asked_of Trace rows = trace_asked rows
+asked_of Page rows = page_asked rows
 asked_of Write rows = job_asked rows
 asked_of Press rows = session_asked rows
 

@@ -1,5 +1,6 @@
 //! What the program does: it reads a print stream, and lists its sheets, writes them to files, or writes the stream as assembly
-//! text; it makes a stream of assembly text; it steps through a stream, and tells its trace; it writes the job of a ticket; and it has a session with a press.
+//! text; it makes a stream of assembly text; it steps through a stream, and tells its trace, or makes the page
+//! of a step a file; it writes the job of a ticket; and it has a session with a press.
 #![tactic(auto)]
 
 mod assembly;
@@ -19,6 +20,7 @@ mod listing_sink;
 mod making;
 mod measures;
 mod named_inputs;
+mod paging;
 mod program;
 mod sessions;
 mod sparing;
@@ -37,6 +39,7 @@ pub use jobs::write_files;
 pub use listing::print_list;
 pub use making::{asm_file, job_file};
 pub use named_inputs::{NamedFile, NamedFiles, NamedInputs};
+pub use paging::{PagingError, page_file};
 pub use program::run_words;
 pub use sessions::press_lines;
 pub use stream::print_stream;

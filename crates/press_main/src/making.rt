@@ -92,7 +92,8 @@ fn make_ticket<T: Read, I: NamedInputs, O: NamedOutputs>(
     outputs: &mut O,
     name: &str,
 ) -> Result<(), JobFileError>
-    ensures ok { OnOk result (MakesTheTicket name.now (T.remaining ticket.old) (T.remaining ticket.new)
+    ensures ok { OnOk result (MakesTheTicket name.now
+        (T.remaining ticket.old) (T.remaining ticket.new)
         (map (λ name. I.bytes inputs.now name.now) names.now)
         (O.made outputs.old) (O.made outputs.new)) }
     ensures err { IfErr result (λ why. StopsMakingJob name.now

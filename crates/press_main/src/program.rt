@@ -4,6 +4,7 @@ ghost use Rattle.std.specs.String.{string_bytes};
 ghost use Rattle.press_main.specs.Defaults.{HoldsBehind, with_front};
 ghost use Rattle.press_main.specs.Files.{DoesNothing, PrintsFiles};
 ghost use Rattle.press_main.specs.Listing.{PrintsListing};
+ghost use Rattle.press_main.specs.Paging.{Paging};
 ghost use Rattle.press_main.specs.Program.{Debugging, Makes, Performs, Runs, Writing};
 ghost use Rattle.press_main.specs.Traced.{Tracing};
 ghost use Rattle.press_main.specs.View.{made_seen, request_seen, status_of};
@@ -15,6 +16,7 @@ use crate::files::{Finished, print_files};
 use crate::listing::print_list;
 use crate::making::{asm_file, job_file};
 use crate::named_inputs::NamedInputs;
+use crate::paging::page_file;
 use crate::sessions::press_lines;
 use crate::sparing::spare_inputs;
 use crate::telling::{NO_OUTPUT, told};
@@ -67,7 +69,8 @@ pub fn run_words<I: NamedInputs, O: NamedOutputs + Drop, S: Read, W: Write + Dro
 
 /// The texts of words.
 fn texts_of(alloc: Global, words: &[String]) -> Result<Vec<&str>, AllocError>
-    ensures { IfOk result (λ texts. map (λ text. text.now) texts.items ≡ map string_bytes words.now) }
+    ensures { IfOk result (λ texts.
+        map (λ text. text.now) texts.items ≡ map string_bytes words.now) }
 {
     let mut texts = Vec::new(alloc);
     for word in words {
@@ -170,6 +173,11 @@ fn make<I: NamedInputs, O: NamedOutputs + Drop, R: Read, W: Write + Drop, E: Wri
             out,
             outputs,
         },
+        Output::Page(front, steps, name) => Finished {
+            status: page_behind(alloc, front, reader, *steps, &mut outputs, name, err),
+            out,
+            outputs,
+        },
         Output::Assembled(name) => Finished {
             status: asm_file(alloc, reader, &mut outputs, name, err),
             out,
@@ -217,6 +225,28 @@ fn trace_behind<R: Read, W: Write, E: Write>(
     }
     let mut traced = front.chain(reader);
     tell_trace(alloc, &mut traced, out, err)
+}
+
+/// Makes the output of this name, of the page that is open behind so many steps of the stream of these bytes and those that a reader
+/// has behind them.
+fn page_behind<R: Read, O: NamedOutputs, E: Write>(
+    alloc: Global,
+    front: &[u8],
+    reader: &mut R,
+    steps: u64,
+    outputs: &mut O,
+    name: &str,
+    err: &mut E,
+) -> u8
+    ensures { HoldsBehind front.now (R.remaining reader.old) (R.remaining reader.new)
+        (λ had left. Paging steps name.now result had left
+        (O.made outputs.old) (O.made outputs.new)) }
+{
+    if front.is_empty() {
+        return page_file(alloc, reader, steps, outputs, name, err);
+    }
+    let mut stream = front.chain(reader);
+    page_file(alloc, &mut stream, steps, outputs, name, err)
 }
 
 /// Prints the stream of these bytes and those that a reader has behind them to files by a template.

@@ -20,7 +20,9 @@ pub(crate) fn spare_inputs<O: NamedOutputs>(
     };
     match &request.output {
         Output::Files(_, template) if is_side(template, name) => Err(SinkError::SinkFault),
-        Output::Files(_, _) | Output::Assembled(_) => spare(outputs, &[name]),
+        Output::Files(_, _) | Output::Assembled(_) | Output::Page(_, _, _) => {
+            spare(outputs, &[name])
+        }
         Output::Job(_, images) => {
             spare(outputs, &[name])?;
             spare(outputs, images)

@@ -3,7 +3,7 @@ ghost use Rattle.std.specs.Prelude.{◌≡◌, ◌↔◌, ◌⊎◌, IfOk, IfErr
 ghost use Rattle.clap.specs.Words.{app_of, new_app, rule_of, new_rule, kind_of, first_of, rows_of, found_of, subcommand_of, subcommand_rows_of, fault_of, FailsBy};
 ghost use Rattle.clap.specs.declared.builder.command.Command.TheViews.{out-Command};
 ghost use Rattle.clap.specs.declared.error.kind.ErrorKind.TheVariants.{OutOfMemory};
-ghost use Rattle.press_main.specs.Words.{list_rule, default_rule, needed_rule, images_rule, engines_rule, print_app, asm_app, disasm_app, debug_app, trace_app, write_app, session_app, program_app, press_app, source_of, made_behind, made_of, made_named, made_in, images_of, defaults_of, front_in, engines_of, print_asked, asm_asked, disasm_asked, debug_of, debug_asked, trace_asked, job_asked, session_asked, subcommand_named, asked_of, asked_by, asked, is_set};
+ghost use Rattle.press_main.specs.Words.{list_rule, default_rule, needed_rule, images_rule, engines_rule, print_app, asm_app, disasm_app, debug_app, trace_app, page_app, write_app, session_app, program_app, press_app, source_of, made_behind, made_of, made_named, made_in, images_of, defaults_of, front_in, engines_of, print_asked, asm_asked, disasm_asked, debug_of, debug_asked, trace_asked, steps_in, page_to, page_asked, job_asked, session_asked, subcommand_named, asked_of, asked_by, asked, is_set};
 ghost use Rattle.press_main.specs.View.{source_seen, made_seen, request_seen, status_of, IsForMemory};
 
 use crate::defaults::{are_assignments, front_of};
@@ -27,6 +27,7 @@ const AFTER_HELP: &str = "Examples:
   press asm page.asm changed.pcl
   press debug page.pcl < lines.txt
   press trace page.pcl > trace.jsonl
+  press page page.pcl 100 step.pbm
   press write ticket.json job.prn page-1.pbm page-2.pbm
   press press < events.txt
   press press --engines 2 < events.txt
@@ -81,6 +82,8 @@ pub enum Output<'a> {
     Debugged(Vec<u8>, &'a str),
     /// The lines of the trace of a stream, with these bytes in front of it.
     Traced(Vec<u8>),
+    /// The file of this name, of the page that is open behind so many steps of a stream, with these bytes in front of it.
+    Page(Vec<u8>, u64, &'a str),
     /// The file of this name, of the bytes of assembly text.
     Assembled(&'a str),
     /// The file of this name, of the job of a ticket with the images of these files.
@@ -99,8 +102,8 @@ pub struct Request<'a> {
 pub enum Refusal {
     /// The command line is refused, or asks for help or the version; or memory ran out.
     Words(Error),
-    /// A subcommand lacks what its words have to name: `print` a template, where no listing is asked for, `asm` and `write` a file to
-    /// make, `debug` a file, or `press` a number of engines.
+    /// A subcommand lacks what its words have to name: `print` a template, where no listing is asked for, `asm`, `page` and `write` a
+    /// file to make, `page` a number of steps, `debug` a file, or `press` a number of engines.
     NoName,
     /// This text is no `NAME=VALUE` of the job language.
     NoDefault(String),
@@ -139,8 +142,9 @@ impl fmt::Display for Refusal {
             Refusal::Words(error) => write!(f, "{error}"),
             Refusal::NoName => writeln!(
                 f,
-                "usage: press print IN OUT, press print --list IN, press asm IN OUT or press write TICKET OUT [IMG...], \
-                where OUT is a file and not -, press debug IN, where IN is a file and not -, \
+                "usage: press print IN OUT, press print --list IN, press asm IN OUT, press page IN K OUT or \
+                press write TICKET OUT [IMG...], where OUT is a file and not - and K is a number, \
+                press debug IN, where IN is a file and not -, \
                 or press press [--engines N], where N is a number"
             ),
             Refusal::NoDefault(text) => writeln!(
@@ -276,6 +280,33 @@ fn trace_command<'a>(alloc: Global) -> Result<Command<'a>, AllocError>
         ))
 }
 
+/// The subcommand `page`.
+fn page_command<'a>(alloc: Global) -> Result<Command<'a>, AllocError>
+    ensures app { IfOk result (λ command. app_of command ≡ page_app) }
+    ensures local { IfOk result (λ command. (out-Command command).has_globals ≡ false) }
+{
+    Command::new(alloc, "page")
+        .about(
+            "Makes a P4 file (raw PBM) of the page that is open behind so many steps of a stream",
+        )
+        .arg(default_option(alloc))?
+        .arg(needed_word(
+            alloc,
+            "IN",
+            "The file of the stream, or - for standard input",
+        ))?
+        .arg(needed_word(
+            alloc,
+            "K",
+            "How many steps, as trace counts them; behind the last where the stream has fewer",
+        ))?
+        .arg(needed_word(
+            alloc,
+            "OUT",
+            "The file of the page, which is made or replaced; - is refused",
+        ))
+}
+
 /// The words for the images.
 fn images_word<'a>(alloc: Global) -> Arg<'a>
     ensures rule { rule_of result ≡ images_rule }
@@ -347,6 +378,7 @@ fn command<'a>(alloc: Global) -> Result<Command<'a>, AllocError>
         .subcommand(disasm_command(alloc)?)?
         .subcommand(debug_command(alloc)?)?
         .subcommand(trace_command(alloc)?)?
+        .subcommand(page_command(alloc)?)?
         .subcommand(write_command(alloc)?)?
         .subcommand(press_command(alloc)?)
 }
@@ -408,7 +440,8 @@ fn front_in(alloc: Global, matches: &ArgMatches<'_>) -> Result<Option<Vec<u8>>, 
 /// What the matches of `print` ask to be made of a stream, with these bytes in front of it.
 #[tactic(auto, using(crate::proofs::WordsLemmas::value_by_rows))]
 fn output_behind<'a>(front: Vec<u8>, matches: &ArgMatches<'a>) -> Option<Output<'a>>
-    ensures { option_map made_seen result ≡ made_behind (rows_of (found_of matches.now)) front.items }
+    ensures { option_map made_seen result
+        ≡ made_behind (rows_of (found_of matches.now)) front.items }
 {
     if has_flag(matches, "list") {
         return Some(Output::Listing(front));
@@ -579,6 +612,46 @@ fn trace_request<'a>(
     }))
 }
 
+/// How many steps the matches of `page` ask for.
+#[tactic(auto, using(crate::proofs::WordsLemmas::value_by_rows))]
+fn steps_in(matches: &ArgMatches<'_>) -> Option<u64>
+    ensures { result ≡ steps_in (rows_of (found_of matches.now)) }
+{
+    let steps = matches.get_str("K")?;
+    number_word(steps.as_bytes())
+}
+
+/// What the matches of `page` ask for, of so many steps of a stream with these bytes in front of it.
+#[tactic(auto, using(crate::proofs::WordsLemmas::value_by_rows))]
+fn page_to<'a>(front: Vec<u8>, steps: u64, matches: &ArgMatches<'a>) -> Option<Request<'a>>
+    ensures { option_map request_seen result
+        ≡ page_to front.items steps (rows_of (found_of matches.now)) }
+{
+    let name = matches.get_str("IN")?;
+    let made = made_in(matches)?;
+    Some(Request {
+        input: input_named(name),
+        output: Output::Page(front, steps, made),
+    })
+}
+
+/// What the matches of `page` ask for.
+fn page_request<'a>(
+    alloc: Global,
+    matches: &ArgMatches<'a>,
+) -> Result<Option<Request<'a>>, AllocError>
+    ensures { IfOk result (λ found. option_map request_seen found
+        ≡ page_asked (rows_of (found_of matches.now))) }
+{
+    let Some(front) = front_in(alloc, matches)? else {
+        return Ok(None);
+    };
+    match steps_in(matches) {
+        Some(steps) => Ok(page_to(front, steps, matches)),
+        None => Ok(None),
+    }
+}
+
 /// How many engines the matches of `press` ask for: one where they say nothing of them.
 #[tactic(auto, using(crate::proofs::WordsLemmas::value_by_rows))]
 fn engines_of(matches: &ArgMatches<'_>) -> Option<u64>
@@ -609,6 +682,7 @@ enum Subcommand {
     Disasm,
     Debug,
     Trace,
+    Page,
     Write,
     Press,
 }
@@ -627,6 +701,8 @@ fn subcommand_named(name: &str) -> Option<Subcommand>
         Some(Subcommand::Debug)
     } else if name == "trace" {
         Some(Subcommand::Trace)
+    } else if name == "page" {
+        Some(Subcommand::Page)
     } else if name == "write" {
         Some(Subcommand::Write)
     } else if name == "press" {
@@ -651,6 +727,7 @@ fn subcommand_request<'a>(
         Subcommand::Disasm => Ok(disasm_request(matches)),
         Subcommand::Debug => debug_request(alloc, matches),
         Subcommand::Trace => trace_request(alloc, matches),
+        Subcommand::Page => page_request(alloc, matches),
         Subcommand::Write => job_request(alloc, matches),
         Subcommand::Press => Ok(session_request(matches)),
     }

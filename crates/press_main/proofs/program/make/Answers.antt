@@ -19,6 +19,9 @@ returns-in-Debugged g c = rw (c.in-Debugged.is, ← c.deref-in-Debugged.ensures.
 pub returns-in-Traced : goal.returns-in-Traced
 returns-in-Traced g c = rw (c.in-Traced.is, ← c.deref-in-Traced.ensures.value) (c.trace_behind.ensures, refl)
 
+pub returns-in-Page : goal.returns-in-Page
+returns-in-Page g c = rw (c.in-Page.is, ← c.deref-in-Page.ensures.value) (c.page_behind.ensures, refl)
+
 pub returns-in-Assembled : goal.returns-in-Assembled
 returns-in-Assembled g c = rw c.in-Assembled.is (record { done = c.asm_file.ensures.assembled; stops = c.asm_file.ensures.refused }, refl)
 
