@@ -7,12 +7,12 @@ _press() {
     place=$((place - 1))
   fi
   if [ "$place" -eq 1 ]; then
-    mapfile -t COMPREPLY < <(compgen -W "--try print asm disasm debug trace write press help --help --version" -- "$word")
+    mapfile -t COMPREPLY < <(compgen -W "--try print asm disasm debug trace page write press help --help --version" -- "$word")
   elif [ "${COMP_WORDS[COMP_CWORD-1]}" = --default ]; then
     mapfile -t COMPREPLY < <(compgen -W "$defaults" -- "$word")
   elif [ "$first" = print ] && [[ "$word" == -* ]]; then
     mapfile -t COMPREPLY < <(compgen -W "--list --default" -- "$word")
-  elif [[ "$first" = @(debug|trace) ]] && [[ "$word" == -* ]]; then
+  elif [[ "$first" = @(debug|trace|page) ]] && [[ "$word" == -* ]]; then
     mapfile -t COMPREPLY < <(compgen -W "--default" -- "$word")
   elif [ "$first" = press ] && [ "${COMP_WORDS[COMP_CWORD-1]}" = --engines ]; then
     mapfile -t COMPREPLY < <(compgen -W "1 2 3 4" -- "$word")

@@ -49,6 +49,9 @@ ROWS = [
     Row("by a second name", "asm in out", {"in": TEXT, "out": Link("in", True)}, {}, "fault 115"),
     Row("a text that is read by a link", "asm in out", {"in": Link("out"), "out": TEXT}, {}, "fault 115"),
     Row("a text on standard input", "asm - in", {"in": TEXT}, {}, "fault 115", input="in"),
+    Row("a stream that is the page of a step", "page in 1 in", {"in": FEED}, {}, "fault 115"),
+    Row("by another name", "page in 1 ./in", {"in": FEED}, {}, "fault 115"),
+    Row("a stream on standard input", "page - 1 in", {"in": FEED}, {}, "fault 115", input="in"),
     Row("a ticket that is its own output", "write ticket ticket dot", TAKEN, {}, "fault 614"),
     Row("an image that is the output", "write ticket dot dot", TAKEN, {}, "fault 614"),
     Row("by a link to it", "write ticket out dot", TAKEN | {"out": Link("dot")}, {}, "fault 614"),
@@ -68,6 +71,7 @@ ROWS = [
     Row("in place of one of two names", "asm - out", {"out": OLDER, "other": Link("out", True)}, {"out": STREAM}, given=TEXT),
     Row("beside a part of another run", "asm - out", {PART: OLDER}, {"out": STREAM}, given=TEXT),
     Row("with a name of 250 bytes", f"print - {LONG_NAME}%d", {}, {f"{LONG_NAME}1": PAGE}, given=FEED),
+    Row("of a step", "page - 0 out", {"out": OLDER}, {"out": PAGE}, given=FEED),
     Row("of a ticket", "write ticket out dot", TAKEN | {"out": OLDER}, {"out": job([DOT])}),
     Row("of three sides", "print - p%d", {"p2": OLDER, "p4": OLDER}, {"p1": PAGE, "p2": PAGE, "p3": PAGE}, given=FEED * 3),
     # faults

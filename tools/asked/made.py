@@ -7,6 +7,11 @@ from asked.pages import page
 # What stood in the file before: more than what is made in its place.
 OLDER = b"an older file\n" * 200_000
 
+BOX = b"\x1b*p0x0Y\x1b*c3a2b0P\x1bE"
+TURNED = [b"\x1b&l%dO\x1b*p0x0Y\x1b*c3a2b0P\x0c" % orientation for orientation in (1, 2, 3)]
+# A macro that marks, moves and marks is executed: its steps are the twelfth to the fourteenth.
+MACRO = b"\x1b*p0x0Y\x1b*c3a2b\x1b&f1y0X\x1b*c0P\x1b*p+8X\x1b*c0P\x1b&f1x2X"
+
 # Words, the file that they make, standard input, and what stands in the file then.
 MADE = [
     ("asm - made", "made", b"esc E\nctl 0C", b"\x1bE\x0c"),
@@ -14,6 +19,22 @@ MADE = [
     ("asm - made", "made", b"txt 41\n" * 200_000, b"A" * 200_000),
     ("write ticket made dot", "made", b"", job([DOT])),
     ("write ticket made full", "made", b"", job([FULL])),
+    ("page - 0 made", "made", BOX, page([])),
+    ("page - 4 made", "made", BOX, page([])),
+    ("page - 5 made", "made", BOX, page([(75, 150, 3, 2)])),
+    ("page - 6 made", "made", BOX, page([])),
+    ("page - 7 made", "made", BOX, page([])),
+    ("page - 18446744073709551615 made", "made", BOX, page([])),
+    ("page - 0 made", "made", b"", page([])),
+    ("page - 6 made", "made", TURNED[0], page([(150, 3237, 2, 3)])),
+    ("page - 6 made", "made", TURNED[1], page([(2472, 3148, 3, 2)])),
+    ("page - 6 made", "made", TURNED[2], page([(2398, 60, 2, 3)])),
+    ("page - 11 made", "made", MACRO, page([])),
+    ("page - 12 made", "made", MACRO, page([(75, 150, 3, 2)])),
+    ("page - 13 made", "made", MACRO, page([(75, 150, 3, 2)])),
+    ("page - 14 made", "made", MACRO, page([(75, 150, 3, 2), (83, 150, 3, 2)])),
+    ("page - 15 made", "made", MACRO, page([])),
+    ("page --default COPIES=2 - 7 made", "made", BOX, page([(75, 150, 3, 2)])),
     ("print - made%d", "made1", b"\x0c", page([])),
     ("print - made%%d", "made%1", b"\x0c", page([])),
     ("print - made%dd%", "made1d%", b"\x0c", page([])),
@@ -28,6 +49,8 @@ REFUSED = [
     ("asm - made", "made", b"uel\n; \xff\n"),
     ("asm - made", "made", b"uel\npar *p1.2.3X\n"),
     ("asm - made", "made", b"uel\npar *b2W 02\n"),
+    ("page no/such 1 made", "made", b""),
+    ("page / 1 made", "made", b""),
     ("write no/such made dot", "made", b""),
     ("write / made dot", "made", b""),
     (f"write {named(b'{5}')} made dot", "made", b""),
@@ -50,7 +73,15 @@ REFUSED = [
     ("print - made1%d%d", "made1", b"\x0c"),
     ("print -", "made1", b"\x0c"),
     ("asm -", "made", b"uel"),
+    ("page - made", "made", b"uel"),
+    ("page - x made", "made", b"uel"),
+    ("page - -1 made", "made", b"uel"),
+    ("page - 18446744073709551616 made", "made", b"uel"),
+    ("page --default COPIES - 1 made", "made", b"uel"),
 ]
 
+WORDS_REFUSED = ("print -", "asm -", "page - made", "page - x made", "page - -1 made", "page - 18446744073709551616 made",
+                 "page --default COPIES - 1 made")
+
 ROWS = [(words, name, given, 0, wanted) for words, name, given, wanted in MADE]
-ROWS += [(words, name, given, 2 if words in ("print -", "asm -") else 1, OLDER) for words, name, given in REFUSED]
+ROWS += [(words, name, given, 2 if words in WORDS_REFUSED else 1, OLDER) for words, name, given in REFUSED]

@@ -2,8 +2,8 @@
 
 PAGE = "sheet 1 front 2550x3300 black 0\n"
 FEED = b"\x0c"
-USAGE = ("usage: press print IN OUT, press print --list IN, press asm IN OUT or press write TICKET OUT [IMG...], where OUT is a file and not -, "
-         "press debug IN, where IN is a file and not -, or press press [--engines N], where N is a number\n")
+USAGE = ("usage: press print IN OUT, press print --list IN, press asm IN OUT, press page IN K OUT or press write TICKET OUT [IMG...], "
+         "where OUT is a file and not - and K is a number, press debug IN, where IN is a file and not -, or press press [--engines N], where N is a number\n")
 
 # Words, status, what is printed on standard output and then on standard error (bytes: on standard output alone; None: something,
 # without an end to compare), and standard input.
@@ -42,6 +42,12 @@ ROWS = [
     ("asm no/such no/such/b", 1, "fault 304\n", FEED),
     ("asm - no/such/b", 1, "fault 401 line 1\n", FEED),
     ("asm - no/such/b", 1, "fault 115\n", b"uel\n"),
+    ("page - 2 b", 0, "", FEED),
+    ("page no/such 1 no/such/b", 1, "fault 304\n", FEED),
+    ("page - 1 no/such/b", 1, "fault 115\n", FEED),
+    ("page - 1 -", 2, USAGE, FEED),
+    ("page - one b", 2, USAGE, FEED),
+    ("page - 1", 2, None, FEED),
     ("asm - b", 0, "", b"esc E\nctl 0C"),
     ("asm - b", 0, "", b""),
     ("asm - b", 0, "", b"; \xc3\xa9\nuel\n"),

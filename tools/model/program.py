@@ -161,7 +161,7 @@ class Program:
         """The open page behind so many steps, a white one where none has a mark; past the end that of the end, which is said."""
         front, words = with_defaults(words)
         source, steps, target = exactly(3, words)
-        if (most := press_lines.number_of(steps.encode())) is None:
+        if target == "-" or (most := press_lines.number_of(steps.encode())) is None:
             raise NoAnswer()
         for step, page in enumerate(trace_lines.opened(front + self.read(source))):
             if step == most:

@@ -56,6 +56,7 @@ ROWS = [
     *(Row(name, LIST, spelled(text)) for name, text in STREAMS),
     *(Row(name, LIST, stream) for name, stream in LINES),
     Row("files of two sides", ["print", "-", "page-%d.pbm"], spelled("ESC&l1S ESC*p9x9Y ESC*c9a9b0P FF ESC*c9a9b0P FF"), 36),
+    Row("the page of a step", ["page", "-", "5", "step"], spelled("ESC*p0x0Y ESC*c3a2b0P ESC E"), 18),
     Row("the job of a ticket", ["write", *TICKET, "job", *IMAGES]),
     Row("a text that is assembled", ["asm", "-", "stream"], b"par *p10X\npar *b2W 02F0\nesc E\n; a remark\ntxt 41\n"),
     Row("commands that are told", ["disasm", "-"], b"\x1b*p10x20Y\x1bE\x1b*b2W\x02\xf0text\x0c"),
@@ -83,4 +84,4 @@ def write_faults(row):
     """What is told where a write fails: standard output, or the file that the words make."""
     if row.words[0] == "print" and "--list" not in row.words:
         return {"301"} if FORM_FEED in row.given else {"302"}
-    return {"asm": {"115"}, "write": {"614"}}.get(row.words[0], {"output"})
+    return {"asm": {"115"}, "page": {"115"}, "write": {"614"}}.get(row.words[0], {"output"})
