@@ -8,14 +8,15 @@ import itertools
 import re
 from typing import NamedTuple, Optional
 
-from model import commands, marks, pages, table
+from model import commands, pages, table
 from model.trace_lines import placed as placed_in
+from model.values import dot
 
 from . import program, sent, traced
 from .bodies import Follower, Placed
-from .fields import Fields, Now, State, changes, power_on
+from .fields import Fields, changes, power_on
 from .leaves import Leaves
-from .patches import Page
+from .patches import Open
 
 FIELDS_OF_NOTHING = ()
 MOST_KEPT = 10000     # commands that come again and are one value
@@ -89,22 +90,17 @@ def takes_data(command):
     return isinstance(command, commands.Param) and bool(command.data) and table.row_of(command) is None
 
 
-class Marks:
+class Marks(Open):
     """The open page, and the boxes of what was changed on it since they were asked for last."""
 
     def __init__(self):
-        self.page = None
+        super().__init__()
         self.boxes = {}
 
-    def go_on(self, line, number):
+    def mark(self, line, number):
         """Goes on by a line; `number` is that of the page that is open before the step."""
-        patch = line.get("page", ())
-        if "opened" in line:
-            self.page = Page(*line["opened"])
-        if patch is None:
-            self.page = None
-        elif patch:
-            self.note(patch, self.page.lay(patch), number)
+        if old := self.go_on(line):
+            self.note(line["page"], old, number)
 
     def note(self, patch, old, number):
         """Notes the box of the dots that are others than before."""
@@ -195,10 +191,10 @@ class Run:
         """A line: its step, whether a page closes, the sheet that goes out or None, and what is sent."""
         before, command = self.follower.fields, (self.follower.next_of_body() or placed).command
         quiet = before["defining"] is None and not before["hpgl"]
-        one = self.watcher.of(State(before), command) if quiet and sent.letters(command) in sent.SENDING else sent.NOTHING
+        one = self.watcher.of(before, command, "page" in line) if quiet and sent.letters(command) in sent.SENDING else sent.NOTHING
         step = self.follower.go_on(line, placed, self.fields.go_on(line))
         self.watch(self, line, step)
-        self.marks.go_on(line, self.leaves.closed)
+        self.marks.mark(line, self.leaves.closed)
         return step, *self.leaves.go_on(line, step), one
 
     def has_pattern(self, command, before):
@@ -221,15 +217,18 @@ class Run:
         return [page if page >= 0 else None for page, _, _, _ in self.pages_of_sides()]
 
 
-@functools.lru_cache(maxsize=4096)
-def dot_of(x, y, size, orientation, resolution, top_margin):
-    state = State(Now({"size": size, "orientation": orientation, "resolution": resolution, "top_margin": top_margin}, x, y, 0, 0))
-    return pages.to_physical(state.size, state.orientation, *marks.frame_dot(state))
+@functools.lru_cache(maxsize=64)
+def size_at(name, resolution):
+    return pages.SIZES[name].at(resolution)
 
 
+@functools.lru_cache(maxsize=4)     # it is asked for again at once
 def cursor_dot(now):
     """The physical dot of the cursor."""
-    return dot_of(now["x"], now["y"], now["size"], now["orientation"], now["resolution"], now["top_margin"])
+    base, resolution = now.base, now.base["resolution"]
+    size, orientation = size_at(base["size"], resolution), base["orientation"]
+    column = pages.offset(size, orientation) + dot(now.x, resolution)
+    return pages.to_physical(size, orientation, column, dot(now.y + base["top_margin"], resolution))
 
 
 def with_pattern_ids(some):

@@ -33,14 +33,13 @@ class Open:
         self.page = None
 
     def go_on(self, line):
-        """Goes on by what a line tells."""
+        """Goes on by what a line tells, and gives the rows that its patch replaced."""
         patch = line.get("page", ())
         if "opened" in line:
             self.page = Page(*line["opened"])
         if patch is None:
             self.page = None
-        elif patch:
-            self.page.lay(patch)
+        return self.page.lay(patch) if patch else []
 
 
 def wrong_patch(page, patch):

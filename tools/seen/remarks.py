@@ -1,5 +1,7 @@
 """A remark on a command: where it stands, what HP calls it, what its value is, and what it does here."""
 
+import functools
+
 from model import patterns, pjl
 from model.commands import Broken, Control, Escape, Foreign, Param, PjlLine, Text, Uel, kind
 from model.values import POSITIONS_PER_INCH
@@ -76,8 +78,11 @@ def name_of(command):
 
 def value_of(command):
     """The value of a parameterized command with its unit or its meaning; empty where it needs none."""
-    if not isinstance(command, Param):
-        return ""
+    return value_without_data(command._replace(data=b"")) if isinstance(command, Param) else ""
+
+
+@functools.lru_cache(maxsize=4096)
+def value_without_data(command):
     known, value = names.named(command), command.value()
     spelled = command.field.decode() or "0"
     shown = f"{value.tenthousandths / 10000:.4f}".rstrip("0").rstrip(".")

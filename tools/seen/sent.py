@@ -6,11 +6,14 @@ from model import marks, pages, rows
 from model.commands import Param
 from model.values import POSITIONS_PER_INCH, dot_positions
 
+from .fields import State
+
 WIDE_BYTES = 8192   # of a row that is decoded as it was sent, past the width that it has here
 
 
 class Sent(NamedTuple):
-    """Rows, and black dots: those of rows are raster dots, those of a fill dots of the page."""
+    """Rows, and black dots: those of rows are raster dots, those of a fill dots of the page. Those of rows that marked the page, and of which
+    none is lost, are not counted."""
     rows: int = 0
     black: int = 0
     right: int = 0    # of the black ones, past the right edge of the page or of the row
@@ -18,13 +21,14 @@ class Sent(NamedTuple):
     late: int = 0     # rows behind the raster height
 
     def plus(self, other):
-        return Sent(*map(sum, zip(self, other)))
+        return other if self is NOTHING else Sent(*map(sum, zip(self, other)))
 
     def lost(self):
         return self.right + self.below
 
 
 NOTHING = Sent()
+WHOLE_ROW = Sent(rows=1)
 SENDING = ("*bW", "*cP", "*bY")   # those that send, or change what a row is read against
 
 
@@ -41,36 +45,81 @@ def letters(command):
     return LETTERS[key]
 
 
-class Watcher:
-    """Counts what commands send; it keeps the seed row as wide as it was sent."""
+class Seed:
+    """The seed row as wide as it was sent. Delta rows wait for their decoding until somebody asks for the dots; how many bytes a row reaches to
+    the right is known at once."""
 
     def __init__(self):
-        self.seed = bytes(WIDE_BYTES)
+        self.clear()
 
-    def of(self, state, command):
-        """What a command that is carried out sends; the state is that before it."""
+    def clear(self):
+        self.row, self.waiting, self.reach = bytes(WIDE_BYTES), [], 0
+
+    def follow(self, method, data):
+        """The next row."""
+        if method == rows.DELTA_ROW:
+            self.waiting.append(data)
+            self.reach = max(self.reach, reach_of(data))
+        else:
+            self.row, self.waiting = rows.decode(method, data, bytes(WIDE_BYTES)), []
+            self.reach = len(self.row.rstrip(b"\0"))
+
+    def decoded(self):
+        for data in self.waiting:
+            self.row = rows.decode(rows.DELTA_ROW, data, self.row)
+        self.waiting = []
+        return self.row
+
+
+def reach_of(data):
+    """How many bytes from the left a delta row replaces at most."""
+    place = reach = 0
+    while place < len(data):
+        code = data[place]
+        place += 1
+        if code & 31 == 31:
+            while place < len(data) and data[place] == 255:
+                reach, place = reach + 255, place + 1
+            reach += data[place] if place < len(data) else 0
+            place += 1
+        behind = (code >> 5) + 1
+        reach, place = reach + (code & 31) + behind, place + behind
+    return reach
+
+
+class Watcher:
+    """Counts what commands send."""
+
+    def __init__(self):
+        self.seed = Seed()
+        self.strip = None
+
+    def of(self, now, command, marks):
+        """What a command that is carried out sends; the fields are those before it, and `marks` says whether the page is changed."""
         key = letters(command)
         if key == "*bW":
-            return self.of_rows(state, command.data)
+            return self.of_rows(now, command.data, marks)
         if key == "*cP":
-            return of_fill(state, command.value().whole())
-        if key == "*bY" and state.raster_on and command.value().whole() >= 1:
-            self.seed = bytes(WIDE_BYTES)
+            return of_fill(State(now), command.value().whole())
+        if key == "*bY" and now["raster_on"] and command.value().whole() >= 1:
+            self.seed.clear()
         return NOTHING
 
-    def of_rows(self, state, data):
-        if not state.raster_on or state.row_count == 0:
-            self.seed = bytes(WIDE_BYTES)
-        place, sent = Place(state), NOTHING
-        for method, each in rows_of(state.method, data):
+    def of_rows(self, now, data, marks):
+        if not now["raster_on"] or now.row_count == 0:
+            self.seed.clear()
+        if self.strip is None or self.strip.base is not now.base:
+            self.strip = Strip(now)
+        place, sent = Place(self.strip, now), NOTHING
+        for method, each in rows_of(now["method"], data):
             if method is None:
-                self.seed = bytes(WIDE_BYTES)
+                self.seed.clear()
                 continue
             if place.is_late():
                 sent = sent.plus(Sent(late=1))
                 continue
-            self.seed = rows.decode(method, each, self.seed)
-            sent = sent.plus(place.sent(self.seed))
+            self.seed.follow(method, each)
+            sent = sent.plus(WHOLE_ROW if marks and place.holds(self.seed.reach) else place.sent(self.seed.decoded()))
             place.go_on()
         return sent
 
@@ -86,30 +135,43 @@ def rows_of(method, data):
         yield from [(block.method, block.data)] * block.rows
 
 
-class Place:
-    """Where the rows of a transfer go."""
+class Strip:
+    """Where rows go, as far as it stays from row to row."""
 
-    def __init__(self, state):
-        self.frame_width, self.frame_height = pages.frame(state.size, state.orientation)
-        self.wide = state.resolution // state.raster_resolution
-        self.step = POSITIONS_PER_INCH // state.raster_resolution
-        self.top, self.dot = state.top_margin, dot_positions(state.resolution)
-        self.y, self.lowest = state.y, state.logical_length() - state.top_margin
-        self.count, self.height = state.row_count, state.source_height
-        column = marks.column_of(state, state.raster_left)
-        self.room = min(marks.row_width(state), max(0, marks.ceiling(self.frame_width - column, self.wide)))
+    def __init__(self, now):
+        state = State(now)
+        frame_width, self.frame_height = pages.frame(state.size, state.orientation)
+        self.base, self.height, self.top = now.base, state.source_height, state.top_margin
+        self.step, self.dot = POSITIONS_PER_INCH // state.raster_resolution, dot_positions(state.resolution)
+        self.lowest = state.logical_length() - state.top_margin
+        wide, column = state.resolution // state.raster_resolution, marks.column_of(state, state.raster_left)
+        self.room = min(marks.row_width(state), max(0, marks.ceiling(frame_width - column, wide)))
+
+
+class Place:
+    """Where the next row of a transfer goes."""
+
+    def __init__(self, strip, now):
+        self.strip, self.y, self.count = strip, now.y, now.row_count
 
     def is_late(self):
-        return self.height is not None and self.count >= self.height
+        return self.strip.height is not None and self.count >= self.strip.height
+
+    def is_below(self):
+        return (self.y + self.strip.top) // self.strip.dot >= self.strip.frame_height
+
+    def holds(self, reach):
+        """Whether no dot of so many bytes is lost."""
+        return 8 * reach <= self.strip.room and not self.is_below()
 
     def sent(self, row):
         number = int.from_bytes(row, "big")
-        black, inside = number.bit_count(), (number >> max(0, 8 * len(row) - self.room)).bit_count()
-        below = inside if (self.y + self.top) // self.dot >= self.frame_height else 0
+        black, inside = number.bit_count(), (number >> max(0, 8 * len(row) - self.strip.room)).bit_count()
+        below = inside if self.is_below() else 0
         return Sent(1, black, black - inside, below, 0)
 
     def go_on(self):
-        self.y = min(self.lowest, self.y + self.step)
+        self.y = min(self.strip.lowest, self.y + self.strip.step)
         self.count += 1
 
 

@@ -17,7 +17,7 @@ from .explained import of_end, rows
 from .listing import sides as listed_sides
 
 ROWS_IN_CHUNK, ENTRIES_IN_CHUNK, BYTES_IN_CHUNK = 500, 500, 1 << 20
-LEVEL = 6
+LEVEL = 4
 LONGEST_LINE, LONGEST_REMARK = 120, 1000
 IGNORED, SENDS, REPLIES = 1, 2, 4
 MOST_PICTURES = 500
