@@ -58,7 +58,7 @@ impl Body {
     pub fn is_used_up(&self) -> bool
         ensures { IsTrue result ↔ (self.now ≡ []) }
     {
-        self.commands.command_at(self.place).is_none()
+        self.commands.end_at(self.place)
     }
 
     /// An equal body, which shares the commands.

@@ -2,7 +2,7 @@
 //! command has, in four bytes, the highest first, and these bytes (PCL 5 Printer Language Technical Reference Manual,
 //! Macros; the records are this profile's).
 
-ghost use Rattle.std.specs.Prelude.{◌≡◌, ◌++◌, ◌∷◌, [], length, take, drop, option_map, slice_get, OnOk, OnErr, IfOk, IfSome};
+ghost use Rattle.std.specs.Prelude.{◌≡◌, ◌↔◌, ◌++◌, ◌∷◌, [], length, take, drop, option_map, slice_get, IsTrue, OnOk, OnErr, IfOk, IfSome};
 ghost use Rattle.std.specs.List.{AllByRecursion};
 ghost use Rattle.press_cmd.specs.Stored.{IsSound};
 ghost use Rattle.press_cmd.specs.View.{token};
@@ -70,6 +70,14 @@ impl Records {
         ensures { AllByRecursion IsSound self.now }
     {
         let _ = &self.bytes;
+    }
+
+    /// Whether no record begins at this place.
+    pub fn end_at(&self, place: usize) -> bool
+        requires { AreRecordsFrom place (encoded self.now) }
+        ensures { IsTrue result ↔ (decoded (drop place (encoded self.now)) ≡ []) }
+    {
+        place == self.bytes.len()
     }
 
     /// The first of the commands whose records begin at this place, if there is one, and the place behind its record.
