@@ -1,6 +1,6 @@
 //! A scanner that is fed a stream in pieces, and gives its commands.
 
-ghost use Rattle.std.specs.Prelude.{◌≡◌, ◌≤◌, ◌-◌, [], ◌++◌, true, false, length, drop, take, vec_len, IsOk, OnOk, OnErr, IfOk, IfSome, IfNone};
+ghost use Rattle.std.specs.Prelude.{◌≡◌, ◌≤◌, ◌-◌, [], ◌++◌, true, false, length, drop, take, vec_len, IsOk, OnOk, OnErr, IfOk, IfSome, IfNone, MatchOption};
 ghost use Rattle.std.specs.Borrow.{sem};
 ghost use Rattle.press_cmd.specs.Split.{NoHead};
 ghost use Rattle.press_cmd.specs.Mode.{Exit};
@@ -12,6 +12,7 @@ ghost use Rattle.press_scan.specs.Gives.{IsNext, IsDone};
 ghost use Rattle.press_scan.specs.Rest.{IsRestLength};
 ghost use Rattle.press_scan.specs.Sequences.{longest_rest};
 ghost use Rattle.press_scan.specs.ScannerState.{buffer_size, least_free, taken};
+ghost use Rattle.press_scan.specs.Passing.{PassesOver};
 
 use crate::awaited::awaited;
 use crate::buffer::{drop_consumed, make_room};
@@ -19,6 +20,7 @@ use crate::closing::close;
 use crate::head::{head, scanned_in};
 use crate::line::plain_front;
 use crate::mode::Mode;
+use crate::passing::{Passed, byte_kind, passed_front};
 use crate::reading::Found;
 use press_cmd::Command;
 use std::alloc::{AllocError, Global};
@@ -240,6 +242,24 @@ impl Scanner {
                 Ok(None)
             }
         }
+    }
+
+    /// Passes over the next commands at once, as long as each is a text byte or a byte of another language, or, with `controls`,
+    /// a control byte, and answers how many; none where the next is another one. It may end before such a command, too.
+    pub fn pass(&mut self, controls: bool) -> Option<Passed>
+        ensures { MatchOption result (self.new ≡ self.old)
+            (λ passed. PassesOver controls self.old passed self.new) }
+    {
+        let held = &self.buffer[self.start..];
+        let count = passed_front(self.mode, controls, held);
+        if count == 0 {
+            return None;
+        }
+        let kind = byte_kind(self.mode, held[count - 1]);
+        self.start += count;
+        self.searched = 0;
+        self.awaited = 1;
+        Some(Passed { count, kind })
     }
 
     /// Gives the end of input: from now on the rest is closed.
