@@ -8,6 +8,7 @@ use Rattle.press_cmd.specs.Token.{Token}
 use Rattle.press_engine.specs.declared.effect.Effect.{Effect}
 use Rattle.press_engine.specs.declared.effect.Effect.TheVariants as effects
 use Rattle.press_engine.specs.declared.effect.BodyEnd.{BodyEnd}
+use Rattle.press_engine.specs.declared.effect.BodyStart.{BodyStart}
 use Rattle.press_engine.specs.declared.effect.Closer.{Closer}
 use Rattle.press_engine.specs.declared.effect.Sent.{Sent}
 use Rattle.press_engine.specs.declared.effect.Sent.TheVariants as sents
@@ -21,6 +22,7 @@ use Rattle.press_engine.specs.Stack as stack
 use Rattle.press_engine.specs.Stack.{source_in, begun_in_overlay, begun_finished, begun_outside, begins, step_outer, step_inner, begun_body, begun_only, begun_close_with, Stepped, ended_by, end_of, pops}
 use Rattle.press_engine.specs.declared.stepping.Begun.{Begun}
 use Rattle.press_engine.specs.Calls.{overlay_body}
+use Rattle.press_engine.specs.Calls as calls
 use Rattle.press_engine.specs.Outcome as rows
 use Rattle.press_engine.specs.Stepping.{begun_of, used_up, is_top_used_up, finished, stepped_of}
 
@@ -45,9 +47,9 @@ starts-at in_overlay (suc more) old body end some =
     let one : suc more - 1 ≡ more = omega arith in
     ap (λ (n : ℕ). begun_body in_overlay n body end old.state old) one ∙ starts-is in_overlay more old body end
 
-pub begun-starts : (new old : Machine) (in_overlay : Bool) (levels : ℕ) (started : Frame) (effect : Effect) (body : List Token) (end : BodyEnd) → effect ≡ effects.Starts body end → (levels ≡ 0 → ⊥) → record { item = quiet new; started = started ∷ [] } ≡ begun_body in_overlay (levels - 1) body end old.state old → begun_of new (record { sent = sents.Nothing; started = Some started }) ≡ stack.begun in_overlay levels old (effect_of old.state effect)
-begun-starts new old in_overlay levels started effect body end is some begins =
-    begins ∙ starts-at in_overlay levels old body end some ∙ ap (λ (one : Effect). stack.begun in_overlay levels old (effect_of old.state one)) (sym is)
+pub begun-starts : (new old : Machine) (in_overlay : Bool) (levels : ℕ) (started : Frame) (effect : Effect) (body : List Token) (start : BodyStart) → effect ≡ effects.Starts body start → (levels ≡ 0 → ⊥) → record { item = quiet new; started = started ∷ [] } ≡ begun_body in_overlay (levels - 1) body (calls.end_of start old.state) old.state old → begun_of new (record { sent = sents.Nothing; started = Some started }) ≡ stack.begun in_overlay levels old (effect_of old.state effect)
+begun-starts new old in_overlay levels started effect body start is some begins =
+    begins ∙ starts-at in_overlay levels old body (calls.end_of start old.state) some ∙ ap (λ (one : Effect). stack.begun in_overlay levels old (effect_of old.state one)) (sym is)
 
 ended-used : (body : List Token) (rest : List Frame) (frame : Frame) (run : Run) → used_up body ≡ true → ended_by body rest frame (pops rest) run ≡ pops rest (then_run run.outputs (end_of frame run.machine))
 ended-used [] rest frame run is = refl

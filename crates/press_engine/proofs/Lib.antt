@@ -16,3 +16,4 @@ pub mod WorkedStreams
 pub mod WorkedMacros
 pub mod PageKeptLemmas
 pub mod StepLaws
+pub mod PassingLaws

@@ -11,6 +11,8 @@ use Rattle.press_page.specs.declared.media.Media.{Media}
 use Rattle.press_engine.specs.declared.calls.Kept.{Kept}
 use Rattle.press_engine.specs.declared.effect.BodyEnd.{BodyEnd}
 use Rattle.press_engine.specs.declared.effect.BodyEnd.TheVariants as ends
+use Rattle.press_engine.specs.declared.effect.BodyStart.{BodyStart}
+use Rattle.press_engine.specs.declared.effect.BodyStart.TheVariants as starts
 use Rattle.press_engine.specs.declared.state.State.{State}
 use Rattle.press_engine.specs.Drawing.{initial_drawing}
 use Rattle.press_engine.specs.Motion.{to_home}
@@ -46,6 +48,11 @@ restored kept state =
       cursor = clamped (logical_page_of environment) state.cursor;
       graphics = None;
     }
+
+-- what comes at the end of a body that starts in a state
+abbrev pub end_of : BodyStart → State → BodyEnd
+end_of starts.Execute state = ends.Execute
+end_of starts.Call state = ends.Call (kept_of state)
 
 -- What comes at the start of a body and at its end: nothing for a macro that is executed; a call ends raster graphics, and
 -- restores what it kept.

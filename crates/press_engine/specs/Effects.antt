@@ -3,6 +3,7 @@ use Rattle.std.specs.Prelude.{Bool, true, false}
 use Rattle.press_engine.specs.declared.effect.Effect.{Effect}
 use Rattle.press_engine.specs.declared.effect.Effect.TheVariants as effects
 use Rattle.press_engine.specs.declared.state.State.{State}
+use Rattle.press_engine.specs.Calls.{end_of}
 use Rattle.press_engine.specs.Outcome as rows
 
 abbrev pub effect_of : State → Effect → rows.Effect
@@ -11,7 +12,7 @@ effect_of state effects.Makes = rows.Makes state
 effect_of state (effects.GivesReply reply) = rows.GivesReply reply state
 effect_of state (effects.Stays closer) = rows.Stays closer state
 effect_of state (effects.Closes closer) = rows.Closes closer state
-effect_of state (effects.Starts body end) = rows.Starts body end state
+effect_of state (effects.Starts body start) = rows.Starts body (end_of start state) state
 
 -- whether all is done: nothing goes out, no page closes, and no body starts
 abbrev pub is_done : Effect → Bool
@@ -20,4 +21,4 @@ is_done effects.Makes = true
 is_done (effects.GivesReply reply) = false
 is_done (effects.Stays closer) = false
 is_done (effects.Closes closer) = false
-is_done (effects.Starts body end) = false
+is_done (effects.Starts body start) = false

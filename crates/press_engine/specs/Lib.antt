@@ -16,6 +16,7 @@ pub mod Motion
 pub mod Operation
 pub mod Outcome
 pub mod Outputs
+pub mod Passing
 pub mod Patterns
 pub mod Place
 pub mod Raster

@@ -1,5 +1,5 @@
 -- What steps of the code stand for.
-use Rattle.std.specs.Prelude.{◌≡◌, List, [], ◌∷◌, ◌++◌, Bool, true, false, option_to_list}
+use Rattle.std.specs.Prelude.{◌≡◌, ◌≢◌, ◌⊎◌, List, [], ◌∷◌, ◌++◌, Bool, true, false, option_to_list}
 use Rattle.press_cmd.specs.Token.{Token}
 use Rattle.press_engine.specs.declared.effect.Effect.{Effect}
 use Rattle.press_engine.specs.declared.effect.Sent.{Sent}
@@ -13,7 +13,7 @@ use Rattle.press_engine.specs.Outputs.{outputs_of, all_outputs}
 use Rattle.press_engine.specs.Outcome as outcome
 use Rattle.press_engine.specs.declared.state.State.{State}
 use Rattle.press_engine.specs.Stack as stack
-use Rattle.press_engine.specs.Stack.{Stepped, pops, source_in}
+use Rattle.press_engine.specs.Stack.{Stepped, pops, source_in, EndsOverlay}
 
 abbrev pub begun_of : Machine → Begun → stack.Begun
 begun_of machine it = record {
@@ -46,6 +46,10 @@ run_of machine out = record { machine = machine; outputs = all_outputs out }
 
 abbrev pub stepped_of : Machine → List Sent → List Frame → Stepped
 stepped_of machine out frames = record { item = run_of machine out; frames = frames }
+
+-- what a step began lets something out, starts a body, or ends an overlay
+abbrev pub GoesOn : stack.Begun → List Frame → Type 0
+GoesOn begin frames = (begin.item.outputs ≢ []) ⊎ (begin.started ≢ []) ⊎ EndsOverlay frames
 
 -- what a step began, with the bodies round it
 abbrev pub finished : stack.Begun → List Frame → Stepped

@@ -94,7 +94,8 @@ impl Bodies {
     ) -> Result<StepOutput, AllocError>
         requires none { self.old ≡ [] }
         ensures steps { MatchResult result
-            (λ step. StepsTo (trace_at levels (token command.entry) machine.old) step machine.new self.new)
+            (λ step. StepsTo (trace_at levels (token command.entry) machine.old) step
+            machine.new self.new)
             (λ _. self.new ≡ []) }
         ensures kind { IfOk result (λ step. step.kind ≡ kind_of (token command.entry)) }
         ensures memory { IsErr result

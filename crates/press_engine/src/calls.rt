@@ -4,7 +4,7 @@ ghost use Rattle.std.specs.Prelude.{◌≡◌};
 ghost use Rattle.press_engine.specs.Calls.{lies_as, restored_environment, overlay_environment};
 
 use crate::drawing::Drawing;
-use crate::effect::BodyEnd;
+use crate::effect::{BodyEnd, BodyStart};
 use crate::state::State;
 use press_cursor::CursorPosition;
 use press_macros::Body;
@@ -62,7 +62,7 @@ fn overlay_environment(environment: PageEnv) -> PageEnv
 impl State {
     ghost use Rattle.std.specs.Prelude.{◌≡◌, IfOk, IsErr, IsSome};
     ghost use Rattle.press_cursor.specs.Cursor.{at};
-    ghost use Rattle.press_engine.specs.Calls.{kept_of, restored, at_start, at_end, overlay_body, overlaid};
+    ghost use Rattle.press_engine.specs.Calls.{kept_of, end_of, restored, at_start, at_end, overlay_body, overlaid};
     ghost use Rattle.press_engine.specs.Outcome.{bounds};
 
     /// What a call keeps.
@@ -73,6 +73,16 @@ impl State {
             environment: self.environment,
             drawing: self.drawing,
             macro_id: self.macro_id,
+        }
+    }
+
+    /// What comes at the end of a body that starts now.
+    pub fn end_of(&self, start: BodyStart) -> BodyEnd
+        ensures { result ≡ end_of start self.now }
+    {
+        match start {
+            BodyStart::Execute => BodyEnd::Execute,
+            BodyStart::Call => BodyEnd::Call(self.kept()),
         }
     }
 

@@ -118,6 +118,13 @@ pub enum Source {
     Overlay,
 }
 
+/// How the body of a macro starts.
+#[derive(Clone, Copy, PartialEq, Eq)]
+pub enum BodyStart {
+    Execute,
+    Call,
+}
+
 /// What comes when the body of a macro is used up.
 #[derive(Clone, Copy)]
 pub enum BodyEnd {
@@ -141,7 +148,7 @@ pub enum Effect {
     /// The page closes.
     Closes(Closer),
     /// The body of a macro starts, where one more may run.
-    Starts(Body, BodyEnd),
+    Starts(Body, BodyStart),
 }
 
 impl Effect {

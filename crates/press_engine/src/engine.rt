@@ -37,6 +37,7 @@ impl Engine {
     ghost use Rattle.press_engine.specs.Stack.{HasNext, IsReady, owed};
     ghost use Rattle.press_engine.specs.Trace.{trace_at};
     ghost use Rattle.press_engine.specs.Outputs.{all_outputs};
+    ghost use Rattle.press_engine.specs.Passing.{SkipsBytes, SkipsControls, passed};
     ghost use Rattle.press_engine.specs.Engine.{live, bodies, HasFailed, Sends, Steps, Runs, TakesNext, NeedsMemory, InnerNeedsMemory, view_of};
 
     /// An engine after power on.
@@ -130,6 +131,32 @@ impl Engine {
             return Err(EngineError::NoMemory);
         };
         Ok(step)
+    }
+
+    /// Whether text bytes of the stream, and bytes of another language, have no effect now.
+    #[inline(always)]
+    pub fn skips_bytes(&self) -> bool
+        ensures { IsTrue result → IfSome (live self.now) (λ machine. SkipsBytes machine.state) }
+    {
+        self.machine.state.skips_bytes()
+    }
+
+    /// Whether control bytes of the stream have no effect now.
+    #[inline(always)]
+    pub fn skips_controls(&self) -> bool
+        ensures { IsTrue result → IfSome (live self.now) (λ machine. SkipsControls machine.state) }
+    {
+        self.machine.state.skips_controls()
+    }
+
+    /// Counts so many steps at once, the last of which took a command of this kind: those of as many commands of the stream that
+    /// have no effect.
+    #[inline(always)]
+    pub fn pass(&mut self, count: usize, kind: Kind)
+        ensures passed { live self.new ≡ option_map (passed count kind) (live self.old) }
+        ensures bodies { bodies self.new ≡ bodies self.old }
+    {
+        self.machine.pass(count, kind);
     }
 
     /// Hands what goes out in a step to the sinks, in order: each sheet in its copies under a tag, and the replies.

@@ -2,6 +2,7 @@
 
 ghost use Rattle.press_engine.specs.Laws.{TraceTellsTheRun, TraceGoesOn, OneStepIsTheRun, AtMostFourBodies};
 ghost use Rattle.press_engine.specs.PageKept.{OthersKeepThePage};
+ghost use Rattle.press_engine.specs.Passing.{PassingIsCounted};
 ghost use Rattle.press_engine.specs.Stack.{InnerStepIsOwed, OuterStepIsOwed};
 ghost use Rattle.press_engine.specs.Steps.{EachItemIsOneStep};
 
@@ -39,4 +40,10 @@ pub fn each_item_is_one_step()
 /// A command of the stream whose row marks and closes no page and starts no body has one item, which leaves the open page as it is.
 pub fn others_keep_the_page()
     ensures { OthersKeepThePage }
+{}
+
+/// Commands of the stream that have no effect, one after another, leave as many steps more and the kind of the last of them, and
+/// nothing goes out.
+pub fn passing_is_counted()
+    ensures { PassingIsCounted }
 {}

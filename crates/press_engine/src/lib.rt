@@ -19,6 +19,7 @@ mod macros;
 mod motion;
 mod operation;
 mod page_kept;
+mod passing;
 mod pattern_control;
 mod patterns;
 mod raster;

@@ -4,7 +4,7 @@ ghost use Rattle.std.specs.Prelude.{◌≡◌};
 ghost use Rattle.press_units.specs.Value.{whole_part};
 ghost use Rattle.press_engine.specs.Macros.{is_stop};
 
-use crate::effect::{BodyEnd, Effect, Source};
+use crate::effect::{BodyStart, Effect, Source};
 use crate::macro_control::MacroControl;
 use crate::operation::{Operation, operation_of};
 use crate::state::State;
@@ -46,6 +46,7 @@ impl State {
     ghost use Rattle.std.specs.Prelude.{◌≡◌, IfOk, IsErr};
     ghost use Rattle.press_cmd.specs.View.{token};
     ghost use Rattle.press_units.specs.Value.{whole_part};
+    ghost use Rattle.press_engine.specs.Calls.{end_of};
     ghost use Rattle.press_engine.specs.Effects.{effect_of};
     ghost use Rattle.press_engine.specs.Engine.{TakesMemory};
     ghost use Rattle.press_engine.specs.Macros.{set_macro_id, recording, start_from, stop, run_macro, controlled, control_macro};
@@ -62,7 +63,7 @@ impl State {
     }
 
     /// Whether a macro definition is open.
-    fn is_recording(&self) -> bool
+    pub fn is_recording(&self) -> bool
         ensures { result ≡ recording self.now }
     {
         self.macros.defining().is_some()
@@ -72,8 +73,7 @@ impl State {
     pub fn records(&self, command: &Command<'_>) -> bool
         ensures { result ≡ is_recorded (token command.now) self.now }
     {
-        let operation = operation_of(kind(command));
-        self.is_recording() && !operation.passes_definition(command.value())
+        self.is_recording() && !operation_of(kind(command)).passes_definition(command.value())
     }
 
     /// Starts a macro definition, where none is open and no body runs.
@@ -98,13 +98,13 @@ impl State {
     }
 
     /// The body of the macro under the macro ID starts, if there is such a macro.
-    fn run_macro(&self, end: BodyEnd) -> Result<Effect, AllocError>
+    fn run_macro(&self, start: BodyStart) -> Result<Effect, AllocError>
         ensures effect { IfOk result (λ effect.
-            effect_of self.now effect ≡ run_macro end self.now) }
-        ensures memory { IsErr result → TakesMemory (run_macro end self.now) }
+            effect_of self.now effect ≡ run_macro (end_of start self.now) self.now) }
+        ensures memory { IsErr result → TakesMemory (run_macro (end_of start self.now) self.now) }
     {
         match self.macros.body(self.macro_id)? {
-            Some(body) => Ok(Effect::Starts(body, end)),
+            Some(body) => Ok(Effect::Starts(body, start)),
             None => Ok(Effect::Changes),
         }
     }
@@ -119,8 +119,8 @@ impl State {
         match control {
             MacroControl::Start => self.start_definition(source),
             MacroControl::Stop => return self.stop_definition(),
-            MacroControl::Execute => return self.run_macro(BodyEnd::Execute),
-            MacroControl::Call => return self.run_macro(BodyEnd::Call(self.kept())),
+            MacroControl::Execute => return self.run_macro(BodyStart::Execute),
+            MacroControl::Call => return self.run_macro(BodyStart::Call),
             MacroControl::EnableOverlay => self.overlay = Some(id),
             MacroControl::DisableOverlay => self.overlay = None,
             MacroControl::DeleteAll => self.macros.delete_all(),

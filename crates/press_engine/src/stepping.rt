@@ -6,7 +6,7 @@ ghost use Rattle.press_engine.specs.Outputs.{outputs_of, all_outputs};
 ghost use Rattle.press_engine.specs.Stepping.{is_top_used_up};
 
 use crate::calls::Kept;
-use crate::effect::{BodyEnd, Closer, Effect, Sent, Source};
+use crate::effect::{BodyStart, Closer, Effect, Sent, Source};
 use crate::frame::{Frame, FrameEnd};
 use crate::machine::{LEVELS, Machine, OVERLAY_LEVELS};
 use press_cmd::Command;
@@ -87,7 +87,7 @@ fn push_sent(out: &mut Vec<Sent>, sent: Sent) -> Result<(), AllocError>
 impl Machine {
     ghost use Rattle.std.specs.Prelude.{◌≡◌, ◌≢◌, ◌⊎◌, [], ◌∷◌, ◌++◌, List, option_to_list, IfOk, OnOk, IsErr};
     ghost use Rattle.press_cmd.specs.Token.{Token};
-    ghost use Rattle.press_engine.specs.Calls.{overlay_body};
+    ghost use Rattle.press_engine.specs.Calls.{overlay_body, end_of};
     ghost use Rattle.press_engine.specs.Effects.{effect_of};
     ghost use Rattle.press_engine.specs.Engine.{TakesMemory, InnerTakesMemory};
     ghost use Rattle.press_engine.specs.Machine.{quiet, then_run, with_state, taken};
@@ -97,7 +97,7 @@ impl Machine {
     ghost use Rattle.press_engine.specs.Stack.{begun, begun_body, begun_only, begun_close_with, end_by, pops, leave_overlay_with};
     ghost use Rattle.press_engine.specs.Outputs.{outputs_of, all_outputs};
     ghost use Rattle.press_engine.specs.declared.effect.Source.TheVariants.{Stream};
-    ghost use Rattle.press_engine.specs.Stepping.{begun_of, first_effect, TakesFirst, finished, run_of, stepped_of};
+    ghost use Rattle.press_engine.specs.Stepping.{begun_of, first_effect, TakesFirst, finished, GoesOn, run_of, stepped_of};
     ghost use Rattle.press_engine.specs.Table.{effect_on};
 
     /// Takes the first command that is left of a body.
@@ -119,11 +119,13 @@ impl Machine {
     }
 
     /// The body of a macro starts.
-    fn begin_body(&mut self, in_overlay: bool, levels: u8, body: Body, end: BodyEnd) -> Frame
+    fn begin_body(&mut self, in_overlay: bool, levels: u8, body: Body, start: BodyStart) -> Frame
         ensures { record { item = quiet self.new; started = result ∷ [] }
-            ≡ begun_body in_overlay levels body end self.old.state self.old }
+            ≡ begun_body in_overlay levels body (end_of start self.old.state) self.old.state
+            self.old }
     {
         let depth = self.depth;
+        let end = self.state.end_of(start);
         self.enter_body(&end);
         Frame {
             body,
@@ -177,13 +179,13 @@ impl Machine {
         ensures memory { IsErr result → TakesMemory (effect_of self.old.state effect) }
     {
         match effect {
-            Effect::Starts(body, end) => {
+            Effect::Starts(body, start) => {
                 if levels == 0 {
                     return Ok(Begun::only(Sent::Nothing));
                 }
                 Ok(Begun {
                     sent: Sent::Nothing,
-                    started: Some(self.begin_body(in_overlay, levels - 1, body, end)),
+                    started: Some(self.begin_body(in_overlay, levels - 1, body, start)),
                 })
             }
             Effect::Closes(closer) => {
@@ -275,6 +277,27 @@ impl Machine {
         Ok(out)
     }
 
+    /// The rest of a step in which not all is done. It stands apart from the others, which need no room for what it begins.
+    #[inline(never)]
+    fn go_on(
+        &mut self,
+        alloc: Global,
+        in_overlay: bool,
+        levels: u8,
+        effect: Effect,
+        frames: &mut Vec<Frame>,
+    ) -> Result<Vec<Sent>, AllocError>
+        ensures steps { IfOk result (λ out. stepped_of self.new out.items frames.new.items
+            ≡ finished (begun in_overlay levels self.old (effect_of self.old.state effect))
+            frames.old.items) }
+        ensures memory { IsErr result → TakesMemory (effect_of self.old.state effect)
+            ⊎ GoesOn (begun in_overlay levels self.old (effect_of self.old.state effect))
+            frames.old.items }
+    {
+        let it = self.begin(alloc, in_overlay, levels, effect)?;
+        self.finish_step(alloc, it, frames)
+    }
+
     /// The rest of a step in which all is done: the bodies that are used up end.
     fn end_step(&mut self, alloc: Global, frames: &mut Vec<Frame>) -> Result<Vec<Sent>, AllocError>
         ensures steps { IfOk result (λ out. stepped_of self.new out.items frames.new.items
@@ -303,8 +326,7 @@ impl Machine {
         if effect.is_done() {
             return Ok(Vec::new(alloc));
         }
-        let it = self.begin(alloc, false, LEVELS, effect)?;
-        self.finish_step(alloc, it, frames)
+        self.go_on(alloc, false, LEVELS, effect, frames)
     }
 
     /// Takes the first command of the innermost body.
@@ -314,9 +336,11 @@ impl Machine {
         frames: &mut Vec<Frame>,
     ) -> Result<Vec<Sent>, AllocError>
         requires running { HasNext frames.old.items }
-        ensures steps { IfOk result (λ out. (frame : Frame) (command : Token) (rest : List Token) (outer : List Frame)
+        ensures steps { IfOk result (λ out.
+            (frame : Frame) (command : Token) (rest : List Token) (outer : List Frame)
             → frames.old.items ≡ record frame { body = command ∷ rest } ∷ outer
-            → stepped_of self.new out.items frames.new.items ≡ step_inner frame command rest outer self.old) }
+            → stepped_of self.new out.items frames.new.items
+            ≡ step_inner frame command rest outer self.old) }
         ensures memory { IsErr result → InnerTakesMemory frames.old.items self.old }
     {
         let in_overlay = frames[0].in_overlay;
@@ -325,7 +349,6 @@ impl Machine {
         if effect.is_done() {
             return self.end_step(alloc, frames);
         }
-        let it = self.begin(alloc, in_overlay, levels, effect)?;
-        self.finish_step(alloc, it, frames)
+        self.go_on(alloc, in_overlay, levels, effect, frames)
     }
 }

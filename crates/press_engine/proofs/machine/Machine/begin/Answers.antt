@@ -8,7 +8,7 @@ use Rattle.press_engine.specs.Outcome.{Outcome}
 use Rattle.press_engine.specs.Outputs.{outputs_of}
 use Rattle.press_engine.specs.Stack.{Begun, begun}
 use Rattle.press_engine.specs.Stepping.{begun_of}
-use Rattle.press_engine.specs.declared.effect.BodyEnd.{BodyEnd}
+use Rattle.press_engine.specs.declared.effect.BodyStart.{BodyStart}
 use Rattle.press_engine.specs.declared.effect.Closer.{Closer}
 use Rattle.press_engine.specs.declared.effect.Effect.{Effect}
 use Rattle.press_engine.specs.declared.effect.Effect.TheVariants as effects
@@ -23,11 +23,11 @@ returns-else-in_overlay-clause-begins c =
 
 pub returns-else-levels-eq0-clause-begins : goal.returns-else-levels-eq0-clause-begins
 returns-else-levels-eq0-clause-begins c =
-    begun-starts c.begin_body.new.self c.args.self.now c.args.in_overlay c.args.levels c.begin_body.result c.args.effect c.in-Starts.body c.in-Starts.end c.in-Starts.is c.if-levels-eq0.false c.begin_body.ensures
+    begun-starts c.begin_body.new.self c.args.self.now c.args.in_overlay c.args.levels c.begin_body.result c.args.effect c.in-Starts.body c.in-Starts.start c.in-Starts.is c.if-levels-eq0.false c.begin_body.ensures
 
 -- what an effect begins that closes no page and starts no body
 others : (levels : ℕ) (old : Machine) (new : State) (effect : Effect) (sent : Sent) →
-    ((closer : Closer) → effect ≡ effects.Closes closer → ⊥) → ((body : List Token) (end : BodyEnd) → effect ≡ effects.Starts body end → ⊥) →
+    ((closer : Closer) → effect ≡ effects.Closes closer → ⊥) → ((body : List Token) (start : BodyStart) → effect ≡ effects.Starts body start → ⊥) →
     record { state = new; outputs = outputs_of sent } ≡ finish_effect (effect_of old.state effect) →
     begun_of (with_state new old) (record { sent = sent; started = None }) ≡ begun false levels old (effect_of old.state effect)
 others levels old new effect sent closes starts finishes = go levels effect closes starts finishes
@@ -35,7 +35,7 @@ others levels old new effect sent closes starts finishes = go levels effect clos
     began : Outcome → Begun
     began outcome = record { item = record { machine = with_state outcome.state old; outputs = outcome.outputs }; started = [] }
 
-    go : (levels : ℕ) (effect : Effect) → ((closer : Closer) → effect ≡ effects.Closes closer → ⊥) → ((body : List Token) (end : BodyEnd) → effect ≡ effects.Starts body end → ⊥) →
+    go : (levels : ℕ) (effect : Effect) → ((closer : Closer) → effect ≡ effects.Closes closer → ⊥) → ((body : List Token) (start : BodyStart) → effect ≡ effects.Starts body start → ⊥) →
         record { state = new; outputs = outputs_of sent } ≡ finish_effect (effect_of old.state effect) →
         began (record { state = new; outputs = outputs_of sent }) ≡ begun false levels old (effect_of old.state effect)
     go zero effects.Changes closes starts finishes = ap began finishes
@@ -43,13 +43,13 @@ others levels old new effect sent closes starts finishes = go levels effect clos
     go zero (effects.GivesReply reply) closes starts finishes = ap began finishes
     go zero (effects.Stays closer) closes starts finishes = ap began finishes
     go zero (effects.Closes closer) closes starts finishes = absurd (closes closer refl)
-    go zero (effects.Starts body end) closes starts finishes = absurd (starts body end refl)
+    go zero (effects.Starts body start) closes starts finishes = absurd (starts body start refl)
     go (suc more) effects.Changes closes starts finishes = ap began finishes
     go (suc more) effects.Makes closes starts finishes = ap began finishes
     go (suc more) (effects.GivesReply reply) closes starts finishes = ap began finishes
     go (suc more) (effects.Stays closer) closes starts finishes = ap began finishes
     go (suc more) (effects.Closes closer) closes starts finishes = absurd (closes closer refl)
-    go (suc more) (effects.Starts body end) closes starts finishes = absurd (starts body end refl)
+    go (suc more) (effects.Starts body start) closes starts finishes = absurd (starts body start refl)
 
 pub returns-in_ok-finish_effect-in_default-clause-begins : goal.returns-in_ok-finish_effect-in_default-clause-begins
 returns-in_ok-finish_effect-in_default-clause-begins c =

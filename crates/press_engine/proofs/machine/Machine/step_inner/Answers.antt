@@ -1,11 +1,11 @@
-use Rattle.std.proofs.Common.{◌≡◌, ◌∙◌, List, ◌∷◌, inl, inr, refl, sym, ap, subst, slice_index_or, slice_set}
+use Rattle.std.proofs.Common.{◌≡◌, ◌∙◌, ◌⊎◌, List, ◌∷◌, inl, inr, refl, sym, ap, subst, slice_index_or, slice_set}
 use Rattle.press_engine.specs.declared.frame.Frame.{Frame}
 use Rattle.press_engine.specs.Effects.{effect_of}
 use Rattle.press_engine.specs.Engine.{TakesMemory}
 use Rattle.press_engine.specs.Stack as stack
 use Rattle.press_engine.specs.Machine.{quiet}
 use Rattle.press_engine.specs.Stack.{source_in, begins, begun_only, EndsOverlay}
-use Rattle.press_engine.specs.Stepping.{begun_of, first_effect, finished}
+use Rattle.press_engine.specs.Stepping.{first_effect, finished, GoesOn}
 use Rattle.press_engine.specs.Table.{effect_on}
 use Rattle.press_engine.proofs.EndsLemmas.{takes-inner, begins-from, done-begins, steps-inner}
 use Rattle.press_engine.proofs.StepLemmas.{inner-memory}
@@ -13,9 +13,10 @@ use Rattle.press_engine.proofs.machine.Machine.step_inner.Goals as goal
 
 pub returns-clause-steps : goal.returns-clause-steps
 returns-clause-steps c =
-    let one = begun_of c.begin.new.self c.in_ok-it.it in
+    let effect = effect_of c.take_first.new.self.state c.in_ok-effect.effect in
+    let one = stack.begun c.index.result.now.in_overlay c.index-2.result.now.levels c.take_first.new.self effect in
     let frames = slice_set c.args.frames.now.items 0 c.take_first.new.frame in
-    steps-inner c.finish_step.result c.finish_step.new.self c.args.self.now c.finish_step.new.frames.items c.args.frames.now.items (finished one frames)
+    steps-inner c.go_on.result c.go_on.new.self c.args.self.now c.go_on.new.frames.items c.args.frames.now.items (finished one frames)
     (λ frame command rest outer is.
     let first : c.index.result.now ≡ record frame { body = command ∷ rest } = c.index.ensures ∙ ap (λ (frames : List Frame). slice_index_or frames 0 c.index.result.now) is in
     let second : c.index-2.result.now ≡ record frame { body = command ∷ rest } = c.index-2.ensures ∙ ap (λ (frames : List Frame). slice_index_or frames 0 c.index-2.result.now) is in
@@ -23,33 +24,37 @@ returns-clause-steps c =
     let taken = c.in_ok-effect.ensures.takes command rest (ap (λ (one : Frame). one.body) lent) in
     let gives = taken.0.0 ∙ (λ i. effect_on (source_in (lent i).in_overlay (lent i).levels) command c.args.self.now.state) in
     let begun : one ≡ begins frame.in_overlay frame.levels command c.args.self.now =
-    c.in_ok-it.ensures.begins
-    ∙ (λ i. stack.begun (first i).in_overlay (second i).levels c.take_first.new.self (effect_of c.take_first.new.self.state c.in_ok-effect.effect))
+    (λ i. stack.begun (first i).in_overlay (second i).levels c.take_first.new.self effect)
     ∙ begins-from frame.in_overlay frame.levels command c.args.self.now c.take_first.new.self c.in_ok-effect.effect taken.0.1 gives in
     let all : frames ≡ record frame { body = rest } ∷ outer =
     ap (λ (frames : List Frame). slice_set frames 0 c.take_first.new.frame) is
     ∙ ap (λ (one : Frame). one ∷ outer) taken.1
     ∙ ap (λ (one : Frame). record one { body = rest } ∷ outer) lent in
     takes-inner frame command rest outer frames c.args.self.now one begun all)
-    c.finish_step.ensures.steps
+    c.go_on.ensures.steps
 
 pub returns-clause-memory : goal.returns-clause-memory
 returns-clause-memory c stops =
     let (frame, command, rest, outer, is) = c.requires.running in
+    let effect = effect_of c.take_first.new.self.state c.in_ok-effect.effect in
+    let one = stack.begun c.index.result.now.in_overlay c.index-2.result.now.levels c.take_first.new.self effect in
     let first : c.index.result.now ≡ record frame { body = command ∷ rest } = c.index.ensures ∙ ap (λ (frames : List Frame). slice_index_or frames 0 c.index.result.now) is in
     let second : c.index-2.result.now ≡ record frame { body = command ∷ rest } = c.index-2.ensures ∙ ap (λ (frames : List Frame). slice_index_or frames 0 c.index-2.result.now) is in
     let lent : c.index_mut.result.now ≡ record frame { body = command ∷ rest } = c.index_mut.ensures.value ∙ ap (λ (frames : List Frame). slice_index_or frames 0 c.index_mut.result.now) is in
     let taken = c.in_ok-effect.ensures.takes command rest (ap (λ (one : Frame). one.body) lent) in
     let gives = taken.0.0 ∙ (λ i. effect_on (source_in (lent i).in_overlay (lent i).levels) command c.args.self.now.state) in
-    let begun : begun_of c.begin.new.self c.in_ok-it.it ≡ begins frame.in_overlay frame.levels command c.args.self.now =
-    c.in_ok-it.ensures.begins
-    ∙ (λ i. stack.begun (first i).in_overlay (second i).levels c.take_first.new.self (effect_of c.take_first.new.self.state c.in_ok-effect.effect))
+    let begun : one ≡ begins frame.in_overlay frame.levels command c.args.self.now =
+    (λ i. stack.begun (first i).in_overlay (second i).levels c.take_first.new.self effect)
     ∙ begins-from frame.in_overlay frame.levels command c.args.self.now c.take_first.new.self c.in_ok-effect.effect taken.0.1 gives in
     let all : slice_set c.args.frames.now.items 0 c.take_first.new.frame ≡ record frame { body = rest } ∷ outer =
     ap (λ (frames : List Frame). slice_set frames 0 c.take_first.new.frame) is
     ∙ ap (λ (one : Frame). one ∷ outer) taken.1
     ∙ ap (λ (one : Frame). record one { body = rest } ∷ outer) lent in
-    (frame, command, rest, outer, is, inner-memory frame command rest outer (slice_set c.args.frames.now.items 0 c.take_first.new.frame) c.args.self.now (begun_of c.begin.new.self c.in_ok-it.it) begun all (c.finish_step.ensures.memory stops))
+    let takes : TakesMemory effect ⊎ GoesOn one (slice_set c.args.frames.now.items 0 c.take_first.new.frame) = c.go_on.ensures.memory stops in
+    elim takes [
+      | inl makes ↦ (frame, command, rest, outer, is, inl (subst TakesMemory gives makes))
+      | inr goes ↦ (frame, command, rest, outer, is, inner-memory frame command rest outer (slice_set c.args.frames.now.items 0 c.take_first.new.frame) c.args.self.now one begun all goes)
+    ]
 
 pub returns-in_err-effect-clause-memory : goal.returns-in_err-effect-clause-memory
 returns-in_err-effect-clause-memory c stops =
@@ -57,14 +62,6 @@ returns-in_err-effect-clause-memory c stops =
     let lent : c.index_mut.result.now ≡ record frame { body = command ∷ rest } = c.index_mut.ensures.value ∙ ap (λ (frames : List Frame). slice_index_or frames 0 c.index_mut.result.now) is in
     let P : Frame → Type 0 = λ one. TakesMemory (first_effect one command c.args.self.now.state) in
     (frame, command, rest, outer, is, inl (subst P lent (c.in_err-effect.ensures.memory refl command rest (ap (λ (one : Frame). one.body) lent))))
-
-pub returns-in_err-it-clause-memory : goal.returns-in_err-it-clause-memory
-returns-in_err-it-clause-memory c stops =
-    let (frame, command, rest, outer, is) = c.requires.running in
-    let lent : c.index_mut.result.now ≡ record frame { body = command ∷ rest } = c.index_mut.ensures.value ∙ ap (λ (frames : List Frame). slice_index_or frames 0 c.index_mut.result.now) is in
-    let taken = c.in_ok-effect.ensures.takes command rest (ap (λ (one : Frame). one.body) lent) in
-    let gives = taken.0.0 ∙ (λ i. effect_on (source_in (lent i).in_overlay (lent i).levels) command c.args.self.now.state) in
-    (frame, command, rest, outer, is, inl (subst TakesMemory gives (c.in_err-it.ensures.memory refl)))
 
 pub returns-then-is_done-clause-steps : goal.returns-then-is_done-clause-steps
 returns-then-is_done-clause-steps c =

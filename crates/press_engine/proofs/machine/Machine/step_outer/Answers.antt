@@ -1,9 +1,11 @@
-use Rattle.std.proofs.Common.{◌≡◌, ◌∙◌, false, sym, ap}
+use Rattle.std.proofs.Common.{◌≡◌, ◌∙◌, false, inl, inr, sym, ap, subst}
 use Rattle.press_cmd.specs.View.{token}
+use Rattle.press_engine.specs.Effects.{effect_of}
+use Rattle.press_engine.specs.Engine.{TakesMemory}
 use Rattle.press_engine.specs.Machine.{levels, quiet}
 use Rattle.press_engine.specs.Outputs.{all_outputs}
-use Rattle.press_engine.specs.Stack.{Stepped, step_outer, begins, begun_only}
-use Rattle.press_engine.specs.Stepping.{begun_of, finished}
+use Rattle.press_engine.specs.Stack.{Stepped, step_outer, begins, begun, begun_only}
+use Rattle.press_engine.specs.Stepping.{finished}
 use Rattle.press_engine.specs.Table.{effect_on}
 use Rattle.press_engine.proofs.EndsLemmas.{takes-outer, begins-from, done-begins, steps-by}
 use Rattle.press_engine.proofs.StepLemmas.{outer-memory}
@@ -13,19 +15,23 @@ pub returns-clause-steps : goal.returns-clause-steps
 returns-clause-steps c =
     let command = token c.args.command in
     let old = c.args.self.now in
-    let one = begun_of c.begin.new.self c.in_ok-it.it in
+    let one = begun false levels c.take.new.self (effect_of c.take.new.self.state c.in_ok-effect.effect) in
     let gives = c.in_ok-effect.ensures.effect ∙ ap (λ source. effect_on source command old.state) c.within.ensures in
-    let begins = c.in_ok-it.ensures.begins ∙ begins-from false levels command old c.take.new.self c.in_ok-effect.effect c.in_ok-effect.ensures.taken gives in
-    steps-by c.finish_step.result c.finish_step.new.self c.finish_step.new.frames.items (finished one c.args.frames.now.items) (step_outer command old)
-    (takes-outer command old one c.args.frames.now.items begins c.requires.none) c.finish_step.ensures.steps
+    let begins = begins-from false levels command old c.take.new.self c.in_ok-effect.effect c.in_ok-effect.ensures.taken gives in
+    steps-by c.go_on.result c.go_on.new.self c.go_on.new.frames.items (finished one c.args.frames.now.items) (step_outer command old)
+    (takes-outer command old one c.args.frames.now.items begins c.requires.none) c.go_on.ensures.steps
 
 pub returns-clause-memory : goal.returns-clause-memory
 returns-clause-memory c stops =
     let command = token c.args.command in
     let old = c.args.self.now in
+    let one = begun false levels c.take.new.self (effect_of c.take.new.self.state c.in_ok-effect.effect) in
     let gives = c.in_ok-effect.ensures.effect ∙ ap (λ source. effect_on source command old.state) c.within.ensures in
-    let begins = c.in_ok-it.ensures.begins ∙ begins-from false levels command old c.take.new.self c.in_ok-effect.effect c.in_ok-effect.ensures.taken gives in
-    outer-memory command old (begun_of c.begin.new.self c.in_ok-it.it) c.args.frames.now.items begins c.requires.none (c.finish_step.ensures.memory stops)
+    let begins = begins-from false levels command old c.take.new.self c.in_ok-effect.effect c.in_ok-effect.ensures.taken gives in
+    elim (c.go_on.ensures.memory stops) [
+      | inl takes ↦ subst TakesMemory gives takes
+      | inr goes ↦ outer-memory command old one c.args.frames.now.items begins c.requires.none goes
+    ]
 
 pub returns-then-is_done-clause-steps : goal.returns-then-is_done-clause-steps
 returns-then-is_done-clause-steps c =
