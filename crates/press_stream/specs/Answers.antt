@@ -150,6 +150,14 @@ RunsOut old tag (Ok _) new before after =
     Goes old [] [] tag new before after × (new.bodies ≡ []) × (most_commands new ≤ most_commands old) × (new.held.ended ≡ old.held.ended)
 RunsOut old tag (Err error) new before after = FaultsBefore old [] tag error new before after
 
+-- A job in which no body runs took commands of its stream, and nothing goes out in any of them.
+pub record PassesOn (old new : JobState) : Type 0 where
+  pub given : List Token
+  pub goes : (tag : ℕ) (told : Told) → Goes old [] given tag new told told
+  pub idle : new.bodies ≡ []
+  pub fewer : most_commands new ≤ most_commands old
+  pub ended : new.held.ended ≡ old.held.ended
+
 -- A job carried out what it holds, until it is hungry or no step is left.
 abbrev pub Drains : JobState → ℕ → Result (Unit {0}) JobError → JobState → Told → Told → Type 0
 Drains old tag (Ok _) new before after =

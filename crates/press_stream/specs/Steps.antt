@@ -3,6 +3,7 @@ use Rattle.std.specs.Prelude.{◌≡◌, ◌⊎◌, List, [], ◌∷◌, Option,
 use Rattle.press_cmd.specs.Token.{Token, Uel}
 use Rattle.press_cmd.specs.declared.variant.Kind.{Kind}
 use Rattle.press_scan.specs.Gives.{Passes, IsDone}
+use Rattle.press_scan.specs.Passing.{PassesEach}
 use Rattle.press_scan.specs.ScannerState.{ScannerState}
 use Rattle.press_engine.specs.declared.effect.StepOutput.{StepOutput}
 use Rattle.press_engine.specs.declared.frame.Frame.{Frame}
@@ -11,7 +12,7 @@ use Rattle.press_engine.specs.Engine.{IsOfKind, NeedsMemory, Steps}
 use Rattle.press_engine.specs.Machine.{Run, levels}
 use Rattle.press_engine.specs.Outputs.{all_outputs}
 use Rattle.press_engine.specs.Stack.{owed, HasNext}
-use Rattle.press_engine.specs.Trace.{trace_at}
+use Rattle.press_engine.specs.Trace.{trace_at, run_all}
 use Rattle.press_stream.specs.declared.fault.JobError.{JobError}
 use Rattle.press_stream.specs.declared.fault.JobError.TheVariants as errors
 use Rattle.press_stream.specs.State.{JobState}
@@ -65,3 +66,12 @@ abbrev pub CarriesNext : ScannerState → Option Machine → Result (Option Step
 CarriesNext held old (Ok (Some step)) next new still = (command : Token) × Passes held command next × CarriesOne command old (Ok step) new still
 CarriesNext held old (Ok None) next new still = IsDone held × (next ≡ held) × (new ≡ old) × (still ≡ [])
 CarriesNext held old (Err error) next new still = (command : Token) × Passes held command next × CarriesOne command old (Err error) new still
+
+-- Commands that a scanner holds were handed to an engine one after another, and what they leave is left; nothing goes out.
+pub record CarriesIdle (held : ScannerState) (old : Option Machine) (next : ScannerState) (new : Option Machine) : Type 0 where
+  pub given : List Token
+  pub each : PassesEach held given next
+  pub from : Machine
+  pub starts : old ≡ Some from
+  pub ends : new ≡ Some (run_all given from).machine
+  pub nothing : (run_all given from).outputs ≡ []

@@ -4,7 +4,7 @@ ghost use Rattle.std.specs.Prelude.{◌≡◌, [], IsSome, IsOk};
 ghost use Rattle.press_cmd.specs.View.{token};
 ghost use Rattle.press_scan.specs.ScannerState.{buffer_size};
 ghost use Rattle.press_engine.specs.Engine.{live, bodies};
-ghost use Rattle.press_stream.specs.Answers.{TakesStep};
+ghost use Rattle.press_stream.specs.Answers.{TakesStep, PassesOn};
 ghost use Rattle.press_stream.specs.State.{job_state, Fits};
 ghost use Rattle.press_stream.specs.Steps.{CarriesOne, CarriesNext};
 ghost use Rattle.press_stream.specs.declared.phase.Phase.TheVariants.{Running};
@@ -66,4 +66,22 @@ pub fn take(
     let step = carry(engine, Command::Uel)?;
     *phase = Phase::Exited;
     Ok(JobStep::Ran(step))
+}
+
+/// Hands the next commands that a scanner holds to an engine at once, as long as each has one byte and no effect.
+#[inline(always)]
+pub fn pass(scanner: &mut Scanner, engine: &mut Engine)
+    requires running { IsSome (live engine.old) }
+    requires none { bodies engine.old ≡ [] }
+    requires room { scanner.old.room ≡ buffer_size }
+    ensures passes { PassesOn (job_state scanner.old engine.old Running)
+        (job_state scanner.new engine.new Running) }
+    ensures fits { Fits scanner.new engine.new Running }
+{
+    if !engine.skips_bytes() {
+        return;
+    }
+    if let Some(passed) = scanner.pass(engine.skips_controls()) {
+        engine.pass(passed.count, passed.kind);
+    }
 }

@@ -1,6 +1,6 @@
 //! A stream that is carried out as its pieces come.
 
-use crate::carrying::take;
+use crate::carrying::{pass, take};
 use crate::fault::JobError;
 use crate::phase::Phase;
 use crate::reading::{PIECE, ReadCount, read_next};
@@ -52,7 +52,7 @@ impl Job {
     ghost use Rattle.press_engine.specs.Stack.{IsReady};
     ghost use Rattle.press_stream.specs.Left.{LeftWith};
     ghost use Rattle.press_stream.specs.State.{opened, with_piece, input_ended, IsHungry, IsOver, IsAfterEnd};
-    ghost use Rattle.press_stream.specs.Answers.{Pushes, IsGoing, IsEarly, TakesStep, HandsOver, Takes, WantsMemory, RunsOut, Drains, ComesToWant, Feeds, Finishes, RunsReader, CountsFaults, fault_of};
+    ghost use Rattle.press_stream.specs.Answers.{Pushes, IsGoing, IsEarly, TakesStep, HandsOver, Takes, WantsMemory, RunsOut, PassesOn, Drains, ComesToWant, Feeds, Finishes, RunsReader, CountsFaults, fault_of};
     ghost use Rattle.press_stream.specs.Pieces.{most_reads, no_reads, HasFault};
 
     /// A job at the beginning of a stream, with an engine after power on.
@@ -161,7 +161,9 @@ impl Job {
         ensures hands { HandsOver tag (all_outputs sent.now) result
             (both (S.told sheets.old) (P.told replies.old))
             (both (S.told sheets.new) (P.told replies.new)) }
-        ensures left { MatchResult result (λ _. self.new ≡ self.old) (λ _. self.new.machine ≡ None) }
+        ensures left { MatchResult result
+            (λ _. self.new ≡ self.old)
+            (λ _. self.new.machine ≡ None) }
         ensures memory { IsErrOf result JobError.NoMemory → all_outputs sent.now ≢ [] }
     {
         match self.engine.hand_over(sent, tag, sheets, replies) {
@@ -433,6 +435,18 @@ impl Job {
         Ok(())
     }
 
+    /// Takes the next commands of the stream at once, as long as each has one byte and no effect.
+    #[inline(always)]
+    fn pass(&mut self)
+        requires running { IsSome self.old.machine }
+        requires none { self.old.bodies ≡ [] }
+        ensures { PassesOn self.old self.new }
+    {
+        if let Phase::Running = self.phase {
+            pass(&mut self.scanner, &mut self.engine);
+        }
+    }
+
     /// Takes steps until there is none to take.
     fn drain<S: SheetSink, P: ReplySink>(
         &mut self,
@@ -449,8 +463,10 @@ impl Job {
             → ComesToWant self.old tag (both (S.told sheets.old) (P.told replies.old)) }
     {
         self.run_out(tag, sheets, replies)?;
+        self.pass();
         while let Step::Ran(_) = self.step(tag, sheets, replies)? {
             self.run_out(tag, sheets, replies)?;
+            self.pass();
         }
         Ok(())
     }

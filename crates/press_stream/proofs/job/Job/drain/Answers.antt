@@ -15,12 +15,13 @@ returns-in_err-run_out-clause-drains g c =
 pub loop-self-init : goal.loop-self-init
 loop-self-init g c =
     let out = rw c.in_ok-run_out.was at c.run_out.ensures.runs_out in
+    let over = c.pass.ensures in
     record {
-      given = [];
-      goes = out.0;
-      still = out.3;
+      given = over.given;
+      goes = Goes-after c.args.self.now c.run_out.new.self c.pass.new.self [] [] over.given c.args.tag _ _ _ out.0 (over.goes c.args.tag _);
+      still = over.ended ∙ out.3;
       can_count = can_count-then [] out.0.items c.args.self.now c.run_out.new.self c.args.tag _ _ out.0.carried c.requires.can_count;
-      idle = out.1;
+      idle = over.idle;
     }
 
 pub returns-in_err-step-clause-drains : goal.returns-in_err-step-clause-drains
@@ -62,12 +63,14 @@ loop-self-preserved g c =
     let so_far = c.loop-self.invariant in
     let goes = Goes-after c.args.self.now c.loop-self.self c.step.new.self [] so_far.given did.given c.args.tag _ _ _ so_far.goes one in
     let can = can_count-then did.given one.items c.loop-self.self c.step.new.self c.args.tag _ _ one.carried so_far.can_count in
+    let over = c.pass-in-Ran.ensures in
+    let then = Goes-after c.args.self.now c.step.new.self c.run_out-in-Ran.new.self [] (so_far.given ++ did.given) [] c.args.tag _ _ _ goes out.0 in
     record {
-      given = (so_far.given ++ did.given) ++ [];
-      goes = Goes-after c.args.self.now c.step.new.self c.run_out-in-Ran.new.self [] (so_far.given ++ did.given) [] c.args.tag _ _ _ goes out.0;
-      still = out.3 ∙ taken-ended c.loop-self.self c.step.new.self did.given did.takes ∙ so_far.still;
+      given = ((so_far.given ++ did.given) ++ []) ++ over.given;
+      goes = Goes-after c.args.self.now c.run_out-in-Ran.new.self c.pass-in-Ran.new.self [] ((so_far.given ++ did.given) ++ []) over.given c.args.tag _ _ _ then (over.goes c.args.tag _);
+      still = over.ended ∙ out.3 ∙ taken-ended c.loop-self.self c.step.new.self did.given did.takes ∙ so_far.still;
       can_count = can_count-then [] out.0.items c.step.new.self c.run_out-in-Ran.new.self c.args.tag _ _ out.0.carried can;
-      idle = out.1;
+      idle = over.idle;
     }
 
 pub loop-self-smaller : goal.loop-self-smaller
@@ -75,4 +78,4 @@ loop-self-smaller g c =
     let ran = rw (c.in_ok-step.was, c.in-Ran.is) at c.step.ensures.takes in
     let did = ran.did in
     let out = rw c.in_ok-run_out-2.was at c.run_out-in-Ran.ensures.runs_out in
-    omega (arith, one_taken c.loop-self.self did.given c.loop-self.invariant.idle (taken-of c.loop-self.self c.step.new.self did.given did.takes), taken-fewer c.loop-self.self c.step.new.self did.given did.takes, out.2)
+    omega (arith, one_taken c.loop-self.self did.given c.loop-self.invariant.idle (taken-of c.loop-self.self c.step.new.self did.given did.takes), taken-fewer c.loop-self.self c.step.new.self did.given did.takes, out.2, c.pass-in-Ran.ensures.fewer)

@@ -1,0 +1,129 @@
+-- Commands of one byte each that a job takes at once.
+use Rattle.std.proofs.Common.{◌≡◌, ◌∙◌, ◌≤◌, ◌+◌, ℕ, List, [], ◌∷◌, ◌++◌, length, Bool, true, false, Option, Some, None, IsSome, IfSome, IsTrue, refl, sym, ap, subst, arith, append-nil}
+use Rattle.std.specs.Prelude.{option_map}
+use Rattle.std.specs.List.{AllByRecursion}
+use Rattle.press_cmd.specs.Token.{Token, Escape, Grouped, Ungrouped, Control, Text, Broken, Uel, PjlLine, ForeignByte}
+use Rattle.press_cmd.specs.Split.{Steps}
+use Rattle.press_scan.specs.declared.passing.Passed.{Passed}
+use Rattle.press_scan.specs.Passing.{PassesEach, IsOneByte, PassesOver}
+use Rattle.press_scan.specs.ScannerState.{ScannerState}
+use Rattle.press_sink.specs.Told.{Told}
+use Rattle.press_sink.specs.Sending.{Output, Complete, WentOut}
+use Rattle.press_sink.proofs.SendingLemmas.{TookAll-none}
+use Rattle.press_engine.specs.declared.frame.Frame.{Frame}
+use Rattle.press_engine.specs.declared.machine.Machine.{Machine}
+use Rattle.press_engine.specs.declared.state.State.{State}
+use Rattle.press_engine.specs.Machine.{Run}
+use Rattle.press_engine.specs.Passing.{HasNoEffect, SkipsBytes, SkipsControls, passed}
+use Rattle.press_engine.specs.Stack.{owed}
+use Rattle.press_engine.specs.Trace.{last_machine, joined, trace, run_all}
+use Rattle.press_engine.proofs.PassingLaws.{passing_is_counted}
+use Rattle.press_stream.specs.Answers.{PassesOn}
+use Rattle.press_stream.specs.Meaning.{left, Carried, Owes, Goes}
+use Rattle.press_stream.specs.State.{JobState, most_commands}
+use Rattle.press_stream.specs.Steps.{CarriesIdle}
+use Rattle.press_stream.proofs.Going.{Goes-none, passes-to_end}
+
+-- ---- what a scanner passes over
+
+-- The end of input and the room stay, and there are fewer bytes.
+pub record StaysSo (old new : ScannerState) : Type 0 where
+  pub ended : new.ended ≡ old.ended
+  pub room : new.room ≡ old.room
+  pub fewer : length new.bytes ≤ length old.bytes
+
+pub each-stays : (given : List Token) (old new : ScannerState) → PassesEach old given new → StaysSo old new
+each-stays [] old new is = rw is (record { ended = refl; room = refl; fewer = omega arith })
+each-stays (command ∷ given) old new (next, passes, others) =
+    let more = each-stays given next new others in
+    record { ended = more.ended ∙ passes.ended; room = more.room ∙ passes.room; fewer = omega (arith, more.fewer, passes.used) }
+
+each-steps : (given : List Token) (old new : ScannerState) → old.ended ≡ false → PassesEach old given new → Steps old.mode old.bytes given new.mode new.bytes
+each-steps [] old new going is = rw is (refl, refl)
+each-steps (command ∷ given) old new going (next, passes, others) =
+    let (used, bytes_are, head) = passes.head going in
+    (used, next.bytes, next.mode, bytes_are, head, each-steps given next new (passes.ended ∙ going) others)
+
+each-owes : (given : List Token) (old new : JobState) → old.exited ≡ false → new.exited ≡ false → PassesEach old.held given new.held → (more : List ℕ) (commands : List Token) → Owes new more commands → Owes old more (given ++ commands)
+each-owes [] old new going still is more commands owes =
+    let P : ScannerState → Bool → Type 0 = λ held exited. Owes (record old { held = held; exited = exited }) more commands in
+    subst (λ (held : ScannerState). P held old.exited) is (subst (λ (exited : Bool). P new.held exited) (still ∙ sym going) owes)
+each-owes (command ∷ given) old new going still (next, passes, others) more commands owes =
+    let between : JobState = record old { held = next; exited = false } in
+    passes-to_end old between command more (given ++ commands) going refl passes (each-owes given between new refl still others more commands owes)
+
+-- ---- what an engine leaves of them
+
+no_effect : (controls : Bool) (state : State) → SkipsBytes state → (IsTrue controls → SkipsControls state) → (command : Token) → IsOneByte controls command → HasNoEffect state command
+no_effect controls state bytes some (Text byte) one = bytes.text byte
+no_effect controls state bytes some (ForeignByte byte) one = bytes.foreign byte
+no_effect controls state bytes some (Control byte) one = some one byte
+no_effect controls state bytes some (Escape byte) one = absurd one
+no_effect controls state bytes some (Grouped character group field end payload) one = absurd one
+no_effect controls state bytes some (Ungrouped character field end payload) one = absurd one
+no_effect controls state bytes some (Broken broken) one = absurd one
+no_effect controls state bytes some Uel one = absurd one
+no_effect controls state bytes some (PjlLine line) one = absurd one
+
+no_effects : (controls : Bool) (state : State) → SkipsBytes state → (IsTrue controls → SkipsControls state) → (commands : List Token) → AllByRecursion (IsOneByte controls) commands → AllByRecursion (HasNoEffect state) commands
+no_effects controls state bytes some [] all = tt
+no_effects controls state bytes some (command ∷ commands) all = (no_effect controls state bytes some command all.0, no_effects controls state bytes some commands all.1)
+
+pub CarriesIdle-none : (held : ScannerState) (machine : Option Machine) → IsSome machine → CarriesIdle held machine held machine
+unfolding Rattle.press_engine.specs.Trace.trace_each
+CarriesIdle-none held (Some machine) running = record { given = []; each = refl; from = machine; starts = refl; ends = refl; nothing = refl }
+CarriesIdle-none held None running = absurd (cc)
+
+pub CarriesIdle-some : (controls : Bool) (held next : ScannerState) (old new : Option Machine) (over : Passed) → IsSome old
+    → IfSome old (λ machine. SkipsBytes machine.state) → (IsTrue controls → IfSome old (λ machine. SkipsControls machine.state))
+    → PassesOver controls held over next → new ≡ option_map (passed over.count over.kind) old → CarriesIdle held old next new
+CarriesIdle-some controls held next (Some machine) new over running bytes some passes is =
+    let given = passes.front ++ passes.last ∷ [] in
+    let run = passing_is_counted passes.front passes.last machine (no_effects controls machine.state bytes some given passes.bytes) in
+    let ends : passed over.count over.kind machine ≡ (run_all given machine).machine = rw (passes.count, passes.kind) (sym (ap (λ (r : Run). r.machine) run)) in
+    record {
+      given = given;
+      each = passes.each;
+      from = machine;
+      starts = refl;
+      ends = is ∙ ap (λ (m : Machine). Some m) ends;
+      nothing = ap (λ (r : Run). r.outputs) run;
+    }
+CarriesIdle-some controls held next None new over running bytes some passes is = absurd (cc)
+
+-- ---- how a job goes on by them
+
+pub passes_on : (old new : JobState) → old.exited ≡ false → new.exited ≡ false → old.bodies ≡ [] → new.bodies ≡ [] → CarriesIdle old.held old.machine new.held new.machine → PassesOn old new
+passes_on old new going still idle none carries =
+    let given = carries.given in
+    let from = carries.from in
+    let items = trace given from in
+    let stays = each-stays given old.held new.held carries.each in
+    record {
+      given = given;
+      goes = λ tag told. record {
+        items = items;
+        so_far = λ now.
+            let before : old.held.ended ≡ false = sym stays.ended ∙ now in
+            let P : List ℕ → Type 0 = λ all. Steps old.held.mode all given new.held.mode new.held.bytes in
+            (before, subst P (sym (append-nil old.held.bytes)) (each-steps given old.held new.held before carries.each));
+        to_end = each-owes given old new going still carries.each;
+        carried = record {
+          from = from;
+          starts = carries.starts;
+          ends = carries.ends;
+          are =
+              ap (λ (bodies : List Frame). left given bodies from) idle
+              ∙ sym (append-nil items)
+              ∙ ap (λ (bodies : List Frame). items ++ owed bodies (last_machine from items)) (sym none);
+          went = subst (λ (outputs : List Output). WentOut tag outputs Complete told told) (sym carries.nothing) (TookAll-none tag told);
+        };
+      };
+      idle = none;
+      fewer = rw (going, still) (omega (arith, stays.fewer));
+      ended = stays.ended;
+    }
+
+-- in a job that runs no more nothing is taken
+pub PassesOn-none : (job : JobState) → IsSome job.machine → job.bodies ≡ [] → PassesOn job job
+PassesOn-none job running idle = record { given = []; goes = λ tag told. Goes-none job tag told running; idle = idle; fewer = omega arith; ended = refl }
