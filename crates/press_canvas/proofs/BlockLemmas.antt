@@ -8,7 +8,7 @@ use Rattle.std.specs.Int.Bits.{and_lt}
 use Rattle.std.proofs.lemmas.List.{get_or-set_same, get_or-set_other, length-set}
 use Rattle.press_bits.specs.Words.{word_dot}
 use Rattle.press_bits.proofs.WordLemmas.{word_dot-and, word_dot-or, word_dot-not, shifted_right, shifted_left, white_before, white_behind}
-use Rattle.press_canvas.specs.Block.{block_dot, dot_from, is_front, line_from, IsStep}
+use Rattle.press_canvas.specs.Block.{block_dot, dot_from, is_front, line_from, swapped_place, IsStep}
 
 -- ---- what holds of each number below a bound, tried one by one
 
@@ -416,3 +416,47 @@ turned_whole old words down i j low_i low_j =
     let line : j / 1 * 1 + i % 1 ≡ j = omega arith in
     let dot : i / 1 * 1 + j % 1 ≡ i = omega arith in
     down i j low_i low_j ∙ (λ t. block_dot old (line t) (dot t))
+
+-- ---- words that are read backwards
+
+pub chosen_dot : (test : Bool) (word j step : ℕ) (a b : Bool) → a ≡ (if test then word_dot word (j + step) else b) →
+    (if test then a else word_dot word (j - step)) ≡ word_dot word (if test then j + step else j - step)
+chosen_dot true word j step a b is = is
+chosen_dot false word j step a b is = refl
+
+-- A word after the steps down to stretches of so many: these stand in the other order, each as it was.
+abbrev pub IsMirroredDown : (size old word : ℕ) → Type 0
+IsMirroredDown size old word = (j : ℕ) → j < 64 → word_dot word j ≡ word_dot old ((63 - j) / size * size + j % size)
+
+abbrev pub Swaps : (step word new : ℕ) → Type 0
+Swaps step word new = (j : ℕ) → j < 64 → word_dot new j ≡ word_dot word (swapped_place step j)
+
+mirrored : (step size old word new : ℕ) → ((j : ℕ) → j < 64 → swapped_place step j < 64) →
+    ((j : ℕ) → j < 64 → (63 - swapped_place step j) / size * size + swapped_place step j % size ≡ (63 - j) / step * step + j % step) →
+    IsMirroredDown size old word → Swaps step word new → IsMirroredDown step old new
+mirrored step size old word new small place before swaps j low =
+    swaps j low ∙ before (swapped_place step j) (small j low) ∙ ap (word_dot old) (place j low)
+
+pub mirrored_32 : (old new : ℕ) → Swaps 32 old new → IsMirroredDown 32 old new
+mirrored_32 old new =
+    mirrored 32 64 old old new (λ j low. grind (arith, nat_tests)) (λ j low. grind (arith, nat_tests)) (λ j low. ap (word_dot old) (omega (arith, low)))
+
+pub mirrored_16 : (old word new : ℕ) → IsMirroredDown 32 old word → Swaps 16 word new → IsMirroredDown 16 old new
+mirrored_16 old word new = mirrored 16 32 old word new (λ j low. grind (arith, nat_tests)) (λ j low. grind (arith, nat_tests))
+
+pub mirrored_8 : (old word new : ℕ) → IsMirroredDown 16 old word → Swaps 8 word new → IsMirroredDown 8 old new
+mirrored_8 old word new = mirrored 8 16 old word new (λ j low. grind (arith, nat_tests)) (λ j low. grind (arith, nat_tests))
+
+pub mirrored_4 : (old word new : ℕ) → IsMirroredDown 8 old word → Swaps 4 word new → IsMirroredDown 4 old new
+mirrored_4 old word new = mirrored 4 8 old word new (λ j low. grind (arith, nat_tests)) (λ j low. grind (arith, nat_tests))
+
+pub mirrored_2 : (old word new : ℕ) → IsMirroredDown 4 old word → Swaps 2 word new → IsMirroredDown 2 old new
+mirrored_2 old word new = mirrored 2 4 old word new (λ j low. grind (arith, nat_tests)) (λ j low. grind (arith, nat_tests))
+
+pub mirrored_1 : (old word new : ℕ) → IsMirroredDown 2 old word → Swaps 1 word new → IsMirroredDown 1 old new
+mirrored_1 old word new = mirrored 1 2 old word new (λ j low. grind (arith, nat_tests)) (λ j low. grind (arith, nat_tests))
+
+pub mirrored_whole : (old word : ℕ) → IsMirroredDown 1 old word → (j : ℕ) → j < 64 → word_dot word j ≡ word_dot old (63 - j)
+mirrored_whole old word down j low =
+    let place : (63 - j) / 1 * 1 + j % 1 ≡ 63 - j = omega arith in
+    down j low ∙ ap (word_dot old) place

@@ -3,4 +3,3 @@ pub mod BlockLemmas
 pub mod LineLemmas
 pub mod FrameLemmas
 pub mod ColumnLemmas
-mod StripLemmas

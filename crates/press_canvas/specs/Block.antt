@@ -10,6 +10,10 @@ block_dot words line dot = word_dot (slice_index words line) dot
 abbrev pub is_front : (step place : ℕ) → Bool
 is_front step place = nat_eq (place / step % 2) 0
 
+-- the place in the stretch beside its own
+abbrev pub swapped_place : (step place : ℕ) → ℕ
+swapped_place step place = if is_front step place then place + step else place - step
+
 -- The line and the dot that come to a place where the squares of so many lines and dots beside the diagonal are exchanged.
 abbrev pub line_from : (step line dot : ℕ) → ℕ
 line_from step line dot =

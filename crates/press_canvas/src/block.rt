@@ -2,7 +2,7 @@
 
 ghost use Rattle.std.specs.Prelude.{◌≡◌, ℕ, ◌+◌, ◌-◌, ◌<◌, if◌then◌else◌, length};
 ghost use Rattle.press_bits.specs.Words.{word_dot};
-ghost use Rattle.press_canvas.specs.Block.{block_dot, dot_from, is_front, line_from, IsStep};
+ghost use Rattle.press_canvas.specs.Block.{block_dot, dot_from, is_front, line_from, swapped_place, IsStep};
 
 /// The front line of a pair of lines, after the dots at its rear and those at the front of the other one are exchanged.
 #[inline(always)]
@@ -22,6 +22,28 @@ fn rear_line(front: u64, rear: u64, step: usize, fronts: u64) -> u64
         ≡ (if is_front step j then word_dot front (j + step) else word_dot rear j) }
 {
     ((front & !fronts) << step) | (rear & !fronts)
+}
+
+/// The dots of a word, of which each stretch of so many has changed places with the one beside it.
+#[inline(always)]
+fn swapped(word: u64, step: usize, fronts: u64) -> u64
+    requires { IsStep step fronts }
+    ensures { (j : ℕ) → j < 64 → word_dot result j ≡ word_dot word (swapped_place step j) }
+{
+    front_line(rear_line(word, 0, step, fronts), word, step, fronts)
+}
+
+/// The dots of a word, from the last one back.
+#[inline(always)]
+pub(crate) fn reversed(word: u64) -> u64
+    ensures { (j : ℕ) → j < 64 → word_dot result j ≡ word_dot word (63 - j) }
+{
+    let halves = swapped(word, 32, 0xFFFF_FFFF_0000_0000);
+    let sixteens = swapped(halves, 16, 0xFFFF_0000_FFFF_0000);
+    let eights = swapped(sixteens, 8, 0xFF00_FF00_FF00_FF00);
+    let fours = swapped(eights, 4, 0xF0F0_F0F0_F0F0_F0F0);
+    let pairs = swapped(fours, 2, 0xCCCC_CCCC_CCCC_CCCC);
+    swapped(pairs, 1, 0xAAAA_AAAA_AAAA_AAAA)
 }
 
 /// Exchanges the two squares of so many lines and dots that stand beside the diagonal, in each square of twice as many.

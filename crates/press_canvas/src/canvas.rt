@@ -88,7 +88,8 @@ impl Canvas {
 
     /// The frame of the page, for one who paints marks on it.
     pub fn frame(&mut self) -> &mut Frame
-        ensures* writes_back { sem 𝓛 (Lends the_row frame_row self.entry result (λ frame. frame_page frame)) }
+        ensures* writes_back { sem 𝓛
+            (Lends the_row frame_row self.entry result (λ frame. frame_page frame)) }
         ensures value { frame_page result.now ≡ self.old }
     {
         &mut self.frame

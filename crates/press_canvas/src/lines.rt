@@ -7,6 +7,7 @@ ghost use Rattle.press_bits.specs.Words.{word_dot};
 ghost use Rattle.press_canvas.specs.Strip.{place_at};
 ghost use Rattle.press_canvas.specs.Turned.{with_line};
 
+use crate::block::reversed;
 use press_bits::{Bitmap, DotRow, MAX_SIDE, Mode, WIDEST_ROW, put_word, word_from};
 use std::alloc::AllocError;
 
@@ -28,7 +29,7 @@ fn word_back(bits: &[u8], dots: usize, after: usize) -> u64
     } else {
         word_from(bits, left - 64)
     };
-    word.reverse_bits()
+    reversed(word)
 }
 
 /// So many dots of a row, from the last one back.
@@ -59,7 +60,8 @@ pub(crate) fn place_at(back: bool, places: u32, place: u32) -> u32
 /// Where memory ran out.
 pub(crate) fn put_line(page: &mut Bitmap, y: u32, bits: &[u8]) -> Result<(), AllocError>
     requires enough { page.old.width ≤ 8 * length bits.now }
-    requires white { (x : ℕ) → x < page.old.width → y < page.old.height → black_at page.old x y ≡ false }
+    requires white { (x : ℕ) → x < page.old.width → y < page.old.height
+        → black_at page.old x y ≡ false }
     ensures { OnOk result (page.new ≡ with_line page.old y (row_dot bits.now)) }
 {
     let dots = page.width() as usize;
@@ -87,7 +89,8 @@ pub(crate) fn put_row(
 ) -> Result<(), AllocError>
     requires enough { page.old.width ≤ 8 * length bits.now }
     requires room { length room.old ≡ WIDEST_ROW }
-    requires white { (x : ℕ) → x < page.old.width → y < page.old.height → black_at page.old x y ≡ false }
+    requires white { (x : ℕ) → x < page.old.width → y < page.old.height
+        → black_at page.old x y ≡ false }
     ensures put { OnOk result (page.new ≡ with_line page.old y
         (λ x. row_dot bits.now (place_at back page.old.width x))) }
     ensures room { length room.new ≡ WIDEST_ROW }
@@ -95,6 +98,11 @@ pub(crate) fn put_row(
     if !back {
         return put_line(page, y, bits);
     }
-    reverse(bits, page.width() as usize, room);
+    let dots = page.width() as usize;
+    let row = DotRow { bits, dots };
+    if row.is_white() {
+        return Ok(());
+    }
+    reverse(bits, dots, room);
     put_line(page, y, room)
 }

@@ -1,10 +1,10 @@
-use Rattle.std.proofs.Common.{◌≡◌, ◌∙◌, ◌-◌, ◌<◌, true, false, ap, subst, sym, rules}
+use Rattle.std.proofs.Common.{◌≡◌, ◌∙◌, ◌-◌, ◌<◌, true, false, refl, ap, subst, sym, rules}
 use Rattle.press_bits.specs.Mark.{row_dot}
 use Rattle.press_bits.specs.Page.{Page}
 use Rattle.press_bits.proofs.BandLemmas.{after_ok}
 use Rattle.press_canvas.specs.Strip.{place_at}
 use Rattle.press_canvas.specs.Turned.{with_line}
-use Rattle.press_canvas.proofs.LineLemmas.{with_line_alike}
+use Rattle.press_canvas.proofs.LineLemmas.{white_line, with_line_alike}
 use Rattle.press_canvas.proofs.lines.put_row.Goals as goal
 
 pub returns-then-not-back-clause-put : goal.returns-then-not-back-clause-put
@@ -16,6 +16,13 @@ returns-then-not-back-clause-put c =
     (λ is. is ∙ with_line_alike page c.args.y (row_dot bits) (λ x. row_dot bits (place_at c.args.back page.width x)) (λ x _. ap (λ b. row_dot bits (place_at b page.width x)) (sym forward)))
     c.put_line.ensures
 
+pub returns-then-is_white-clause-put : goal.returns-then-is_white-clause-put
+returns-then-is_white-clause-put c =
+    let page : Page = c.args.page.now in
+    let bits = c.args.bits.now in
+    white_line page c.args.y (λ x. row_dot bits (place_at c.args.back page.width x)) c.width-dots.ensures.inside c.requires.white
+    (λ x _. c.if-is_white.ensures refl (place_at c.args.back page.width x))
+
 pub returns-clause-put : goal.returns-clause-put
 returns-clause-put c =
     let page : Page = c.args.page.now in
@@ -24,7 +31,7 @@ returns-clause-put c =
     after_ok {P = c.put_line-2.new.page ≡ with_line page c.args.y (row_dot c.reverse.new.out)} {Q = c.put_line-2.new.page ≡ with_line page c.args.y (λ x. row_dot bits (place_at c.args.back page.width x))} c.put_line-2.result
     (λ is. is ∙ with_line_alike page c.args.y (row_dot c.reverse.new.out) (λ x. row_dot bits (place_at c.args.back page.width x))
     (λ x left.
-    c.reverse.ensures.dots x (subst (λ n. x < n) (sym c.width.ensures.width) left)
-    ∙ ap (λ n. row_dot bits (n - 1 - x)) c.width.ensures.width
+    c.reverse.ensures.dots x (subst (λ n. x < n) (sym c.width-dots.ensures.width) left)
+    ∙ ap (λ n. row_dot bits (n - 1 - x)) c.width-dots.ensures.width
     ∙ ap (λ b. row_dot bits (place_at b page.width x)) (sym backward)))
     c.put_line-2.ensures

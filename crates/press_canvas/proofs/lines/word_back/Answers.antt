@@ -2,14 +2,12 @@ use Rattle.std.proofs.Common.{◌∙◌, ◌-◌, ap, arith}
 use Rattle.press_bits.specs.Mark.{row_dot}
 use Rattle.press_bits.specs.Words.{word_dot}
 use Rattle.press_bits.proofs.WordLemmas.{shifted_right}
-use Rattle.press_canvas.proofs.StripLemmas.{word_reversed}
 use Rattle.press_canvas.proofs.lines.word_back.Goals as goal
 use Rattle.press_canvas.proofs.lines.word_back.Goals.{then-left-lt64, else-left-lt64}
 
 pub returns : goal.returns
 returns c = λ i low within.
-    ap (λ n. word_dot n i) c.reverse_bits.ensures
-    ∙ word_reversed c.if-left-lt64.word i low
+    c.reversed.ensures i low
     ∙ elim c.if-left-lt64.branch [
       | then-left-lt64 w ↦
           ap (λ n. word_dot n (63 - i)) w.word-is
