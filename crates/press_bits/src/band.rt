@@ -87,7 +87,8 @@ impl Band {
 
     /// Paints a run of source dots, through a pattern, into the line that begins at a byte.
     pub(crate) fn paint(&mut self, line: usize, stroke: &Stroke<'_, '_>)
-        requires within { 8 * line + stroke.now.run.first + stroke.now.run.count ≤ 8 * length self.old }
+        requires within { 8 * line + stroke.now.run.first + stroke.now.run.count
+            ≤ 8 * length self.old }
         requires long { 8 ≤ length self.old }
         requires small { length self.old < 2 ^ 40 }
         requires enough { stroke.now.run.skip + stroke.now.run.count ≤ stroke.now.source.dots }

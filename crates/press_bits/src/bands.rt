@@ -246,7 +246,8 @@ impl Bands {
         requires { band_lines * index < self.now.page.height }
         ensures { sum_by (black_in_line self.now.page)
             (range_with_len 0 (min self.now.page.height (band_lines * (index + 1))))
-            ≡ sum_by (black_in_line self.now.page) (range_with_len 0 (band_lines * index)) + result }
+            ≡ sum_by (black_in_line self.now.page) (range_with_len 0 (band_lines * index))
+            + result }
     {
         if !self.bands[index].is_there() {
             return 0;

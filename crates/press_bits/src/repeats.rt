@@ -49,7 +49,8 @@ impl<'p> Repeats<'p> {
     /// Sixty-four of its dots, from dot `first` on. Where its width divides sixty-four, they are those of the front, turned.
     #[inline(always)]
     pub(crate) fn word(&self, first: usize) -> u64
-        ensures { (j : ℕ) → j < 64 → word_dot result j ≡ repeated (row self.now.pattern) (first + j) }
+        ensures { (j : ℕ) → j < 64
+            → word_dot result j ≡ repeated (row self.now.pattern) (first + j) }
     {
         if self.divides {
             return self.front.rotate_left((first % 64) as u32);

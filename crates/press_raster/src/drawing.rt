@@ -209,7 +209,8 @@ impl Drawing {
         requires setup { IsSetUp setup.now (layout frame.old) self.old }
         requires ready { RowsReady setup.now (layout frame.old) cursor.old.y 1 }
         ensures item { drawn_by setup.now self.new frame.new cursor.new
-            ≡ with_item setup.now.environment setup.now.settings ink.now (drawn_by setup.now self.old frame.old cursor.old)
+            ≡ with_item setup.now.environment setup.now.settings ink.now
+            (drawn_by setup.now self.old frame.old cursor.old)
             (Some (row.entry.method, row.entry.bytes.now)) }
         ensures same { result ≡ false
             → drawn_by setup.now self.new frame.new cursor.new

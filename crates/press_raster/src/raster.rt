@@ -284,8 +284,8 @@ impl Raster {
         requires { takes_rows settings «data».now self.old ≡ true }
         ensures rows { OnOk result (drawn self.new
             (page_of_frame environment.now.media.orientation frame.new) cursor.new
-            ≡ drawn_rows environment.now settings ink.now «data».now
-            (drawn self.old (page_of_frame environment.now.media.orientation frame.old) cursor.old)) }
+            ≡ drawn_rows environment.now settings ink.now «data».now (drawn self.old
+            (page_of_frame environment.now.media.orientation frame.old) cursor.old)) }
         ensures same_page { OnErr result (frame.new ≡ frame.old) }
         ensures same_raster { OnErr result (self.new ≡ self.old) }
         ensures same_cursor { OnErr result (cursor.new ≡ cursor.old) }

@@ -73,7 +73,8 @@ impl<'a> Blocks<'a> {
         count: usize,
         rest: &'a [u8],
     ) -> Option<(Method, &'a [u8])>
-        ensures given { Some (item_of result) ≡ slice_get (rows_of_no_data method count ++ items 0 rest.now) 0 }
+        ensures given { Some (item_of result)
+            ≡ slice_get (rows_of_no_data method count ++ items 0 rest.now) 0 }
         ensures left { self.new ≡ drop 1 (rows_of_no_data method count ++ items 0 rest.now) }
     {
         self.method = method;
