@@ -1,115 +1,12 @@
 //! The page that marks are made on, with the front that waits (PCL 5 Printer Language Technical Reference Manual, The
 //! PCL Print Model).
 
-use press_bits::{Bitmap, Mode};
-use press_canvas::Canvas as Drawn;
-use press_cursor::Cursor;
-use press_fill::{Rect, fill_canvas};
-use press_page::{Media, PageEnv};
-use press_pattern::{Ink, Pattern, Patterns};
-use press_raster::{Raster, RasterSettings};
+use press_bits::Bitmap;
+use press_canvas::Canvas;
+use press_page::Media;
 use press_sink::Sheet;
 use std::alloc::{AllocError, Global};
 use std::marker::Model;
-
-/// A page that is being printed. Contracts see its dots alone.
-#[derive(Drop)]
-pub struct Canvas {
-    page: Drawn,
-}
-
-impl Model for Canvas {
-    ghost use Rattle.press_bits.specs.Page.{Page, page_code};
-
-    ghost Value = { Page };
-
-    ghost coded = { page_code };
-
-    ghost view = { λ canvas. canvas.page };
-}
-
-impl Canvas {
-    ghost use Rattle.std.specs.Prelude.{◌≡◌, IfOk};
-    ghost use Rattle.press_raster.specs.Rows.{drawn, drawn_rows};
-    ghost use Rattle.press_fill.specs.Fill.{filled};
-    ghost use Rattle.press_pattern.specs.Ink.{ink_of};
-    ghost use Rattle.press_engine.specs.Place.{blank_page};
-
-    /// The blank page of the media.
-    #[tactic(auto, using(crate::proofs::PlaceLemmas::media_fits))]
-    pub fn blank(alloc: Global, media: Media) -> Result<Self, AllocError>
-        ensures { IfOk result (λ page. page ≡ blank_page media) }
-    {
-        Ok(Canvas {
-            page: Drawn::blank(alloc, media.orientation, media.physical_page())?,
-        })
-    }
-
-    /// The page, for one who looks at its dots.
-    pub fn drawn(&self) -> &Drawn
-        ensures { result.now ≡ self.now }
-    {
-        &self.page
-    }
-
-    /// The physical page, and memory that it did not take. It may take that of a page that is no longer needed.
-    pub fn turned(
-        self,
-        alloc: Global,
-        spare: Option<Bitmap>,
-    ) -> Result<(Bitmap, Option<Bitmap>), AllocError>
-        ensures { IfOk result (λ pages. pages.0 ≡ self) }
-    {
-        self.page.turned(alloc, spare)
-    }
-
-    /// Takes the memory of another page, which is no longer needed, for the lines that are marked from now on.
-    fn reuse(&mut self, other: Bitmap)
-        ensures { self.new ≡ self.old }
-    {
-        self.page.reuse(other);
-    }
-
-    /// An equal page, in memory of its own.
-    pub fn copy(&self) -> Result<Self, AllocError>
-        ensures { IfOk result (λ page. page ≡ self.now) }
-    {
-        Ok(Canvas {
-            page: self.page.copy()?,
-        })
-    }
-
-    /// Fills a rectangle of the frame with a pattern in a mode. Dots outside the page are dropped.
-    pub fn fill(
-        &mut self,
-        environment: &PageEnv,
-        patterns: &Patterns,
-        rect: Rect,
-        pattern: Pattern,
-        mode: Mode,
-    ) -> Result<(), AllocError>
-        ensures { IfOk result (λ _. self.new ≡ filled environment.now.media.orientation rect
-            (ink_of patterns.now pattern mode) self.old) }
-    {
-        fill_canvas(&mut self.page, environment, patterns, rect, pattern, mode)
-    }
-
-    /// Transfers raster rows.
-    pub fn transfer(
-        &mut self,
-        raster: &mut Raster,
-        environment: &PageEnv,
-        cursor: &mut Cursor,
-        settings: RasterSettings,
-        ink: &Ink<'_>,
-        bytes: &[u8],
-    ) -> Result<(), AllocError>
-        ensures { IfOk result (λ _. drawn raster.new self.new cursor.new ≡ drawn_rows environment.now
-            settings ink.now bytes.now (drawn raster.old self.old cursor.old)) }
-    {
-        raster.transfer(&mut self.page, environment, cursor, settings, ink, bytes)
-    }
-}
 
 /// The page that is being printed, from its first mark on, and memory that serves the pages that come: that of the sheet that went
 /// out last, and that of a frame that was turned. Contracts see the page alone.
@@ -173,13 +70,10 @@ impl Current {
     }
 
     /// The dots of the page.
-    pub fn drawn(&self) -> Option<&Drawn>
+    pub fn drawn(&self) -> Option<&Canvas>
         ensures { option_map (λ page. page.now) result ≡ self.now }
     {
-        match &self.page {
-            Some(page) => Some(page.drawn()),
-            None => None,
-        }
+        self.page.as_ref()
     }
 
     /// Takes the page out.
@@ -218,11 +112,12 @@ impl Current {
     }
 
     /// The blank page of the media, which is not put in. Its marks take the memory that is kept.
+    #[tactic(auto, using(crate::proofs::PlaceLemmas::media_fits))]
     pub fn blank(&mut self, alloc: Global, media: Media) -> Result<Canvas, AllocError>
         ensures page { IfOk result (λ page. page ≡ blank_page media) }
         ensures same { self.new ≡ self.old }
     {
-        let mut page = Canvas::blank(alloc, media)?;
+        let mut page = Canvas::blank(alloc, media.orientation, media.physical_page())?;
         if let Some(spare) = self.take_frame() {
             page.reuse(spare);
         }

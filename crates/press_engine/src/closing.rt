@@ -1,9 +1,9 @@
 //! The rows that close the page, and what a page close does.
 
-use crate::canvas::Canvas;
 use crate::effect::{Closer, Effect, FinishedSheet, PageChange, Selection, Sent};
 use crate::state::State;
 use press_bits::Bitmap;
+use press_canvas::Canvas;
 use press_page::{Orientation, PageSize, Sides};
 use press_pjl::PjlEnv;
 use press_sink::Sheet;

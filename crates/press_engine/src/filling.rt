@@ -4,7 +4,7 @@ use crate::effect::Effect;
 use crate::patterns::kind_of_number;
 use crate::rectangle::dots_up;
 use crate::state::State;
-use press_fill::Rect;
+use press_fill::{Rect, fill_canvas};
 use press_pattern::Pattern;
 use press_units::Value;
 use std::alloc::{AllocError, Global};
@@ -38,7 +38,14 @@ impl State {
         let mut page = self.take_page(alloc)?;
         let rect = self.rect_now();
         let mode = self.drawing.mode;
-        page.fill(&self.environment, &self.patterns, rect, pattern, mode)?;
+        fill_canvas(
+            &mut page,
+            &self.environment,
+            &self.patterns,
+            rect,
+            pattern,
+            mode,
+        )?;
         self.page.put(page);
         Ok(())
     }

@@ -128,8 +128,8 @@ impl State {
         let mode = self.drawing.mode;
         let ink = self.patterns.ink(pattern, mode).unwrap_or(Ink::black(mode));
         let environment = self.environment;
-        page.transfer(
-            &mut self.graphics,
+        self.graphics.transfer(
+            &mut page,
             &environment,
             &mut self.cursor,
             settings,
