@@ -6,7 +6,7 @@ use Rattle.std.proofs.lemmas.Bool.{eqb-true, true≢false}
 use Rattle.std.proofs.lemmas.List.{flat_map_more, map-append, take_more}
 use Rattle.std.proofs.lemmas.List.Folds.{list_all-map, list_all_at, list_all_more}
 use Rattle.press_pjl.specs.Variables.{is_assignment}
-use Rattle.press_main.specs.Defaults.{default_line, front_of, with_front}
+use Rattle.press_main.specs.Defaults.{HoldsBehind, default_line, front_of, with_front}
 
 -- the texts of words
 abbrev texts_of : List (Bor (List ℕ)) → List (List ℕ)
@@ -58,3 +58,8 @@ with_front-none (byte ∷ bytes) had none = let zero = eqb-true (length (byte �
 pub with_front-some : (front : List ℕ) (had : Option (List ℕ)) → (length front == 0) ≡ false → with_front front had ≡ option_append (Some front) had
 with_front-some [] had some = absurd (true≢false some)
 with_front-some (byte ∷ bytes) had some = refl
+
+-- what holds of the bytes in front and what a reader has behind them
+pub holds-behind : (front : List ℕ) (had left rest : Option (List ℕ)) (Holds : Option (List ℕ) → Option (List ℕ) → Type 0) → (length front == 0) ≡ false → Holds (option_append (Some front) had) rest → HoldsBehind front had left Holds
+holds-behind [] had left rest Holds some holds = absurd (true≢false some)
+holds-behind (byte ∷ bytes) had left rest Holds some holds = (rest, holds)

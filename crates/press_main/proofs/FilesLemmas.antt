@@ -1,5 +1,5 @@
 -- What is made of sheets that are printed to files.
-use Rattle.std.proofs.Common.{◌≡◌, ◌∙◌, ◌+◌, ℕ, zero, suc, List, [], ◌∷◌, ◌++◌, Option, Some, None, Err, IfSome, refl, sym, ap, subst, arith}
+use Rattle.std.proofs.Common.{◌≡◌, ◌∙◌, ◌+◌, ℕ, zero, suc, List, [], ◌∷◌, ◌++◌, Option, Some, None, Err, IfSome, refl, sym, ap, subst, inl, inr, arith}
 use Rattle.std.proofs.lemmas.List.{append_assoc, append-nil, map-append}
 use Rattle.std.proofs.lemmas.Option.{same_Some}
 use Rattle.std.specs.Coded.{Coded, Coded-set, code_by, coded×, coded_list, coded_option, coded_ℕ}
@@ -11,13 +11,17 @@ use Rattle.press_sink.specs.declared.fault.SinkError.TheVariants.{SinkFault}
 use Rattle.press_sink.specs.declared.sheet.Delivery.{Delivery}
 use Rattle.press_sink.specs.Sending.{sheets_of, sheets_in, under_tag}
 use Rattle.press_sink.specs.Outputs.{MadeOutput, MakesFront, MakesOutputs, IsFront, with_outputs, sheet_outputs}
-use Rattle.press_sink.specs.Template.{NameParts, IsTemplate, number_after, side_count}
+use Rattle.press_sink.specs.Template.{NameParts, IsTemplate, IsNoTemplate, number_after, side_count}
+use Rattle.press_sink.specs.Faults.{template_number}
+use Rattle.press_sink.specs.declared.fault.TemplateError.{TemplateError}
+use Rattle.press_sink.specs.declared.fault.TemplateError.TheVariants as template_fault
+use Rattle.press_sink.specs.declared.fault.TemplateError.TheVariants.{BadTemplate}
 use Rattle.press_sink.proofs.SendingLemmas.{sheets_in-tagged, told-twice}
 use Rattle.press_stream.specs.declared.fault.JobError.{JobError}
 use Rattle.press_stream.specs.Meaning.{meaning_of, with_exit}
 use Rattle.press_sink.specs.Told.{both}
 use Rattle.press_stream.specs.Printed.{Printed}
-use Rattle.press_main.specs.Files.{PrintsBy, MakesFiles, files_told, replies_written, MakesSheets, ComesBehind, sheets_outputs, number_behind}
+use Rattle.press_main.specs.Files.{PrintsBy, MakesFiles, files_told, replies_written, DoesNothing, MakesSheets, ComesBehind, PrintsNoFiles, sheets_outputs, number_behind}
 use Rattle.press_main.specs.Folders.{KeepsFolder}
 use Rattle.press_main.specs.Printing.{status_of_fault}
 use Rattle.press_main.proofs.ListingLemmas.{read_all}
@@ -135,9 +139,9 @@ made_of parts sheets faults before after none makes =
         ∙ ap (λ (all : List MadeOutput). with_outputs all before) (append-nil (sheets_outputs parts 1 sheets))
 
 -- the files of a stream that had no fault
-pub makes_files : (template : List ℕ) (parts : NameParts) (status : ℕ) (known left old new : Option (List ℕ)) (before after : Option (List MadeOutput)) → IsTemplate template parts → PrintsBy parts status known left old new before after → status ≡ 0 → IfSome known (λ bytes. MakesFiles template bytes before after)
-makes_files template parts status None left old new before after is_template prints zero_ = tt
-makes_files template parts status (Some bytes) left old new before after is_template prints zero_ = of_error prints.prints.error refl
+pub makes_files : (template : List ℕ) (parts : NameParts) (status : ℕ) (said says known left old new : Option (List ℕ)) (before after : Option (List MadeOutput)) → IsTemplate template parts → PrintsBy parts status said says known left old new before after → status ≡ 0 → IfSome known (λ bytes. MakesFiles template bytes before after)
+makes_files template parts status said says None left old new before after is_template prints zero_ = tt
+makes_files template parts status said says (Some bytes) left old new before after is_template prints zero_ = of_error prints.prints.error refl
   where
     of_error : (error : Option JobError) → prints.prints.error ≡ error → MakesFiles template bytes before after
     of_error (Some error) is = absurd (omega (arith, zero_, prints.prints.answers, ap status_of_fault is))
@@ -157,3 +161,9 @@ makes_files template parts status (Some bytes) left old new before after is_temp
               made_of parts (sheets_in prints.deliveries) prints.faults before after printed.printed.went.sheet_faults prints.makes
               ∙ ap (λ (all : List Sides). with_outputs (sheets_outputs parts 1 all) before) all_sheets;
         }
+
+-- why nothing was begun of a text
+pub prints-no-files : (error : TemplateError) (template : List ℕ) (status : ℕ) (said says had left old new : Option (List ℕ)) (before after : Option (List MadeOutput)) → (error ≡ BadTemplate → IsNoTemplate template) → DoesNothing (template_number error) status said says had left old new before after
+    → PrintsNoFiles template status said says had left old new before after
+prints-no-files BadTemplate template status said says had left old new before after bad nothing = inl (bad refl, nothing)
+prints-no-files template_fault.NoMemory template status said says had left old new before after bad nothing = inr nothing

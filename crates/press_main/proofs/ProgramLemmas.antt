@@ -1,10 +1,22 @@
 -- What is done for words, and the inputs of names.
-use Rattle.std.proofs.Common.{◌≡◌, ℕ, List, [], ◌∷◌, map, Option, Some, None, ap, refl, inr}
+use Rattle.std.proofs.Common.{Bor, ◌≡◌, ℕ, List, [], ◌∷◌, map, Option, Some, None, ap, refl, inl, inr}
 use Rattle.clap.specs.Words.{Text}
+use Rattle.press_sink.specs.Faults.{sink_number}
+use Rattle.press_sink.specs.declared.fault.SinkError.{SinkError}
+use Rattle.press_sink.specs.declared.fault.SinkError.TheVariants.{SinkFault, NoMemory}
+use Rattle.press_main.specs.declared.inputs.InputError.{InputError}
+use Rattle.press_main.specs.declared.inputs.InputError.TheVariants as input_fault
+use Rattle.std.specs.Prelude.{Vec}
+use Rattle.std.specs.declared.alloc.Global.{Global}
+use Rattle.press_main.specs.declared.words.Input.TheVariants as sources
+use Rattle.press_main.specs.declared.words.Output.TheVariants as makes
+use Rattle.press_main.specs.declared.words.Request.{Request}
+use Rattle.press_main.specs.Faults.{input_number}
+use Rattle.press_main.specs.View.{made_seen, request_seen, source_seen}
 use Rattle.press_main.specs.Words.{Asked}
 use Rattle.press_sink.specs.Outputs.{MadeOutput}
 use Rattle.press_main.specs.Files.{DoesNothing}
-use Rattle.press_main.specs.Program.{Runs}
+use Rattle.press_main.specs.Program.{BeginsNothing, Does, OpensNothing, PrintsAFile}
 
 -- what two functions make, one after the other
 pub map-twice : {A B C : Type 0} (f : A → B) (g : B → C) (all : List A) → map (λ one. g (f one)) all ≡ map g (map f all)
@@ -15,6 +27,25 @@ abbrev Bytes : Type 0
 Bytes = Option (List ℕ)
 
 -- nothing is done for want of memory
-pub runs-nothing : (asked : Option Asked) (inputs : Text → Bytes) (status : ℕ) (had left old new : Bytes) (before after : Option (List MadeOutput)) → DoesNothing status had left old new before after → Runs asked inputs status had left old new before after
-runs-nothing None inputs status had left old new before after nothing = (nothing.unread, nothing.unmade)
-runs-nothing (Some asked) inputs status had left old new before after nothing = inr nothing
+pub runs-nothing : (words : List Text) (asked : Option Asked) (inputs : Text → Bytes) (missing : Text → Type 0) (status : ℕ) (said says had left old new : Bytes) (before after : Option (List MadeOutput)) → DoesNothing None status said says had left old new before after → Does words asked inputs missing status said says had left old new before after
+runs-nothing words None inputs missing status said says had left old new before after nothing = (inr (inl (nothing.answers, nothing.unwritten, nothing.told)), nothing.unread, nothing.unmade)
+runs-nothing words (Some asked) inputs missing status said says had left old new before after nothing = inr (inr nothing)
+
+-- or since an output would replace the input
+pub runs-own : (words : List Text) (request : Asked) (wants : Option Asked) (inputs : Text → Bytes) (missing : Text → Type 0) (status : ℕ) (said says had left old new : Bytes) (before after : Option (List MadeOutput)) → wants ≡ Some request → BeginsNothing request status said says had left old new before after → Does words wants inputs missing status said says had left old new before after
+runs-own words request wants inputs missing status said says had left old new before after is nothing = rw is (inr nothing)
+
+-- files of a stream that is a file
+pub prints-a-file : (request : Request) (name : Bor (List ℕ)) (front : Vec ℕ Global) (template : Bor (List ℕ)) → request.input ≡ sources.File name → request.output ≡ makes.Files front template → PrintsAFile (request_seen request)
+prints-a-file request name front template input output =
+    (name.now, front.items, template.now, λ i. record { source = source_seen (input i); made = made_seen (output i) })
+
+-- the fault of inputs that are not noted
+pub begins-nothing : (error : SinkError) (asked : Asked) (status : ℕ) (said says had left old new : Bytes) (before after : Option (List MadeOutput)) → (error ≡ SinkFault → PrintsAFile asked) → DoesNothing (sink_number error) status said says had left old new before after → BeginsNothing asked status said says had left old new before after
+begins-nothing SinkFault asked status said says had left old new before after own nothing = inl (own refl, nothing)
+begins-nothing NoMemory asked status said says had left old new before after own nothing = inr nothing
+
+-- that of an input that is not opened
+pub opens-nothing : (error : InputError) (missing : Type 0) (status : ℕ) (said says had left old new : Bytes) (before after : Option (List MadeOutput)) → (error ≡ input_fault.ReadFault → missing) → DoesNothing (input_number error) status said says had left old new before after → OpensNothing missing status said says had left old new before after
+opens-nothing input_fault.ReadFault missing status said says had left old new before after own nothing = inl (own refl, nothing)
+opens-nothing input_fault.NoMemory missing status said says had left old new before after own nothing = inr nothing

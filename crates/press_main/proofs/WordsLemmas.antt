@@ -13,7 +13,7 @@ use Rattle.clap.proofs.WalkLemmas.{first_value-rows, raw_values-rows}
 use Rattle.press_main.specs.declared.words.Request.{Request}
 use Rattle.press_main.specs.declared.words.Refusal.{Refusal}
 use Rattle.press_main.specs.declared.words.Refusal.TheVariants.{Words}
-use Rattle.press_main.specs.View.{request_seen, IsForMemory}
+use Rattle.press_main.specs.View.{AsksHelp, request_seen, IsForMemory, status_of, status_of_kind}
 use Rattle.press_main.specs.Words.{Asked, asked, asked_by, asked_without, press_app}
 
 -- the first value of a word, as the rows of the matches have it
@@ -66,3 +66,19 @@ asked-err-kinds words (Err refusal) error more kinds is =
 pub asked-err-memory : (words : List Text) (result : Result Request Refusal) (error : Error) → kind_of error ≡ OutOfMemory → IsErrAnd result (λ refusal. refusal ≡ Words error) → IfErr result (λ refusal. IsForMemory refusal ⊎ (asked words ≡ None))
 asked-err-memory words (Ok request) error memory is = tt
 asked-err-memory words (Err refusal) error memory is = rw is (inl memory)
+
+-- an error of the command line that ends with status 0 is one of those that it finds
+pub help-kinds : (words : List Text) (result : Result Request Refusal) (error : Error) → HasKind (fault_of press_app words) error → IsErrAnd result (λ refusal. refusal ≡ Words error) → IfErr result (λ refusal. status_of refusal ≡ 0 → AsksHelp words)
+help-kinds words (Ok request) error kinds is = tt
+help-kinds words (Err refusal) error kinds is =
+    rw is (λ none. elim kinds [ inl memory ↦ absurd (omega (arith, none, ap status_of_kind memory)) | inr among ↦ (kind_of error, none, among) ])
+
+-- want of memory is none that ends so
+pub help-memory : (words : List Text) (result : Result Request Refusal) (error : Error) → kind_of error ≡ OutOfMemory → IsErrAnd result (λ refusal. refusal ≡ Words error) → IfErr result (λ refusal. status_of refusal ≡ 0 → AsksHelp words)
+help-memory words (Ok request) error memory is = tt
+help-memory words (Err refusal) error memory is = rw is (λ none. absurd (omega (arith, none, ap status_of_kind memory)))
+
+-- nor is another refusal
+pub help-other : (words : List Text) (found : Option Request) (refusal : Refusal) (result : Result Request Refusal) → result ≡ ok_or found refusal → status_of refusal ≡ 2 → IfErr result (λ refusal. status_of refusal ≡ 0 → AsksHelp words)
+help-other words None refusal result is other = rw is (λ none. absurd (omega (arith, none, other)))
+help-other words (Some request) refusal result is other = rw is tt

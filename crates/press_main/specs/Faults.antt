@@ -35,30 +35,30 @@ abbrev pub input_text : InputError → List ℕ
 input_text error = fault_text (input_number error)
 
 -- of a text or a stream
-abbrev pub told_of_text : TextError → List ℕ
-told_of_text (texts.Input error) = input_text error
-told_of_text (texts.Refused error) = asm.told_text error
-told_of_text texts.WriteFault = fault_text (Some pbm.write_fault)
-told_of_text texts.NoOutput = output_text
-told_of_text texts.NoMemory = fault_text None
+abbrev pub told_of_text : TextError → Option (List ℕ)
+told_of_text (texts.Input error) = Some (input_text error)
+told_of_text (texts.Refused error) = Some (asm.told_text error)
+told_of_text texts.WriteFault = Some (fault_text (Some pbm.write_fault))
+told_of_text texts.NoOutput = Some output_text
+told_of_text texts.NoMemory = Some (fault_text None)
 
 -- of a trace
-abbrev pub told_of_trace : TracedError → List ℕ
-told_of_trace (traces.Input error) = input_text error
-told_of_trace traces.Output = output_text
-told_of_trace traces.NoMemory = fault_text None
+abbrev pub told_of_trace : TracedError → Option (List ℕ)
+told_of_trace (traces.Input error) = Some (input_text error)
+told_of_trace traces.Output = Some output_text
+told_of_trace traces.NoMemory = Some (fault_text None)
 
 -- of the page of a step
-abbrev pub told_of_page : PagingError → List ℕ
-told_of_page (pages.Input error) = input_text error
-told_of_page pages.WriteFault = fault_text (Some pbm.write_fault)
-told_of_page pages.NoMemory = fault_text None
+abbrev pub told_of_page : PagingError → Option (List ℕ)
+told_of_page (pages.Input error) = Some (input_text error)
+told_of_page pages.WriteFault = Some (fault_text (Some pbm.write_fault))
+told_of_page pages.NoMemory = Some (fault_text None)
 
 -- of a debugger
-abbrev pub told_of_debugger : DebugError → List ℕ
-told_of_debugger (debugs.Input error) = input_text error
-told_of_debugger (debugs.Output error) = output_text
-told_of_debugger debugs.NoMemory = fault_text None
+abbrev pub told_of_debugger : DebugError → Option (List ℕ)
+told_of_debugger (debugs.Input error) = Some (input_text error)
+told_of_debugger (debugs.Output error) = Some output_text
+told_of_debugger debugs.NoMemory = Some (fault_text None)
 
 -- of a ticket and its images; of a fault of the ticket's what its library says
 abbrev pub told_of_job : JobFileError → Option (List ℕ)

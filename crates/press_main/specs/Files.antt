@@ -1,5 +1,5 @@
 -- Streams that are printed to files.
-use Rattle.std.specs.Prelude.{◌≡◌, ℕ, zero, suc, List, [], ◌∷◌, ◌++◌, Option, Some, refl}
+use Rattle.std.specs.Prelude.{◌≡◌, ◌⊎◌, ℕ, zero, suc, List, [], ◌∷◌, ◌++◌, Option, Some, None, refl}
 use Rattle.std.specs.Coded.{Coded, code_by, coded×, coded_ℕ}
 use Rattle.press_cmd.specs.Token.{Token}
 use Rattle.press_cmd.specs.Split.{Closed}
@@ -8,12 +8,16 @@ use Rattle.press_sink.specs.declared.sheet.Delivery.{Delivery}
 use Rattle.press_sink.specs.Told.{SheetsTold, RepliesTold, both}
 use Rattle.press_sink.specs.Sending.{sheets_of, sheets_in}
 use Rattle.press_sink.specs.Outputs.{MadeOutput, IsFront, with_outputs, sheet_outputs}
-use Rattle.press_sink.specs.Template.{NameParts, IsTemplate, number_after, side_count}
+use Rattle.press_sink.specs.Template.{NameParts, IsTemplate, IsNoTemplate, number_after, side_count}
 use Rattle.press_engine.specs.declared.machine.Machine.{Machine}
 use Rattle.press_stream.specs.declared.fault.JobError.{JobError}
 use Rattle.press_stream.specs.Meaning.{meaning_of, with_exit}
 use Rattle.press_stream.specs.Printed.{Printed}
-use Rattle.press_main.specs.Printing.{status_of_fault}
+use Rattle.press_units.specs.Faults.{fault_text}
+use Rattle.press_sink.specs.Faults.{template_number}
+use Rattle.press_sink.specs.declared.fault.TemplateError.TheVariants.{BadTemplate}
+use Rattle.press_main.specs.Printing.{status_of_fault, TellsFault}
+use Rattle.press_main.specs.Telling.{Tells, as_line}
 
 -- deliveries are stored as the pairs of their tags and sheets
 abbrev pub delivery_code : Coded Delivery
@@ -29,13 +33,14 @@ replies_written contents faults = record { replied = contents; faults = faults }
 
 -- A stream was printed to a sheet sink under tag 0, and its replies were written: so much of it went out, by the error that
 -- there was or was not, and the status is 0 exactly where there was none. Then the writer took all the replies, and nothing
--- else.
-pub record PrintsTo (status : ℕ) (had left : Option (List ℕ)) (before after : SheetsTold) (old new : Option (List ℕ)) : Type 0 where
+-- else. The error is what was told.
+pub record PrintsTo (status : ℕ) (said says had left : Option (List ℕ)) (before after : SheetsTold) (old new : Option (List ℕ)) : Type 0 where
   pub error : Option JobError
   pub machine : Option Machine
   pub faults : ℕ
   pub printed : Printed had left 0 error machine (both before (replies_written old 0)) (both after (replies_written new faults))
   pub answers : status ≡ status_of_fault error
+  pub told : TellsFault error said says
 
 -- The outputs of sheets in their order, the first front of which has this number.
 abbrev pub sheets_outputs : NameParts → ℕ → List Sides → List MadeOutput
@@ -65,17 +70,17 @@ abbrev pub files_told : List Delivery → ℕ → SheetsTold
 files_told deliveries faults = record { delivered = Some deliveries; faults = faults }
 
 -- A stream was printed to files by a template of these parts: what went out of it is what the sink took, and that was made.
-pub record PrintsBy (parts : NameParts) (status : ℕ) (had left old new : Option (List ℕ)) (before after : Option (List MadeOutput)) : Type 0 where
+pub record PrintsBy (parts : NameParts) (status : ℕ) (said says had left old new : Option (List ℕ)) (before after : Option (List MadeOutput)) : Type 0 where
   pub deliveries : List Delivery
   pub faults : ℕ
-  pub prints : PrintsTo status had left (files_told [] 0) (files_told deliveries faults) old new
+  pub prints : PrintsTo status said says had left (files_told [] 0) (files_told deliveries faults) old new
   pub makes : ∥ MakesSheets parts (sheets_in deliveries) faults before after ∥₁
 
 -- The same by a text, which is a template.
-pub record PrintsFiles (template : List ℕ) (status : ℕ) (had left old new : Option (List ℕ)) (before after : Option (List MadeOutput)) : Type 0 where
+pub record PrintsFiles (template : List ℕ) (status : ℕ) (said says had left old new : Option (List ℕ)) (before after : Option (List MadeOutput)) : Type 0 where
   pub parts : NameParts
   pub is_template : IsTemplate template parts
-  pub by_parts : PrintsBy parts status had left old new before after
+  pub by_parts : PrintsBy parts status said says had left old new before after
 
 -- The files of a stream of these bytes were made by a template, and nothing else: the sides of the sheets that its meaning delivers,
 -- in order, each under the name with its number, and each the P4 file of its page.
@@ -86,9 +91,16 @@ pub record MakesFiles (template : List ℕ) (bytes : List ℕ) (before after : O
   pub closed : Closed bytes commands
   pub made : after ≡ with_outputs (sheets_outputs parts 1 (sheets_of (meaning_of (with_exit commands)).outputs)) before
 
--- Nothing was read, nothing was written or made, and the status is 1.
-pub record DoesNothing (status : ℕ) (had left old new : Option (List ℕ)) (before after : Option (List MadeOutput)) : Type 0 where
+-- Nothing was read, nothing was written or made, the status is 1, and this fault was told, or that memory ran out.
+pub record DoesNothing (number : Option ℕ) (status : ℕ) (said says had left old new : Option (List ℕ)) (before after : Option (List MadeOutput)) : Type 0 where
   pub answers : status ≡ 1
+  pub told : Tells said says (as_line (Some (fault_text number)))
   pub unread : left ≡ had
   pub unwritten : new ≡ old
   pub unmade : after ≡ before
+
+-- Nothing was begun of a text: it is no template, or memory ran out.
+abbrev pub PrintsNoFiles : (template : List ℕ) (status : ℕ) (said says had left old new : Option (List ℕ)) (before after : Option (List MadeOutput)) → Type 0
+PrintsNoFiles template status said says had left old new before after =
+    (IsNoTemplate template × DoesNothing (template_number BadTemplate) status said says had left old new before after)
+    ⊎ DoesNothing None status said says had left old new before after

@@ -19,6 +19,7 @@ pub mod Paging
 pub mod Printing
 pub mod Program
 pub mod Sessions
+pub mod Telling
 pub mod Traced
 pub mod View
 pub mod Words

@@ -14,7 +14,9 @@ use Rattle.press_stream.specs.State.{JobState}
 use Rattle.press_stream.specs.Answers.{fault_of}
 use Rattle.press_stream.specs.Meaning.{meaning_of, with_exit}
 use Rattle.press_stream.specs.Printed.{Printed}
-use Rattle.press_main.specs.Printing.{machine_of, status_of_fault}
+use Rattle.press_main.specs.Faults.{output_text}
+use Rattle.press_main.specs.Printing.{machine_of, status_of_fault, TellsFault}
+use Rattle.press_main.specs.Telling.{Tells, as_line}
 use Rattle.press_main.specs.declared.measures.Measures.{Measures}
 use Rattle.press_main.specs.Measured.{measures_of}
 
@@ -66,9 +68,15 @@ abbrev pub status_of_listing : Option JobError → (written : Bool) → ℕ
 status_of_listing error true = status_of_fault error
 status_of_listing error false = 1
 
--- The same, with its status: 0 exactly where the stream had no fault and its listing was written.
-pub record PrintsListing (status : ℕ) (had left old new : Option (List ℕ)) : Type 0 where
+-- What was told after a stream and its listing: the fault of the stream, if it had one, and then that the listing cannot be written.
+abbrev pub TellsListing : Option JobError → (written : Bool) → (said says : Option (List ℕ)) → Type 0
+TellsListing error true said says = TellsFault error said says
+TellsListing error false said says = (between : Option (List ℕ)) × TellsFault error said between × Tells between says (as_line (Some output_text))
+
+-- The same, with its status: 0 exactly where the stream had no fault and its listing was written; and what was told.
+pub record PrintsListing (status : ℕ) (said says had left old new : Option (List ℕ)) : Type 0 where
   pub printed : Result JobState JobError
   pub written : Bool
   pub stream : ListsPrinted printed written had left old new
   pub answers : status ≡ status_of_listing (fault_of printed) written
+  pub told : TellsListing (fault_of printed) written said says

@@ -1,5 +1,7 @@
 -- The page that is open at a step of a stream, made an output.
-use Rattle.std.specs.Prelude.{◌≡◌, ◌≢◌, ℕ, List, [], ◌∷◌, Option, Some, Result, Ok, Err, take}
+use Rattle.std.specs.Prelude.{◌≡◌, ◌≢◌, ◌<◌, ◌⊎◌, ℕ, List, [], ◌∷◌, ◌++◌, Option, Some, Result, Ok, Err, codes, take}
+use Rattle.std.specs.Fmt.{decimal}
+use Rattle.std.specs.Io.KnownBytes.{Appends}
 use Rattle.press_bits.specs.Page.{Page}
 use Rattle.press_pbm.specs.Spelling.{file_of}
 use Rattle.press_sink.specs.Outputs.{MadeOutput, MakesFront, holding, with_outputs}
@@ -9,6 +11,8 @@ use Rattle.press_engine.specs.Trace.{last_machine}
 use Rattle.press_stream.specs.Traced.{IsTraceOf}
 use Rattle.press_debug.specs.Steps.{Standing}
 use Rattle.press_main.specs.Assembly.{ReadWhole}
+use Rattle.press_main.specs.Faults.{told_of_page}
+use Rattle.press_main.specs.Telling.{Tells, as_line}
 use Rattle.press_main.specs.declared.paging.PagingError.{PagingError}
 use Rattle.press_main.specs.declared.paging.PagingError.TheVariants.{Input, WriteFault, NoMemory}
 
@@ -49,7 +53,15 @@ MakesPage page name (Err WriteFault) before after = MakesFront (holding name (fi
 MakesPage page name (Err NoMemory) before after = after ≡ before
 MakesPage page name (Err (Input why)) before after = ⊥
 
--- The page at a step was made an output of this name, or not; the status is 0 exactly where it was.
-pub record Paging (steps : ℕ) (name : List ℕ) (status : ℕ) (had left : Option (List ℕ)) (before after : Option (List MadeOutput)) : Type 0 where
-  pub done : status ≡ 0 → PagedInto steps name had left before after
-  pub stops : status ≢ 0 → (why : PagingError) × StopsPaging steps name had left before after why
+-- what is told where a stream has fewer steps: how many it has
+abbrev pub end_text : (taken : ℕ) → List ℕ
+end_text taken = codes "the stream ends behind step " ++ (decimal taken ++ 10 ∷ [])
+
+-- Nothing was told; or that fewer steps could be taken.
+abbrev pub TellsEnd : (steps : ℕ) (said says : Option (List ℕ)) → Type 0
+TellsEnd steps said says = (says ≡ said) ⊎ ((taken : ℕ) × (taken < steps) × Appends said says (end_text taken))
+
+-- The page at a step was made an output of this name, and at most the end of the stream was told; or it was not, and why is what was told.
+pub record Paging (steps : ℕ) (name : List ℕ) (status : ℕ) (said says had left : Option (List ℕ)) (before after : Option (List MadeOutput)) : Type 0 where
+  pub done : status ≡ 0 → TellsEnd steps said says × PagedInto steps name had left before after
+  pub stops : status ≢ 0 → (status ≡ 1) × (why : PagingError) × Tells said says (as_line (told_of_page why)) × StopsPaging steps name had left before after why

@@ -1,9 +1,11 @@
 -- The trace of a stream that a reader has, told to a writer.
-use Rattle.std.specs.Prelude.{◌≡◌, ◌≢◌, ℕ, List, Option}
+use Rattle.std.specs.Prelude.{◌≡◌, ℕ, List, Option}
 use Rattle.press_trace.specs.Traced.{Traces, StopsTracing}
 use Rattle.press_trace.specs.declared.fault.TraceError.{TraceError}
 use Rattle.press_trace.specs.declared.fault.TraceError.TheVariants as traces
 use Rattle.press_main.specs.Assembly.{ReadWhole}
+use Rattle.press_main.specs.Faults.{told_of_trace}
+use Rattle.press_main.specs.Telling.{Ended}
 use Rattle.press_main.specs.declared.traced.TracedError.{TracedError}
 use Rattle.press_main.specs.declared.traced.TracedError.TheVariants.{Input, Output, NoMemory}
 
@@ -28,6 +30,5 @@ StopsTelling had left old new NoMemory =
     × (why : TraceError) × IsTold why NoMemory × StopsTracing bytes old new why
 
 -- The trace of the stream of a reader was told to its end, or not.
-pub record Tracing (status : ℕ) (had left old new : Option (List ℕ)) : Type 0 where
-  pub done : status ≡ 0 → Traced had left old new
-  pub stops : status ≢ 0 → (why : TracedError) × StopsTelling had left old new why
+abbrev pub Tracing : (status : ℕ) (said says had left old new : Option (List ℕ)) → Type 0
+Tracing status said says had left old new = Ended status said says told_of_trace (Traced had left old new) (StopsTelling had left old new)

@@ -1,6 +1,6 @@
 -- The code's requests and refusals as contracts see them.
-use Rattle.std.specs.Prelude.{◌≡◌, ℕ, map}
-use Rattle.clap.specs.Words.{kind_of}
+use Rattle.std.specs.Prelude.{◌≡◌, ℕ, List, map}
+use Rattle.clap.specs.Words.{IsAmong, Text, fault_of, kind_of}
 use Rattle.clap.specs.declared.error.kind.ErrorKind.{ErrorKind}
 use Rattle.clap.specs.declared.error.kind.ErrorKind.TheVariants.{DisplayHelp, DisplayVersion, OutOfMemory}
 use Rattle.press_main.specs.declared.words.Input.{Input}
@@ -10,7 +10,7 @@ use Rattle.press_main.specs.declared.words.Output.TheVariants as outputs
 use Rattle.press_main.specs.declared.words.Request.{Request}
 use Rattle.press_main.specs.declared.words.Refusal.{Refusal}
 use Rattle.press_main.specs.declared.words.Refusal.TheVariants.{Words, NoName, NoDefault}
-use Rattle.press_main.specs.Words.{Source, Standard, FileNamed, Made, Listed, FilesBy, Answered, AsText, DebuggedOf, TracedOf, PageTo, StreamTo, JobTo, Asked}
+use Rattle.press_main.specs.Words.{Source, Standard, FileNamed, Made, Listed, FilesBy, Answered, AsText, DebuggedOf, TracedOf, PageTo, StreamTo, JobTo, Asked, press_app}
 
 -- an input by the text of its name
 abbrev pub source_seen : Input → Source
@@ -51,3 +51,7 @@ abbrev pub status_of : Refusal → ℕ
 status_of (Words error) = status_of_kind (kind_of error)
 status_of NoName = 2
 status_of (NoDefault text) = 2
+
+-- The command line answers these words with help or the version.
+abbrev pub AsksHelp : List Text → Type 0
+AsksHelp words = (kind : ErrorKind) × (status_of_kind kind ≡ 0) × IsAmong kind (fault_of press_app words)

@@ -1,11 +1,12 @@
 //! Assembly text to bytes, and back.
-ghost use Rattle.std.specs.Prelude.{◌≡◌, ◌≢◌, ◌≤◌, IfOk, IfErr, OnOk};
+ghost use Rattle.std.specs.Prelude.{◌≡◌, IfOk, IfErr, OnOk};
 ghost use Rattle.std.specs.String.{string_bytes};
 ghost use Rattle.press_main.specs.Assembly.{Assembled, AssembledTo, TextRefused, StopsAssembling, Disassembled, DisassembledTo, StreamUnread, StopsDisassembling};
-ghost use Rattle.press_main.specs.declared.assembly.TextError.{TextError};
+ghost use Rattle.press_main.specs.Faults.{told_of_text};
+ghost use Rattle.press_main.specs.Telling.{Ended};
 
 use crate::inputs::{InputError, read_all};
-use crate::telling::{NO_OUTPUT, told, write_flushed};
+use crate::telling::{NO_OUTPUT, Teller, told, write_flushed};
 use press_asm::{AssembleError, assemble};
 use press_disasm::disassemble;
 use press_pbm::WRITE_FAULT;
@@ -31,9 +32,8 @@ pub enum TextError {
 
 impl fmt::Display for TextError {
     ghost use Rattle.press_main.specs.Faults.{told_of_text};
-    ghost use Rattle.std.specs.Prelude.{Some};
 
-    ghost output = { λ error. Some (told_of_text error) };
+    ghost output = { told_of_text };
 
     fn fmt<W: fmt::Write>(&self, f: &mut fmt::Formatter<W>) -> fmt::Result {
         match self {
@@ -99,18 +99,17 @@ fn assemble_to<R: Read, W: Write>(
 
 /// Writes the bytes of the assembly text that a reader has to `out`, and a fault to `err`. Of a text that is refused nothing is
 /// written. The answer is the status: 0, or 1 after a fault.
-pub fn asm_text<R: Read, W: Write, E: Write>(
+pub fn asm_text<R: Read, W: Write, E: Teller>(
     alloc: Global,
     reader: &mut R,
     out: &mut W,
     err: &mut E,
 ) -> u8
-    ensures status { result ≤ 1 }
-    ensures assembled { result ≡ 0 → AssembledTo (R.remaining reader.old) (R.remaining reader.new)
-        (W.contents out.old) (W.contents out.new) }
-    ensures refused { result ≢ 0 → (why : TextError) ×
-        StopsAssembling (R.remaining reader.old) (R.remaining reader.new)
-        (W.contents out.old) (W.contents out.new) why }
+    ensures { Ended result (E.said err.old) (E.said err.new) told_of_text
+        (AssembledTo (R.remaining reader.old) (R.remaining reader.new)
+        (W.contents out.old) (W.contents out.new))
+        (StopsAssembling (R.remaining reader.old) (R.remaining reader.new)
+        (W.contents out.old) (W.contents out.new)) }
 {
     match assemble_to(alloc, reader, out) {
         Ok(()) => 0,
@@ -146,18 +145,17 @@ fn disassemble_to<R: Read, W: Write>(
 
 /// Writes the assembly text of the stream that a reader has to `out`, and a fault to `err`. Where the stream was not read to its
 /// end nothing is written. The answer is the status: 0, or 1 after a fault.
-pub fn disasm_bytes<R: Read, W: Write, E: Write>(
+pub fn disasm_bytes<R: Read, W: Write, E: Teller>(
     alloc: Global,
     reader: &mut R,
     out: &mut W,
     err: &mut E,
 ) -> u8
-    ensures status { result ≤ 1 }
-    ensures disassembled { result ≡ 0 → DisassembledTo (R.remaining reader.old)
-        (R.remaining reader.new) (W.contents out.old) (W.contents out.new) }
-    ensures stopped { result ≢ 0 → (why : TextError) ×
-        StopsDisassembling (R.remaining reader.old) (R.remaining reader.new)
-        (W.contents out.old) (W.contents out.new) why }
+    ensures { Ended result (E.said err.old) (E.said err.new) told_of_text
+        (DisassembledTo (R.remaining reader.old) (R.remaining reader.new)
+        (W.contents out.old) (W.contents out.new))
+        (StopsDisassembling (R.remaining reader.old) (R.remaining reader.new)
+        (W.contents out.old) (W.contents out.new)) }
 {
     match disassemble_to(alloc, reader, out) {
         Ok(()) => 0,

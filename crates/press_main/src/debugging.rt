@@ -1,5 +1,5 @@
 //! Sessions with a debugger: what each line is answered.
-ghost use Rattle.std.specs.Prelude.{◌≡◌, ◌≢◌, ◌≤◌, ℕ, List, IfOk, IfErr, OnOk};
+ghost use Rattle.std.specs.Prelude.{◌≡◌, ℕ, List, IfOk, IfErr, OnOk};
 ghost use Rattle.std.specs.Fn.{FnReturnsAt};
 ghost use Rattle.std.specs.String.{string_bytes};
 ghost use Rattle.press_debug.specs.Breaks.{no_breaks};
@@ -15,13 +15,14 @@ ghost use Rattle.press_main.specs.Debugging.{
   Debugs,
   StopsDebugging,
 };
-ghost use Rattle.press_main.specs.declared.debugging.DebugError.{DebugError};
+ghost use Rattle.press_main.specs.Faults.{told_of_debugger};
+ghost use Rattle.press_main.specs.Telling.{Ended};
 
 use crate::debugger_lines::{DebuggerLine, asked_of};
 use crate::inputs::{InputError, read_all};
 use crate::line_reader::LineReader;
 use crate::lines::{WHAT, line_of};
-use crate::telling::{NO_OUTPUT, told, write_flushed};
+use crate::telling::{NO_OUTPUT, Teller, told, write_flushed};
 use press_asm::write_kind;
 use press_cmd::{Kind, LINE_FEED};
 use press_debug::{Break, BreakError, Debugger, Stop, Watch};
@@ -44,9 +45,8 @@ pub enum DebugError {
 
 impl fmt::Display for DebugError {
     ghost use Rattle.press_main.specs.Faults.{told_of_debugger};
-    ghost use Rattle.std.specs.Prelude.{Some};
 
-    ghost output = { λ error. Some (told_of_debugger error) };
+    ghost output = { told_of_debugger };
 
     fn fmt<W: fmt::Write>(&self, f: &mut fmt::Formatter<W>) -> fmt::Result {
         match self {
@@ -95,21 +95,20 @@ impl From<AllocError> for DebugError {
 /// Has a session with a debugger of the stream that `input` has: answers each line that a reader has, to `out`. The stream is
 /// read whole before the first line. A breakpoint that is refused is an answer; after a fault, which stands on `err`, no line is
 /// answered. The answer is the status: 0, or 1 after a fault.
-pub fn debug_lines<I: Read, R: Read, W: Write, E: Write>(
+pub fn debug_lines<I: Read, R: Read, W: Write, E: Teller>(
     alloc: Global,
     input: &mut I,
     reader: &mut R,
     out: &mut W,
     err: &mut E,
 ) -> u8
-    ensures status { result ≤ 1 }
-    ensures debugs { result ≡ 0 → Debugs (I.remaining input.old) (I.remaining input.new)
+    ensures { Ended result (E.said err.old) (E.said err.new) told_of_debugger
+        (Debugs (I.remaining input.old) (I.remaining input.new)
         (R.remaining reader.old) (R.remaining reader.new)
-        (W.contents out.old) (W.contents out.new) }
-    ensures stops { result ≢ 0 → (why : DebugError) ×
-        StopsDebugging (I.remaining input.old) (I.remaining input.new)
+        (W.contents out.old) (W.contents out.new))
+        (StopsDebugging (I.remaining input.old) (I.remaining input.new)
         (R.remaining reader.old) (R.remaining reader.new)
-        (W.contents out.old) (W.contents out.new) why }
+        (W.contents out.old) (W.contents out.new)) }
 {
     match debug(alloc, input, reader, out) {
         Ok(()) => 0,

@@ -3,10 +3,10 @@ ghost use Rattle.std.specs.Prelude.{◌≡◌, ◌≤◌, ◌<◌, ◌⊎◌, If
 ghost use Rattle.press_sink.specs.Kept.{name_parts, next_number, file_faults, outputs_of};
 ghost use Rattle.press_sink.specs.Told.{most_faults};
 ghost use Rattle.press_sink.specs.Template.{IsNoTemplate};
-ghost use Rattle.press_main.specs.Files.{MakesFiles, PrintsBy, PrintsFiles, PrintsTo, DoesNothing};
+ghost use Rattle.press_main.specs.Files.{MakesFiles, PrintsBy, PrintsFiles, PrintsNoFiles, PrintsTo};
 
 use crate::stream::{print_stream, told_status};
-use crate::telling::told;
+use crate::telling::{Teller, told};
 use crate::told_folder::{Folder, ToldFolder};
 use press_sink::{FolderSink, NamedOutputs, SheetSink, WriteReplies};
 use std::alloc::Global;
@@ -24,7 +24,7 @@ pub struct Finished<W, O> {
 /// Prints the stream that a reader has to files: a P4 file for each side, whose name is the template with the number of the
 /// side, from 1 on, in place of `%d`. Replies go to `out`, each when it is asked for, and a fault stands on `err`. A text that
 /// is no template (121) is told before the stream is read. The status is 0, or 1 after a fault.
-pub fn print_files<O: NamedOutputs + Drop, R: Read, W: Write + Drop, E: Write>(
+pub fn print_files<O: NamedOutputs + Drop, R: Read, W: Write + Drop, E: Teller>(
     alloc: Global,
     outputs: O,
     reader: &mut R,
@@ -37,10 +37,11 @@ pub fn print_files<O: NamedOutputs + Drop, R: Read, W: Write + Drop, E: Write>(
     ensures unread { IsNoTemplate template.now → R.remaining reader.new ≡ R.remaining reader.old }
     ensures files { result.status ≡ 0 → IfSome (R.remaining reader.old) (λ bytes.
         MakesFiles template.now bytes (O.made outputs) (O.made result.outputs)) }
-    ensures prints { PrintsFiles template.now result.status
+    ensures prints { PrintsFiles template.now result.status (E.said err.old) (E.said err.new)
         (R.remaining reader.old) (R.remaining reader.new)
         (W.contents out) (W.contents result.out) (O.made outputs) (O.made result.outputs)
-        ⊎ DoesNothing result.status (R.remaining reader.old) (R.remaining reader.new)
+        ⊎ PrintsNoFiles template.now result.status (E.said err.old) (E.said err.new)
+        (R.remaining reader.old) (R.remaining reader.new)
         (W.contents out) (W.contents result.out) (O.made outputs) (O.made result.outputs) }
 {
     match FolderSink::open(alloc, outputs, template) {
@@ -54,7 +55,7 @@ pub fn print_files<O: NamedOutputs + Drop, R: Read, W: Write + Drop, E: Write>(
 }
 
 /// Prints the stream that a reader has by a folder sink. The call's proof says which folder it is.
-fn print_by<O: NamedOutputs + Drop, R: Read, W: Write + Drop, E: Write, D: Folder>(
+fn print_by<O: NamedOutputs + Drop, R: Read, W: Write + Drop, E: Teller, D: Folder>(
     alloc: Global,
     sink: FolderSink<O>,
     reader: &mut R,
@@ -65,7 +66,8 @@ fn print_by<O: NamedOutputs + Drop, R: Read, W: Write + Drop, E: Write, D: Folde
     requires begun { O.made (outputs_of sink) ≡ D.begun }
     requires first { next_number sink ≡ 1 }
     requires faults { file_faults sink ≡ 0 }
-    ensures { PrintsBy D.parts result.status (R.remaining reader.old) (R.remaining reader.new)
+    ensures { PrintsBy D.parts result.status (E.said err.old) (E.said err.new)
+        (R.remaining reader.old) (R.remaining reader.new)
         (W.contents out) (W.contents result.out) D.begun (O.made result.outputs) }
 {
     let mut sheets: ToldFolder<O, D> = ToldFolder::new(sink);
@@ -79,7 +81,7 @@ fn print_by<O: NamedOutputs + Drop, R: Read, W: Write + Drop, E: Write, D: Folde
 
 /// Prints the stream that a reader has to a sheet sink, and writes each reply when it is asked for. A fault stands on `err`. The
 /// answer has the status, and the writer of the replies.
-fn print_to<R: Read, S: SheetSink, W: Write + Drop, E: Write>(
+fn print_to<R: Read, S: SheetSink, W: Write + Drop, E: Teller>(
     alloc: Global,
     reader: &mut R,
     sheets: &mut S,
@@ -87,7 +89,8 @@ fn print_to<R: Read, S: SheetSink, W: Write + Drop, E: Write>(
     err: &mut E,
 ) -> (u8, W)
     requires { (S.told sheets.old).faults < most_faults }
-    ensures { PrintsTo result.0 (R.remaining reader.old) (R.remaining reader.new)
+    ensures { PrintsTo result.0 (E.said err.old) (E.said err.new)
+        (R.remaining reader.old) (R.remaining reader.new)
         (S.told sheets.old) (S.told sheets.new) (W.contents out) (W.contents result.1) }
 {
     let mut replies = WriteReplies::new(out);

@@ -1,5 +1,5 @@
 //! Jobs of tickets, over readers, named inputs and writers.
-ghost use Rattle.std.specs.Prelude.{◌≡◌, ◌≢◌, ◌≤◌, map, IfOk, IfErr, OnOk};
+ghost use Rattle.std.specs.Prelude.{map, IfOk, IfErr, OnOk};
 ghost use Rattle.press_main.specs.Jobs.{
   TicketRead,
   HasImage,
@@ -12,12 +12,13 @@ ghost use Rattle.press_main.specs.Jobs.{
   ImagesRefused,
   StopsWriting,
 };
-ghost use Rattle.press_main.specs.declared.jobs.JobFileError.{JobFileError};
+ghost use Rattle.press_main.specs.Faults.{told_of_job};
+ghost use Rattle.press_main.specs.Telling.{Ended};
 
 use crate::counted_read::CountedRead;
 use crate::inputs::{InputError, read_all};
 use crate::named_inputs::{NamedInputs, open_named};
-use crate::telling::told;
+use crate::telling::{Teller, told};
 use press_bits::Bitmap;
 use press_pbm::{ReadPbmError, read_pbm};
 use press_ticket::{Ticket, TicketError, read_ticket};
@@ -162,7 +163,7 @@ fn write_from<T: Read, I: NamedInputs, W: Write>(
 /// Writes the job of the ticket that a reader has, with the images of the inputs of these names in the order of its pages, to
 /// `out`, and a fault to `err`. Nothing is written to `out` before the images are found to fit. The answer is the status: 0, or
 /// 1 after a fault.
-pub fn write_files<T: Read, I: NamedInputs, W: Write, E: Write>(
+pub fn write_files<T: Read, I: NamedInputs, W: Write, E: Teller>(
     alloc: Global,
     ticket: &mut T,
     inputs: &I,
@@ -170,15 +171,13 @@ pub fn write_files<T: Read, I: NamedInputs, W: Write, E: Write>(
     out: &mut W,
     err: &mut E,
 ) -> u8
-    ensures status { result ≤ 1 }
-    ensures written { result ≡ 0 →
-        WritesTheTicket (T.remaining ticket.old) (T.remaining ticket.new)
+    ensures { Ended result (E.said err.old) (E.said err.new) told_of_job
+        (WritesTheTicket (T.remaining ticket.old) (T.remaining ticket.new)
         (map (λ name. I.bytes inputs.now name.now) names.now)
-        (W.contents out.old) (W.contents out.new) }
-    ensures refused { result ≢ 0 → (why : JobFileError) ×
-        StopsWriting (T.remaining ticket.old) (T.remaining ticket.new)
+        (W.contents out.old) (W.contents out.new))
+        (StopsWriting (T.remaining ticket.old) (T.remaining ticket.new)
         (map (λ name. I.bytes inputs.now name.now) names.now)
-        (W.contents out.old) (W.contents out.new) why }
+        (W.contents out.old) (W.contents out.new)) }
 {
     match write_from(alloc, ticket, inputs, names, out) {
         Ok(()) => 0,

@@ -43,5 +43,6 @@ pub use paging::{PagingError, page_file};
 pub use program::run_words;
 pub use sessions::press_lines;
 pub use stream::print_stream;
+pub use telling::Teller;
 pub use traced::{TracedError, tell_trace};
 pub use words::{Input, Output, Refusal, Request, request_of};

@@ -11,7 +11,7 @@ use crate::entry_sheets::{EntrySheet, EntrySheets};
 use crate::listing_sink::{ListedSheet, ListingSink};
 use crate::measures::Measures;
 use crate::stream::{print_stream, told_status};
-use crate::telling::{NO_OUTPUT, told};
+use crate::telling::{NO_OUTPUT, Teller, told};
 use press_sink::ListReplies;
 use press_stream::{Job, JobError};
 use std::alloc::Global;
@@ -21,7 +21,7 @@ use std::io::{self, Read, Write};
 /// number of the sheet from 1, `front` or `back`, width and height in dots, and how many dots are black), and then the
 /// replies. After a fault the sheets before it are listed, and the fault stands on `err`. The answer is the status: 0, or 1
 /// after a fault.
-pub fn print_list<R: Read, W: Write, E: Write>(
+pub fn print_list<R: Read, W: Write, E: Teller>(
     alloc: Global,
     reader: &mut R,
     out: &mut W,
@@ -30,7 +30,8 @@ pub fn print_list<R: Read, W: Write, E: Write>(
     ensures status { result ≤ 1 }
     ensures lists { result ≡ 0 → IfSome (R.remaining reader.old) (λ bytes.
         Lists bytes (W.contents out.old) (W.contents out.new)) }
-    ensures printed { PrintsListing result (R.remaining reader.old) (R.remaining reader.new)
+    ensures printed { PrintsListing result (E.said err.old) (E.said err.new)
+        (R.remaining reader.old) (R.remaining reader.new)
         (W.contents out.old) (W.contents out.new) }
 {
     let stream = list_stream(alloc, reader, out);

@@ -1,14 +1,14 @@
 //! Outputs that are made of a text, and of a ticket.
-ghost use Rattle.std.specs.Prelude.{◌≡◌, ◌≢◌, ◌≤◌, map, IfErr, OnOk};
+ghost use Rattle.std.specs.Prelude.{map, IfErr, OnOk};
 ghost use Rattle.press_main.specs.Assembly.{AssembledInto, StopsMaking};
 ghost use Rattle.press_main.specs.Jobs.{MakesAJob, MakesNoJob, MakesTheTicket, StopsMakingJob};
-ghost use Rattle.press_main.specs.declared.assembly.TextError.{TextError};
-ghost use Rattle.press_main.specs.declared.jobs.JobFileError.{JobFileError};
+ghost use Rattle.press_main.specs.Faults.{told_of_job, told_of_text};
+ghost use Rattle.press_main.specs.Telling.{Ended};
 
 use crate::assembly::{TextError, assembled};
 use crate::jobs::{JobFileError, images_named, ticket_in};
 use crate::named_inputs::NamedInputs;
-use crate::telling::told;
+use crate::telling::{Teller, told};
 use press_bits::Bitmap;
 use press_sink::{NamedOutputs, write_output};
 use press_ticket::Ticket;
@@ -18,20 +18,18 @@ use std::io::{Read, Write};
 
 /// Makes the output of this name, which holds the bytes of the assembly text that a reader has, and writes a fault to `err`. Of a text
 /// that is refused nothing is made. The answer is the status: 0, or 1 after a fault.
-pub fn asm_file<R: Read, O: NamedOutputs, E: Write>(
+pub fn asm_file<R: Read, O: NamedOutputs, E: Teller>(
     alloc: Global,
     reader: &mut R,
     outputs: &mut O,
     name: &str,
     err: &mut E,
 ) -> u8
-    ensures status { result ≤ 1 }
-    ensures assembled { result ≡ 0 → AssembledInto name.now
-        (R.remaining reader.old) (R.remaining reader.new)
-        (O.made outputs.old) (O.made outputs.new) }
-    ensures refused { result ≢ 0 → (why : TextError) × StopsMaking name.now
-        (R.remaining reader.old) (R.remaining reader.new)
-        (O.made outputs.old) (O.made outputs.new) why }
+    ensures { Ended result (E.said err.old) (E.said err.new) told_of_text
+        (AssembledInto name.now (R.remaining reader.old) (R.remaining reader.new)
+        (O.made outputs.old) (O.made outputs.new))
+        (StopsMaking name.now (R.remaining reader.old) (R.remaining reader.new)
+        (O.made outputs.old) (O.made outputs.new)) }
 {
     match make_stream(alloc, reader, outputs, name) {
         Ok(()) => 0,
@@ -58,7 +56,7 @@ fn make_stream<R: Read, O: NamedOutputs>(
 /// Makes the output of this name, which holds the job of the ticket that a reader has, with the images of the inputs of these names
 /// in the order of its pages, and writes a fault to `err`. Nothing is made before the images are found to fit. The answer is the
 /// status: 0, or 1 after a fault.
-pub fn job_file<T: Read, I: NamedInputs, O: NamedOutputs, E: Write>(
+pub fn job_file<T: Read, I: NamedInputs, O: NamedOutputs, E: Teller>(
     alloc: Global,
     ticket: &mut T,
     inputs: &I,
@@ -67,15 +65,13 @@ pub fn job_file<T: Read, I: NamedInputs, O: NamedOutputs, E: Write>(
     name: &str,
     err: &mut E,
 ) -> u8
-    ensures status { result ≤ 1 }
-    ensures made { result ≡ 0 → MakesTheTicket name.now
-        (T.remaining ticket.old) (T.remaining ticket.new)
+    ensures { Ended result (E.said err.old) (E.said err.new) told_of_job
+        (MakesTheTicket name.now (T.remaining ticket.old) (T.remaining ticket.new)
         (map (λ name. I.bytes inputs.now name.now) names.now)
-        (O.made outputs.old) (O.made outputs.new) }
-    ensures refused { result ≢ 0 → (why : JobFileError) × StopsMakingJob name.now
-        (T.remaining ticket.old) (T.remaining ticket.new)
+        (O.made outputs.old) (O.made outputs.new))
+        (StopsMakingJob name.now (T.remaining ticket.old) (T.remaining ticket.new)
         (map (λ name. I.bytes inputs.now name.now) names.now)
-        (O.made outputs.old) (O.made outputs.new) why }
+        (O.made outputs.old) (O.made outputs.new)) }
 {
     match make_ticket(alloc, ticket, inputs, names, outputs, name) {
         Ok(()) => 0,

@@ -1,5 +1,5 @@
 //! Inputs that are opened by their names.
-ghost use Rattle.std.specs.Prelude.{◌≡◌, ℕ, List, Option, IfOk};
+ghost use Rattle.std.specs.Prelude.{◌≡◌, ℕ, List, Option, IfOk, IfErr};
 
 use crate::inputs::InputError;
 use press_stream::PIECE;
@@ -10,8 +10,13 @@ use std::str;
 
 /// Where inputs are opened by their names.
 pub trait NamedInputs {
+    ghost use Rattle.press_main.specs.declared.inputs.InputError.TheVariants.{ReadFault};
+
     /// What the input of this name has, where that is known.
     ghost bytes: { Self → List ℕ → Option (List ℕ) };
+
+    /// That the input of this name may be one that cannot be opened.
+    ghost missing: { Self → List ℕ → Type 0 };
 
     type Input: Read + Drop;
 
@@ -21,7 +26,9 @@ pub trait NamedInputs {
     ///
     /// `ReadFault` (304) where it cannot be opened; `NoMemory`.
     fn open(&self, name: &str) -> Result<Self::Input, InputError>
-        ensures { IfOk result (λ input. Self.Input.remaining input ≡ bytes self.now name.now) };
+        ensures bytes { IfOk result (λ input.
+            Self.Input.remaining input ≡ bytes self.now name.now) }
+        ensures missing { IfErr result (λ error. error ≡ ReadFault → missing self.now name.now) };
 }
 
 /// The files of a file system. What a file has is not known.
@@ -45,9 +52,11 @@ impl<T: Read> Read for NamedFile<T> {
 }
 
 impl<F: Files> NamedInputs for NamedFiles<'_, F> {
-    ghost use Rattle.std.specs.Prelude.{None};
+    ghost use Rattle.std.specs.Prelude.{None, ⊤};
 
     ghost bytes = { λ _ _. None };
+
+    ghost missing = { λ _ _. ⊤ };
 
     type Input = NamedFile<F::File>;
 

@@ -1,12 +1,12 @@
 //! The page that is open at a step of a stream, made an output.
-ghost use Rattle.std.specs.Prelude.{◌≡◌, ◌≢◌, ◌≤◌, ◌<◌, IfOk, IfErr, IfSome, OnOk};
+ghost use Rattle.std.specs.Prelude.{◌≡◌, ◌<◌, IfOk, IfErr, IfSome, OnOk};
 ghost use Rattle.press_engine.specs.Closing.{page_now};
 ghost use Rattle.press_engine.specs.Place.{blank_page};
 ghost use Rattle.press_main.specs.Paging.{MakesPage, PagedInto, Paging, StandsAt, StopsPaging};
 ghost use Rattle.press_main.specs.declared.paging.PagingError.{PagingError};
 
 use crate::inputs::{InputError, read_all};
-use crate::telling::told;
+use crate::telling::{Teller, told};
 use press_bits::{Bitmap, BlankError};
 use press_debug::laws::places;
 use press_debug::{Stepper, Taken};
@@ -31,9 +31,8 @@ pub enum PagingError {
 
 impl fmt::Display for PagingError {
     ghost use Rattle.press_main.specs.Faults.{told_of_page};
-    ghost use Rattle.std.specs.Prelude.{Some};
 
-    ghost output = { λ error. Some (told_of_page error) };
+    ghost output = { told_of_page };
 
     fn fmt<W: fmt::Write>(&self, f: &mut fmt::Formatter<W>) -> fmt::Result {
         match self {
@@ -79,12 +78,28 @@ impl From<WritePbmError> for PagingError {
     }
 }
 
+/// That a stream ends behind so many steps, as it is told.
+#[derive(Drop)]
+struct EndsBehind(u64);
+
+impl fmt::Display for EndsBehind {
+    ghost use Rattle.std.specs.Prelude.{Some};
+    ghost use Rattle.press_main.specs.Paging.{end_text};
+
+    ghost output = { λ end. Some (end_text end.0) };
+
+    fn fmt<W: fmt::Write>(&self, f: &mut fmt::Formatter<W>) -> fmt::Result {
+        let taken = self.0;
+        writeln!(f, "the stream ends behind step {taken}")
+    }
+}
+
 /// Makes the output of this name, the P4 file of the page that is open behind so many table steps of the stream that a reader has:
 /// blank where no mark was made. Where the stream has fewer steps it is the page behind the last, and `err` is told how many there
 /// are. A fault is told to `err`, too. The answer is the status: 0, or 1 after a fault.
 ///
 /// Source: PCL 5 Printer Language Technical Reference Manual, The PCL Print Model; Netpbm, the raw form of the PBM format.
-pub fn page_file<R: Read, O: NamedOutputs, E: Write>(
+pub fn page_file<R: Read, O: NamedOutputs, E: Teller>(
     alloc: Global,
     reader: &mut R,
     steps: u64,
@@ -92,14 +107,14 @@ pub fn page_file<R: Read, O: NamedOutputs, E: Write>(
     name: &str,
     err: &mut E,
 ) -> u8
-    ensures status { result ≤ 1 }
-    ensures paging { Paging steps name.now result (R.remaining reader.old) (R.remaining reader.new)
+    ensures { Paging steps name.now result (E.said err.old) (E.said err.new)
+        (R.remaining reader.old) (R.remaining reader.new)
         (O.made outputs.old) (O.made outputs.new) }
 {
     match make_page(alloc, reader, steps, outputs, name) {
         Ok(taken) => {
             if taken < steps {
-                let _ = writeln!(err, "the stream ends behind step {taken}");
+                err.tell(&EndsBehind(taken));
             }
             0
         }

@@ -1,14 +1,13 @@
 //! What the words ask for, done.
-ghost use Rattle.std.specs.Prelude.{◌≡◌, ◌≢◌, ◌≤◌, ◌⊎◌, map, IfOk};
+ghost use Rattle.std.specs.Prelude.{◌≡◌, ◌⊎◌, map, IfOk};
 ghost use Rattle.std.specs.String.{string_bytes};
 ghost use Rattle.press_main.specs.Defaults.{HoldsBehind, with_front};
-ghost use Rattle.press_main.specs.Files.{DoesNothing, PrintsFiles};
+ghost use Rattle.press_main.specs.Files.{PrintsFiles, PrintsNoFiles};
 ghost use Rattle.press_main.specs.Listing.{PrintsListing};
 ghost use Rattle.press_main.specs.Paging.{Paging};
-ghost use Rattle.press_main.specs.Program.{Debugging, Makes, Performs, Runs, Writing};
+ghost use Rattle.press_main.specs.Program.{Debugging, Makes, Performs, RefusesBy, Runs, Writing};
 ghost use Rattle.press_main.specs.Traced.{Tracing};
 ghost use Rattle.press_main.specs.View.{made_seen, request_seen, status_of};
-ghost use Rattle.press_main.specs.Words.{asked};
 
 use crate::assembly::disasm_bytes;
 use crate::debugging::debug_lines;
@@ -19,9 +18,9 @@ use crate::named_inputs::NamedInputs;
 use crate::paging::page_file;
 use crate::sessions::press_lines;
 use crate::sparing::spare_inputs;
-use crate::telling::{NO_OUTPUT, told};
+use crate::telling::{NO_OUTPUT, Teller, told};
 use crate::traced::tell_trace;
-use crate::words::{Input, Output, Refusal, Request, request_of};
+use crate::words::{Input, Output, REFUSED, Refusal, Request, request_of};
 use press_sink::NamedOutputs;
 use press_units::NO_MEMORY;
 use std::alloc::{AllocError, Global};
@@ -29,7 +28,7 @@ use std::io::{self, Read, Write};
 
 /// Does what the words ask for, the program's name among them. Inputs are opened by their names in `inputs`, and files are made in
 /// `outputs`, none of which is an input. The answer has the status, and hands standard output and the outputs back.
-pub fn run_words<I: NamedInputs, O: NamedOutputs + Drop, S: Read, W: Write + Drop, E: Write>(
+pub fn run_words<I: NamedInputs, O: NamedOutputs + Drop, S: Read, W: Write + Drop, E: Teller>(
     alloc: Global,
     inputs: &I,
     mut outputs: O,
@@ -38,7 +37,8 @@ pub fn run_words<I: NamedInputs, O: NamedOutputs + Drop, S: Read, W: Write + Dro
     mut out: W,
     err: &mut E,
 ) -> Finished<W, O>
-    ensures { Runs (asked (map string_bytes words.now)) (I.bytes inputs.now) result.status
+    ensures { Runs (map string_bytes words.now) (I.bytes inputs.now) (I.missing inputs.now)
+        result.status (E.said err.old) (E.said err.new)
         (S.remaining input.old) (S.remaining input.new)
         (W.contents out) (W.contents result.out)
         (O.made outputs) (O.made result.outputs) }
@@ -80,20 +80,21 @@ fn texts_of(alloc: Global, words: &[String]) -> Result<Vec<&str>, AllocError>
 }
 
 /// Tells why the words ask for nothing: help on `out`, all else on `err`. The answer is the status: 1 where help cannot be written.
-fn refuse<W: Write, E: Write>(refusal: &Refusal, out: &mut W, err: &mut E) -> u8
-    ensures help { status_of refusal.now ≡ 0 → result ≤ 1 }
-    ensures status { status_of refusal.now ≢ 0 → result ≡ status_of refusal.now }
-    ensures stays { status_of refusal.now ≢ 0 → W.contents out.new ≡ W.contents out.old }
+fn refuse<W: Write, E: Teller>(refusal: &Refusal, out: &mut W, err: &mut E) -> u8
+    ensures { RefusesBy (status_of refusal.now) result (E.said err.old) (E.said err.new)
+        (W.contents out.old) (W.contents out.new) }
 {
-    let status = refusal.status();
-    if status == 0 {
-        return match write_help(refusal, out) {
+    match refusal.status() {
+        0 => match write_help(refusal, out) {
             Ok(()) => 0,
             Err(_) => told(&NO_OUTPUT, err),
-        };
+        },
+        1 => told(&NO_MEMORY, err),
+        _ => {
+            err.tell(refusal);
+            REFUSED
+        }
     }
-    let _ = write!(err, "{refusal}");
-    status
 }
 
 /// Writes help whole, and flushes.
@@ -103,7 +104,7 @@ fn write_help<W: Write>(help: &Refusal, out: &mut W) -> io::Result<()> {
 }
 
 /// Opens the input of a request, and makes of it what is asked for.
-fn perform<I: NamedInputs, O: NamedOutputs + Drop, S: Read, W: Write + Drop, E: Write>(
+fn perform<I: NamedInputs, O: NamedOutputs + Drop, S: Read, W: Write + Drop, E: Teller>(
     alloc: Global,
     inputs: &I,
     outputs: O,
@@ -113,7 +114,8 @@ fn perform<I: NamedInputs, O: NamedOutputs + Drop, S: Read, W: Write + Drop, E: 
     err: &mut E,
 ) -> Finished<W, O>
     ensures { Performs (request_seen request.now).source (request_seen request.now).made
-        (I.bytes inputs.now) result.status (S.remaining input.old) (S.remaining input.new)
+        (I.bytes inputs.now) (I.missing inputs.now) result.status (E.said err.old) (E.said err.new)
+        (S.remaining input.old) (S.remaining input.new)
         (W.contents out) (W.contents result.out) (O.made outputs) (O.made result.outputs) }
 {
     let output = &request.output;
@@ -131,7 +133,7 @@ fn perform<I: NamedInputs, O: NamedOutputs + Drop, S: Read, W: Write + Drop, E: 
 }
 
 /// Makes what is asked for of what a reader has.
-fn make<I: NamedInputs, O: NamedOutputs + Drop, R: Read, W: Write + Drop, E: Write>(
+fn make<I: NamedInputs, O: NamedOutputs + Drop, R: Read, W: Write + Drop, E: Teller>(
     alloc: Global,
     inputs: &I,
     mut outputs: O,
@@ -141,7 +143,7 @@ fn make<I: NamedInputs, O: NamedOutputs + Drop, R: Read, W: Write + Drop, E: Wri
     err: &mut E,
 ) -> Finished<W, O>
     ensures { Makes (made_seen output.now) (I.bytes inputs.now) result.status
-        (R.remaining reader.old) (R.remaining reader.new)
+        (E.said err.old) (E.said err.new) (R.remaining reader.old) (R.remaining reader.new)
         (W.contents out) (W.contents result.out) (O.made outputs) (O.made result.outputs) }
 {
     match output {
@@ -192,7 +194,7 @@ fn make<I: NamedInputs, O: NamedOutputs + Drop, R: Read, W: Write + Drop, E: Wri
 }
 
 /// Lists the sheets of the stream of these bytes and those that a reader has behind them.
-fn list_behind<R: Read, W: Write, E: Write>(
+fn list_behind<R: Read, W: Write, E: Teller>(
     alloc: Global,
     front: &[u8],
     reader: &mut R,
@@ -200,7 +202,8 @@ fn list_behind<R: Read, W: Write, E: Write>(
     err: &mut E,
 ) -> u8
     ensures { HoldsBehind front.now (R.remaining reader.old) (R.remaining reader.new)
-        (λ had left. PrintsListing result had left (W.contents out.old) (W.contents out.new)) }
+        (λ had left. PrintsListing result (E.said err.old) (E.said err.new) had left
+        (W.contents out.old) (W.contents out.new)) }
 {
     if front.is_empty() {
         return print_list(alloc, reader, out, err);
@@ -210,7 +213,7 @@ fn list_behind<R: Read, W: Write, E: Write>(
 }
 
 /// Tells the trace of the stream of these bytes and those that a reader has behind them.
-fn trace_behind<R: Read, W: Write, E: Write>(
+fn trace_behind<R: Read, W: Write, E: Teller>(
     alloc: Global,
     front: &[u8],
     reader: &mut R,
@@ -218,7 +221,8 @@ fn trace_behind<R: Read, W: Write, E: Write>(
     err: &mut E,
 ) -> u8
     ensures { HoldsBehind front.now (R.remaining reader.old) (R.remaining reader.new)
-        (λ had left. Tracing result had left (W.contents out.old) (W.contents out.new)) }
+        (λ had left. Tracing result (E.said err.old) (E.said err.new) had left
+        (W.contents out.old) (W.contents out.new)) }
 {
     if front.is_empty() {
         return tell_trace(alloc, reader, out, err);
@@ -229,7 +233,7 @@ fn trace_behind<R: Read, W: Write, E: Write>(
 
 /// Makes the output of this name, of the page that is open behind so many steps of the stream of these bytes and those that a reader
 /// has behind them.
-fn page_behind<R: Read, O: NamedOutputs, E: Write>(
+fn page_behind<R: Read, O: NamedOutputs, E: Teller>(
     alloc: Global,
     front: &[u8],
     reader: &mut R,
@@ -239,7 +243,7 @@ fn page_behind<R: Read, O: NamedOutputs, E: Write>(
     err: &mut E,
 ) -> u8
     ensures { HoldsBehind front.now (R.remaining reader.old) (R.remaining reader.new)
-        (λ had left. Paging steps name.now result had left
+        (λ had left. Paging steps name.now result (E.said err.old) (E.said err.new) had left
         (O.made outputs.old) (O.made outputs.new)) }
 {
     if front.is_empty() {
@@ -250,7 +254,7 @@ fn page_behind<R: Read, O: NamedOutputs, E: Write>(
 }
 
 /// Prints the stream of these bytes and those that a reader has behind them to files by a template.
-fn print_behind<O: NamedOutputs + Drop, R: Read, W: Write + Drop, E: Write>(
+fn print_behind<O: NamedOutputs + Drop, R: Read, W: Write + Drop, E: Teller>(
     alloc: Global,
     outputs: O,
     front: &[u8],
@@ -260,9 +264,10 @@ fn print_behind<O: NamedOutputs + Drop, R: Read, W: Write + Drop, E: Write>(
     err: &mut E,
 ) -> Finished<W, O>
     ensures { HoldsBehind front.now (R.remaining reader.old) (R.remaining reader.new)
-        (λ had left. PrintsFiles template.now result.status had left
-        (W.contents out) (W.contents result.out) (O.made outputs) (O.made result.outputs)
-        ⊎ DoesNothing result.status had left
+        (λ had left. PrintsFiles template.now result.status (E.said err.old) (E.said err.new)
+        had left (W.contents out) (W.contents result.out)
+        (O.made outputs) (O.made result.outputs)
+        ⊎ PrintsNoFiles template.now result.status (E.said err.old) (E.said err.new) had left
         (W.contents out) (W.contents result.out) (O.made outputs) (O.made result.outputs)) }
 {
     if front.is_empty() {
@@ -274,7 +279,7 @@ fn print_behind<O: NamedOutputs + Drop, R: Read, W: Write + Drop, E: Write>(
 
 /// Has a session with a debugger of the stream of these bytes and those of the input of this name behind them, by the lines that a
 /// reader has.
-fn debug_file<I: NamedInputs, R: Read, W: Write, E: Write>(
+fn debug_file<I: NamedInputs, R: Read, W: Write, E: Teller>(
     alloc: Global,
     inputs: &I,
     front: &[u8],
@@ -284,7 +289,7 @@ fn debug_file<I: NamedInputs, R: Read, W: Write, E: Write>(
     err: &mut E,
 ) -> u8
     ensures { Debugging result (with_front front.now (I.bytes inputs.now name.now))
-        (R.remaining reader.old) (R.remaining reader.new)
+        (E.said err.old) (E.said err.new) (R.remaining reader.old) (R.remaining reader.new)
         (W.contents out.old) (W.contents out.new) }
 {
     match inputs.open(name) {
@@ -294,7 +299,7 @@ fn debug_file<I: NamedInputs, R: Read, W: Write, E: Write>(
 }
 
 /// The same of the stream of these bytes and those that `input` has behind them.
-fn debug_behind<I: Read, R: Read, W: Write, E: Write>(
+fn debug_behind<I: Read, R: Read, W: Write, E: Teller>(
     alloc: Global,
     front: &[u8],
     input: &mut I,
@@ -303,7 +308,7 @@ fn debug_behind<I: Read, R: Read, W: Write, E: Write>(
     err: &mut E,
 ) -> u8
     ensures { Debugging result (with_front front.now (I.remaining input.old))
-        (R.remaining reader.old) (R.remaining reader.new)
+        (E.said err.old) (E.said err.new) (R.remaining reader.old) (R.remaining reader.new)
         (W.contents out.old) (W.contents out.new) }
 {
     if front.is_empty() {
@@ -314,7 +319,7 @@ fn debug_behind<I: Read, R: Read, W: Write, E: Write>(
 }
 
 /// Makes the output of this name of the ticket that a reader has, with the images of the inputs of these names.
-fn write_file<R: Read, I: NamedInputs, O: NamedOutputs, E: Write>(
+fn write_file<R: Read, I: NamedInputs, O: NamedOutputs, E: Teller>(
     alloc: Global,
     reader: &mut R,
     inputs: &I,
@@ -323,7 +328,8 @@ fn write_file<R: Read, I: NamedInputs, O: NamedOutputs, E: Write>(
     name: &str,
     err: &mut E,
 ) -> u8
-    ensures { Writing name.now result (R.remaining reader.old) (R.remaining reader.new)
+    ensures { Writing name.now result (E.said err.old) (E.said err.new)
+        (R.remaining reader.old) (R.remaining reader.new)
         (map (I.bytes inputs.now) (map (λ image. image.now) images.now))
         (O.made outputs.old) (O.made outputs.new) }
 {

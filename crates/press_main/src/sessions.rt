@@ -1,5 +1,5 @@
 //! Sessions with a press: lines of events, and what each is answered.
-ghost use Rattle.std.specs.Prelude.{◌≡◌, ◌≢◌, ◌≤◌, ◌∷◌, ◌++◌, ℕ, List, [], map, is_ok, IfOk, IfErr, OnOk};
+ghost use Rattle.std.specs.Prelude.{◌≡◌, ◌∷◌, ◌++◌, ℕ, List, [], map, is_ok, IfOk, IfErr, OnOk};
 ghost use Rattle.std.specs.Io.KnownBytes.{Appends};
 ghost use Rattle.std.specs.String.{string_bytes};
 ghost use Rattle.press_asm.specs.Text.{lines_of};
@@ -25,7 +25,8 @@ ghost use Rattle.press_main.specs.Sessions.{
   Stops,
   delivered_by,
 };
-ghost use Rattle.press_main.specs.declared.sessions.SessionError.{SessionError};
+ghost use Rattle.press_main.specs.Faults.{told_of_session};
+ghost use Rattle.press_main.specs.Telling.{Ended};
 ghost use Rattle.press_main.specs.declared.sessions.SessionError.TheVariants.{NoMemory};
 
 use crate::entry_sheets::EntrySheets;
@@ -36,7 +37,7 @@ use crate::line_reader::LineReader;
 use crate::lines::{WHAT, line_of, words_of};
 use crate::listing::list_delivered;
 use crate::named_inputs::{NamedInputs, open_named};
-use crate::telling::{NO_OUTPUT, told, write_flushed};
+use crate::telling::{NO_OUTPUT, Teller, told, write_flushed};
 use press_core::{BadEngines, OperatorCommand, Press, Turn, TurnError, laws};
 use press_units::ToldFault;
 use std::alloc::{AllocError, Global};
@@ -148,7 +149,7 @@ impl From<AllocError> for SessionError {
 /// by their names. In whatever order the events come, what was delivered under the number of an entry in flight are the sheets of
 /// the steps that were taken of its job, of a completed one all that its ticket wants, of every other one a front of those. After a
 /// fault, which stands on `err`, no line is carried out, and nothing is listed. The answer is the status: 0, or 1 after a fault.
-pub fn press_lines<I: NamedInputs, R: Read, W: Write, E: Write>(
+pub fn press_lines<I: NamedInputs, R: Read, W: Write, E: Teller>(
     alloc: Global,
     inputs: &I,
     engines: u64,
@@ -156,13 +157,11 @@ pub fn press_lines<I: NamedInputs, R: Read, W: Write, E: Write>(
     out: &mut W,
     err: &mut E,
 ) -> u8
-    ensures status { result ≤ 1 }
-    ensures plays { result ≡ 0 → Plays engines (I.bytes inputs.now)
-        (R.remaining reader.old) (R.remaining reader.new)
-        (W.contents out.old) (W.contents out.new) }
-    ensures stops { result ≢ 0 → (why : SessionError) × Stops engines (I.bytes inputs.now)
-        (R.remaining reader.old) (R.remaining reader.new)
-        (W.contents out.old) (W.contents out.new) why }
+    ensures { Ended result (E.said err.old) (E.said err.new) told_of_session
+        (Plays engines (I.bytes inputs.now) (R.remaining reader.old) (R.remaining reader.new)
+        (W.contents out.old) (W.contents out.new))
+        (Stops engines (I.bytes inputs.now) (R.remaining reader.old) (R.remaining reader.new)
+        (W.contents out.old) (W.contents out.new)) }
 {
     match play(alloc, inputs, engines, reader, out) {
         Ok(()) => 0,

@@ -1,5 +1,8 @@
 //! Inputs that no output replaces.
-ghost use Rattle.std.specs.Prelude.{◌≡◌};
+ghost use Rattle.std.specs.Prelude.{◌≡◌, IfErr};
+ghost use Rattle.press_sink.specs.declared.fault.SinkError.TheVariants.{NoMemory, SinkFault};
+ghost use Rattle.press_main.specs.Program.{PrintsAFile};
+ghost use Rattle.press_main.specs.View.{request_seen};
 
 use crate::words::{Input, Output, Request};
 use press_sink::{NamedOutputs, SinkError};
@@ -13,7 +16,9 @@ pub(crate) fn spare_inputs<O: NamedOutputs>(
     outputs: &mut O,
     request: &Request<'_>,
 ) -> Result<(), SinkError>
-    ensures { O.made outputs.new ≡ O.made outputs.old }
+    ensures made { O.made outputs.new ≡ O.made outputs.old }
+    ensures own { IfErr result (λ error.
+        error ≡ SinkFault → PrintsAFile (request_seen request.now)) }
 {
     let Input::File(name) = request.input else {
         return Ok(());
@@ -33,7 +38,8 @@ pub(crate) fn spare_inputs<O: NamedOutputs>(
 
 /// Notes inputs by their names.
 fn spare<O: NamedOutputs>(outputs: &mut O, names: &[&str]) -> Result<(), SinkError>
-    ensures { O.made outputs.new ≡ O.made outputs.old }
+    ensures made { O.made outputs.new ≡ O.made outputs.old }
+    ensures memory { IfErr result (λ error. error ≡ NoMemory) }
 {
     for name in names {
         if outputs.spare(name).is_err() {

@@ -3,13 +3,13 @@ ghost use Rattle.std.specs.Prelude.{◌≡◌};
 ghost use Rattle.press_sink.specs.Told.{both, CanCount};
 ghost use Rattle.press_stream.specs.Answers.{fault_of};
 ghost use Rattle.press_stream.specs.Printed.{Printed};
-ghost use Rattle.press_main.specs.Printing.{machine_of, status_of_fault};
+ghost use Rattle.press_main.specs.Printing.{machine_of, status_of_fault, TellsFault};
 
-use crate::telling::told;
+use crate::telling::{Teller, told};
 use press_sink::{ReplySink, SheetSink};
 use press_stream::{Job, JobError};
 use std::alloc::Global;
-use std::io::{Read, Write};
+use std::io::Read;
 
 /// Prints the stream that a reader has, from power on: its sheets are delivered under the tag, and the job is handed back.
 ///
@@ -37,8 +37,9 @@ pub fn print_stream<R: Read, S: SheetSink, P: ReplySink>(
 }
 
 /// Tells the fault that printing a stream had, if it had one. The answer is the status: 0, or 1 after a fault.
-pub fn told_status<E: Write>(printed: &Result<Job, JobError>, err: &mut E) -> u8
-    ensures { result ≡ status_of_fault (fault_of printed.now) }
+pub fn told_status<E: Teller>(printed: &Result<Job, JobError>, err: &mut E) -> u8
+    ensures status { result ≡ status_of_fault (fault_of printed.now) }
+    ensures told { TellsFault (fault_of printed.now) (E.said err.old) (E.said err.new) }
 {
     match printed {
         Ok(_) => 0,

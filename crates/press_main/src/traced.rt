@@ -1,10 +1,10 @@
 //! The trace of a stream, told to a writer.
-ghost use Rattle.std.specs.Prelude.{◌≡◌, ◌≤◌, IfErr, OnOk};
+ghost use Rattle.std.specs.Prelude.{IfErr, OnOk};
 ghost use Rattle.press_pbm.specs.Spelling.{Writes};
 ghost use Rattle.press_main.specs.Traced.{StopsTelling, Traced, Tracing};
 
 use crate::inputs::{InputError, read_all};
-use crate::telling::{NO_OUTPUT, told, write_flushed};
+use crate::telling::{NO_OUTPUT, Teller, told, write_flushed};
 use press_trace::{TraceError, trace_lines};
 use press_units::ToldFault;
 use std::alloc::Global;
@@ -24,9 +24,8 @@ pub enum TracedError {
 
 impl fmt::Display for TracedError {
     ghost use Rattle.press_main.specs.Faults.{told_of_trace};
-    ghost use Rattle.std.specs.Prelude.{Some};
 
-    ghost output = { λ error. Some (told_of_trace error) };
+    ghost output = { told_of_trace };
 
     fn fmt<W: fmt::Write>(&self, f: &mut fmt::Formatter<W>) -> fmt::Result {
         match self {
@@ -65,14 +64,14 @@ impl From<TraceError> for TracedError {
 
 /// Tells the trace of the stream that a reader has to `out`, and a fault to `err`. The stream is read whole before the first step.
 /// The answer is the status: 0, or 1 after a fault.
-pub fn tell_trace<R: Read, W: Write, E: Write>(
+pub fn tell_trace<R: Read, W: Write, E: Teller>(
     alloc: Global,
     reader: &mut R,
     out: &mut W,
     err: &mut E,
 ) -> u8
-    ensures status { result ≤ 1 }
-    ensures traced { Tracing result (R.remaining reader.old) (R.remaining reader.new)
+    ensures { Tracing result (E.said err.old) (E.said err.new)
+        (R.remaining reader.old) (R.remaining reader.new)
         (W.contents out.old) (W.contents out.new) }
 {
     match trace_to(alloc, reader, out) {

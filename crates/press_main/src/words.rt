@@ -4,7 +4,7 @@ ghost use Rattle.clap.specs.Words.{app_of, new_app, rule_of, new_rule, kind_of, 
 ghost use Rattle.clap.specs.declared.builder.command.Command.TheViews.{out-Command};
 ghost use Rattle.clap.specs.declared.error.kind.ErrorKind.TheVariants.{OutOfMemory};
 ghost use Rattle.press_main.specs.Words.{list_rule, default_rule, needed_rule, images_rule, engines_rule, print_app, asm_app, disasm_app, debug_app, trace_app, page_app, write_app, session_app, program_app, press_app, source_of, made_behind, made_of, made_named, made_in, images_of, defaults_of, front_in, engines_of, print_asked, asm_asked, disasm_asked, debug_of, debug_asked, trace_asked, steps_in, page_to, page_asked, job_asked, session_asked, subcommand_named, asked_of, asked_by, asked, is_set};
-ghost use Rattle.press_main.specs.View.{source_seen, made_seen, request_seen, status_of, IsForMemory};
+ghost use Rattle.press_main.specs.View.{AsksHelp, source_seen, made_seen, request_seen, status_of, IsForMemory};
 
 use crate::defaults::{are_assignments, front_of};
 use crate::lines::number_word;
@@ -14,6 +14,9 @@ use press_pjl::is_assignment;
 use press_units::NO_MEMORY;
 use std::alloc::{AllocError, Global};
 use std::fmt;
+
+/// The status after words that are refused.
+pub(crate) const REFUSED: u8 = 2;
 
 /// The version of the program, and the kit that proved it.
 const VERSION: &str = "1.0.0 (proved by rattle-kit-13f)";
@@ -128,7 +131,7 @@ impl Refusal {
         match self {
             Refusal::Words(error) if error.kind() == ErrorKind::OutOfMemory => 1,
             Refusal::Words(error) if !error.use_stderr() => 0,
-            _ => 2,
+            _ => REFUSED,
         }
     }
 }
@@ -770,6 +773,8 @@ pub fn request_of<'a>(alloc: Global, words: &'a [&'a str]) -> Result<Request<'a>
         asked (map (λ word. word.now) words.entry.now) ≡ Some (request_seen request)) }
     ensures refused { IfErr result (λ refusal. (IsForMemory refusal)
         ⊎ (asked (map (λ word. word.now) words.entry.now) ≡ None)) }
+    ensures help { IfErr result (λ refusal.
+        status_of refusal ≡ 0 → AsksHelp (map (λ word. word.now) words.entry.now)) }
 {
     if words.len() <= 1 {
         return Ok(Request {
@@ -785,7 +790,8 @@ pub fn request_of<'a>(alloc: Global, words: &'a [&'a str]) -> Result<Request<'a>
 
 /// Why matches ask for nothing: the first default that is none of the job language, or a name that is missing.
 fn refusal_of(alloc: Global, matches: &ArgMatches<'_>) -> Result<Refusal, Error>
-    ensures { IfErr result (λ error. kind_of error ≡ OutOfMemory) }
+    ensures status { IfOk result (λ refusal. status_of refusal ≡ 2) }
+    ensures memory { IfErr result (λ error. kind_of error ≡ OutOfMemory) }
 {
     if let Some((_, values)) = matches.subcommand()
         && let Some(defaults) = values.get_strs("default")

@@ -8,10 +8,10 @@ pub returns-in-Files : goal.returns-in-Files
 returns-in-Files g c = rw (c.in-Files.is, ← c.deref-in-Files.ensures.value) c.print_behind.ensures
 
 pub returns-in-Session : goal.returns-in-Session
-returns-in-Session g c = rw c.in-Session.is (record { done = c.press_lines.ensures.plays; stops = c.press_lines.ensures.stops }, refl)
+returns-in-Session g c = rw c.in-Session.is (c.press_lines.ensures, refl)
 
 pub returns-in-Text : goal.returns-in-Text
-returns-in-Text g c = rw c.in-Text.is (record { done = c.disasm_bytes.ensures.disassembled; stops = c.disasm_bytes.ensures.stopped }, refl)
+returns-in-Text g c = rw c.in-Text.is (c.disasm_bytes.ensures, refl)
 
 pub returns-in-Debugged : goal.returns-in-Debugged
 returns-in-Debugged g c = rw (c.in-Debugged.is, ← c.deref-in-Debugged.ensures.value) (c.debug_file.ensures, refl)
@@ -23,7 +23,7 @@ pub returns-in-Page : goal.returns-in-Page
 returns-in-Page g c = rw (c.in-Page.is, ← c.deref-in-Page.ensures.value) (c.page_behind.ensures, refl)
 
 pub returns-in-Assembled : goal.returns-in-Assembled
-returns-in-Assembled g c = rw c.in-Assembled.is (record { done = c.asm_file.ensures.assembled; stops = c.asm_file.ensures.refused }, refl)
+returns-in-Assembled g c = rw c.in-Assembled.is (c.asm_file.ensures, refl)
 
 pub returns-in-Job : goal.returns-in-Job
 returns-in-Job g c = rw (c.in-Job.is, ← c.deref-in-Job.ensures.value) (c.write_file.ensures, refl)

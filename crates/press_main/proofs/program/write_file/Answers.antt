@@ -1,15 +1,15 @@
 use Rattle.std.proofs.Common.{◌≡◌, ◌∙◌, ℕ, List, Bor, Option, map, ap, refl, subst, inl, arith}
 use Rattle.press_sink.specs.Outputs.{MadeOutput}
 use Rattle.press_ticket.specs.declared.fault.TicketError.TheVariants as ticket_fault
-use Rattle.press_main.specs.Jobs.{MakesTheTicket, StopsMakingJob}
+use Rattle.press_main.specs.Program.{Writing}
 use Rattle.press_main.specs.declared.jobs.JobFileError.TheVariants as fault
 use Rattle.press_main.proofs.ProgramLemmas.{map-twice}
 use Rattle.press_main.proofs.program.write_file.Goals as goal
 
 pub returns-in_default : goal.returns-in_default
 returns-in_default g c = record {
-  done = λ zero. absurd (omega (arith, c.told.ensures, zero));
-  stops = λ other. (fault.Ticket ticket_fault.NoMemory, inl (record { refused = tt; unwritten = refl }));
+  done = λ zero. absurd (omega (arith, c.told.ensures.status, zero));
+  stops = λ other. (c.told.ensures.status, fault.Ticket ticket_fault.NoMemory, c.told.ensures.told, inl (record { refused = tt; unwritten = refl }));
 }
 
 pub returns : goal.returns
@@ -22,9 +22,4 @@ returns g c =
     let now : Bor (List ℕ) → List ℕ = λ name. name.now in
     let same : map (λ (name : Bor (List ℕ)). bytes name.now) c.deref.result.now ≡ map bytes (map now c.args.images.now) =
     map-twice now bytes c.deref.result.now ∙ ap (map bytes) (ap (map now) c.deref.ensures.value ∙ c.in-Ok.ensures) in
-    record {
-      done = λ zero. subst (λ (inputs : List (Option (List ℕ))). MakesTheTicket c.args.name.now had left inputs before after) same (c.job_file.ensures.made zero);
-      stops = λ other.
-          let why = c.job_file.ensures.refused other in
-          (why.0, subst (λ (inputs : List (Option (List ℕ))). StopsMakingJob c.args.name.now had left inputs before after why.0) same why.1);
-    }
+    subst (λ (inputs : List (Option (List ℕ))). Writing c.args.name.now c.job_file.result (g.E.Teller.said c.args.err.now) (g.E.Teller.said c.job_file.new.err) had left inputs before after) same c.job_file.ensures
