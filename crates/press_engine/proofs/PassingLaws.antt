@@ -1,52 +1,18 @@
 -- Commands of the stream that have no effect.
-use Rattle.std.proofs.Common.{◌≡◌, ◌∙◌, ◌+◌, ℕ, suc, List, [], ◌∷◌, ◌++◌, length, Bool, true, false, refl, sym, ap, subst, arith, append-nil}
-use Rattle.std.specs.Prelude.{◌==◌, ◌&&◌, ◌||◌, not, if◌then◌else◌, min}
+use Rattle.std.proofs.Common.{◌≡◌, ◌∙◌, ℕ, suc, List, [], ◌∷◌, ◌++◌, length, Bool, true, false, refl, ap, arith}
+use Rattle.std.specs.Prelude.{if◌then◌else◌}
 use Rattle.std.specs.List.{AllByRecursion}
-use Rattle.press_cmd.specs.Token.{Token, Control, Text, ForeignByte}
+use Rattle.press_cmd.specs.Token.{Token}
 use Rattle.press_cmd.specs.Kinds.{kind_of}
-use Rattle.press_engine.specs.declared.effect.Source.TheVariants as sources
 use Rattle.press_engine.specs.declared.machine.Last.TheVariants as lasts
 use Rattle.press_engine.specs.declared.machine.Machine.{Machine}
-use Rattle.press_engine.specs.declared.operation.Operation.{Operation}
-use Rattle.press_engine.specs.declared.operation.Operation.TheVariants as operations
 use Rattle.press_engine.specs.declared.state.State.{State}
 use Rattle.press_engine.specs.Counts.{counted}
 use Rattle.press_engine.specs.Machine.{Run, quiet, taken, levels}
-use Rattle.press_engine.specs.Macros.{recording}
-use Rattle.press_engine.specs.Operation.{row_at, control_rows}
 use Rattle.press_engine.specs.Outcome.{Effect, Changes, Makes}
-use Rattle.press_engine.specs.Passing.{HasNoEffect, SkipsBytes, SkipsControls, passed, PassingIsCounted}
-use Rattle.press_engine.specs.Table.{effect_on, is_recorded, row_unless_skipped, works_in_hp_gl, passes_definition, is_skipped, table_row}
+use Rattle.press_engine.specs.Passing.{HasNoEffect, passed, PassingIsCounted}
+use Rattle.press_engine.specs.Table.{is_recorded}
 use Rattle.press_engine.specs.Trace.{last_machine, trace_each, trace_carry_out, trace_at, trace, told_by, run_all}
-
--- ---- which commands have no effect
-
-either_way : (b : Bool) (effect : Effect) → (if b then effect else effect) ≡ effect
-either_way true effect = refl
-either_way false effect = refl
-
-not_open : (b c : Bool) → b ≡ false → (b && c) ≡ false
-not_open true c is = absurd (cc)
-not_open false c is = refl
-
-pub skips_bytes : (state : State) → recording state ≡ false → SkipsBytes state
-skips_bytes state closed = record {
-  text = λ byte. rw closed (either_way (is_skipped sources.Stream operations.Nothing state) (Changes state));
-  foreign = λ byte. rw closed (either_way (is_skipped sources.Stream operations.Nothing state) (Changes state));
-}
-
-no_work : (a b c : Bool) → works_in_hp_gl (if a then operations.LineFeed else if b then operations.FormFeed else if c then operations.CarriageReturn else operations.Nothing) ≡ false
-no_work true b c = refl
-no_work false true c = refl
-no_work false false true = refl
-no_work false false false = refl
-
-pub skips_controls : (state : State) → recording state ≡ false → state.hp_gl ≡ true → SkipsControls state
-skips_controls state closed on byte =
-    let none : works_in_hp_gl (row_at byte control_rows) ≡ false = no_work _ _ _ in
-    rw (closed, on, none) refl
-
--- ---- what they leave
 
 not_recorded : (recorded : Bool) (state : State) (other : State) (row : Effect) → (if recorded then Makes other else row) ≡ Changes state → recorded ≡ false
 not_recorded true state other row is = absurd (cc)

@@ -1,9 +1,8 @@
 -- The records of commands and the commands of records.
-use Rattle.std.proofs.Common.{◌≡◌, ◌<◌, ◌≤◌, ◌+◌, ◌-◌, ◌==◌, ◌∙◌, ℕ, Bool, false, zero, suc, List, [], ◌∷◌, ◌++◌, length, take, drop, slice_index, slice_get, Some, Result, Ok, Err, OnOk, OnErr, refl, sym, ap, subst, arith, append_assoc, length-append, length-drop, lit≤, true, ◌↔◌}
+use Rattle.std.proofs.Common.{◌≡◌, ◌<◌, ◌≤◌, ◌+◌, ◌-◌, ◌==◌, ◌∙◌, ℕ, Bool, false, zero, suc, List, [], ◌∷◌, ◌++◌, length, take, drop, slice_index, slice_get, Some, Result, Ok, Err, OnOk, OnErr, refl, sym, ap, subst, arith, append_assoc, length-append, lit≤}
 use Rattle.std.specs.List.{AllByRecursion, between}
 use Rattle.std.proofs.lemmas.Slice.{between_to_end}
-use Rattle.std.proofs.lemmas.List.{append-nil, drop_all}
-use Rattle.std.proofs.lemmas.Bool.{eqb-true, eq-eqb}
+use Rattle.std.proofs.lemmas.List.{append-nil}
 use Rattle.std.proofs.Math.Seq.{take-append_seam}
 use Rattle.byteorder.specs.Endian.{big_bytes, big_number}
 use Rattle.byteorder.specs.Numbers.{big_number-reads_back}
@@ -154,16 +153,3 @@ pub first-record : (bytes : List ℕ) → AreRecords bytes → (empty : Bool) �
     → (n : ℕ) → n ≡ big_number 4 (between 1 (length bytes) bytes) → First bytes n
 first-record bytes is empty tested none n counted =
     first-from (decoded bytes) is.sound bytes is.spelled (some-bytes bytes empty tested none) n counted
-
--- ---- behind the last record
-
-none-decoded : (bytes : List ℕ) → decoded bytes ≡ [] → bytes ≡ []
-none-decoded [] none = refl
-none-decoded (byte ∷ bytes) none = absurd (cc)
-
--- whether a place is behind the last of these records
-pub end-at : (place : ℕ) (bytes : List ℕ) → place ≤ length bytes → (place == length bytes ≡ true) ↔ (decoded (drop place bytes) ≡ [])
-end-at place bytes within = (
-  λ (is : place == length bytes ≡ true). ap decoded (drop_all place bytes (omega (arith, eqb-true place (length bytes) is))),
-  λ (none : decoded (drop place bytes) ≡ []). eq-eqb place (length bytes) (omega (arith, within, ap length (none-decoded (drop place bytes) none), length-drop place bytes)),
-)

@@ -69,11 +69,6 @@ no_effects : (controls : Bool) (state : State) → SkipsBytes state → (IsTrue 
 no_effects controls state bytes some [] all = tt
 no_effects controls state bytes some (command ∷ commands) all = (no_effect controls state bytes some command all.0, no_effects controls state bytes some commands all.1)
 
-pub CarriesIdle-none : (held : ScannerState) (machine : Option Machine) → IsSome machine → CarriesIdle held machine held machine
-unfolding Rattle.press_engine.specs.Trace.trace_each
-CarriesIdle-none held (Some machine) running = record { given = []; each = refl; from = machine; starts = refl; ends = refl; nothing = refl }
-CarriesIdle-none held None running = absurd (cc)
-
 pub CarriesIdle-some : (controls : Bool) (held next : ScannerState) (old new : Option Machine) (over : Passed) → IsSome old
     → IfSome old (λ machine. SkipsBytes machine.state) → (IsTrue controls → IfSome old (λ machine. SkipsControls machine.state))
     → PassesOver controls held over next → new ≡ option_map (passed over.count over.kind) old → CarriesIdle held old next new

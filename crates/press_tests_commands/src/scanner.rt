@@ -98,3 +98,24 @@ fn takes_the_longest_data_byte_by_byte(rt: HostRuntime) -> Result<(), Fail> {
     assert_eq!(rt; command.data().last(), Some(&0x5A));
     Ok(())
 }
+
+/// How many commands of one byte the scanner passes over.
+fn count_passed(scanner: &mut Scanner, controls: bool) -> usize {
+    match scanner.pass(controls) {
+        Some(passed) => passed.count,
+        None => 0,
+    }
+}
+
+#[test]
+fn passes_over_text_and_not_over_control_bytes(rt: HostRuntime) -> Result<(), Fail> {
+    let mut scanner = Scanner::new(rt.alloc());
+    scanner.feed(b"abc\ndef\x1BE")?;
+    assert_eq!(rt; count_passed(&mut scanner, false), 0);
+    assert!(rt; scanner.next()?.is_some());
+    assert_eq!(rt; count_passed(&mut scanner, false), 2);
+    assert_eq!(rt; count_passed(&mut scanner, false), 0);
+    assert_eq!(rt; count_passed(&mut scanner, true), 4);
+    assert_eq!(rt; scanner.held(), 2);
+    Ok(())
+}
