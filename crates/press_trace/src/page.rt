@@ -208,7 +208,8 @@ pub(crate) fn told_page(
     before: Option<Bitmap>,
     now: Option<&Canvas>,
 ) -> Result<(Option<Bitmap>, PageTold), AllocError>
-    ensures told { IfOk result (λ answer. IsPageTold before (option_map (λ page. page.now) now.entry)
+    ensures told { IfOk result (λ answer. IsPageTold before
+        (option_map (λ page. page.now) now.entry)
         (option_map view answer.1.opened) (option_map view answer.1.page)) }
     ensures page { IfOk result (λ answer. answer.0 ≡ option_map (λ page. page.now) now.entry) }
     ensures plain { IfOk result (λ answer. IsPlain answer.1) }
