@@ -1,13 +1,15 @@
 -- Dots that are widened as numbers.
-use Rattle.std.proofs.Common.{◌≡◌, ℕ, zero, suc, ◌+◌, ◌-◌, ◌*◌, ◌/◌, ◌%◌, ◌^◌, ◌<◌, ◌≤◌, Bool, true, false, cond, List, get_or, map, refl, sym, ap, subst, min, ◌∙◌, inl, inr, arith}
+use Rattle.std.proofs.Common.{◌≡◌, ℕ, zero, suc, ◌+◌, ◌-◌, ◌*◌, ◌/◌, ◌%◌, ◌^◌, ◌<◌, ◌≤◌, Bool, true, false, cond, List, get_or, take, length, map, w16, w32, refl, sym, ap, subst, min, ◌∙◌, inl, inr, arith}
 use native.Mathlib.Numerals.{unary_clauses}
 use Rattle.std.specs.Prelude.{nat_eq, bit_or, if◌then◌else◌}
-use Rattle.std.specs.Int.{bit_at}
+use Rattle.std.specs.Int.{bit_at, to_be_bytes}
 use Rattle.std.specs.List.{range_with_len}
 use Rattle.std.proofs.lemmas.List.FromFn.{get_or-map-range_with_len}
 use Rattle.std.proofs.lemmas.Nat.{shr_high, mod_low, div-mul-add, div-add-mod', mod_below, div_below, shl_whole, or_shifted}
 use Rattle.std.proofs.lemmas.Nat.Bits.{bit_at_cat_low, bit_at_cat_high}
 use Rattle.std.proofs.lemmas.Bool.{cases_lt}
+use Rattle.std.proofs.lemmas.List.{get_or-take, get_or_append_left, length-take}
+use borrow.Rule.Slice.PartMut.{put_mid}
 use Rattle.std.proofs.Math.Nat.{mul_comm, zero-mul, mul-add-div_right}
 use Rattle.press_bits.specs.Mark.{row_dot, byte_dot}
 use Rattle.press_pattern.specs.Tiling.{byte_where}
@@ -162,3 +164,21 @@ two_fours byte size high low some most is_high is_low =
   where
     behind : (i : ℕ) → 4 + i / size ≡ (4 * size + i) / size
     behind i = sym (mul-add-div_right some 4 i)
+
+-- ---- the bytes of a number, written at once
+
+pub kept_before : (rows bytes : List ℕ) (index k i : ℕ) → index + k ≤ length rows → i < index → get_or (put_mid index k rows bytes) i 0 ≡ get_or rows i 0
+kept_before rows bytes index k i room before =
+    get_or_append_left (take index rows) _ 0 i (omega (arith, length-take index rows, room, before)) ∙ get_or-take index rows i 0 before
+
+pub byte_of_two : (n m : ℕ) → m < 2 → get_or (to_be_bytes w16 (n % 65536)) m 0 ≡ n / 2 ^ (8 * (2 - 1 - m)) % 256
+byte_of_two n zero low = omega arith
+byte_of_two n (suc zero) low = omega arith
+byte_of_two n (suc (suc m)) low = absurd (omega (arith, low))
+
+pub byte_of_four : (n m : ℕ) → m < 4 → get_or (to_be_bytes w32 (n % 4294967296)) m 0 ≡ n / 2 ^ (8 * (4 - 1 - m)) % 256
+byte_of_four n zero low = omega arith
+byte_of_four n (suc zero) low = omega arith
+byte_of_four n (suc (suc zero)) low = omega arith
+byte_of_four n (suc (suc (suc zero))) low = omega arith
+byte_of_four n (suc (suc (suc (suc m)))) low = absurd (omega (arith, low))

@@ -100,6 +100,45 @@ fn widened(fours: &[u64; 16], byte: u8, size: usize) -> u64
     (fours[byte as usize / 16] << (4 * size)) | fours[byte as usize % 16]
 }
 
+/// Writes the two bytes of a number, the more significant first.
+#[inline(always)]
+fn write_two(out: &mut [u8], first: usize, number: u64)
+    requires room { first + 2 ≤ length out.old }
+    ensures before { (k : ℕ) → k < first → slice_index out.new k ≡ slice_index out.old k }
+    ensures bytes { (m : ℕ) → m < 2
+        → slice_index out.new (first + m) ≡ number / 2 ^ (8 * (2 - 1 - m)) % 256 }
+{
+    let bytes = ((number % 0x1_0000) as u16).to_be_bytes();
+    out[first..first + 2].copy_from_slice(&bytes);
+}
+
+/// Writes the four bytes of a number, the most significant first.
+#[inline(always)]
+fn write_four(out: &mut [u8], first: usize, number: u64)
+    requires room { first + 4 ≤ length out.old }
+    ensures before { (k : ℕ) → k < first → slice_index out.new k ≡ slice_index out.old k }
+    ensures bytes { (m : ℕ) → m < 4
+        → slice_index out.new (first + m) ≡ number / 2 ^ (8 * (4 - 1 - m)) % 256 }
+{
+    let bytes = ((number % 0x1_0000_0000) as u32).to_be_bytes();
+    out[first..first + 4].copy_from_slice(&bytes);
+}
+
+/// Writes the `size` bytes of a number, the most significant first.
+#[inline(always)]
+fn write_each(out: &mut [u8], first: usize, number: u64, size: usize)
+    requires some { 1 ≤ size }
+    requires most { size ≤ 8 }
+    requires room { first + size ≤ length out.old }
+    ensures before { (k : ℕ) → k < first → slice_index out.new k ≡ slice_index out.old k }
+    ensures bytes { (m : ℕ) → m < size
+        → slice_index out.new (first + m) ≡ number / 2 ^ (8 * (size - 1 - m)) % 256 }
+{
+    for m in 0..size {
+        out[first + m] = ((number >> (8 * (size - 1 - m))) % 256) as u8;
+    }
+}
+
 /// Writes the `size` bytes of a number, the most significant first.
 #[inline(always)]
 fn write_number(out: &mut [u8], first: usize, number: u64, size: usize)
@@ -110,8 +149,10 @@ fn write_number(out: &mut [u8], first: usize, number: u64, size: usize)
     ensures bytes { (m : ℕ) → m < size
         → slice_index out.new (first + m) ≡ number / 2 ^ (8 * (size - 1 - m)) % 256 }
 {
-    for m in 0..size {
-        out[first + m] = ((number >> (8 * (size - 1 - m))) % 256) as u8;
+    match size {
+        2 => write_two(out, first, number),
+        4 => write_four(out, first, number),
+        _ => write_each(out, first, number, size),
     }
 }
 
