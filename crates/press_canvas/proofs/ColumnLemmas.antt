@@ -6,14 +6,19 @@ use Rattle.std.proofs.lemmas.Bool.Decides.{nat_tests}
 use Rattle.press_bits.specs.Page.{Page, black_at, page_where, blank}
 use Rattle.press_bits.proofs.PageLemmas.{page_where_alike, width-page_where, height-page_where, black_at-page_where, blank_is}
 use Rattle.press_canvas.specs.Turned.{turned_dot, turned_page, page_of_frame, with_line}
-use Rattle.press_canvas.specs.Strip.{across, columns_before, place_at, with_column}
+use Rattle.press_canvas.specs.Strip.{across, column_dot, columns_before, place_at, with_column}
+
+inside : (x h : ℕ) (b : Bool) → x < h → (nat_lt x h && b) ≡ b
+inside x h b within = grind (arith, nat_tests)
 
 -- the dots of a column are those of the line that it is
-pub column_turned : (back : Bool) (w h : ℕ) (frame : Page) (a x : ℕ) → a < h →
-    black_at frame a (place_at back w x) ≡ turned_dot (across back) w h frame x (place_at (not back) h a)
-column_turned false w h frame a x within =
-    let again : a ≡ h - 1 - (h - 1 - a) = omega arith in ap (λ k. black_at frame k x) again
-column_turned true w h frame a x within = refl
+pub column_turned : (back : Bool) (w h : ℕ) (frame : Page) (a x : ℕ) → w ≡ frame.height → a < h → x < w →
+    column_dot frame a (place_at back w x) ≡ turned_dot (across back) w h frame x (place_at (not back) h a)
+column_turned false w h frame a x high within left =
+    let again : a ≡ h - 1 - (h - 1 - a) = omega arith in
+    inside x frame.height (black_at frame a x) (omega (arith, high, left)) ∙ ap (λ k. black_at frame k x) again
+column_turned true w h frame a x high within left =
+    inside (w - 1 - x) frame.height (black_at frame a (w - 1 - x)) (omega (arith, high, left))
 
 joined : (back : Bool) (m h a : ℕ) (d t : Bool) → a < h → m < h → (m ≡ place_at (not back) h a → d ≡ t) →
     (if nat_eq m (place_at (not back) h a) then d else (nat_lt (place_at (not back) h m) a && t)) ≡ (nat_lt (place_at (not back) h m) (a + 1) && t)
@@ -42,9 +47,9 @@ all_done a n t low = grind (arith, nat_tests)
 both_done : (b n : ℕ) (t : Bool) → b < n → (nat_lt b n && t) ≡ (nat_lt b (n + 1) && t)
 both_done b n t low = grind (arith, nat_tests)
 
-pub columns_more : (back : Bool) (w h : ℕ) (frame page : Page) (a : ℕ) (dots : ℕ → Bool) → page ≡ columns_before back w h frame a →
-    ((x : ℕ) → x < w → a < h → dots x ≡ black_at frame a (place_at back w x)) → with_column page back h a dots ≡ columns_before back w h frame (a + 1)
-columns_more back w h frame page a dots before right =
+pub columns_more : (back : Bool) (w h : ℕ) (frame page : Page) (a : ℕ) (dots : ℕ → Bool) → w ≡ frame.height → page ≡ columns_before back w h frame a →
+    ((x : ℕ) → x < w → a < h → dots x ≡ column_dot frame a (place_at back w x)) → with_column page back h a dots ≡ columns_before back w h frame (a + 1)
+columns_more back w h frame page a dots high before right =
     elim (cases_lt a h) [
       | inl within ↦
           ap (λ (t : Bool). if t then with_line page y dots else page) (test_true a h within)
@@ -54,7 +59,7 @@ columns_more back w h frame page a dots before right =
           (λ x m left above.
           ap (λ (b : Bool). if nat_eq m y then dots x else b) (black_at-page_where w h rule x m left above)
           ∙ joined back m h a (dots x) (turned_dot (across back) w h frame x m) within above
-          (λ here. right x left within ∙ column_turned back w h frame a x within ∙ ap (turned_dot (across back) w h frame x) (sym here)))
+          (λ here. right x left within ∙ column_turned back w h frame a x high within left ∙ ap (turned_dot (across back) w h frame x) (sym here)))
       | inr past ↦
           ap (λ (t : Bool). if t then with_line page y dots else page) (test_false a h past)
           ∙ before

@@ -3,3 +3,4 @@ pub mod BlockLemmas
 pub mod LineLemmas
 pub mod FrameLemmas
 pub mod ColumnLemmas
+mod StripLemmas

@@ -1,7 +1,7 @@
 -- Strips of a frame: sixty-four of its columns as lines, and how they are lines of the page.
 use Rattle.std.specs.Prelude.{ℕ, ◌+◌, ◌-◌, ◌*◌, ◌&&◌, not, Bool, true, false, nat_lt, if◌then◌else◌, List}
 use Rattle.press_bits.specs.Mark.{row_dot}
-use Rattle.press_bits.specs.Page.{Page, page_where}
+use Rattle.press_bits.specs.Page.{Page, black_at, page_where}
 use Rattle.press_page.specs.declared.media.Orientation.{Orientation}
 use Rattle.press_page.specs.declared.media.Orientation.TheVariants.{Landscape, ReverseLandscape}
 use Rattle.press_canvas.specs.Turned.{turned_dot, with_line}
@@ -10,6 +10,10 @@ use Rattle.press_canvas.specs.Turned.{turned_dot, with_line}
 abbrev pub place_at : (back : Bool) → (places place : ℕ) → ℕ
 place_at false places place = place
 place_at true places place = places - 1 - place
+
+-- the dot of a column of a frame at a line; white past the last one
+abbrev pub column_dot : Page → (column line : ℕ) → Bool
+column_dot frame column line = nat_lt line frame.height && black_at frame column line
 
 -- how many dots there is room for in a line of a strip
 abbrev pub strip_dots : ℕ

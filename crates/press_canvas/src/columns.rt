@@ -5,7 +5,7 @@ ghost use Rattle.press_bits.specs.Page.{black_at, blank};
 ghost use Rattle.press_canvas.specs.Strip.{across, place_at, strip_dot, with_column};
 ghost use Rattle.press_canvas.specs.Turned.{page_of_frame};
 
-use crate::lines::{place_at, put_line};
+use crate::lines::{place_at, put_row};
 use crate::strip::{STRIDE, STRIP, fill_strip};
 use press_bits::{Bitmap, WIDEST_ROW, white_bytes};
 use std::alloc::{AllocError, Global};
@@ -17,20 +17,23 @@ fn put_column(
     columns: u32,
     column: u32,
     back: bool,
+    room: &mut [u8],
 ) -> Result<(), AllocError>
     requires long { length strip.now ≡ STRIP }
     requires most { page.old.width ≤ 8 * WIDEST_ROW }
+    requires room { length room.old ≡ WIDEST_ROW }
     requires white { (x : ℕ) → x < page.old.width → column < columns
         → black_at page.old x (place_at (not back) columns column) ≡ false }
-    ensures { OnOk result (page.new ≡ with_column page.old back columns column
-        (strip_dot strip.now (column % 64))) }
+    ensures put { OnOk result (page.new ≡ with_column page.old back columns column
+        (λ x. strip_dot strip.now (column % 64) (place_at back page.old.width x))) }
+    ensures room { length room.new ≡ WIDEST_ROW }
 {
     if column >= columns {
         return Ok(());
     }
     let start = (column % 64) as usize * STRIDE;
     let bits = &strip[start..start + WIDEST_ROW];
-    put_line(page, place_at(!back, columns, column), bits)
+    put_row(page, place_at(!back, columns, column), bits, back, room)
 }
 
 /// Writes the columns of the frame as lines of a white page, read from the first line on or from the last one back, strip by strip.
@@ -46,10 +49,11 @@ fn put_strips(
 {
     let columns = frame.width();
     let _lines = frame.height();
+    let mut room = [0; WIDEST_ROW];
     for index in 0..columns.div_ceil(64) {
-        fill_strip(frame, index, back, strip);
+        fill_strip(frame, index, strip);
         for line in 0..64 {
-            put_column(page, strip, columns, 64 * index + line, back)?;
+            put_column(page, strip, columns, 64 * index + line, back, &mut room)?;
         }
     }
     Ok(())

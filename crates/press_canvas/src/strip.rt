@@ -1,14 +1,12 @@
 //! Strips of a frame: sixty-four columns of it as lines.
 
-ghost use Rattle.std.specs.Prelude.{◌≡◌, ℕ, ◌+◌, ◌*◌, ◌/◌, ◌%◌, ◌<◌, ◌≤◌, nat_eq, false, if◌then◌else◌, length};
-ghost use Rattle.press_bits.specs.Page.{black_at};
-ghost use Rattle.press_bits.specs.Words.{word_dot};
+ghost use Rattle.std.specs.Prelude.{◌≡◌, ℕ, ◌+◌, ◌*◌, ◌/◌, ◌%◌, ◌<◌, ◌≤◌, nat_eq, if◌then◌else◌, length};
+ghost use Rattle.press_bits.specs.Bands.{band_lines};
 ghost use Rattle.press_canvas.specs.Block.{block_dot};
-ghost use Rattle.press_canvas.specs.Strip.{place_at, strip_dot, strip_dots};
+ghost use Rattle.press_canvas.specs.Strip.{column_dot, strip_dot, strip_dots};
 
 use crate::block::transpose;
-use crate::lines::place_at;
-use press_bits::{Bitmap, put_word, word_at};
+use press_bits::{BAND_LINES, Bitmap, put_word, word_at};
 
 /// The bytes of a line of a strip: those of the widest row, and some more, so that lines below each other stand apart in a cache.
 pub(crate) const STRIDE: usize = 2112;
@@ -16,56 +14,20 @@ pub(crate) const STRIDE: usize = 2112;
 /// The bytes of a strip.
 pub(crate) const STRIP: usize = 64 * STRIDE;
 
-/// Sixty-four dots of a line of the frame from a byte on, of the first line on or of the last one back; white past the last line.
-#[inline(always)]
-fn line_word(frame: &Bitmap, line: u32, back: bool, byte: usize) -> u64
-    requires { 8 * byte < frame.now.width }
-    ensures { (j : ℕ) → j < 64 → line < frame.now.height → 8 * byte + j < frame.now.width
-        → word_dot result j
-        ≡ black_at frame.now (8 * byte + j) (place_at back frame.now.height line) }
-{
-    let (_width, lines) = (frame.width(), frame.height());
-    if line >= lines {
-        return 0;
-    }
-    word_at(frame.line(place_at(back, lines, line)), byte)
-}
-
-/// The block of the sixty-four columns of a strip in sixty-four lines of the frame after so many such blocks, from the first line on
-/// or from the last one back. Says whether it may have a black dot.
-fn gather(frame: &Bitmap, strip: u32, block: u32, back: bool, words: &mut [u64]) -> bool
+/// The block of the sixty-four columns of a strip in the lines of a band.
+fn gather(frame: &Bitmap, strip: u32, band: u32, words: &mut [u64])
     requires long { length words.old ≡ 64 }
     requires inside { 64 * strip < frame.now.width }
-    requires here { 64 * block < frame.now.height }
+    requires here { band_lines * band < frame.now.height }
     ensures long { length words.new ≡ 64 }
-    ensures dots { (i j : ℕ) → i < 64 → j < 64 → 64 * block + i < frame.now.height
-        → 64 * strip + j < frame.now.width → block_dot words.new i j
-        ≡ black_at frame.now (64 * strip + j) (place_at back frame.now.height (64 * block + i)) }
-    ensures white { result ≡ false → (i j : ℕ) → i < 64 → j < 64
-        → block_dot words.new i j ≡ false }
+    ensures dots { (i j : ℕ) → i < 64 → j < 64 → 64 * strip + j < frame.now.width
+        → block_dot words.new i j ≡ column_dot frame.now (64 * strip + j) (64 * band + i) }
 {
-    let _sides = (frame.width(), frame.height());
-    let mut black = false;
+    let bytes = (frame.width() as usize + 7) / 8;
+    let _height = frame.height();
+    let lines = frame.band(band);
     for line in 0..64 {
-        let word = line_word(frame, 64 * block + line as u32, back, 8 * strip as usize);
-        words[line] = word;
-        black = black || word != 0;
-    }
-    black
-}
-
-/// The columns of such a block as its lines.
-fn gather_columns(frame: &Bitmap, strip: u32, block: u32, back: bool, words: &mut [u64])
-    requires long { length words.old ≡ 64 }
-    requires inside { 64 * strip < frame.now.width }
-    requires here { 64 * block < frame.now.height }
-    ensures long { length words.new ≡ 64 }
-    ensures dots { (i j : ℕ) → i < 64 → j < 64 → 64 * block + i < frame.now.height
-        → 64 * strip + j < frame.now.width → block_dot words.new j i
-        ≡ black_at frame.now (64 * strip + j) (place_at back frame.now.height (64 * block + i)) }
-{
-    if gather(frame, strip, block, back, words) {
-        transpose(words);
+        words[line] = word_at(lines, line * bytes + 8 * strip as usize);
     }
 }
 
@@ -84,18 +46,18 @@ fn put_block(strip: &mut [u8], word: usize, words: &[u64])
     }
 }
 
-/// Writes the columns of a strip of the frame as its lines, from the first line of the frame on or from the last one back.
-pub(crate) fn fill_strip(frame: &Bitmap, index: u32, back: bool, strip: &mut [u8])
+/// Writes the columns of a strip of the frame as its lines.
+pub(crate) fn fill_strip(frame: &Bitmap, index: u32, strip: &mut [u8])
     requires long { length strip.old ≡ STRIP }
     requires inside { 64 * index < frame.now.width }
     ensures long { length strip.new ≡ STRIP }
     ensures dots { (j x : ℕ) → j < 64 → x < frame.now.height → 64 * index + j < frame.now.width
-        → strip_dot strip.new j x
-        ≡ black_at frame.now (64 * index + j) (place_at back frame.now.height x) }
+        → strip_dot strip.new j x ≡ column_dot frame.now (64 * index + j) x }
 {
     let mut words = [0; 64];
-    for block in 0..frame.height().div_ceil(64) {
-        gather_columns(frame, index, block, back, &mut words);
-        put_block(strip, block as usize, &words);
+    for band in 0..frame.height().div_ceil(BAND_LINES) {
+        gather(frame, index, band, &mut words);
+        transpose(&mut words);
+        put_block(strip, band as usize, &words);
     }
 }

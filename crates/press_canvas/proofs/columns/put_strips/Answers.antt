@@ -1,12 +1,13 @@
-use Rattle.std.proofs.Common.{◌≡◌, ℕ, ◌∙◌, ◌+◌, ◌*◌, ◌%◌, ◌<◌, Bool, not, ap, subst, arith}
+use Rattle.std.proofs.Common.{◌≡◌, ℕ, ◌∙◌, ◌+◌, ◌*◌, ◌%◌, ◌<◌, Bool, not, refl, ap, subst, arith}
 use Rattle.press_bits.specs.Page.{Page, black_at}
 use Rattle.press_bits.proofs.PageLemmas.{width-page_where}
 use Rattle.press_canvas.specs.Strip.{columns_before, place_at, strip_dot, with_column}
-use Rattle.press_canvas.proofs.ColumnLemmas.{columns_more, columns_none, columns_all, across_page, next_column_white}
+use Rattle.press_canvas.proofs.ColumnLemmas.{columns_more, columns_none, columns_all, across_page, next_column_white, place_within}
 use Rattle.press_canvas.proofs.columns.put_strips.Goals as goal
 
 pub loop-index-init : goal.loop-index-init
 loop-index-init c = record {
+  room = refl;
   long = c.requires.long;
   page = c.requires.page ∙ columns_none c.args.back c.args.frame.now.height c.args.frame.now.width c.args.frame.now;
 }
@@ -14,7 +15,7 @@ loop-index-init c = record {
 pub loop-line-init : goal.loop-line-init
 loop-line-init c =
     let at : 64 * c.loop-index.index ≡ 64 * c.loop-index.index + 0 = omega arith in
-    record { page = c.loop-index.invariant.page ∙ ap (columns_before c.args.back c.args.frame.now.height c.args.frame.now.width c.args.frame.now) at }
+    record { room = c.loop-index.invariant.room; page = c.loop-index.invariant.page ∙ ap (columns_before c.args.back c.args.frame.now.height c.args.frame.now.width c.args.frame.now) at }
 
 pub put_column-requires-clause-most : goal.put_column-requires-clause-most
 put_column-requires-clause-most c =
@@ -34,21 +35,24 @@ loop-line-preserved c =
     let frame : Page = c.args.frame.now in
     let a : ℕ = 64 * c.loop-index.index + c.loop-line.line in
     let line : (64 * c.loop-index.index + c.loop-line.line) % 64 ≡ c.loop-line.line = omega (arith, c.loop-line-test.true) in
-    let dots : ℕ → Bool = strip_dot c.fill_strip.new.strip ((64 * c.loop-index.index + c.loop-line.line) % 64) in
+    let dots : ℕ → Bool = λ x. strip_dot c.fill_strip.new.strip ((64 * c.loop-index.index + c.loop-line.line) % 64) (place_at c.args.back c.loop-line.page.width x) in
+    let wide : c.loop-line.page.width ≡ frame.height = ap (λ (p : Page). p.width) c.loop-line.invariant.page ∙ width-page_where _ _ _ in
     let next : 64 * c.loop-index.index + c.loop-line.line + 1 ≡ 64 * c.loop-index.index + (c.loop-line.line + 1) = omega arith in
     record {
-      page = c.in_ok-put_column.ensures
+      room = c.put_column.ensures.room;
+      page = c.in_ok-put_column.ensures.put
           ∙ ap (λ (n : ℕ). with_column c.loop-line.page c.args.back n a dots) c.width-columns.ensures.width
-          ∙ columns_more c.args.back frame.height frame.width frame c.loop-line.page a dots c.loop-line.invariant.page
+          ∙ columns_more c.args.back frame.height frame.width frame c.loop-line.page a dots refl c.loop-line.invariant.page
           (λ x left within.
-          ap (λ n. strip_dot c.fill_strip.new.strip n x) line
-          ∙ c.fill_strip.ensures.dots c.loop-line.line x c.loop-line-test.true left within)
+          (λ i. strip_dot c.fill_strip.new.strip (line i) (place_at c.args.back (wide i) x))
+          ∙ c.fill_strip.ensures.dots c.loop-line.line (place_at c.args.back frame.height x) c.loop-line-test.true (place_within c.args.back frame.height x left) within)
           ∙ ap (columns_before c.args.back frame.height frame.width frame) next;
     }
 
 pub loop-index-preserved : goal.loop-index-preserved
 loop-index-preserved c =
     let at : 64 * c.loop-index.index + c.loop-line.line ≡ 64 * (c.loop-index.index + 1) = omega (arith, c.loop-line-test.false) in record {
+      room = c.loop-line.invariant.room;
       long = c.fill_strip.ensures.long;
       page = c.loop-line.invariant.page ∙ ap (columns_before c.args.back c.args.frame.now.height c.args.frame.now.width c.args.frame.now) at;
     }
