@@ -31,6 +31,8 @@ impl NamedInputs for OneImage {
 
     ghost bytes = { λ image _. Some image.file.now };
 
+    ghost missing = { λ _ _. ⊥ };
+
     type Input = &'static [u8];
 
     fn open(&self, _name: &str) -> Result<&'static [u8], InputError> {

@@ -7,9 +7,11 @@ use std::test::Fail;
 struct NoInputs;
 
 impl NamedInputs for NoInputs {
-    ghost use Rattle.std.specs.Prelude.{None};
+    ghost use Rattle.std.specs.Prelude.{None, ⊤};
 
     ghost bytes = { λ _ _. None };
+
+    ghost missing = { λ _ _. ⊤ };
 
     type Input = &'static [u8];
 
