@@ -28,7 +28,8 @@ fn write_digits(bytes: &[u8], out: &mut Vec<u8>) -> Result<(), AllocError>
 
 /// Appends a name and two digits for each byte.
 pub fn write_named(name: &[u8], bytes: &[u8], out: &mut Vec<u8>) -> Result<(), AllocError>
-    ensures ok { OnOk result (out.new.items ≡ out.old.items ++ (name.now ++ encode_upper bytes.now)) }
+    ensures ok { OnOk result
+        (out.new.items ≡ out.old.items ++ (name.now ++ encode_upper bytes.now)) }
     ensures front { take (length out.old.items) out.new.items ≡ out.old.items }
 {
     out.extend_from_slice(name)?;
@@ -72,7 +73,8 @@ fn write_front(param: &Param, out: &mut Vec<u8>) -> Result<(), AllocError>
 
 /// Appends the line of a parameter.
 fn write_param(param: &Param, out: &mut Vec<u8>) -> Result<(), AllocError>
-    ensures ok { OnOk result (out.new.items ≡ out.old.items ++ written_line (param_token param.now)) }
+    ensures ok { OnOk result
+        (out.new.items ≡ out.old.items ++ written_line (param_token param.now)) }
     ensures front { take (length out.old.items) out.new.items ≡ out.old.items }
 {
     write_front(param, out)?;

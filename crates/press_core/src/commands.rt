@@ -107,7 +107,8 @@ impl Press {
         ensures answers { AnswersMessage (table.submit_row (view message.now) images.now self.old)
             self.old (shown_heading heading.entry) result self.new }
         ensures printable { Accepts
-            (table.ticket_of_type SubmitQueueEntry (view message.now) images.now) images.now result }
+            (table.ticket_of_type SubmitQueueEntry (view message.now) images.now)
+            images.now result }
     {
         let (ticket, priority) = submission(self.alloc, message, images)?;
         // Asked before the images are copied.

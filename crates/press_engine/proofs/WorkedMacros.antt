@@ -38,23 +38,23 @@ use Rattle.press_engine.specs.Trace.{last_machine, joined, with_end, body_items,
 use Rattle.press_engine.proofs.TraceLaws.{trace_each-append}
 
 -- ESC, a parameterized character, a group character, a field and a termination character
-abbrev sequence : Char → Char → String → Char → Token
+abbrev pub sequence : Char → Char → String → Char → Token
 sequence character group field end = Grouped (code character) (code group) (codes field) (code end) []
 
-abbrev macro_id : String → Token
+abbrev pub macro_id : String → Token
 macro_id id = sequence "&" "f" id "Y"
 
-abbrev macro_control : String → Token
+abbrev pub macro_control : String → Token
 macro_control number = sequence "&" "f" number "X"
 
-abbrev call : Token
+abbrev pub call : Token
 call = macro_control "3"
 
 -- a rectangle of so many units in a line, painted black
 abbrev dots : String → List Token
 dots width = sequence "*" "c" width "A" ∷ sequence "*" "c" "1" "B" ∷ sequence "*" "c" "0" "P" ∷ []
 
-abbrev form_feed : Token
+abbrev pub form_feed : Token
 form_feed = Control 12
 
 -- The macro that was defined is found under its ID.
@@ -97,7 +97,7 @@ definition =
     (sequence "*" "p" "0" "X" ∷ sequence "*" "p" "0" "Y" ∷ macro_id "1" ∷ macro_control "0" ∷ body) ++ (macro_control "1" ∷ [])
 
 -- the machine before the call of the stream, before the call in the macro, and before that in the macro within
-abbrev first : Machine
+abbrev pub first : Machine
 first = last_machine power_on (trace definition power_on)
 
 abbrev second : Machine
@@ -160,10 +160,10 @@ second_items =
     call_items 0 body second second_starts
     ∙ call_after 0 dot_and_move second (quiet (taken call third) ∷ []) third_item
 
-abbrev called : List Run
+abbrev pub called : List Run
 called = body_with 1 dot_and_move first (body_with 0 dot_and_move second (quiet (taken call third) ∷ []))
 
-first_items : trace_at 2 call first ≡ called
+pub first_items : trace_at 2 call first ≡ called
 first_items =
     call_items 1 body first first_starts
     ∙ call_after 1 dot_and_move first (body_with 0 dot_and_move second (quiet (taken call third) ∷ [])) second_items
@@ -300,11 +300,11 @@ four_dots = dots "4" ++ (form_feed ∷ [])
 abbrev overlaid : List Token
 overlaid = (macro_id "2" ∷ macro_control "0" ∷ four_dots) ++ (macro_control "1" ∷ macro_control "4" ∷ [])
 
-abbrev with_overlay : Machine
+abbrev pub with_overlay : Machine
 with_overlay = last_machine power_on (trace overlaid power_on)
 
 -- a form feed, with the overlay's items, and what it leaves
-abbrev fed_items : (before : Machine) → List Run
+abbrev pub fed_items : (before : Machine) → List Run
 fed_items before = close_items_with (Some four_dots) closers.Feed (with_state before.state (taken form_feed before))
 
 abbrev fed : Machine → Machine
@@ -331,7 +331,7 @@ first_overlay : overlay_body with_overlay.state ≡ Some four_dots
 unfolding trace_each trace_at
 first_overlay = second_macro_is_found four_dots
 
-first_feed : trace_at 2 form_feed with_overlay ≡ fed_items with_overlay
+pub first_feed : trace_at 2 form_feed with_overlay ≡ fed_items with_overlay
 first_feed = close_with_overlay form_feed four_dots closers.Feed with_overlay with_overlay.state first_feed_closes first_overlay
 
 abbrev second_page : Machine

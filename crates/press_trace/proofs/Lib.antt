@@ -8,4 +8,5 @@ pub mod Standing
 pub mod Telling
 pub mod Fewer
 pub mod RebuiltLemmas
+pub mod WorkedLines
 pub mod WorkedTraces

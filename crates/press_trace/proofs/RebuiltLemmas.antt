@@ -19,10 +19,10 @@ use Rattle.serde_json.specs.View.{items_of}
 use Rattle.press_bits.specs.Page.{blank}
 use Rattle.press_bits.specs.Patches.{ChangedIn, laid_over}
 use Rattle.press_engine.specs.declared.machine.Machine.{Machine}
-use Rattle.press_trace.specs.Lines.{IsLine, AreLines, page_if}
-use Rattle.press_trace.specs.Pages.{row_in, row_data, rows_of, patch_data, size_data, IsPageTold, StartsFrom, Follows}
+use Rattle.press_trace.specs.Lines.{page_if}
+use Rattle.press_trace.specs.Pages.{row_in, rows_of, patch_data, size_data, IsPageTold, StartsFrom, Follows}
 use Rattle.press_trace.specs.Places.{Placed}
-use Rattle.press_trace.specs.Rebuilt.{RowsAreThePage, LinesRebuildThePages, Rebuild, Say, Says, PageStep, Stays, Closes, Lays, Opens, told_patch, patch_told, page_after, page_after_all, opened_member, page_member}
+use Rattle.press_trace.specs.Rebuilt.{RowsAreThePage, LinesRebuildThePages, PageStep, Stays, Closes, Lays, Opens, told_patch, patch_told, page_after, page_after_all, opened_member, page_member}
 use Rattle.press_trace.specs.Traced.{last_of}
 
 -- the bytes of a line are a line of the page
