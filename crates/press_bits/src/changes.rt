@@ -14,21 +14,6 @@ use crate::dot_row::DotRow;
 use crate::mode::Mode;
 use crate::region::Region;
 
-fn least(a: usize, b: usize) -> usize
-    ensures first { result ≤ a }
-    ensures second { result ≤ b }
-{
-    if a < b { a } else { b }
-}
-
-fn most(a: usize, b: usize) -> usize
-    ensures first { a ≤ result }
-    ensures second { b ≤ result }
-    ensures one { (result ≡ a) ⊎ (result ≡ b) }
-{
-    if a < b { b } else { a }
-}
-
 /// A region with bytes of a line below it too.
 fn with_span(region: Option<Region>, y: u32, span: Span) -> Region
     requires small { y < MAX_SIDE }
@@ -50,8 +35,8 @@ fn with_span(region: Option<Region>, y: u32, span: Span) -> Region
         Some(region) => Region {
             top: region.top,
             bottom: y + 1,
-            left: least(region.left, span.left),
-            right: most(region.right, span.right),
+            left: region.left.min(span.left),
+            right: region.right.max(span.right),
         },
     }
 }
@@ -91,13 +76,8 @@ fn with_band(
         return given;
     }
     let first = (BAND * band) as u32;
-    let end = if first + 64 < height {
-        first + 64
-    } else {
-        height
-    };
     let mut region = given;
-    for y in first..end {
+    for y in first..height.min(first + 64) {
         region = with_line(before, after, region, y);
     }
     region

@@ -22,5 +22,5 @@ pub use bands::{BAND_LINES, Bands, MAX_SIDE, WIDEST_ROW};
 pub use bitmap::{Bitmap, BlankError};
 pub use dot_row::DotRow;
 pub use mode::Mode;
-pub use region::Region;
+pub use region::{Region, cut_length};
 pub use word::{put_word, word_at, word_from};

@@ -1,5 +1,5 @@
 -- Blocks whose lines and columns are exchanged by six steps.
-use Rattle.std.proofs.Common.{◌≡◌, ℕ, ◌+◌, ◌-◌, ◌*◌, ◌/◌, ◌%◌, ◌^◌, ◌<◌, ◌≤◌, ◌≢◌, ◌⊎◌, zero, suc, Bool, true, false, ◌&&◌, ◌||◌, not, List, length, get_or, set, w64, refl, sym, ap, ◌∙◌, inl, inr, arith}
+use Rattle.std.proofs.Common.{◌≡◌, ℕ, ◌+◌, ◌-◌, ◌*◌, ◌/◌, ◌%◌, ◌^◌, ◌<◌, ◌≤◌, ◌≢◌, ◌⊎◌, Bool, true, false, ◌&&◌, ◌||◌, not, List, length, get_or, set, w64, refl, sym, ap, ◌∙◌, inl, inr, arith}
 use Rattle.std.specs.Prelude.{nat_eq, nat_lt, bit_and, bit_or, if◌then◌else◌}
 use Rattle.std.proofs.lemmas.Bool.{cases_eq, cases_lt, true≢false}
 use Rattle.std.proofs.lemmas.Bool.Decides.{nat_tests}
@@ -7,69 +7,38 @@ use Rattle.std.specs.Int.{bit_not}
 use Rattle.std.specs.Int.Bits.{and_lt}
 use Rattle.std.proofs.lemmas.List.{get_or-set_same, get_or-set_other, length-set}
 use Rattle.press_bits.specs.Words.{word_dot}
+use Rattle.press_bits.proofs.TriedLemmas.{every, every_at, same_of, same_test}
 use Rattle.press_bits.proofs.WordLemmas.{word_dot-and, word_dot-or, word_dot-not, shifted_right, shifted_left, white_before, white_behind}
 use Rattle.press_canvas.specs.Block.{block_dot, dot_from, is_front, line_from, swapped_place, IsStep}
 
--- ---- what holds of each number below a bound, tried one by one
-
-abbrev every : (ℕ → Bool) → ℕ → Bool
-every p zero = true
-every p (suc n) = p n && every p n
-
-first_of : (a b : Bool) → (a && b) ≡ true → a ≡ true
-first_of true b both = refl
-first_of false b both = both
-
-second_of : (a b : Bool) → (a && b) ≡ true → b ≡ true
-second_of true b both = both
-second_of false b both = absurd (true≢false (sym both))
-
-every_at : (p : ℕ → Bool) (n k : ℕ) → every p n ≡ true → k < n → p k ≡ true
-every_at p zero k all below = absurd (omega arith)
-every_at p (suc n) k all below =
-    elim (cases_eq k n) [
-      | inl here ↦ ap p here ∙ first_of (p n) (every p n) all
-      | inr apart ↦ every_at p n k (second_of (p n) (every p n) all) (omega arith)
-    ]
-
 -- ---- steps
-
-same_test : Bool → Bool → Bool
-same_test true b = b
-same_test false b = not b
-
-same_of : (a b : Bool) → same_test a b ≡ true → a ≡ b
-unfolding same_test
-same_of true b same = sym same
-same_of false true same = same
-same_of false false same = refl
 
 -- the mask of a step has the dots at its fronts
 abbrev masks : (step fronts j : ℕ) → Bool
 masks step fronts j = same_test (word_dot fronts j) (is_front step j)
 
 masks_32 : every (masks 32 18446744069414584320) 64 ≡ true
-unfolding same_test word_dot
+unfolding word_dot
 masks_32 = refl
 
 masks_16 : every (masks 16 18446462603027742720) 64 ≡ true
-unfolding same_test word_dot
+unfolding word_dot
 masks_16 = refl
 
 masks_8 : every (masks 8 18374966859414961920) 64 ≡ true
-unfolding same_test word_dot
+unfolding word_dot
 masks_8 = refl
 
 masks_4 : every (masks 4 17361641481138401520) 64 ≡ true
-unfolding same_test word_dot
+unfolding word_dot
 masks_4 = refl
 
 masks_2 : every (masks 2 14757395258967641292) 64 ≡ true
-unfolding same_test word_dot
+unfolding word_dot
 masks_2 = refl
 
 masks_1 : every (masks 1 12297829382473034410) 64 ≡ true
-unfolding same_test word_dot
+unfolding word_dot
 masks_1 = refl
 
 mask_of : (step fronts : ℕ) → every (masks step fronts) 64 ≡ true → (j : ℕ) → j < 64 → word_dot fronts j ≡ is_front step j

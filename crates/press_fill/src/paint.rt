@@ -1,25 +1,15 @@
 //! Rectangles of a page that are painted line by line through a tile.
 
-ghost use Rattle.std.specs.Prelude.{◌≡◌, ℕ, ◌<◌, ◌≤◌, ◌+◌, ◌*◌, ◌⊎◌, min, pos, true, replicate, OnOk, OnErr};
+ghost use Rattle.std.specs.Prelude.{◌≡◌, ◌<◌, ◌≤◌, ◌+◌, ◌*◌, ◌⊎◌, pos, true, replicate, OnOk, OnErr};
 ghost use Rattle.press_bits.specs.Mark.{IsBlack, IsWhite, painted, row, row_mark};
 ghost use Rattle.press_bits.specs.Bands.{AreReady};
 ghost use Rattle.press_pattern.specs.Tiling.{IsWhiteTile};
 ghost use Rattle.press_fill.specs.Fill.{rect_mark};
 
 use crate::rect::Rect;
-use press_bits::{Bands, Bitmap, DotRow, Mode, WIDEST_ROW};
+use press_bits::{Bands, Bitmap, DotRow, Mode, WIDEST_ROW, cut_length};
 use press_pattern::Tile;
 use std::alloc::AllocError;
-
-/// How much of a length that begins at a place lies before an edge.
-fn cut_length(from: u32, length: u32, edge: u32) -> u32
-    ensures within { result ≤ length }
-    ensures most { result ≤ edge }
-    ensures before { 0 < result → from + result ≤ edge }
-    ensures same_end { min (from + length) edge ≡ min (from + result) edge }
-{
-    length.min(edge.saturating_sub(from))
-}
 
 /// Paints so many columns of one line of the page, from x on, through a row of a pattern, which may be solid black.
 fn paint_line(
@@ -60,8 +50,8 @@ fn paint_rect(page: &mut Bands, rect: Rect, tile: &Tile<'_>, mode: Mode)
     ensures { page.new.page ≡ painted page.old.page (rect_mark rect tile.now mode) }
 {
     let (x, y) = (rect.x, rect.y);
-    let columns = cut_length(x, rect.width, page.width());
-    let lines = cut_length(y, rect.height, page.height());
+    let columns = cut_length(x, rect.width as usize, page.width());
+    let lines = cut_length(y, rect.height as usize, page.height());
     let solid = tile.is_solid_black();
     for line in 0..lines {
         let pattern = DotRow {

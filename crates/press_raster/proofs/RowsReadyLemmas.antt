@@ -16,10 +16,12 @@ use Rattle.press_page.specs.Place.{below_edge}
 use Rattle.press_pattern.specs.declared.ink.Ink.{Ink}
 use Rattle.press_rows.specs.Blocks.{Item}
 use Rattle.press_raster.specs.Across.{AcrossReady}
-use Rattle.press_raster.specs.Drawing.{Layout, RowsReady, laid_out, last_line, line_of, lines_of_row}
+use Rattle.press_raster.specs.Drawing.{IsSetUp, Layout, RowsReady, laid_out, last_line, line_of, lines_of_row}
 use Rattle.press_raster.specs.Graphics.{takes_row}
 use Rattle.press_raster.specs.Rows.{Drawn, with_item, with_items, with_row}
 use Rattle.press_raster.specs.Settings.{dot_size, row_height}
+use Rattle.press_raster.specs.Widening.{IsDotSize}
+use Rattle.press_raster.specs.declared.drawing.Drawing.{Drawing}
 use Rattle.press_raster.specs.declared.drawing.RowSetup.{RowSetup}
 use Rattle.press_raster.specs.declared.settings.RasterResolution.{RasterResolution}
 use Rattle.press_raster.specs.declared.settings.RasterResolution.TheVariants.{Dpi75, Dpi100, Dpi150, Dpi200, Dpi300, Dpi600}
@@ -64,20 +66,20 @@ size_fits Dpi300 print.Dpi600 = (omega arith, omega arith)
 size_fits Dpi600 print.Dpi300 = (omega arith, omega arith)
 size_fits Dpi600 print.Dpi600 = (omega arith, omega arith)
 
--- a dot of a row is at most eight dots of the page wide
-pub size_most : (rows : RasterResolution) (page : Resolution) → dot_size rows page ≤ 8
-size_most Dpi75 print.Dpi300 = omega arith
-size_most Dpi75 print.Dpi600 = omega arith
-size_most Dpi100 print.Dpi300 = omega arith
-size_most Dpi100 print.Dpi600 = omega arith
-size_most Dpi150 print.Dpi300 = omega arith
-size_most Dpi150 print.Dpi600 = omega arith
-size_most Dpi200 print.Dpi300 = omega arith
-size_most Dpi200 print.Dpi600 = omega arith
-size_most Dpi300 print.Dpi300 = omega arith
-size_most Dpi300 print.Dpi600 = omega arith
-size_most Dpi600 print.Dpi300 = omega arith
-size_most Dpi600 print.Dpi600 = omega arith
+-- how many dots of the page a dot of a row is wide
+pub size_is : (rows : RasterResolution) (page : Resolution) → IsDotSize (dot_size rows page)
+size_is Dpi75 print.Dpi300 = inl (omega arith)
+size_is Dpi75 print.Dpi600 = inr (inr refl)
+size_is Dpi100 print.Dpi300 = inl (omega arith)
+size_is Dpi100 print.Dpi600 = inr (inl refl)
+size_is Dpi150 print.Dpi300 = inl (omega arith)
+size_is Dpi150 print.Dpi600 = inl (omega arith)
+size_is Dpi200 print.Dpi300 = inl (omega arith)
+size_is Dpi200 print.Dpi600 = inl (omega arith)
+size_is Dpi300 print.Dpi300 = inl (omega arith)
+size_is Dpi300 print.Dpi600 = inl (omega arith)
+size_is Dpi600 print.Dpi300 = inl (omega arith)
+size_is Dpi600 print.Dpi600 = inl (omega arith)
 
 -- positions that are so close lie on lines so close
 lines_apart : (page : Resolution) (h a b l : ℕ) → min a l ≤ b → b ≤ a + h →
@@ -104,12 +106,14 @@ moved_edge y h page =
 
 -- ---- rows one below the other
 
--- one of them
-pub rows_ready-row : (setup : RowSetup) (page : Layout) (y : ℤ) → RowsReady setup page y 1 → setup.across.size ≤ lines_of_row setup →
-    AcrossReady setup.across (laid_out page) (line_of setup.environment y) setup.across.size
-rows_ready-row setup page y ready fits some =
-    strip_within (laid_out page) ready.first ready.lines (line_of setup.environment y) setup.across.size
-    ready.begins (omega (arith, ready.ends, fits)) (ready.ready some)
+-- one of them, as a drawing is set up for it
+pub row_ready : (setup : RowSetup) (page : Layout) (drawing : Drawing) (y : ℤ) (line : ℕ) → IsSetUp setup page drawing → line ≡ line_of setup.environment y → RowsReady setup page y 1 →
+    AcrossReady setup.across (laid_out page) line setup.across.size
+row_ready setup page drawing y line is here ready some =
+    let size : setup.across.size ≡ dot_size setup.settings.resolution setup.environment.media.resolution = ap (λ (s : RowSetup). s.across.size) is.same in
+    let fits = (size_fits setup.settings.resolution setup.environment.media.resolution).0 in
+    strip_within (laid_out page) ready.first ready.lines line setup.across.size
+    (omega (arith, here, ready.begins)) (omega (arith, here, ready.ends, size, fits)) (ready.ready some)
 
 -- fewer of them
 pub rows_ready-fewer : (setup : RowSetup) (page : Layout) (y : ℤ) (m n : ℕ) → m ≤ n → RowsReady setup page y n → RowsReady setup page y m

@@ -22,9 +22,9 @@ across_of width left size dots = record {
 abbrev pub AcrossReady : Across → BandedPage → (line lines : ℕ) → Type 0
 AcrossReady across frame line lines = 1 ≤ across.columns → AreReady frame (pos line) lines
 
--- how many bytes of room the dots of a row take that are widened before they are painted, by whole groups of eight
+-- how many bytes of room the dots of a row take that are widened before they are painted, a word at a time
 abbrev pub room_for : Across → ℕ
-room_for across = if nat_eq across.size 1 then 0 else across.columns / 8 + across.size
+room_for across = if nat_eq across.size 1 then 0 else across.columns / 8 + 8
 
 -- Room for the dots of a row along a line of the frame.
 pub record HasRoom (across : Across) (scratch : Scratch) : Type 0 where

@@ -1,7 +1,7 @@
 //! Rows of raster graphics that are drawn one below the other (PCL 5 Printer Language Technical Reference Manual, Raster
 //! Graphics, Transfer Raster Data by Row and Set Compression Method commands).
 
-ghost use Rattle.std.specs.Prelude.{◌≡◌, ◌≤◌, ◌<◌, ◌-◌, ◌^◌, ℕ, false, true, length, min, pos, replicate, Some, OnOk, OnErr};
+ghost use Rattle.std.specs.Prelude.{◌≡◌, ◌≤◌, ◌<◌, ◌-◌, ◌^◌, ℕ, false, true, length, min, pos, replicate, Some, Ok, IsOk, OnOk, OnErr};
 ghost use Rattle.press_bits.specs.Lines.{bytes_per_line};
 ghost use Rattle.press_bits.specs.Page.{longest_side};
 ghost use Rattle.press_cursor.specs.Cursor.{moved_y};
@@ -17,7 +17,7 @@ ghost use Rattle.press_raster.specs.Settings.{items_of, row_height};
 
 use crate::raster::{MOST_ROWS, RasterPosition, RowData, RowPlace, is_within};
 use crate::settings::{RasterSettings, RowCoding};
-use crate::strip::{Across, Scratch, bytes_for, make_room, paint_across, paint_strip};
+use crate::strip::{Across, Scratch, bytes_for, make_room, paint_across};
 use press_bits::{Bands, DotRow, MAX_SIDE};
 use press_cursor::Cursor;
 use press_page::PageEnv;
@@ -197,7 +197,11 @@ impl Drawing {
         is_within(setup.settings.source_height, self.position.rows)
     }
 
-    /// Draws a row, if it has effect, and says whether the same row again may change something.
+    /// Draws a row, if it has effect, makes the lines ready that it needs, and says whether the same row again may change something.
+    ///
+    /// # Errors
+    ///
+    /// Where memory ran out; no dot changes, and the cursor stays.
     fn draw_row(
         &mut self,
         frame: &mut Bands,
@@ -205,69 +209,37 @@ impl Drawing {
         setup: &RowSetup,
         ink: &Ink<'_>,
         row: RowData<'_>,
-    ) -> bool
-        requires setup { IsSetUp setup.now (layout frame.old) self.old }
-        requires ready { RowsReady setup.now (layout frame.old) cursor.old.y 1 }
-        ensures item { drawn_by setup.now self.new frame.new cursor.new
-            ≡ with_item setup.now.environment setup.now.settings ink.now
-            (drawn_by setup.now self.old frame.old cursor.old)
-            (Some (row.entry.method, row.entry.bytes.now)) }
-        ensures same { result ≡ false
-            → drawn_by setup.now self.new frame.new cursor.new
-            ≡ drawn_by setup.now self.old frame.old cursor.old }
-        ensures layout { layout frame.new ≡ layout frame.old }
-        ensures setup { IsSetUp setup.now (layout frame.old) self.new }
-    {
-        if !self.takes_row(setup) {
-            return false;
-        }
-        decode(row.method, row.bytes, &self.seed, &mut self.row);
-        let bits = &self.row;
-        let dots = setup.dots;
-        let source = DotRow { bits, dots };
-        let line = setup.line(cursor);
-        let painted = paint_across(frame, setup.across, line, source, ink, &mut self.scratch);
-        let moved = setup.move_down(cursor);
-        let taken = self.take_row();
-        painted || moved || taken
-    }
-
-    /// Draws a row, if it has effect, and makes the lines ready that it needs.
-    ///
-    /// # Errors
-    ///
-    /// Where memory ran out; no dot changes, and the cursor stays.
-    fn draw_one(
-        &mut self,
-        frame: &mut Bands,
-        cursor: &mut Cursor,
-        setup: &RowSetup,
-        ink: &Ink<'_>,
-        row: RowData<'_>,
-    ) -> Result<(), AllocError>
-        requires setup { IsSetUp setup.now (layout frame.old) self.old }
+    ) -> Result<bool, AllocError>
+        requires { IsSetUp setup.now (layout frame.old) self.old }
         ensures item { OnOk result (drawn_by setup.now self.new frame.new cursor.new
             ≡ with_item setup.now.environment setup.now.settings ink.now
             (drawn_by setup.now self.old frame.old cursor.old)
             (Some (row.entry.method, row.entry.bytes.now))) }
+        ensures same { result ≡ Ok false
+            → drawn_by setup.now self.new frame.new cursor.new
+            ≡ drawn_by setup.now self.old frame.old cursor.old }
         ensures same_page { OnErr result (frame.new.page ≡ frame.old.page) }
         ensures same_cursor { OnErr result (cursor.new ≡ cursor.old) }
+        ensures takes_none { RowsReady setup.now (layout frame.old) cursor.old.y 1 → IsOk result }
+        ensures layout { RowsReady setup.now (layout frame.old) cursor.old.y 1
+            → layout frame.new ≡ layout frame.old }
+        ensures setup { IsSetUp setup.now (layout frame.old) self.new }
     {
         if !self.takes_row(setup) {
-            return Ok(());
+            return Ok(false);
         }
         decode(row.method, row.bytes, &self.seed, &mut self.row);
         let bits = &self.row;
         let dots = setup.dots;
         let source = DotRow { bits, dots };
         let line = setup.line(cursor);
-        paint_strip(frame, setup.across, line, source, ink, &mut self.scratch)?;
-        setup.move_down(cursor);
-        self.take_row();
-        Ok(())
+        let painted = paint_across(frame, setup.across, line, source, ink, &mut self.scratch)?;
+        let moved = setup.move_down(cursor);
+        let taken = self.take_row();
+        Ok(painted | moved | taken)
     }
 
-    /// Draws so many rows with the same data. Where a row changes nothing more, neither does one behind it.
+    /// Draws so many rows with the same data, whose lines are ready. Where a row changes nothing more, neither does one behind it.
     fn draw_run(
         &mut self,
         frame: &mut Bands,
@@ -276,7 +248,7 @@ impl Drawing {
         ink: &Ink<'_>,
         row: RowData<'_>,
         count: usize,
-    )
+    ) -> Result<(), AllocError>
         requires setup { IsSetUp setup.now (layout frame.old) self.old }
         requires ready { RowsReady setup.now (layout frame.old) cursor.old.y count }
         ensures items { drawn_by setup.now self.new frame.new cursor.new
@@ -285,15 +257,17 @@ impl Drawing {
             (drawn_by setup.now self.old frame.old cursor.old) }
         ensures layout { layout frame.new ≡ layout frame.old }
         ensures setup { IsSetUp setup.now (layout frame.old) self.new }
+        ensures takes_none { IsOk result }
     {
         for drawn in 0..count {
-            if !self.draw_row(frame, cursor, setup, ink, row) {
-                return;
+            if !self.draw_row(frame, cursor, setup, ink, row)? {
+                break;
             }
         }
+        Ok(())
     }
 
-    /// Draws what blocks stand for, a run after another.
+    /// Draws what blocks stand for, a run after another; their lines are ready.
     fn draw_blocks(
         &mut self,
         frame: &mut Bands,
@@ -301,12 +275,13 @@ impl Drawing {
         setup: &RowSetup,
         ink: &Ink<'_>,
         mut blocks: Blocks<'_>,
-    )
+    ) -> Result<(), AllocError>
         requires setup { IsSetUp setup.now (layout frame.old) self.old }
         requires ready { RowsReady setup.now (layout frame.old) cursor.old.y (count_rows blocks) }
         ensures items { drawn_by setup.now self.new frame.new cursor.new
             ≡ with_items setup.now.environment setup.now.settings ink.now blocks.entry
             (drawn_by setup.now self.old frame.old cursor.old) }
+        ensures takes_none { IsOk result }
     {
         while let Some(run) = blocks.next_run() {
             match run {
@@ -320,13 +295,14 @@ impl Drawing {
                         method,
                         bytes: data,
                     };
-                    self.draw_run(frame, cursor, setup, ink, row, count);
+                    self.draw_run(frame, cursor, setup, ink, row, count)?;
                 }
             }
         }
+        Ok(())
     }
 
-    /// Draws what the data of a transfer stands for, and makes the lines ready that it needs.
+    /// Draws what the data of a transfer stands for, and makes the lines ready that it needs: those of all rows of blocks first.
     ///
     /// # Errors
     ///
@@ -349,13 +325,13 @@ impl Drawing {
     {
         match setup.settings.coding {
             RowCoding::By(method) => {
-                self.draw_one(frame, cursor, setup, ink, RowData { method, bytes })
+                self.draw_row(frame, cursor, setup, ink, RowData { method, bytes })?;
+                Ok(())
             }
             RowCoding::Adaptive => {
                 let rows = count_rows(Blocks::new(bytes));
                 setup.ready(frame, cursor, rows)?;
-                self.draw_blocks(frame, cursor, setup, ink, Blocks::new(bytes));
-                Ok(())
+                self.draw_blocks(frame, cursor, setup, ink, Blocks::new(bytes))
             }
         }
     }

@@ -1,6 +1,6 @@
 //! Strips of the frame whose lines have the same dots.
 
-ghost use Rattle.std.specs.Prelude.{◌≡◌, ◌+◌, ◌-◌, ◌*◌, ◌≤◌, ◌<◌, ◌^◌, ◌⊎◌, length, min, pos, true, false, OnOk, OnErr};
+ghost use Rattle.std.specs.Prelude.{◌≡◌, ◌*◌, ◌≤◌, ◌<◌, ◌^◌, ◌⊎◌, length, pos, true, false, Ok, IsOk, OnOk, OnErr};
 ghost use Rattle.press_bits.specs.Bands.{AreReady};
 ghost use Rattle.press_bits.specs.Lines.{bytes_per_line};
 ghost use Rattle.press_bits.specs.Mark.{painted, row, row_dot};
@@ -8,24 +8,13 @@ ghost use Rattle.press_bits.specs.Page.{HasNoDotOutside};
 ghost use Rattle.press_page.specs.declared.media.Orientation.TheVariants.{Portrait};
 ghost use Rattle.press_raster.specs.Across.{AcrossReady, HasRoom, across_of, covered_columns, room_for};
 ghost use Rattle.press_raster.specs.Mark.{strip_mark, row_on_frame};
-ghost use Rattle.press_raster.specs.Widening.{tile_line};
+ghost use Rattle.press_raster.specs.Widening.{IsDotSize, tile_line};
 
 use crate::widening::widen;
-use press_bits::{Bands, DotRow};
+use press_bits::{Bands, DotRow, cut_length};
 use press_page::Dot;
 use press_pattern::{Ink, Tile};
 use std::alloc::{AllocError, Global};
-
-/// How much of a length that begins at a place lies before an edge.
-fn cut_length(from: u32, length: usize, edge: u32) -> u32
-    ensures cut { result ≡ min length (edge - from) }
-    ensures within { result ≤ length }
-    ensures before { 0 < result → from + result ≤ edge }
-    ensures most { result ≤ edge }
-    ensures same_end { min (from + length) edge ≡ min (from + result) edge }
-{
-    length.min(edge.saturating_sub(from) as usize) as u32
-}
 
 /// How many bytes so many dots take.
 pub(crate) fn bytes_for(dots: usize) -> usize
@@ -106,7 +95,7 @@ impl Across {
         if self.size == 1 {
             0
         } else {
-            self.columns as usize / 8 + self.size as usize
+            self.columns as usize / 8 + 8
         }
     }
 
@@ -135,12 +124,14 @@ impl Across {
         !ink.mode.source_opaque && source.is_white()
     }
 
-    /// Makes so many lines of the frame ready, from a line on.
+    /// Makes so many lines of the frame ready, from a line on. Where they are, it takes no memory.
     pub(crate) fn ready(self, frame: &mut Bands, line: u32, lines: u32) -> Result<(), AllocError>
         ensures dots { frame.new.page ≡ frame.old.page }
         ensures ready { OnOk result (AcrossReady self frame.new line lines) }
+        ensures takes_none { AcrossReady self frame.old line lines → IsOk result }
+        ensures same { AcrossReady self frame.old line lines → frame.new ≡ frame.old }
     {
-        if self.columns == 0 {
+        if self.columns == 0 || frame.are_ready(i64::from(line), lines as usize) {
             return Ok(());
         }
         frame.ready(i64::from(line), lines as usize)
@@ -198,7 +189,7 @@ fn paint_wide(
     scratch: &mut Scratch,
 )
     requires some { 1 ≤ across.columns }
-    requires most { across.size ≤ 8 }
+    requires size { IsDotSize across.size }
     requires columns { across.columns
         ≡ covered_columns frame.old.page.width across.left across.size source.dots }
     requires ready { AcrossReady across frame.old line across.size }
@@ -225,8 +216,12 @@ fn paint_wide(
     paint_lines(frame, corner, size, DotRow { bits, dots }, ink);
 }
 
-/// Paints a raster row from a line of the frame on, as `paint_wide` does, and says whether it may mark the frame: a white row may
-/// not where white is transparent, nor one beside the frame.
+/// Paints a raster row from a line of the frame on, as `paint_wide` does, makes the lines ready that it needs, and says whether it
+/// may mark the frame: a white row may not where white is transparent, nor one beside the frame, and neither takes memory.
+///
+/// # Errors
+///
+/// Where memory ran out; no dot changes.
 pub(crate) fn paint_across(
     frame: &mut Bands,
     across: Across,
@@ -234,53 +229,25 @@ pub(crate) fn paint_across(
     source: DotRow<'_>,
     ink: &Ink<'_>,
     scratch: &mut Scratch,
-) -> bool
-    requires most { across.size ≤ 8 }
-    requires columns { across.columns
-        ≡ covered_columns frame.old.page.width across.left across.size source.dots }
-    requires ready { AcrossReady across frame.old line across.size }
-    requires room { HasRoom across scratch.old }
-    ensures painted { frame.new.page ≡ painted frame.old.page
-        (row_on_frame (record { x = across.left; y = line }) across.size
-        (row source.entry) ink.now frame.old.page) }
-    ensures unmarked { result ≡ false → frame.new.page ≡ frame.old.page }
-    ensures ready { frame.new.ready ≡ frame.old.ready }
-    ensures room { HasRoom across scratch.new }
-{
-    if across.marks_nothing(frame, line, source, ink) {
-        return false;
-    }
-    paint_wide(frame, across, line, source, ink, scratch);
-    true
-}
-
-/// Paints a raster row from a line of the frame on, as `paint_across` does, and makes the lines ready that it needs: none where
-/// it marks nothing.
-///
-/// # Errors
-///
-/// Where memory ran out; no dot changes.
-pub(crate) fn paint_strip(
-    frame: &mut Bands,
-    across: Across,
-    line: u32,
-    source: DotRow<'_>,
-    ink: &Ink<'_>,
-    scratch: &mut Scratch,
-) -> Result<(), AllocError>
-    requires most { across.size ≤ 8 }
+) -> Result<bool, AllocError>
+    requires size { IsDotSize across.size }
     requires columns { across.columns
         ≡ covered_columns frame.old.page.width across.left across.size source.dots }
     requires room { HasRoom across scratch.old }
     ensures painted { OnOk result (frame.new.page ≡ painted frame.old.page
         (row_on_frame (record { x = across.left; y = line }) across.size
         (row source.entry) ink.now frame.old.page)) }
-    ensures unchanged { OnErr result (frame.new.page ≡ frame.old.page) }
+    ensures unmarked { result ≡ Ok false → frame.new.page ≡ frame.old.page }
+    ensures same_page { OnErr result (frame.new.page ≡ frame.old.page) }
+    ensures takes_none { AcrossReady across frame.old line across.size → IsOk result }
+    ensures ready { AcrossReady across frame.old line across.size
+        → frame.new.ready ≡ frame.old.ready }
+    ensures room { HasRoom across scratch.new }
 {
     if across.marks_nothing(frame, line, source, ink) {
-        return Ok(());
+        return Ok(false);
     }
     across.ready(frame, line, across.size)?;
     paint_wide(frame, across, line, source, ink, scratch);
-    Ok(())
+    Ok(true)
 }

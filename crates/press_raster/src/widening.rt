@@ -1,10 +1,11 @@
 //! Rows of dots each of which is widened to so many.
 
-ghost use Rattle.std.specs.Prelude.{◌≡◌, ℕ, ◌+◌, ◌-◌, ◌*◌, ◌/◌, ◌%◌, ◌^◌, ◌<◌, ◌≤◌, length, slice_index};
+ghost use Rattle.std.specs.Prelude.{◌≡◌, ℕ, ◌+◌, ◌-◌, ◌*◌, ◌/◌, ◌^◌, ◌<◌, ◌≤◌, length};
 ghost use Rattle.press_bits.specs.Mark.{byte_dot, row, row_dot};
-ghost use Rattle.press_raster.specs.Widening.{number_where, wide_dot};
+ghost use Rattle.press_bits.specs.Words.{word_dot};
+ghost use Rattle.press_raster.specs.Widening.{AreFours, IsWide};
 
-use press_bits::DotRow;
+use press_bits::{DotRow, put_word};
 
 /// Each four dots, each of them twice.
 static TWICE: [u64; 16] = [
@@ -31,154 +32,43 @@ static SIX_TIMES: [u64; 16] = [
 
 /// Each four dots, each of them eight times.
 static EIGHT_TIMES: [u64; 16] = [
-    0x0000_0000,
-    0x0000_00FF,
-    0x0000_FF00,
-    0x0000_FFFF,
-    0x00FF_0000,
-    0x00FF_00FF,
-    0x00FF_FF00,
-    0x00FF_FFFF,
-    0xFF00_0000,
-    0xFF00_00FF,
-    0xFF00_FF00,
-    0xFF00_FFFF,
-    0xFFFF_0000,
-    0xFFFF_00FF,
-    0xFFFF_FF00,
-    0xFFFF_FFFF,
+    0x00000000, 0x000000FF, 0x0000FF00, 0x0000FFFF, 0x00FF0000, 0x00FF00FF, 0x00FFFF00, 0x00FFFFFF,
+    0xFF000000, 0xFF0000FF, 0xFF00FF00, 0xFF00FFFF, 0xFFFF0000, 0xFFFF00FF, 0xFFFFFF00, 0xFFFFFFFF,
 ];
 
-/// Whether a dot of a byte is black.
-fn is_black(byte: u8, dot: usize) -> bool
-    requires { dot < 8 }
-    ensures { result ≡ byte_dot byte dot }
-{
-    (byte >> (7 - dot)) & 1 == 1
-}
-
-/// The first `count` dots of a byte whose dots are each there so many times, as a number whose most significant bit is the first of
-/// them.
-fn wide_number(byte: u8, size: usize, count: usize) -> u64
-    requires some { 1 ≤ size }
-    requires within { count ≤ 8 * size }
-    requires fits { count ≤ 64 }
-    ensures { result ≡ number_where (wide_dot byte size) count }
-{
-    let mut number = 0;
-    for dot in 0..count {
-        let bit = if is_black(byte, dot / size) { 1 } else { 0 };
-        number = number * 2 + bit;
-    }
-    number
-}
-
-/// For each four dots the number of them that are each there so many times.
-fn fours_for(size: usize) -> [u64; 16]
-    requires some { 1 ≤ size }
-    requires most { size ≤ 8 }
-    ensures long { length result ≡ 16 }
-    ensures fours { (n : ℕ) → n < 16
-        → slice_index result n ≡ number_where (wide_dot (n * 16) size) (4 * size) }
-{
-    let mut fours = [0; 16];
-    for four in 0..16 {
-        fours[four as usize] = wide_number(four * 16, size, 4 * size);
-    }
-    fours
-}
-
-/// The dots of a byte, each so many times, as a number whose most significant bit is the first of them.
+/// The eight dots of a byte, each so many times, from the most significant bit of a word on.
 #[inline(always)]
 fn widened(fours: &[u64; 16], byte: u8, size: usize) -> u64
-    requires some { 1 ≤ size }
-    requires most { size ≤ 8 }
-    requires fours { (n : ℕ) → n < 16
-        → slice_index fours.now n ≡ number_where (wide_dot (n * 16) size) (4 * size) }
-    ensures { result ≡ number_where (wide_dot byte size) (8 * size) }
+    requires wide { IsWide size }
+    requires fours { AreFours size fours.now }
+    ensures { (j : ℕ) → j < 8 * size → word_dot result j ≡ byte_dot byte (j / size) }
 {
-    (fours[byte as usize / 16] << (4 * size)) | fours[byte as usize % 16]
+    let front = fours[byte as usize / 16] << (64 - 4 * size);
+    front | (fours[byte as usize % 16] << (64 - 8 * size))
 }
 
-/// Writes the two bytes of a number, the more significant first.
-#[inline(always)]
-fn write_two(out: &mut [u8], first: usize, number: u64)
-    requires room { first + 2 ≤ length out.old }
-    ensures before { (k : ℕ) → k < first → slice_index out.new k ≡ slice_index out.old k }
-    ensures bytes { (m : ℕ) → m < 2
-        → slice_index out.new (first + m) ≡ number / 2 ^ (8 * (2 - 1 - m)) % 256 }
-{
-    let bytes = ((number % 0x1_0000) as u16).to_be_bytes();
-    out[first..first + 2].copy_from_slice(&bytes);
-}
-
-/// Writes the four bytes of a number, the most significant first.
-#[inline(always)]
-fn write_four(out: &mut [u8], first: usize, number: u64)
-    requires room { first + 4 ≤ length out.old }
-    ensures before { (k : ℕ) → k < first → slice_index out.new k ≡ slice_index out.old k }
-    ensures bytes { (m : ℕ) → m < 4
-        → slice_index out.new (first + m) ≡ number / 2 ^ (8 * (4 - 1 - m)) % 256 }
-{
-    let bytes = ((number % 0x1_0000_0000) as u32).to_be_bytes();
-    out[first..first + 4].copy_from_slice(&bytes);
-}
-
-/// Writes the `size` bytes of a number, the most significant first.
-#[inline(always)]
-fn write_each(out: &mut [u8], first: usize, number: u64, size: usize)
-    requires some { 1 ≤ size }
-    requires most { size ≤ 8 }
-    requires room { first + size ≤ length out.old }
-    ensures before { (k : ℕ) → k < first → slice_index out.new k ≡ slice_index out.old k }
-    ensures bytes { (m : ℕ) → m < size
-        → slice_index out.new (first + m) ≡ number / 2 ^ (8 * (size - 1 - m)) % 256 }
-{
-    for m in 0..size {
-        out[first + m] = ((number >> (8 * (size - 1 - m))) % 256) as u8;
-    }
-}
-
-/// Writes the `size` bytes of a number, the most significant first.
-#[inline(always)]
-fn write_number(out: &mut [u8], first: usize, number: u64, size: usize)
-    requires some { 1 ≤ size }
-    requires most { size ≤ 8 }
-    requires room { first + size ≤ length out.old }
-    ensures before { (k : ℕ) → k < first → slice_index out.new k ≡ slice_index out.old k }
-    ensures bytes { (m : ℕ) → m < size
-        → slice_index out.new (first + m) ≡ number / 2 ^ (8 * (size - 1 - m)) % 256 }
-{
-    match size {
-        2 => write_two(out, first, number),
-        4 => write_four(out, first, number),
-        _ => write_each(out, first, number, size),
-    }
-}
-
-/// Widens a row by a table of four dots, as far as there is room for whole groups of eight of its dots.
+/// Widens a row by a table of four dots, a byte of it after another, each to a word whose rear the next one covers.
 #[inline(always)]
 fn widen_by(fours: &[u64; 16], source: DotRow<'_>, size: usize, out: &mut [u8])
-    requires fours { (n : ℕ) → n < 16
-        → slice_index fours.now n ≡ number_where (wide_dot (n * 16) size) (4 * size) }
-    requires some { 1 ≤ size }
-    requires most { size ≤ 8 }
+    requires wide { IsWide size }
+    requires fours { AreFours size fours.now }
+    requires room { 8 ≤ length out.old }
     requires small { length out.old < 2 ^ 32 }
-    ensures { (i : ℕ) → i < 8 * (size * (length out.old / size))
+    ensures { (i : ℕ) → i < 8 * (length out.old - 7)
         → row_dot out.new i ≡ row_dot (row source.entry).bits (i / size) }
 {
-    for group in 0..out.len() / size {
-        let wide = widened(fours, source.eight_from(8 * group), size);
-        write_number(out, size * group, wide, size);
+    for byte in 0..(out.len() - 8) / size + 1 {
+        let wide = widened(fours, source.eight_of(byte), size);
+        put_word(out, size * byte, wide);
     }
 }
 
-/// Widens a row, each of its dots to so many, as far as there is room for whole groups of eight of its dots.
+/// Widens a row, each of its dots to so many, as far as there is room, of which the last seven bytes are left over.
 pub(crate) fn widen(source: DotRow<'_>, size: usize, out: &mut [u8])
-    requires some { 1 ≤ size }
-    requires most { size ≤ 8 }
+    requires wide { IsWide size }
+    requires room { 8 ≤ length out.old }
     requires small { length out.old < 2 ^ 32 }
-    ensures { (i : ℕ) → i < 8 * (size * (length out.old / size))
+    ensures { (i : ℕ) → i < 8 * (length out.old - 7)
         → row_dot out.new i ≡ row_dot (row source.entry).bits (i / size) }
 {
     match size {
@@ -186,7 +76,6 @@ pub(crate) fn widen(source: DotRow<'_>, size: usize, out: &mut [u8])
         3 => widen_by(&THRICE, source, 3, out),
         4 => widen_by(&FOUR_TIMES, source, 4, out),
         6 => widen_by(&SIX_TIMES, source, 6, out),
-        8 => widen_by(&EIGHT_TIMES, source, 8, out),
-        _ => widen_by(&fours_for(size), source, size, out),
+        _ => widen_by(&EIGHT_TIMES, source, 8, out),
     }
 }

@@ -1,7 +1,7 @@
 use Rattle.std.specs.Prelude.{nat_eq, if◌then◌else◌}
 use Rattle.std.proofs.lemmas.Bool.Decides.{nat_tests}
-use Rattle.press_raster.proofs.WideLemmas.{enough_room, some_size}
-use Rattle.std.proofs.Common.{◌+◌, ◌-◌, ◌≢◌, Bool, false, length, subst, ◌≡◌, ◌*◌, ◌/◌, ◌∙◌, ◌<◌, ℕ, ap, sym, arith}
+use Rattle.press_raster.proofs.WideLemmas.{some_size}
+use Rattle.std.proofs.Common.{◌+◌, ◌-◌, ◌≢◌, Bool, false, length, ◌≡◌, ◌*◌, ◌/◌, ◌∙◌, ◌<◌, ◌≤◌, ℕ, ap, sym, arith}
 use Rattle.std.proofs.lemmas.List.{with_items_is}
 use Rattle.press_bits.specs.Mark.{Row, painted, row, row_dot}
 use Rattle.press_bits.specs.Page.{Page}
@@ -30,6 +30,20 @@ returns-then-size-eq1-clause-painted c =
     (covered_end across.left (across.size * source.dots) frame.width columns c.requires.columns)
     same
 
+-- how long the room is, by what it is
+room_is : (n columns size : ℕ) → size ≢ 1 → n ≡ (if nat_eq size 1 then 0 else columns / 8 + 8) → n ≡ columns / 8 + 8
+room_is n columns size apart is = is ∙ ap (λ (t : Bool). if t then 0 else columns / 8 + 8) (not_one size apart)
+
+pub widen-requires-clause-wide : goal.widen-requires-clause-wide
+widen-requires-clause-wide c =
+    let across = c.args.across in
+    let some : 1 ≤ across.size = some_size across.columns across.size (row c.args.source).dots (c.args.frame.now.page.width - across.left) c.requires.some c.requires.columns in
+    (omega (arith, some, c.if-size-eq1.false), c.requires.size)
+
+pub widen-requires-clause-room : goal.widen-requires-clause-room
+widen-requires-clause-room c =
+    omega (arith, ap length c.deref_mut.ensures.value, room_is _ c.args.across.columns c.args.across.size c.if-size-eq1.false c.requires.room.dots)
+
 pub returns-clause-painted : goal.returns-clause-painted
 returns-clause-painted c =
     let across = c.args.across in
@@ -38,9 +52,9 @@ returns-clause-painted c =
     let columns = across.columns in
     let bits = c.widen.new.out in
     let read = c.deref.ensures.value ∙ with_items_is c.args.scratch.now.dots bits (c.widen.auto.out ∙ c.deref_mut.ensures.len) in
-    let long : length c.deref_mut.result.now ≡ columns / 8 + across.size = ap length c.deref_mut.ensures.value ∙ c.requires.room.dots ∙ ap (λ (t : Bool). if t then 0 else columns / 8 + across.size) (not_one across.size c.if-size-eq1.false) in
+    let long : length c.deref_mut.result.now ≡ columns / 8 + 8 = ap length c.deref_mut.ensures.value ∙ room_is _ columns across.size c.if-size-eq1.false c.requires.room.dots in
     c.paint_lines-2.ensures.painted
     ∙ (λ i. painted frame (strip_mark Portrait frame.width frame.height across.left c.args.line columns across.size (row_dot (read i)) c.args.ink.now.tile c.args.ink.now.mode))
     ∙ painted_raster Portrait frame (record { x = across.left; y = c.args.line }) across.size columns source (row_dot bits) c.args.ink.now
     (covered_end across.left (across.size * source.dots) frame.width columns c.requires.columns)
-    (λ i within. c.widen.ensures i (subst (λ n. i < 8 * (across.size * (n / across.size))) (sym long) (enough_room columns across.size i (some_size columns across.size source.dots (frame.width - across.left) c.requires.some c.requires.columns) within)))
+    (λ i within. c.widen.ensures i (omega (arith, long, within)))
