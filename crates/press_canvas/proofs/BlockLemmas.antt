@@ -1,14 +1,18 @@
 -- Blocks whose lines and columns are exchanged by six steps.
-use Rattle.std.proofs.Common.{◌≡◌, ℕ, ◌+◌, ◌-◌, ◌*◌, ◌/◌, ◌%◌, ◌^◌, ◌<◌, ◌≤◌, ◌≢◌, ◌⊎◌, Bool, true, false, ◌&&◌, ◌||◌, not, List, length, get_or, set, w64, refl, sym, ap, ◌∙◌, inl, inr, arith}
+use Rattle.std.proofs.Common.{◌≡◌, ℕ, zero, suc, ◌+◌, ◌-◌, ◌*◌, ◌/◌, ◌%◌, ◌^◌, ◌<◌, ◌≤◌, ◌≢◌, ◌⊎◌, Bool, true, false, ◌&&◌, ◌||◌, not, List, length, get_or, set, w64, refl, sym, ap, ◌∙◌, inl, inr, arith}
 use Rattle.std.specs.Prelude.{nat_eq, nat_lt, bit_and, bit_or, if◌then◌else◌}
 use Rattle.std.proofs.lemmas.Bool.{cases_eq, cases_lt, true≢false}
 use Rattle.std.proofs.lemmas.Bool.Decides.{nat_tests}
-use Rattle.std.specs.Int.{bit_not}
+use Rattle.std.specs.Int.{bit_not, swap_bytes, to_be_bytes, to_le_bytes}
+use Rattle.std.proofs.Math.Nat.{mul_assoc, mul-le-mul_right, mul-add-div_right, suc-mul}
+use Rattle.std.proofs.lemmas.Nat.{div_below}
 use Rattle.std.specs.Int.Bits.{and_lt}
 use Rattle.std.proofs.lemmas.List.{get_or-set_same, get_or-set_other, length-set}
 use Rattle.press_bits.specs.Words.{word_dot}
 use Rattle.press_bits.proofs.TriedLemmas.{every, every_at, same_of, same_test}
-use Rattle.press_bits.proofs.WordLemmas.{word_dot-and, word_dot-or, word_dot-not, shifted_right, shifted_left, white_before, white_behind}
+use Rattle.press_bits.specs.Mark.{byte_dot, row_dot}
+use Rattle.press_bits.proofs.ByteLemmas.{row_dot-of_byte}
+use Rattle.press_bits.proofs.WordLemmas.{byte_dot-to_be_bytes, word_dots, word_dot-and, word_dot-or, word_dot-not, shifted_right, shifted_left, white_before, white_behind}
 use Rattle.press_canvas.specs.Block.{block_dot, dot_from, is_front, line_from, swapped_place, IsStep}
 
 -- ---- steps
@@ -45,14 +49,15 @@ mask_of : (step fronts : ℕ) → every (masks step fronts) 64 ≡ true → (j :
 mask_of step fronts all j low = same_of (word_dot fronts j) (is_front step j) (every_at (masks step fronts) 64 j all low)
 
 -- a step by its mask, and by what it does to a place
-is_step : (step fronts : ℕ) → 1 ≤ step → step < 64 → fronts < 18446744073709551616 → every (masks step fronts) 64 ≡ true →
+is_step : (step fronts : ℕ) → 1 ≤ step → step < 64 → 32 / step * step ≡ 32 → fronts < 18446744073709551616 → every (masks step fronts) 64 ≡ true →
     ((j : ℕ) → j < 64 → is_front step j ≡ true → (j + step < 64) × (is_front step (j + step) ≡ false)) →
     ((j : ℕ) → j < 64 → is_front step j ≡ false → (step ≤ j) × (is_front step (j - step) ≡ true)) →
     ((j : ℕ) → j < 64 → is_front step j ≡ true → step ≤ j → is_front step (j - step) ≡ false) →
     ((j : ℕ) → j < 64 → is_front step j ≡ false → is_front step (j + step) ≡ true) → IsStep step fronts
-is_step step fronts some small fits all front rear before_front behind_rear = record {
+is_step step fronts some small halves fits all front rear before_front behind_rear = record {
   some = some;
   small = small;
+  halves = halves;
   fits = fits;
   mask = mask_of step fronts all;
   front = front;
@@ -63,37 +68,37 @@ is_step step fronts some small fits all front rear before_front behind_rear = re
 
 pub step_32 : IsStep 32 18446744069414584320
 step_32 =
-    is_step 32 18446744069414584320 (omega arith) (omega arith) (omega arith) masks_32
+    is_step 32 18446744069414584320 (omega arith) (omega arith) refl (omega arith) masks_32
     (λ j low test. (grind (arith, nat_tests), grind (arith, nat_tests))) (λ j low test. (grind (arith, nat_tests), grind (arith, nat_tests)))
     (λ j low test reached. grind (arith, nat_tests)) (λ j low test. grind (arith, nat_tests))
 
 pub step_16 : IsStep 16 18446462603027742720
 step_16 =
-    is_step 16 18446462603027742720 (omega arith) (omega arith) (omega arith) masks_16
+    is_step 16 18446462603027742720 (omega arith) (omega arith) refl (omega arith) masks_16
     (λ j low test. (grind (arith, nat_tests), grind (arith, nat_tests))) (λ j low test. (grind (arith, nat_tests), grind (arith, nat_tests)))
     (λ j low test reached. grind (arith, nat_tests)) (λ j low test. grind (arith, nat_tests))
 
 pub step_8 : IsStep 8 18374966859414961920
 step_8 =
-    is_step 8 18374966859414961920 (omega arith) (omega arith) (omega arith) masks_8
+    is_step 8 18374966859414961920 (omega arith) (omega arith) refl (omega arith) masks_8
     (λ j low test. (grind (arith, nat_tests), grind (arith, nat_tests))) (λ j low test. (grind (arith, nat_tests), grind (arith, nat_tests)))
     (λ j low test reached. grind (arith, nat_tests)) (λ j low test. grind (arith, nat_tests))
 
 pub step_4 : IsStep 4 17361641481138401520
 step_4 =
-    is_step 4 17361641481138401520 (omega arith) (omega arith) (omega arith) masks_4
+    is_step 4 17361641481138401520 (omega arith) (omega arith) refl (omega arith) masks_4
     (λ j low test. (grind (arith, nat_tests), grind (arith, nat_tests))) (λ j low test. (grind (arith, nat_tests), grind (arith, nat_tests)))
     (λ j low test reached. grind (arith, nat_tests)) (λ j low test. grind (arith, nat_tests))
 
 pub step_2 : IsStep 2 14757395258967641292
 step_2 =
-    is_step 2 14757395258967641292 (omega arith) (omega arith) (omega arith) masks_2
+    is_step 2 14757395258967641292 (omega arith) (omega arith) refl (omega arith) masks_2
     (λ j low test. (grind (arith, nat_tests), grind (arith, nat_tests))) (λ j low test. (grind (arith, nat_tests), grind (arith, nat_tests)))
     (λ j low test reached. grind (arith, nat_tests)) (λ j low test. grind (arith, nat_tests))
 
 pub step_1 : IsStep 1 12297829382473034410
 step_1 =
-    is_step 1 12297829382473034410 (omega arith) (omega arith) (omega arith) masks_1
+    is_step 1 12297829382473034410 (omega arith) (omega arith) refl (omega arith) masks_1
     (λ j low test. (grind (arith, nat_tests), grind (arith, nat_tests))) (λ j low test. (grind (arith, nat_tests), grind (arith, nat_tests)))
     (λ j low test reached. grind (arith, nat_tests)) (λ j low test. grind (arith, nat_tests))
 
@@ -212,12 +217,6 @@ abbrev pub IsExchanged : (step : ℕ) → (old words : List ℕ) → (line : ℕ
 IsExchanged step old words line = (i j : ℕ) → i < 64 → j < 64 → block_dot words i j
     ≡ (if is_done step line i then block_dot old (line_from step i j) (dot_from step i j) else block_dot old i j)
 
-pub none_exchanged : (step : ℕ) (old : List ℕ) → IsExchanged step old old 0
-none_exchanged step old i j low_i low_j = none (if is_front step i then i else i - step) (block_dot old (line_from step i j) (dot_from step i j)) (block_dot old i j)
-  where
-    none : (n : ℕ) (a b : Bool) → b ≡ (if nat_lt n 0 then a else b)
-    none n a b = grind (arith, nat_tests)
-
 pub all_exchanged : (step : ℕ) (old words : List ℕ) (line : ℕ) → 64 ≤ line → IsExchanged step old words line → (i j : ℕ) → i < 64 → j < 64 →
     block_dot words i j ≡ block_dot old (line_from step i j) (dot_from step i j)
 all_exchanged step old words line all so_far i j low_i low_j =
@@ -233,13 +232,29 @@ still : (test : Bool) (i step line : ℕ) (a b : Bool) → (test ≡ true → i 
 still true i step line a b apart _ = let other : i ≢ line = apart refl in grind (arith, nat_tests)
 still false i step line a b _ apart = let other : i - step ≢ line = apart refl in grind (arith, nat_tests)
 
--- past a line that is no front line nothing changes
-pub exchanged_past : (step fronts : ℕ) (old words : List ℕ) (line : ℕ) → IsStep step fronts → is_front step line ≡ false → IsExchanged step old words line → IsExchanged step old words (line + 1)
-exchanged_past step fronts old words line is rear so_far i j low_i low_j =
+-- past lines of which none is a front line nothing changes
+passed_at : (n line past : ℕ) (a b : Bool) → line ≤ past → (line ≤ n → n < past → ⊥) → (if nat_lt n line then a else b) ≡ (if nat_lt n past then a else b)
+passed_at n line past a b more none =
+    elim (cases_lt n line) [
+      | inl low ↦ grind (arith, nat_tests)
+      | inr reached ↦ elim (cases_lt n past) [
+        | inl before ↦ absurd (none reached before)
+        | inr over ↦ grind (arith, nat_tests)
+      ]
+    ]
+
+passed : (test : Bool) (i step line past : ℕ) (a b : Bool) → line ≤ past → (test ≡ true → line ≤ i → i < past → ⊥) → (test ≡ false → line ≤ i - step → i - step < past → ⊥) →
+    (if nat_lt (if test then i else i - step) line then a else b) ≡ (if nat_lt (if test then i else i - step) past then a else b)
+passed true i step line past a b more none _ = passed_at i line past a b more (none refl)
+passed false i step line past a b more _ none = passed_at (i - step) line past a b more (none refl)
+
+exchanged_past : (step fronts : ℕ) (old words : List ℕ) (line past : ℕ) → IsStep step fronts → line ≤ past → ((l : ℕ) → line ≤ l → l < past → is_front step l ≡ false) →
+    IsExchanged step old words line → IsExchanged step old words past
+exchanged_past step fronts old words line past is more rear so_far i j low_i low_j =
     so_far i j low_i low_j
-    ∙ still (is_front step i) i step line (block_dot old (line_from step i j) (dot_from step i j)) (block_dot old i j)
-    (λ test here. true≢false (sym test ∙ ap (is_front step) here ∙ rear))
-    (λ test here. true≢false (sym ((is.rear i low_i test).1) ∙ ap (is_front step) here ∙ rear))
+    ∙ passed (is_front step i) i step line past (block_dot old (line_from step i j) (dot_from step i j)) (block_dot old i j) more
+    (λ test reached before. true≢false (sym test ∙ rear i reached before))
+    (λ test reached before. true≢false (sym ((is.rear i low_i test).1) ∙ rear (i - step) reached before))
 
 undone_front : (t : Bool) (line step : ℕ) (a b : Bool) → t ≡ true → (if nat_lt (if t then line else line - step) line then a else b) ≡ b
 undone_front true line step a b _ = grind (arith, nat_tests)
@@ -332,6 +347,52 @@ module _ (step fronts : ℕ) (old words : List ℕ) (line front rear : ℕ) (is 
         ]
       ]
 
+-- ---- stretches of front lines and of rear lines, one behind another
+
+-- the stretch in which a line lies
+stretch : (step n line : ℕ) → 1 ≤ step → n * step ≤ line → line < n * step + step → line / step ≡ n
+stretch step n line some from before =
+    let k : ℕ = line - n * step in
+    let place : n * step + k ≡ line = omega (arith, from) in
+    let low : k / step < 1 = div_below k step 1 some (omega (arith, from, before)) in
+    ap (λ m. m / step) (sym place) ∙ mul-add-div_right some n k ∙ omega (arith, low)
+
+pub front_here : (step pair line : ℕ) → 1 ≤ step → 2 * pair * step ≤ line → line < 2 * pair * step + step → is_front step line ≡ true
+front_here step pair line some from before =
+    front_test (line / step % 2) (ap (λ n. n % 2) (stretch step (2 * pair) line some from before) ∙ omega arith)
+
+next_stretch : (n step : ℕ) → (n + 1) * step ≡ n * step + step
+next_stretch n step =
+    let next : n + 1 ≡ suc n = omega arith in
+    ap (λ k. k * step) next ∙ suc-mul n step
+
+-- the lines of a pair of stretches lie in the block
+pub pair_fits : (step fronts pair : ℕ) → IsStep step fronts → pair < 32 / step → 2 * pair * step + 2 * step ≤ 64
+pair_fits step fronts pair is low =
+    let less : (pair + 1) * step ≤ 32 / step * step = mul-le-mul_right step (omega (arith, low)) in
+    omega (arith, less, is.halves, next_stretch pair step, mul_assoc 2 pair step)
+
+-- the next pair, where the front lines of one are exchanged
+pub exchanged_pair : (step fronts : ℕ) (old words : List ℕ) (pair line : ℕ) → IsStep step fronts → line ≡ 2 * pair * step + step →
+    IsExchanged step old words line → IsExchanged step old words (2 * (pair + 1) * step)
+exchanged_pair step fronts old words pair line is here so_far =
+    let one : (2 * pair + 1) * step ≡ 2 * pair * step + step = next_stretch (2 * pair) step in
+    let two : 2 * (pair + 1) * step ≡ line + step = ap (λ n. n * step) next ∙ next_stretch (2 * pair + 1) step ∙ omega (arith, one, here) in
+    exchanged_past step fronts old words line (2 * (pair + 1) * step) is (omega (arith, two))
+    (λ l from before. rear_test (l / step % 2) (odd l (stretch step (2 * pair + 1) l is.some (omega (arith, one, here, from)) (omega (arith, one, here, two, before))))) so_far
+  where
+    next : 2 * (pair + 1) ≡ 2 * pair + 1 + 1
+    next = omega arith
+
+    odd : (l : ℕ) → l / step ≡ 2 * pair + 1 → l / step % 2 ≢ 0
+    odd l at none = omega (arith, at, none)
+
+-- all pairs
+pub all_pairs : (step fronts pair : ℕ) → IsStep step fronts → 32 / step ≤ pair → 64 ≤ 2 * pair * step
+all_pairs step fronts pair is all =
+    let more : 32 / step * step ≤ pair * step = mul-le-mul_right step all in
+    omega (arith, more, is.halves, mul_assoc 2 pair step)
+
 -- ---- six steps
 
 -- A block after the steps down to squares of so many: the places of its dots within these are as they were, and the squares have changed places.
@@ -406,15 +467,40 @@ mirrored : (step size old word new : ℕ) → ((j : ℕ) → j < 64 → swapped_
 mirrored step size old word new small place before swaps j low =
     swaps j low ∙ before (swapped_place step j) (small j low) ∙ ap (word_dot old) (place j low)
 
-pub mirrored_32 : (old new : ℕ) → Swaps 32 old new → IsMirroredDown 32 old new
-mirrored_32 old new =
-    mirrored 32 64 old old new (λ j low. grind (arith, nat_tests)) (λ j low. grind (arith, nat_tests)) (λ j low. ap (word_dot old) (omega (arith, low)))
+-- the bytes of a word in the other order
+other_byte : (n i : ℕ) → i < 8 → get_or (to_le_bytes w64 n) i 0 ≡ get_or (to_be_bytes w64 n) (7 - i) 0
+other_byte n zero within = refl
+other_byte n (suc zero) within = refl
+other_byte n (suc (suc zero)) within = refl
+other_byte n (suc (suc (suc zero))) within = refl
+other_byte n (suc (suc (suc (suc zero)))) within = refl
+other_byte n (suc (suc (suc (suc (suc zero))))) within = refl
+other_byte n (suc (suc (suc (suc (suc (suc zero)))))) within = refl
+other_byte n (suc (suc (suc (suc (suc (suc (suc zero))))))) within = refl
+other_byte n (suc (suc (suc (suc (suc (suc (suc (suc i)))))))) within = absurd (omega arith)
 
-pub mirrored_16 : (old word new : ℕ) → IsMirroredDown 32 old word → Swaps 16 word new → IsMirroredDown 16 old new
-mirrored_16 old word new = mirrored 16 32 old word new (λ j low. grind (arith, nat_tests)) (λ j low. grind (arith, nat_tests))
+small_byte : (n i : ℕ) → get_or (to_le_bytes w64 n) i 0 < 256
+small_byte n zero = omega arith
+small_byte n (suc zero) = omega arith
+small_byte n (suc (suc zero)) = omega arith
+small_byte n (suc (suc (suc zero))) = omega arith
+small_byte n (suc (suc (suc (suc zero)))) = omega arith
+small_byte n (suc (suc (suc (suc (suc zero))))) = omega arith
+small_byte n (suc (suc (suc (suc (suc (suc zero)))))) = omega arith
+small_byte n (suc (suc (suc (suc (suc (suc (suc zero))))))) = omega arith
+small_byte n (suc (suc (suc (suc (suc (suc (suc (suc i)))))))) = omega arith
 
-pub mirrored_8 : (old word new : ℕ) → IsMirroredDown 16 old word → Swaps 8 word new → IsMirroredDown 8 old new
-mirrored_8 old word new = mirrored 8 16 old word new (λ j low. grind (arith, nat_tests)) (λ j low. grind (arith, nat_tests))
+pub mirrored_8 : (old : ℕ) → IsMirroredDown 8 old (swap_bytes w64 old)
+mirrored_8 old j low =
+    let bytes : List ℕ = to_le_bytes w64 old in
+    let whole : 8 * 0 + j ≡ j = omega arith in
+    let place : 8 * (7 - j / 8) + j % 8 ≡ (63 - j) / 8 * 8 + j % 8 = omega (arith, low) in
+    word_dots bytes 0 (swap_bytes w64 old) j (small_byte old) refl low
+    ∙ ap (row_dot bytes) whole
+    ∙ sym (row_dot-of_byte bytes (j / 8) j refl)
+    ∙ ap (λ b. byte_dot b (j % 8)) (other_byte old (j / 8) (omega (arith, low)))
+    ∙ byte_dot-to_be_bytes old (7 - j / 8) (j % 8) (omega arith) (omega arith)
+    ∙ ap (word_dot old) place
 
 pub mirrored_4 : (old word new : ℕ) → IsMirroredDown 8 old word → Swaps 4 word new → IsMirroredDown 4 old new
 mirrored_4 old word new = mirrored 4 8 old word new (λ j low. grind (arith, nat_tests)) (λ j low. grind (arith, nat_tests))

@@ -1,5 +1,5 @@
 -- Blocks of sixty-four lines of sixty-four dots.
-use Rattle.std.specs.Prelude.{◌≡◌, ℕ, ◌+◌, ◌-◌, ◌/◌, ◌%◌, ◌<◌, ◌≤◌, Bool, true, false, nat_eq, if◌then◌else◌, List, slice_index}
+use Rattle.std.specs.Prelude.{◌≡◌, ℕ, ◌+◌, ◌-◌, ◌*◌, ◌/◌, ◌%◌, ◌<◌, ◌≤◌, Bool, true, false, nat_eq, if◌then◌else◌, List, slice_index}
 use Rattle.press_bits.specs.Words.{word_dot}
 
 -- dot of a line of a block
@@ -29,6 +29,7 @@ dot_from step line dot =
 pub record IsStep (step fronts : ℕ) : Type 0 where
   pub some : 1 ≤ step
   pub small : step < 64
+  pub halves : 32 / step * step ≡ 32
   pub fits : fronts < 18446744073709551616
   pub mask : (j : ℕ) → j < 64 → word_dot fronts j ≡ is_front step j
   pub front : (j : ℕ) → j < 64 → is_front step j ≡ true → (j + step < 64) × (is_front step (j + step) ≡ false)

@@ -38,10 +38,7 @@ fn swapped(word: u64, step: usize, fronts: u64) -> u64
 pub(crate) fn reversed(word: u64) -> u64
     ensures { (j : ℕ) → j < 64 → word_dot result j ≡ word_dot word (63 - j) }
 {
-    let halves = swapped(word, 32, 0xFFFF_FFFF_0000_0000);
-    let sixteens = swapped(halves, 16, 0xFFFF_0000_FFFF_0000);
-    let eights = swapped(sixteens, 8, 0xFF00_FF00_FF00_FF00);
-    let fours = swapped(eights, 4, 0xF0F0_F0F0_F0F0_F0F0);
+    let fours = swapped(word.swap_bytes(), 4, 0xF0F0_F0F0_F0F0_F0F0);
     let pairs = swapped(fours, 2, 0xCCCC_CCCC_CCCC_CCCC);
     swapped(pairs, 1, 0xAAAA_AAAA_AAAA_AAAA)
 }
@@ -55,8 +52,9 @@ fn exchange(words: &mut [u64], step: usize, fronts: u64)
     ensures dots { (i j : ℕ) → i < 64 → j < 64 → block_dot words.new i j
         ≡ block_dot words.old (line_from step i j) (dot_from step i j) }
 {
-    for line in 0..64 {
-        if line / step % 2 == 0 {
+    for pair in 0..32 / step {
+        let first = 2 * pair * step;
+        for line in first..first + step {
             let (front, rear) = (words[line], words[line + step]);
             words[line] = front_line(front, rear, step, fronts);
             words[line + step] = rear_line(front, rear, step, fronts);

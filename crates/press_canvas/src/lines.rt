@@ -53,12 +53,12 @@ pub(crate) fn place_at(back: bool, places: u32, place: u32) -> u32
     if back { places - 1 - place } else { place }
 }
 
-/// Writes a line of a page that is white there. A white one takes no memory.
+/// Writes a line of a page that is white there.
 ///
 /// # Errors
 ///
 /// Where memory ran out.
-pub(crate) fn put_line(page: &mut Bitmap, y: u32, bits: &[u8]) -> Result<(), AllocError>
+fn put_line(page: &mut Bitmap, y: u32, bits: &[u8]) -> Result<(), AllocError>
     requires enough { page.old.width ≤ 8 * length bits.now }
     requires white { (x : ℕ) → x < page.old.width → y < page.old.height
         → black_at page.old x y ≡ false }
@@ -69,13 +69,11 @@ pub(crate) fn put_line(page: &mut Bitmap, y: u32, bits: &[u8]) -> Result<(), All
         bits: &bits[..dots.div_ceil(8)],
         dots,
     };
-    if source.is_white() {
-        return Ok(());
-    }
     page.paint_row(0, i64::from(y), source, DotRow::black(), OPAQUE)
 }
 
-/// Writes a row as a line of a page that is white there, from its first dot on or from its last one back; there is room for it.
+/// Writes a row as a line of a page that is white there, from its first dot on or from its last one back; there is room for it. A
+/// white one takes no memory.
 ///
 /// # Errors
 ///
@@ -95,13 +93,13 @@ pub(crate) fn put_row(
         (λ x. row_dot bits.now (place_at back page.old.width x))) }
     ensures room { length room.new ≡ WIDEST_ROW }
 {
+    let dots = page.width() as usize;
+    let front = &bits[..dots.div_ceil(8)];
+    if (DotRow { bits: front, dots }).is_white() {
+        return Ok(());
+    }
     if !back {
         return put_line(page, y, bits);
-    }
-    let dots = page.width() as usize;
-    let row = DotRow { bits, dots };
-    if row.is_white() {
-        return Ok(());
     }
     reverse(bits, dots, room);
     put_line(page, y, room)

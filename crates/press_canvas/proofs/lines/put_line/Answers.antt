@@ -1,4 +1,4 @@
-use Rattle.std.proofs.Common.{◌≡◌, ◌∙◌, ◌*◌, ◌<◌, take, refl, sym, ap, rules, arith, ℤ, w64}
+use Rattle.std.proofs.Common.{◌≡◌, ◌∙◌, ◌*◌, ◌<◌, take, ap, rules, arith, ℤ, w64}
 use Rattle.std.specs.Prelude.{pos}
 use Rattle.std.proofs.lemmas.Int.{to_z-of_z}
 use mir.Val.{to_z, of_z, SFits}
@@ -6,15 +6,8 @@ use Rattle.press_bits.specs.Page.{Page}
 use Rattle.press_bits.specs.Mark.{Row, painted, row, row_dot, row_mark}
 use Rattle.press_bits.proofs.BandLemmas.{after_ok}
 use Rattle.press_canvas.specs.Turned.{with_line}
-use Rattle.press_canvas.proofs.LineLemmas.{opaque, painted_line, row_dot-front, white_line, with_line_alike}
+use Rattle.press_canvas.proofs.LineLemmas.{opaque, painted_line, row_dot-front, with_line_alike}
 use Rattle.press_canvas.proofs.lines.put_line.Goals as goal
-
-pub returns-then-is_white : goal.returns-then-is_white
-returns-then-is_white c =
-    white_line c.args.page.now c.args.y (row_dot c.args.bits.now) c.width-dots.ensures.inside c.requires.white
-    (λ x left.
-    let within : x < 8 * c.div_ceil.result = omega (arith, left, c.width-dots.ensures.width, c.div_ceil.ensures) in
-    sym (row_dot-front c.args.bits.now c.div_ceil.result x within) ∙ c.if-is_white.ensures refl x)
 
 pub returns : goal.returns
 returns c =

@@ -1,10 +1,10 @@
-use Rattle.std.proofs.Common.{◌≡◌, ◌∙◌, ◌-◌, ◌<◌, true, false, refl, ap, subst, sym, rules}
+use Rattle.std.proofs.Common.{◌≡◌, ◌∙◌, ◌-◌, ◌*◌, ◌<◌, ℕ, Bool, true, false, refl, ap, subst, sym, rules, arith}
 use Rattle.press_bits.specs.Mark.{row_dot}
 use Rattle.press_bits.specs.Page.{Page}
 use Rattle.press_bits.proofs.BandLemmas.{after_ok}
 use Rattle.press_canvas.specs.Strip.{place_at}
 use Rattle.press_canvas.specs.Turned.{with_line}
-use Rattle.press_canvas.proofs.LineLemmas.{white_line, with_line_alike}
+use Rattle.press_canvas.proofs.LineLemmas.{row_dot-front, white_line, with_line_alike}
 use Rattle.press_canvas.proofs.lines.put_row.Goals as goal
 
 pub returns-then-not-back-clause-put : goal.returns-then-not-back-clause-put
@@ -16,12 +16,20 @@ returns-then-not-back-clause-put c =
     (λ is. is ∙ with_line_alike page c.args.y (row_dot bits) (λ x. row_dot bits (place_at c.args.back page.width x)) (λ x _. ap (λ b. row_dot bits (place_at b page.width x)) (sym forward)))
     c.put_line.ensures
 
+-- a place from either end is one of as many
+place_within : (back : Bool) (places place : ℕ) → place < places → place_at back places place < places
+place_within false places place within = within
+place_within true places place within = omega (arith, within)
+
 pub returns-then-is_white-clause-put : goal.returns-then-is_white-clause-put
 returns-then-is_white-clause-put c =
     let page : Page = c.args.page.now in
     let bits = c.args.bits.now in
     white_line page c.args.y (λ x. row_dot bits (place_at c.args.back page.width x)) c.width-dots.ensures.inside c.requires.white
-    (λ x _. c.if-is_white.ensures refl (place_at c.args.back page.width x))
+    (λ x left.
+    let place : ℕ = place_at c.args.back page.width x in
+    let within : place < 8 * c.div_ceil.result = omega (arith, place_within c.args.back page.width x left, c.width-dots.ensures.width, c.div_ceil.ensures) in
+    sym (row_dot-front bits c.div_ceil.result place within) ∙ c.if-is_white.ensures refl place)
 
 pub returns-clause-put : goal.returns-clause-put
 returns-clause-put c =
