@@ -10,6 +10,7 @@ ghost use Rattle.press_bits.specs.Bands.{AreReady, StaysReady, band_at, band_lin
 
 use crate::band::Band;
 use crate::dot_bytes;
+use crate::dot_bytes::line_bytes;
 use crate::dot_row::DotRow;
 use crate::making::make_bands;
 use crate::mode::Mode;
@@ -51,14 +52,6 @@ impl Model for Bands {
     ghost view = { λ b. banded b.width b.height b.bands.items };
 
     ghost invariant = { λ b. HasBands b.width b.height b.bands.items };
-}
-
-/// How many bytes a line of this width takes.
-fn line_bytes(width: u32) -> usize
-    requires { width ≤ MAX_SIDE }
-    ensures { result ≡ bytes_per_line width }
-{
-    (width as usize + 7) / 8
 }
 
 /// The first of the bytes.
@@ -200,7 +193,7 @@ impl Bands {
         requires { y < self.now.page.height }
         ensures { IsPageLine self.now.page y result.now }
     {
-        let count = line_bytes(self.width);
+        let count = line_bytes(self.width as usize);
         let start = y as usize % BAND * count;
         &self.band(y / BAND_LINES)[start..start + count]
     }
@@ -213,7 +206,7 @@ impl Bands {
             (min band_lines (self.now.page.height - band_lines * index)) result.now }
     {
         let lines = BAND_LINES.min(self.height - BAND_LINES * index);
-        let count = lines as usize * line_bytes(self.width);
+        let count = lines as usize * line_bytes(self.width as usize);
         let band = &self.bands[index as usize];
         if !band.is_there() {
             return front(&[0; BAND * WIDEST_ROW], count);
@@ -298,7 +291,7 @@ impl Bands {
         if run.count == 0 {
             return Ok(());
         }
-        let size = BAND * line_bytes(self.width);
+        let size = BAND * line_bytes(self.width as usize);
         let alloc = *self.bands.allocator();
         let end = (run.first + run.count - 1) / BAND + 1;
         make_bands(
@@ -334,7 +327,7 @@ impl Bands {
         if !self.bands[line / BAND].is_there() {
             return;
         }
-        let start = line % BAND * line_bytes(self.width);
+        let start = line % BAND * line_bytes(self.width as usize);
         let through = Repeats::of(pattern);
         let stroke = Stroke {
             run,
@@ -360,7 +353,7 @@ impl Bands {
             → self.new.page ≡ painted self.old.page (row_mark (pos x) (pos y) source pattern mode) }
         ensures ready { self.new.ready ≡ self.old.ready }
     {
-        let start = y as usize % BAND * line_bytes(self.width);
+        let start = y as usize % BAND * line_bytes(self.width as usize);
         self.bands[y as usize / BAND].blacken(8 * start + x as usize, dots as usize);
     }
 }

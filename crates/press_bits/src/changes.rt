@@ -11,7 +11,7 @@ ghost use Rattle.press_bits.specs.Changes.{Covers, EndsAbove, is_in_any, with_li
 use crate::bands::{BAND, Bands, MAX_SIDE};
 use crate::comparing::{Span, differing};
 use crate::dot_row::DotRow;
-use crate::mode::Mode;
+use crate::mode::OPAQUE;
 use crate::region::Region;
 
 /// A region with bytes of a line below it too.
@@ -99,12 +99,6 @@ pub(crate) fn changed(before: &Bands, after: &Bands) -> Option<Region>
     region
 }
 
-/// White dots of the source and of the pattern are opaque.
-const OPAQUE: Mode = Mode {
-    source_opaque: true,
-    pattern_opaque: true,
-};
-
 /// Takes over lines of another page of this size, from `first` on and before `end`.
 pub(crate) fn take_lines(page: &mut Bands, other: &Bands, first: u32, end: u32)
     requires width { other.now.page.width ≡ page.old.page.width }
@@ -119,10 +113,8 @@ pub(crate) fn take_lines(page: &mut Bands, other: &Bands, first: u32, end: u32)
     let dots = other.width() as usize;
     let _ = page.width();
     for y in first..end {
-        let source = DotRow {
-            bits: other.line(y),
-            dots,
-        };
-        page.paint_row(0, i64::from(y), source, DotRow::black(), OPAQUE);
+        let bits = other.line(y);
+        let row = DotRow { bits, dots };
+        page.paint_row(0, i64::from(y), row, DotRow::black(), OPAQUE);
     }
 }

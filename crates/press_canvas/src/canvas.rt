@@ -7,8 +7,8 @@ ghost use Rattle.press_canvas.specs.Turned.{frame_page};
 ghost use Rattle.press_canvas.specs.contracts.canvas.Canvas.{the_row};
 ghost use Rattle.press_canvas.specs.contracts.frame.Frame.{the_row as frame_row};
 
-use crate::frame::{Frame, frame_size};
-use crate::turning::{turned, white};
+use crate::frame::Frame;
+use crate::turning::{turned, turned_size, white};
 use press_bits::Bitmap;
 use press_page::{Extent, Orientation};
 use std::alloc::{AllocError, Global};
@@ -41,7 +41,7 @@ impl Canvas {
         requires { is_page_size page.width page.height ≡ true }
         ensures { IfOk result (λ canvas. canvas ≡ blank page.width page.height) }
     {
-        let bitmap = white(alloc, frame_size(orientation, page))?;
+        let bitmap = white(alloc, turned_size(orientation, page))?;
         Ok(Canvas {
             frame: Frame {
                 bitmap,

@@ -1,14 +1,12 @@
 //! Frames of pages.
 
-ghost use Rattle.std.specs.Prelude.{◌≡◌, ◌≢◌, true, IfOk, IsErr, OnOk};
-ghost use Rattle.press_bits.specs.Page.{is_page_size};
-ghost use Rattle.press_page.specs.Media.{turned};
+ghost use Rattle.std.specs.Prelude.{◌≡◌, ◌≢◌, IfOk, IsErr, OnOk};
 ghost use Rattle.press_page.specs.declared.media.Orientation.TheVariants.{Portrait};
 ghost use Rattle.press_canvas.specs.Turned.{frame_page, opposite};
 
 use crate::turning::turned;
 use press_bits::Bitmap;
-use press_page::{Extent, Orientation};
+use press_page::Orientation;
 use std::alloc::{AllocError, Global};
 
 /// The frame of a page: its dots in the order in which marks are painted, and the orientation that turns it into the page.
@@ -27,21 +25,6 @@ fn opposite(orientation: Orientation) -> Orientation
         Orientation::Landscape => Orientation::ReverseLandscape,
         Orientation::ReversePortrait => Orientation::ReversePortrait,
         Orientation::ReverseLandscape => Orientation::Landscape,
-    }
-}
-
-/// The size of the frame of a page.
-pub(crate) fn frame_size(orientation: Orientation, page: Extent) -> Extent
-    requires { is_page_size page.width page.height ≡ true }
-    ensures size { result ≡ turned orientation page }
-    ensures fits { is_page_size result.width result.height ≡ true }
-{
-    match orientation {
-        Orientation::Portrait | Orientation::ReversePortrait => page,
-        Orientation::Landscape | Orientation::ReverseLandscape => Extent {
-            width: page.height,
-            height: page.width,
-        },
     }
 }
 

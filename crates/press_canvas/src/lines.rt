@@ -8,14 +8,8 @@ ghost use Rattle.press_canvas.specs.Strip.{place_at};
 ghost use Rattle.press_canvas.specs.Turned.{with_line};
 
 use crate::block::reversed;
-use press_bits::{Bitmap, DotRow, MAX_SIDE, Mode, WIDEST_ROW, put_word, word_from};
+use press_bits::{Bitmap, DotRow, MAX_SIDE, OPAQUE, WIDEST_ROW, put_word, word_from};
 use std::alloc::AllocError;
-
-/// White dots of the source and of the pattern are opaque.
-const OPAQUE: Mode = Mode {
-    source_opaque: true,
-    pattern_opaque: true,
-};
 
 /// Sixty-four dots of so many, from the last one back, after so many others.
 fn word_back(bits: &[u8], dots: usize, after: usize) -> u64
@@ -65,11 +59,9 @@ fn put_line(page: &mut Bitmap, y: u32, bits: &[u8]) -> Result<(), AllocError>
     ensures { OnOk result (page.new ≡ with_line page.old y (row_dot bits.now)) }
 {
     let dots = page.width() as usize;
-    let source = DotRow {
-        bits: &bits[..dots.div_ceil(8)],
-        dots,
-    };
-    page.paint_row(0, i64::from(y), source, DotRow::black(), OPAQUE)
+    let bits = &bits[..dots.div_ceil(8)];
+    let row = DotRow { bits, dots };
+    page.paint_row(0, i64::from(y), row, DotRow::black(), OPAQUE)
 }
 
 /// Writes a row as a line of a page that is white there, from its first dot on or from its last one back; there is room for it. A

@@ -29,16 +29,16 @@ pub(crate) fn white(alloc: Global, size: Extent) -> Result<Bitmap, AllocError>
 }
 
 /// The size of the physical page of a frame, and of the frame of a page.
-fn turned_size(orientation: Orientation, frame: &Bitmap) -> Extent
-    ensures size { result ≡ turned orientation (extent frame.now) }
+pub(crate) fn turned_size(orientation: Orientation, page: Extent) -> Extent
+    requires { is_page_size page.width page.height ≡ true }
+    ensures size { result ≡ turned orientation page }
     ensures fits { is_page_size result.width result.height ≡ true }
 {
-    let (width, height) = (frame.width(), frame.height());
     match orientation {
-        Orientation::Portrait | Orientation::ReversePortrait => Extent { width, height },
+        Orientation::Portrait | Orientation::ReversePortrait => page,
         Orientation::Landscape | Orientation::ReverseLandscape => Extent {
-            width: height,
-            height: width,
+            width: page.height,
+            height: page.width,
         },
     }
 }
@@ -70,7 +70,8 @@ pub fn turned(
 ) -> Result<Bitmap, AllocError>
     ensures { IfOk result (λ page. page ≡ page_of_frame orientation frame.now) }
 {
-    let mut page = white(alloc, turned_size(orientation, frame))?;
+    let (width, height) = (frame.width(), frame.height());
+    let mut page = white(alloc, turned_size(orientation, Extent { width, height }))?;
     if let Some(spare) = spare {
         page.reuse(spare);
     }

@@ -54,11 +54,7 @@ fn paint_rect(page: &mut Bands, rect: Rect, tile: &Tile<'_>, mode: Mode)
     let lines = cut_length(y, rect.height as usize, page.height());
     let solid = tile.is_solid_black();
     for line in 0..lines {
-        let pattern = DotRow {
-            bits: tile.row(y + line),
-            dots: usize::from(tile.width()),
-        };
-        paint_line(page, x, y + line, columns, pattern, mode, solid);
+        paint_line(page, x, y + line, columns, tile.line(y + line), mode, solid);
     }
 }
 

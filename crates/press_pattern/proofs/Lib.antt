@@ -1,4 +1,3 @@
-pub mod ByteLemmas
 pub mod TileLemmas
 pub mod HatchLemmas
 mod StoreLemmas

@@ -2,7 +2,7 @@
 use Rattle.std.specs.Prelude.{◌≡◌, ℕ, ◌+◌, ◌*◌, ◌/◌, ◌%◌, ◌≤◌, Bool, false, ◌&&◌, nat_lt, if◌then◌else◌, List, map, length, slice_range, refl}
 use Rattle.std.specs.List.{fold, range_with_len}
 use Rattle.std.specs.Coded.{Coded, code_by, coded×, coded_ℕ, coded_list}
-use Rattle.press_bits.specs.Mark.{row_dot}
+use Rattle.press_bits.specs.Mark.{Row, row_dot}
 use Rattle.press_bits.specs.Lines.{bytes_per_line}
 
 -- A tile: how many dots wide and how many lines high it is, and its lines from the top, each from a new byte on.
@@ -25,6 +25,10 @@ tile_row tile b =
     let bytes = bytes_per_line tile.width in
     let start = b % tile.height * bytes in
     slice_range tile.rows start (start + bytes)
+
+-- and the row of them
+abbrev pub tile_line : Tiling → (line : ℕ) → Row
+tile_line tile line = record { bits = tile_row tile line; dots = tile.width }
 
 -- The pattern dot of the frame dot at column a of line b, black where true: the tile's at (a mod width, b mod height).
 unfoldable pub tile_dot : Tiling → ℕ → ℕ → Bool

@@ -3,18 +3,12 @@
 ghost use Rattle.std.specs.Prelude.{◌≡◌, ◌*◌, ◌≤◌, length, IfOk, IsTrue};
 ghost use Rattle.press_bits.specs.Lines.{bytes_per_line};
 ghost use Rattle.press_pattern.specs.Solid.{solid_black};
-ghost use Rattle.press_pattern.specs.Tiling.{IsWhiteTile, tile_row};
+ghost use Rattle.press_bits.specs.Mark.{row};
+ghost use Rattle.press_pattern.specs.Tiling.{IsWhiteTile, tile_line, tile_row};
 
-use press_bits::DotRow;
+use press_bits::{DotRow, line_bytes};
 use std::alloc::{AllocError, Global};
 use std::marker::Model;
-
-/// How many bytes a line of this width takes.
-pub(crate) fn line_bytes(width: u16) -> usize
-    ensures { result ≡ bytes_per_line width }
-{
-    (usize::from(width) + 7) / 8
-}
 
 /// A tile, lent: what a pattern repeats over the page. Contracts see its width and height in dots, and
 /// the bytes of its lines.
@@ -77,9 +71,20 @@ impl<'a> Tile<'a> {
         ensures row { result.now ≡ tile_row self.now y }
         ensures long { length result.now ≡ bytes_per_line self.now.width }
     {
-        let bytes = line_bytes(self.width);
+        let bytes = line_bytes(usize::from(self.width));
         let start = (y % u32::from(self.height)) as usize * bytes;
         &self.rows[start..start + bytes]
+    }
+
+    /// The dots of the tile for line `y` of the frame; see [`Tile::row`].
+    pub fn line(&self, y: u32) -> DotRow<'a>
+        ensures row { row result ≡ tile_line self.now y }
+        ensures some { 1 ≤ result.dots }
+    {
+        DotRow {
+            bits: self.row(y),
+            dots: usize::from(self.width),
+        }
     }
 
     /// Whether no bit of the lines is set: then the tile has no black dot.

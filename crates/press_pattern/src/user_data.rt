@@ -3,8 +3,9 @@
 ghost use Rattle.std.specs.Prelude.{◌≡◌, ◌↔◌, ◌≤◌, length, true, false, IfOk, IsErrOf};
 ghost use Rattle.press_pattern.specs.UserData.{has_header, has_rows, tile_in};
 
-use crate::tile::{OwnedTile, line_bytes};
+use crate::tile::OwnedTile;
 use byteorder::{BigEndian, ByteOrder};
+use press_bits::line_bytes;
 use press_units::NO_MEMORY;
 use std::alloc::{AllocError, Global};
 use thiserror::Error;
@@ -64,7 +65,7 @@ pub(crate) fn read_tile(alloc: Global, bytes: &[u8]) -> Result<OwnedTile, Define
     }
     let height = BigEndian::read_u16(&bytes[4..]);
     let width = BigEndian::read_u16(&bytes[6..]);
-    let count = usize::from(height) * line_bytes(width);
+    let count = usize::from(height) * line_bytes(usize::from(width));
     let Some(lines) = bytes[HEADER_LENGTH..].get(..count) else {
         return Err(DefineError::ShortData);
     };

@@ -1,8 +1,9 @@
 -- Rows that are drawn one below the other, and data of which no row has effect.
 use Rattle.std.proofs.Common.{◌≡◌, ◌∙◌, ◌+◌, ℕ, zero, suc, Bool, true, false, if◌then◌else◌, List, [], ◌∷◌, ◌++◌, length, replicate, Option, Some, None, refl, sym, ap, rules, arith}
-use Rattle.std.specs.Prelude.{◌&&◌, is_some, is_none, min, pos}
+use Rattle.std.specs.Prelude.{◌&&◌, is_some, is_none, nat_lt, min, pos}
 use Rattle.std.specs.List.{list_any}
 use Rattle.std.proofs.lemmas.Bool.{true≢false}
+use Rattle.std.proofs.lemmas.Bool.Decides.{nat_tests}
 use Rattle.std.proofs.lemmas.List.{length-replicate, same_lists, places}
 use Rattle.std.proofs.lemmas.List.Sums.{fold-append}
 use Rattle.press_bits.specs.Bands.{BandedPage}
@@ -134,6 +135,12 @@ count_rows-run zero row others =
 count_rows-run (suc n) row others =
     let more : suc (n + count_rows others) ≡ suc n + count_rows others = omega arith in
     ap suc (count_rows-run n row others) ∙ more
+
+-- there is a row where rows are counted
+pub count_rows-some : (items : List Item) → nat_lt 0 (count_rows items) ≡ list_any is_some items
+count_rows-some [] = refl
+count_rows-some (None ∷ others) = count_rows-some others
+count_rows-some (Some row ∷ others) = grind (arith, nat_tests)
 
 -- no row of a run makes the seed row white
 pub none_white-run : (n : ℕ) (row : Method × List ℕ) (others : List Item) → list_any is_none (replicate n (Some row) ++ others) ≡ list_any is_none others

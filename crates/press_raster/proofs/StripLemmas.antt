@@ -14,12 +14,11 @@ use Rattle.press_page.specs.declared.media.Orientation.{Orientation}
 use Rattle.press_page.specs.declared.media.Orientation.TheVariants.{Portrait, Landscape, ReversePortrait, ReverseLandscape}
 use Rattle.press_page.specs.declared.place.Dot.{Dot}
 use Rattle.press_page.specs.declared.place.Extent.{Extent}
-use Rattle.press_pattern.specs.Tiling.{Tiling, tile_dot}
+use Rattle.press_pattern.specs.Tiling.{Tiling, tile_dot, tile_line}
 use Rattle.press_pattern.specs.declared.ink.Ink.{Ink}
 use Rattle.press_canvas.specs.Turned.{page_of_frame}
 use Rattle.press_canvas.proofs.FrameLemmas.{painted_frame}
 use Rattle.press_raster.specs.Mark.{strip_source, strip_mark, raster_mark, row_on_frame}
-use Rattle.press_raster.specs.Widening.{tile_line}
 
 -- the frame of a page of these sizes
 abbrev pub frame_of : Orientation → (width height : ℕ) → Extent

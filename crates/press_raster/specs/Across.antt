@@ -1,9 +1,8 @@
 -- How raster rows lie across the frame of a page, and the room that painting them takes (PCL 5 Printer Language Technical
 -- Reference Manual, Raster Graphics). No public clause of this crate cites these.
-use Rattle.std.specs.Prelude.{◌≡◌, ◌≤◌, ℕ, ◌+◌, ◌-◌, ◌*◌, ◌/◌, nat_eq, min, pos, if◌then◌else◌, length}
+use Rattle.std.specs.Prelude.{◌≡◌, ◌≤◌, ℕ, ◌+◌, ◌-◌, ◌*◌, ◌/◌, nat_eq, min, pos, if◌then◌else◌, List, length}
 use Rattle.press_bits.specs.Bands.{BandedPage, AreReady}
 use Rattle.press_raster.specs.declared.strip.Across.{Across}
-use Rattle.press_raster.specs.declared.strip.Scratch.{Scratch}
 
 -- How many columns of a frame of this width rows of so many dots cover, each dot so many dots wide: what lies right of the frame
 -- is dropped.
@@ -27,5 +26,5 @@ abbrev pub room_for : Across → ℕ
 room_for across = if nat_eq across.size 1 then 0 else across.columns / 8 + 8
 
 -- Room for the dots of a row along a line of the frame.
-pub record HasRoom (across : Across) (scratch : Scratch) : Type 0 where
-  pub dots : length scratch.dots.items ≡ room_for across
+pub record HasRoom (across : Across) (scratch : List ℕ) : Type 0 where
+  pub dots : length scratch ≡ room_for across

@@ -52,7 +52,7 @@ pub record IsSetUp (setup : RowSetup) (page : Layout) (drawing : Drawing) : Type
   pub same : setup ≡ setup_of page.width setup.environment setup.settings drawing.position.left
   pub seed : length drawing.seed.items ≡ bytes_per_line setup.dots
   pub row : length drawing.row.items ≡ bytes_per_line setup.dots
-  pub room : HasRoom setup.across drawing.scratch
+  pub room : HasRoom setup.across drawing.scratch.items
 
 -- raster graphics whose rows are drawn, the page of the frame on which they are, and the cursor
 abbrev pub drawn_by : RowSetup → Drawing → BandedPage → CursorState → Drawn

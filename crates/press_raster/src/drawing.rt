@@ -17,8 +17,8 @@ ghost use Rattle.press_raster.specs.Settings.{items_of, row_height};
 
 use crate::raster::{MOST_ROWS, RasterPosition, RowData, RowPlace, is_within};
 use crate::settings::{RasterSettings, RowCoding};
-use crate::strip::{Across, Scratch, bytes_for, make_room, paint_across};
-use press_bits::{Bands, DotRow, MAX_SIDE};
+use crate::strip::{Across, make_room, paint_across};
+use press_bits::{Bands, DotRow, MAX_SIDE, line_bytes};
 use press_cursor::Cursor;
 use press_page::PageEnv;
 use press_pattern::Ink;
@@ -129,7 +129,8 @@ pub(crate) struct Drawing {
     pub(crate) position: RasterPosition,
     pub(crate) seed: Vec<u8>,
     row: Vec<u8>,
-    scratch: Scratch,
+    /// Room for the dots of a row along the frame, where they are widened before they are painted.
+    scratch: Vec<u8>,
 }
 
 impl Drawing {
@@ -139,7 +140,7 @@ impl Drawing {
             position: RasterPosition { left: 0, rows: 0 },
             seed: Vec::new(alloc),
             row: Vec::new(alloc),
-            scratch: Scratch::new(alloc),
+            scratch: Vec::new(alloc),
         }
     }
 
@@ -159,12 +160,12 @@ impl Drawing {
         ensures seed { OnOk result (self.new.seed.items
             ≡ fitted (bytes_per_line setup.now.dots) seed.now) }
         ensures row { OnOk result (length self.new.row.items ≡ bytes_per_line setup.now.dots) }
-        ensures room { OnOk result (HasRoom setup.now.across self.new.scratch) }
+        ensures room { OnOk result (HasRoom setup.now.across self.new.scratch.items) }
     {
-        let width = bytes_for(setup.dots);
+        let width = line_bytes(setup.dots);
         make_room(&mut self.row, width)?;
         make_room(&mut self.seed, width)?;
-        self.scratch.fit(setup.across)?;
+        make_room(&mut self.scratch, setup.across.room_for())?;
         decode(Method::Unencoded, seed, &self.row, &mut self.seed);
         self.position = position;
         Ok(())
@@ -338,7 +339,7 @@ impl Drawing {
 }
 
 /// How many rows there are in blocks, at most as many as a page has lines.
-fn count_rows(mut blocks: Blocks<'_>) -> usize
+pub(crate) fn count_rows(mut blocks: Blocks<'_>) -> usize
     ensures count { result ≡ min longest_side (count_rows blocks.entry) }
 {
     let most = MAX_SIDE as usize;

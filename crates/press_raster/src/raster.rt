@@ -8,7 +8,7 @@ ghost use Rattle.press_raster.specs.Rows.{drawn, drawn_rows};
 ghost use Rattle.press_raster.specs.Transfer.{row_corner};
 ghost use Rattle.press_canvas.specs.Turned.{page_of_frame};
 
-use crate::drawing::{Drawing, RowSetup};
+use crate::drawing::{Drawing, RowSetup, count_rows};
 use crate::settings::{RasterSettings, RowCoding};
 use press_bits::Bitmap;
 use press_canvas::Canvas;
@@ -75,20 +75,8 @@ fn has_row(coding: RowCoding, data: &[u8]) -> bool
 {
     match coding {
         RowCoding::By(_) => true,
-        RowCoding::Adaptive => blocks_have_row(Blocks::new(data)),
+        RowCoding::Adaptive => count_rows(Blocks::new(data)) > 0,
     }
-}
-
-/// Whether there is a row in blocks.
-fn blocks_have_row(mut blocks: Blocks<'_>) -> bool
-    ensures { result ≡ list_any is_some blocks.entry }
-{
-    while let Some(run) = blocks.next_run() {
-        if let Run::Rows { .. } = run {
-            return true;
-        }
-    }
-    false
 }
 
 /// Whether data makes the seed row white in place of a row.

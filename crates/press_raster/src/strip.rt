@@ -2,51 +2,18 @@
 
 ghost use Rattle.std.specs.Prelude.{◌≡◌, ◌*◌, ◌≤◌, ◌<◌, ◌^◌, ◌⊎◌, length, pos, true, false, Ok, IsOk, OnOk, OnErr};
 ghost use Rattle.press_bits.specs.Bands.{AreReady};
-ghost use Rattle.press_bits.specs.Lines.{bytes_per_line};
 ghost use Rattle.press_bits.specs.Mark.{painted, row, row_dot};
 ghost use Rattle.press_bits.specs.Page.{HasNoDotOutside};
 ghost use Rattle.press_page.specs.declared.media.Orientation.TheVariants.{Portrait};
 ghost use Rattle.press_raster.specs.Across.{AcrossReady, HasRoom, across_of, covered_columns, room_for};
 ghost use Rattle.press_raster.specs.Mark.{strip_mark, row_on_frame};
-ghost use Rattle.press_raster.specs.Widening.{IsDotSize, tile_line};
+ghost use Rattle.press_raster.specs.Widening.{IsDotSize};
 
 use crate::widening::widen;
 use press_bits::{Bands, DotRow, cut_length};
 use press_page::Dot;
-use press_pattern::{Ink, Tile};
-use std::alloc::{AllocError, Global};
-
-/// How many bytes so many dots take.
-pub(crate) fn bytes_for(dots: usize) -> usize
-    requires { dots < 2 ^ 32 }
-    ensures bytes { result ≡ bytes_per_line dots }
-    ensures enough { dots ≤ 8 * result }
-{
-    (dots + 7) / 8
-}
-
-/// A line of a tile.
-fn tile_line<'a>(tile: &Tile<'a>, line: u32) -> DotRow<'a>
-    ensures row { row result ≡ tile_line tile.now line }
-    ensures some { 1 ≤ result.dots }
-{
-    DotRow {
-        bits: tile.row(line),
-        dots: usize::from(tile.width()),
-    }
-}
-
-/// Paints source dots along one line of the frame, from a column on.
-fn paint_line(frame: &mut Bands, left: u32, line: u32, source: DotRow<'_>, ink: &Ink<'_>)
-    requires ready { AreReady frame.old (pos line) 1 }
-    ensures painted { frame.new.page ≡ painted frame.old.page
-        (strip_mark Portrait frame.old.page.width frame.old.page.height left line
-        (row source.entry).dots 1 (row_dot (row source.entry).bits) ink.now.tile ink.now.mode) }
-    ensures ready { frame.new.ready ≡ frame.old.ready }
-{
-    let pattern = tile_line(&ink.tile, line);
-    frame.paint_row(i64::from(left), i64::from(line), source, pattern, ink.mode);
-}
+use press_pattern::Ink;
+use std::alloc::AllocError;
 
 /// Paints a strip of the frame, whose lines have these source dots.
 fn paint_lines(frame: &mut Bands, corner: Dot, lines: usize, source: DotRow<'_>, ink: &Ink<'_>)
@@ -58,7 +25,9 @@ fn paint_lines(frame: &mut Bands, corner: Dot, lines: usize, source: DotRow<'_>,
 {
     let lines = cut_length(corner.y, lines, frame.height());
     for line in 0..lines {
-        paint_line(frame, corner.x, corner.y + line, source, ink);
+        let y = corner.y + line;
+        let pattern = ink.tile.line(y);
+        frame.paint_row(i64::from(corner.x), i64::from(y), source, pattern, ink.mode);
     }
 }
 
@@ -89,7 +58,7 @@ impl Across {
     }
 
     /// How many bytes of room the dots of a row take that are widened before they are painted.
-    fn room_for(self) -> usize
+    pub(crate) fn room_for(self) -> usize
         ensures { result ≡ room_for self }
     {
         if self.size == 1 {
@@ -97,16 +66,6 @@ impl Across {
         } else {
             self.columns as usize / 8 + 8
         }
-    }
-
-    /// Whether rows from a line of the frame on lie beside it.
-    fn misses(self, frame: &Bands, line: u32) -> bool
-        ensures missed { result ≡ true → (self.columns ≡ 0) ⊎ (frame.now.page.height ≤ line) }
-        ensures met { result ≡ false → 1 ≤ self.columns }
-        ensures inside { HasNoDotOutside frame.now.page }
-    {
-        let height = frame.height();
-        self.columns == 0 || height <= line
     }
 
     /// Whether a row from a line of the frame on marks nothing: it lies beside the frame, or is white and transparent.
@@ -118,7 +77,10 @@ impl Across {
             frame.now.page) }
         ensures met { result ≡ false → 1 ≤ self.columns }
     {
-        if self.misses(frame, line) {
+        if frame.height() <= line {
+            return true;
+        }
+        if self.columns == 0 {
             return true;
         }
         !ink.mode.source_opaque && source.is_white()
@@ -152,32 +114,6 @@ pub(crate) fn make_room(bytes: &mut Vec<u8>, count: usize) -> Result<(), AllocEr
     Ok(())
 }
 
-/// Room for the dots of rows along a line of the frame, where they are widened before they are painted.
-#[derive(Drop)]
-pub(crate) struct Scratch {
-    dots: Vec<u8>,
-}
-
-impl Scratch {
-    /// No room yet.
-    pub(crate) fn new(alloc: Global) -> Self {
-        Scratch {
-            dots: Vec::new(alloc),
-        }
-    }
-
-    /// Makes room for rows that lie so across the frame.
-    ///
-    /// # Errors
-    ///
-    /// Where memory ran out.
-    pub(crate) fn fit(&mut self, across: Across) -> Result<(), AllocError>
-        ensures { OnOk result (HasRoom across self.new) }
-    {
-        make_room(&mut self.dots, across.room_for())
-    }
-}
-
 /// Paints a raster row that crosses the frame from a line on, each of its dots so many dots wide and high. Dots outside the frame
 /// are dropped. Takes no memory.
 fn paint_wide(
@@ -186,19 +122,19 @@ fn paint_wide(
     line: u32,
     source: DotRow<'_>,
     ink: &Ink<'_>,
-    scratch: &mut Scratch,
+    scratch: &mut Vec<u8>,
 )
     requires some { 1 ≤ across.columns }
     requires size { IsDotSize across.size }
     requires columns { across.columns
         ≡ covered_columns frame.old.page.width across.left across.size source.dots }
     requires ready { AcrossReady across frame.old line across.size }
-    requires room { HasRoom across scratch.old }
+    requires room { HasRoom across scratch.old.items }
     ensures painted { frame.new.page ≡ painted frame.old.page
         (row_on_frame (record { x = across.left; y = line }) across.size
         (row source.entry) ink.now frame.old.page) }
     ensures ready { frame.new.ready ≡ frame.old.ready }
-    ensures room { HasRoom across scratch.new }
+    ensures room { HasRoom across scratch.new.items }
 {
     let dots = across.columns as usize;
     let corner = Dot {
@@ -211,8 +147,8 @@ fn paint_wide(
         paint_lines(frame, corner, size, DotRow { bits, dots }, ink);
         return;
     }
-    widen(source, size, &mut scratch.dots);
-    let bits = &scratch.dots;
+    widen(source, size, scratch);
+    let bits = &*scratch;
     paint_lines(frame, corner, size, DotRow { bits, dots }, ink);
 }
 
@@ -228,12 +164,12 @@ pub(crate) fn paint_across(
     line: u32,
     source: DotRow<'_>,
     ink: &Ink<'_>,
-    scratch: &mut Scratch,
+    scratch: &mut Vec<u8>,
 ) -> Result<bool, AllocError>
     requires size { IsDotSize across.size }
     requires columns { across.columns
         ≡ covered_columns frame.old.page.width across.left across.size source.dots }
-    requires room { HasRoom across scratch.old }
+    requires room { HasRoom across scratch.old.items }
     ensures painted { OnOk result (frame.new.page ≡ painted frame.old.page
         (row_on_frame (record { x = across.left; y = line }) across.size
         (row source.entry) ink.now frame.old.page)) }
@@ -242,7 +178,7 @@ pub(crate) fn paint_across(
     ensures takes_none { AcrossReady across frame.old line across.size → IsOk result }
     ensures ready { AcrossReady across frame.old line across.size
         → frame.new.ready ≡ frame.old.ready }
-    ensures room { HasRoom across scratch.new }
+    ensures room { HasRoom across scratch.new.items }
 {
     if across.marks_nothing(frame, line, source, ink) {
         return Ok(false);

@@ -1,9 +1,10 @@
-use Rattle.std.proofs.Common.{◌≡◌, ◌∙◌, ◌-◌, ◌*◌, ◌<◌, ℕ, Bool, true, false, refl, ap, subst, sym, rules, arith}
+use Rattle.std.proofs.Common.{◌≡◌, ◌∙◌, ◌-◌, ◌*◌, ◌<◌, ℕ, true, false, refl, ap, subst, sym, rules, arith}
 use Rattle.press_bits.specs.Mark.{row_dot}
 use Rattle.press_bits.specs.Page.{Page}
 use Rattle.press_bits.proofs.BandLemmas.{after_ok}
 use Rattle.press_canvas.specs.Strip.{place_at}
 use Rattle.press_canvas.specs.Turned.{with_line}
+use Rattle.press_canvas.proofs.ColumnLemmas.{place_within}
 use Rattle.press_canvas.proofs.LineLemmas.{row_dot-front, white_line, with_line_alike}
 use Rattle.press_canvas.proofs.lines.put_row.Goals as goal
 
@@ -15,11 +16,6 @@ returns-then-not-back-clause-put c =
     after_ok {P = c.put_line.new.page ≡ with_line page c.args.y (row_dot bits)} {Q = c.put_line.new.page ≡ with_line page c.args.y (λ x. row_dot bits (place_at c.args.back page.width x))} c.put_line.result
     (λ is. is ∙ with_line_alike page c.args.y (row_dot bits) (λ x. row_dot bits (place_at c.args.back page.width x)) (λ x _. ap (λ b. row_dot bits (place_at b page.width x)) (sym forward)))
     c.put_line.ensures
-
--- a place from either end is one of as many
-place_within : (back : Bool) (places place : ℕ) → place < places → place_at back places place < places
-place_within false places place within = within
-place_within true places place within = omega (arith, within)
 
 pub returns-then-is_white-clause-put : goal.returns-then-is_white-clause-put
 returns-then-is_white-clause-put c =

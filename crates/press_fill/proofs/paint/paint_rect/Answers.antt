@@ -17,7 +17,7 @@ pub paint_line-requires-clause-ready : goal.paint_line-requires-clause-ready
 paint_line-requires-clause-ready c =
     elim c.requires.ready [
       | inl white ↦ inl (λ i.
-          (λ k. repeated (record { bits = c.row.ensures.row k; dots = width k }) i)
+          (λ k. repeated (c.line.ensures.row k) i)
           ∙ repeated-tile_row c.args.tile.now i (c.args.rect.y + c.loop-line.line)
           ∙ white i (c.args.rect.y + c.loop-line.line))
       | inr ready ↦ inr (ready_within c.args.page.now c.loop-line.page (pos c.args.rect.y) (pos (c.args.rect.y + c.loop-line.line)) c.args.rect.height 1 c.loop-line.invariant.1
@@ -25,9 +25,6 @@ paint_line-requires-clause-ready c =
           (from c.args.rect.y c.loop-line.line) (before c.args.rect.y c.loop-line.line c.args.rect.height (omega arith)) ready)
     ]
   where
-    width : c.from.result ≡ c.args.tile.now.width
-    width = omega arith
-
     from : (y line : ℕ) → int_le (pos y) (pos (y + line)) ≡ true
     from y line = grind (arith, ints)
 
@@ -46,13 +43,10 @@ paint_line-requires-clause-line c =
 
 pub paint_line-requires-clause-solid : goal.paint_line-requires-clause-solid
 paint_line-requires-clause-solid c = λ solid i.
-    (λ k. repeated (record { bits = c.row.ensures.row k; dots = width k }) i)
+    (λ k. repeated (c.line.ensures.row k) i)
     ∙ repeated-tile_row c.args.tile.now i (c.args.rect.y + c.loop-line.line)
     ∙ ap (λ (tile : Tiling). tile_dot tile i (c.args.rect.y + c.loop-line.line)) (c.is_solid_black-solid.ensures solid)
     ∙ tile_dot-solid_black i (c.args.rect.y + c.loop-line.line)
-  where
-    width : c.from.result ≡ c.args.tile.now.width
-    width = omega arith
 
 pub loop-line-preserved : goal.loop-line-preserved
 loop-line-preserved c =
@@ -64,13 +58,10 @@ loop-line-preserved c =
     let black : Row = record { bits = replicate 2048 255; dots = columns } in
     let pattern : Row = record { bits = tile_row tile (y + line); dots = tile.width } in (
       c.paint_line.ensures.painted
-          ∙ (λ i. painted (c.loop-line.invariant.0 i) (row_mark (pos x) (pos (y + line)) black (record { bits = c.row.ensures.row i; dots = pattern_width i }) c.args.mode))
+          ∙ (λ i. painted (c.loop-line.invariant.0 i) (row_mark (pos x) (pos (y + line)) black (c.line.ensures.row i) c.args.mode))
           ∙ painted_box_row c.args.page.now.page x y line black pattern (tile_dot tile) c.args.mode (IsAllBlack-replicate 2048 columns (omega arith)) (λ column _ _. repeated-tile_row tile column (y + line)),
       c.paint_line.ensures.ready ∙ c.loop-line.invariant.1,
     )
-  where
-    pattern_width : c.from.result ≡ c.args.tile.now.width
-    pattern_width = omega arith
 
 pub returns : goal.returns
 returns c =

@@ -51,7 +51,7 @@ returns-clause-painted c =
     let source : Row = row c.args.source in
     let columns = across.columns in
     let bits = c.widen.new.out in
-    let read = c.deref.ensures.value ∙ with_items_is c.args.scratch.now.dots bits (c.widen.auto.out ∙ c.deref_mut.ensures.len) in
+    let read = c.deref.ensures.value ∙ with_items_is c.args.scratch.now bits (c.widen.auto.out ∙ c.deref_mut.ensures.len) in
     let long : length c.deref_mut.result.now ≡ columns / 8 + 8 = ap length c.deref_mut.ensures.value ∙ room_is _ columns across.size c.if-size-eq1.false c.requires.room.dots in
     c.paint_lines-2.ensures.painted
     ∙ (λ i. painted frame (strip_mark Portrait frame.width frame.height across.left c.args.line columns across.size (row_dot (read i)) c.args.ink.now.tile c.args.ink.now.mode))

@@ -6,7 +6,7 @@ use Rattle.press_raster.proofs.drawing.Drawing.begin.Goals as goal
 pub returns-clause-seed : goal.returns-clause-seed
 unfolding raster_row
 returns-clause-seed c =
-    let long : length c.deref_mut.result.now ≡ c.bytes_for-width.result = ap length c.deref_mut.ensures.value ∙ c.in_ok-make_room-2.ensures in
+    let long : length c.deref_mut.result.now ≡ c.line_bytes-width.result = ap length c.deref_mut.ensures.value ∙ c.in_ok-make_room-2.ensures in
     with_items_is c.make_room-2.new.bytes c.decode.new.out (c.decode.auto.out ∙ c.deref_mut.ensures.len)
     ∙ c.decode.ensures.row
-    ∙ ap (λ n. fitted n c.args.seed.now) (long ∙ c.bytes_for-width.ensures.bytes)
+    ∙ ap (λ n. fitted n c.args.seed.now) (long ∙ c.line_bytes-width.ensures)

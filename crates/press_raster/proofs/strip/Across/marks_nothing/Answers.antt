@@ -1,19 +1,25 @@
-use Rattle.std.proofs.Common.{◌*◌, ◌/◌}
+use Rattle.std.proofs.Common.{◌*◌, ◌/◌, inl, inr, arith}
 use Rattle.press_bits.specs.Mark.{Row, row, row_dot}
 use Rattle.press_page.specs.declared.media.Orientation.TheVariants.{Portrait}
 use Rattle.press_raster.proofs.AcrossLemmas.{painted_beside}
 use Rattle.press_raster.proofs.StripLemmas.{painted_strip_white}
 use Rattle.press_raster.proofs.strip.Across.marks_nothing.Goals as goal
 
-pub returns-then-misses-clause-unmarked : goal.returns-then-misses-clause-unmarked
-returns-then-misses-clause-unmarked c =
+pub returns-then-height-line-clause-unmarked : goal.returns-then-height-line-clause-unmarked
+returns-then-height-line-clause-unmarked c =
     let across = c.args.self in
     λ _. painted_beside c.args.frame.now.page (record { x = across.left; y = c.args.line }) across.size across.columns (row c.args.source) c.args.ink.now
-    c.misses.ensures.inside c.requires.columns (c.misses.ensures.missed c.if-misses.true)
+    c.height.ensures.inside c.requires.columns (inr (omega (arith, c.height.ensures.height, c.if-height-line.true)))
+
+pub returns-then-self-eq0-clause-unmarked : goal.returns-then-self-eq0-clause-unmarked
+returns-then-self-eq0-clause-unmarked c =
+    let across = c.args.self in
+    λ _. painted_beside c.args.frame.now.page (record { x = across.left; y = c.args.line }) across.size across.columns (row c.args.source) c.args.ink.now
+    c.height.ensures.inside c.requires.columns (inl c.if-self-eq0.true)
 
 pub returns-then-not-ink-clause-unmarked : goal.returns-then-not-ink-clause-unmarked
 returns-then-not-ink-clause-unmarked c =
     let source : Row = row c.args.source in
     let across = c.args.self in
     λ white. painted_strip_white Portrait c.args.frame.now.page across.left c.args.line (across.size * source.dots) across.size (λ i. row_dot source.bits (i / across.size)) c.args.ink.now.tile c.args.ink.now.mode
-    c.misses.ensures.inside c.if-not-ink.true (λ i. c.is_white.ensures white (i / across.size))
+    c.height.ensures.inside c.if-not-ink.true (λ i. c.is_white.ensures white (i / across.size))
