@@ -454,18 +454,28 @@ pub chosen_dot : (test : Bool) (word j step : ℕ) (a b : Bool) → a ≡ (if te
 chosen_dot true word j step a b is = is
 chosen_dot false word j step a b is = refl
 
--- A word after the steps down to stretches of so many: these stand in the other order, each as it was.
-abbrev pub IsMirroredDown : (size old word : ℕ) → Type 0
-IsMirroredDown size old word = (j : ℕ) → j < 64 → word_dot word j ≡ word_dot old ((63 - j) / size * size + j % size)
+-- A word after the steps up to stretches of so many: each of these is read backwards.
+abbrev pub IsMirrored : (size old word : ℕ) → Type 0
+IsMirrored size old word = (j : ℕ) → j < 64 → word_dot word j ≡ word_dot old (j / size * size + (size - 1 - j % size))
 
 abbrev pub Swaps : (step word new : ℕ) → Type 0
 Swaps step word new = (j : ℕ) → j < 64 → word_dot new j ≡ word_dot word (swapped_place step j)
 
 mirrored : (step size old word new : ℕ) → ((j : ℕ) → j < 64 → swapped_place step j < 64) →
-    ((j : ℕ) → j < 64 → (63 - swapped_place step j) / size * size + swapped_place step j % size ≡ (63 - j) / step * step + j % step) →
-    IsMirroredDown size old word → Swaps step word new → IsMirroredDown step old new
+    ((j : ℕ) → j < 64 → swapped_place step j / step * step + (step - 1 - swapped_place step j % step) ≡ j / size * size + (size - 1 - j % size)) →
+    IsMirrored step old word → Swaps step word new → IsMirrored size old new
 mirrored step size old word new small place before swaps j low =
     swaps j low ∙ before (swapped_place step j) (small j low) ∙ ap (word_dot old) (place j low)
+
+pub mirrored_2 : (old new : ℕ) → Swaps 1 old new → IsMirrored 2 old new
+mirrored_2 old new =
+    mirrored 1 2 old old new (λ j low. grind (arith, nat_tests)) (λ j low. grind (arith, nat_tests)) (λ j low. ap (word_dot old) (omega arith))
+
+pub mirrored_4 : (old word new : ℕ) → IsMirrored 2 old word → Swaps 2 word new → IsMirrored 4 old new
+mirrored_4 old word new = mirrored 2 4 old word new (λ j low. grind (arith, nat_tests)) (λ j low. grind (arith, nat_tests))
+
+pub mirrored_8 : (old word new : ℕ) → IsMirrored 4 old word → Swaps 4 word new → IsMirrored 8 old new
+mirrored_8 old word new = mirrored 4 8 old word new (λ j low. grind (arith, nat_tests)) (λ j low. grind (arith, nat_tests))
 
 -- the bytes of a word in the other order
 other_byte : (n i : ℕ) → i < 8 → get_or (to_le_bytes w64 n) i 0 ≡ get_or (to_be_bytes w64 n) (7 - i) 0
@@ -490,28 +500,20 @@ small_byte n (suc (suc (suc (suc (suc (suc zero)))))) = omega arith
 small_byte n (suc (suc (suc (suc (suc (suc (suc zero))))))) = omega arith
 small_byte n (suc (suc (suc (suc (suc (suc (suc (suc i)))))))) = omega arith
 
-pub mirrored_8 : (old : ℕ) → IsMirroredDown 8 old (swap_bytes w64 old)
-mirrored_8 old j low =
-    let bytes : List ℕ = to_le_bytes w64 old in
+swapped_bytes : (word j : ℕ) → j < 64 → word_dot (swap_bytes w64 word) j ≡ word_dot word ((63 - j) / 8 * 8 + j % 8)
+swapped_bytes word j low =
+    let bytes : List ℕ = to_le_bytes w64 word in
     let whole : 8 * 0 + j ≡ j = omega arith in
     let place : 8 * (7 - j / 8) + j % 8 ≡ (63 - j) / 8 * 8 + j % 8 = omega (arith, low) in
-    word_dots bytes 0 (swap_bytes w64 old) j (small_byte old) refl low
+    word_dots bytes 0 (swap_bytes w64 word) j (small_byte word) refl low
     ∙ ap (row_dot bytes) whole
     ∙ sym (row_dot-of_byte bytes (j / 8) j refl)
-    ∙ ap (λ b. byte_dot b (j % 8)) (other_byte old (j / 8) (omega (arith, low)))
-    ∙ byte_dot-to_be_bytes old (7 - j / 8) (j % 8) (omega arith) (omega arith)
-    ∙ ap (word_dot old) place
+    ∙ ap (λ b. byte_dot b (j % 8)) (other_byte word (j / 8) (omega (arith, low)))
+    ∙ byte_dot-to_be_bytes word (7 - j / 8) (j % 8) (omega arith) (omega arith)
+    ∙ ap (word_dot word) place
 
-pub mirrored_4 : (old word new : ℕ) → IsMirroredDown 8 old word → Swaps 4 word new → IsMirroredDown 4 old new
-mirrored_4 old word new = mirrored 4 8 old word new (λ j low. grind (arith, nat_tests)) (λ j low. grind (arith, nat_tests))
-
-pub mirrored_2 : (old word new : ℕ) → IsMirroredDown 4 old word → Swaps 2 word new → IsMirroredDown 2 old new
-mirrored_2 old word new = mirrored 2 4 old word new (λ j low. grind (arith, nat_tests)) (λ j low. grind (arith, nat_tests))
-
-pub mirrored_1 : (old word new : ℕ) → IsMirroredDown 2 old word → Swaps 1 word new → IsMirroredDown 1 old new
-mirrored_1 old word new = mirrored 1 2 old word new (λ j low. grind (arith, nat_tests)) (λ j low. grind (arith, nat_tests))
-
-pub mirrored_whole : (old word : ℕ) → IsMirroredDown 1 old word → (j : ℕ) → j < 64 → word_dot word j ≡ word_dot old (63 - j)
-mirrored_whole old word down j low =
-    let place : (63 - j) / 1 * 1 + j % 1 ≡ 63 - j = omega arith in
-    down j low ∙ ap (word_dot old) place
+pub mirrored_whole : (old word : ℕ) → IsMirrored 8 old word → (j : ℕ) → j < 64 → word_dot (swap_bytes w64 word) j ≡ word_dot old (63 - j)
+mirrored_whole old word bytes j low =
+    let at : ℕ = (63 - j) / 8 * 8 + j % 8 in
+    let place : at / 8 * 8 + (8 - 1 - at % 8) ≡ 63 - j = omega (arith, low) in
+    swapped_bytes word j low ∙ bytes at (omega (arith, low)) ∙ ap (word_dot old) place

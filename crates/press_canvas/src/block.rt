@@ -38,9 +38,9 @@ fn swapped(word: u64, step: usize, fronts: u64) -> u64
 pub(crate) fn reversed(word: u64) -> u64
     ensures { (j : ℕ) → j < 64 → word_dot result j ≡ word_dot word (63 - j) }
 {
-    let fours = swapped(word.swap_bytes(), 4, 0xF0F0_F0F0_F0F0_F0F0);
-    let pairs = swapped(fours, 2, 0xCCCC_CCCC_CCCC_CCCC);
-    swapped(pairs, 1, 0xAAAA_AAAA_AAAA_AAAA)
+    let pairs = swapped(word, 1, 0xAAAA_AAAA_AAAA_AAAA);
+    let fours = swapped(pairs, 2, 0xCCCC_CCCC_CCCC_CCCC);
+    swapped(fours, 4, 0xF0F0_F0F0_F0F0_F0F0).swap_bytes()
 }
 
 /// Exchanges the two squares of so many lines and dots that stand beside the diagonal, in each square of twice as many.
