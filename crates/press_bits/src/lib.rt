@@ -8,6 +8,7 @@ mod changes;
 mod comparing;
 mod dot_bytes;
 mod dot_row;
+mod fault;
 pub mod laws;
 mod making;
 mod mode;
@@ -19,8 +20,9 @@ mod word;
 
 pub use band::white_bytes;
 pub use bands::{BAND_LINES, Bands, MAX_SIDE, WIDEST_ROW};
-pub use bitmap::{Bitmap, BlankError};
+pub use bitmap::Bitmap;
 pub use dot_row::DotRow;
+pub use fault::BlankError;
 pub use mode::Mode;
 pub use region::Region;
 pub use word::{put_word, word_at, word_from};
