@@ -6,7 +6,7 @@ use Rattle.press_stream.proofs.Going.{Goes-then, can_count-then}
 use Rattle.press_stream.proofs.RunLemmas.{RunsReader-drain, RunsReader-finish, RunsReader-feed}
 use Rattle.press_stream.proofs.Carries.{same_fault}
 use Rattle.press_stream.proofs.Faults.{Faults-now, no_read_fault, no_read_fault-fed}
-use Rattle.press_stream.proofs.job.Job.run_counted.Goals as goal
+use Rattle.press_stream.proofs.job.Job.read_through.Goals as goal
 
 pub returns-in_err-drain-clause-runs : goal.returns-in_err-drain-clause-runs
 returns-in_err-drain-clause-runs g c =
