@@ -1,5 +1,5 @@
 -- The entries that run are aborted: on one engine after another, and all at once.
-use Rattle.std.proofs.Common.{◌≡◌, ◌≤◌, ◌+◌, ◌&&◌, ◌||◌, ℕ, suc, nat_eq, nat_le, cond, if◌then◌else◌, Bool, true, false, IsTrue, List, [], ◌∷◌, filter, length, map, Option, Some, None, option_map, is_some, refl, sym, ap, subst, ◌∙◌, arith, rules, true≢false}
+use Rattle.std.proofs.Common.{◌≡◌, ◌≤◌, ◌&&◌, ◌||◌, ℕ, suc, nat_eq, nat_le, cond, if◌then◌else◌, Bool, true, false, IsTrue, List, [], ◌∷◌, filter, length, map, Option, Some, None, option_map, is_some, refl, sym, ap, subst, ◌∙◌, arith, true≢false}
 use Rattle.std.specs.List.{AllByRecursion, IsDistinct}
 use Rattle.std.specs.Map.{keys_of, lookup, set_value}
 use Rattle.std.proofs.lemmas.Bool.{eqb-true}
