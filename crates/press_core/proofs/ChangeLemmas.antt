@@ -11,7 +11,6 @@ use Rattle.press_queue.specs.declared.command.EntryCommand.{EntryCommand}
 use Rattle.press_queue.specs.declared.command.EntryCommand.TheVariants as commands
 use Rattle.press_queue.specs.declared.entry.Entry.{Entry}
 use Rattle.press_queue.specs.declared.refusal.Refusal.{Refusal}
-use Rattle.press_queue.specs.declared.status.End.TheVariants.{Aborted}
 use Rattle.press_queue.specs.declared.status.Status.{Status}
 use Rattle.press_queue.specs.declared.status.Status.TheVariants as statuses
 use Rattle.press_queue.specs.Entries.{entry_numbered, place_of, put, with_entry, without_entry}
@@ -221,21 +220,6 @@ ends-changes submits queue works number entry whole there is_open n =
     let it = ends queue works number entry whole there in
     one-changes submits queue (rows.set_status number statuses.Aborted entry queue) works (works_without_job number works) number entry (aborted_entry entry) it.work (without_job it.work) [] 0 false
     it.stood it.entry_set it.work_set n (λ _. Aborts entry it.work is_open refl refl idle) (λ _. idle)
-
--- an entry that is aborted by an operator, if it is there
-pub finish-changes : (number : ℕ) (queue : QueueState) (works : List (ℕ × Work)) (entry : Entry) → IsWhole queue works → entry_numbered number queue.entries ≡ Some entry → IsOpen entry
-    → (n : ℕ) → Change None (standing n queue works) (standing n (rows.finish_entry number Aborted queue) (works_without_job number works)) [] 0 false
-finish-changes number queue works entry whole there is_open n =
-    subst (λ (q : QueueState). Change None (standing n queue works) (standing n q (works_without_job number works)) [] 0 false)
-    (sym (ap (λ o. rows.finish_entry_at o number Aborted queue) there)) (ends-changes None queue works number entry whole there is_open n)
-
--- the others stand as before
-pub finish-apart : (number : ℕ) (queue : QueueState) (works : List (ℕ × Work)) (entry : Entry) → IsWhole queue works → entry_numbered number queue.entries ≡ Some entry
-    → (n : ℕ) → nat_eq number n ≡ false → standing n (rows.finish_entry number Aborted queue) (works_without_job number works) ≡ standing n queue works
-finish-apart number queue works entry whole there n apart =
-    let it = ends queue works number entry whole there in
-    ap (λ (q : QueueState). standing n q (works_without_job number works)) (ap (λ o. rows.finish_entry_at o number Aborted queue) there)
-    ∙ stands-apart queue (rows.set_status number statuses.Aborted entry queue) works (works_without_job number works) number (aborted_entry entry) (without_job it.work) it.entry_set it.work_set n apart
 
 pub abort-changes : (submits : Option (JobTicket × List Page)) (number : ℕ) (queue new : QueueState) (works : List (ℕ × Work)) → IsWhole queue works → rows.abort number queue ≡ (new, Ok tt)
     → (n : ℕ) → Change submits (standing n queue works) (standing n new (works_without_job number works)) [] 0 false

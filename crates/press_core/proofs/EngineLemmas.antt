@@ -1,5 +1,5 @@
 -- On which engines a number stands, after changes of the engines and of the queue.
-use Rattle.std.proofs.Common.{◌≡◌, ◌≤◌, ◌<◌, ◌+◌, ℕ, zero, suc, nat_eq, cond, if◌then◌else◌, Bool, true, false, List, [], ◌∷◌, ◌++◌, length, filter, drop, get_or, take, replicate, slice_get, slice_set, Option, Some, None, unwrap_or, is_some, refl, sym, ap, subst, ◌∙◌, add-one, arith, rules, true≢false}
+use Rattle.std.proofs.Common.{◌≡◌, ◌≤◌, ◌<◌, ◌+◌, ◌||◌, ℕ, zero, suc, nat_eq, cond, if◌then◌else◌, Bool, true, false, List, [], ◌∷◌, ◌++◌, length, filter, drop, get_or, take, replicate, slice_get, slice_set, Option, Some, None, unwrap_or, is_some, refl, sym, ap, subst, ◌∙◌, add-one, arith, rules, true≢false}
 use Rattle.std.specs.List.{AllByRecursion, IsDistinct}
 use Rattle.std.specs.Map.{keys_of}
 use Rattle.std.specs.Option.{option_map_or}
@@ -112,7 +112,7 @@ count-replicate : (n k : ℕ) → count_on n (replicate k None) ≡ 0
 count-replicate n zero = refl
 count-replicate n (suc k) = omega (arith, count-cons n None (replicate k None), count-replicate n k)
 
-length-none : (k : ℕ) → length {A = Option ℕ} (replicate k None) ≡ k
+pub length-none : (k : ℕ) → length {A = Option ℕ} (replicate k None) ≡ k
 length-none zero = refl
 length-none (suc k) = ap (λ n. suc n) (length-none k)
 
@@ -129,7 +129,7 @@ take-slice_set (suc k) i [] x = refl
 take-slice_set (suc k) zero (e ∷ es) x = refl
 take-slice_set (suc k) (suc i) (e ∷ es) x = ap (λ l. e ∷ l) (take-slice_set k i es x)
 
-length-slice_set : (i : ℕ) (es : List (Option ℕ)) (x : Option ℕ) → length (slice_set es i x) ≡ length es
+pub length-slice_set : (i : ℕ) (es : List (Option ℕ)) (x : Option ℕ) → length (slice_set es i x) ≡ length es
 length-slice_set i [] x = refl
 length-slice_set zero (e ∷ es) x = refl
 length-slice_set (suc i) (e ∷ es) x = ap (λ n. suc n) (length-slice_set i es x)
@@ -261,40 +261,34 @@ once-on_engine number queue es on = at (entry_runs number queue) (on.each number
     at true is = omega (arith, is)
     at false is = omega (arith, is)
 
--- ---- the first of some engines, where each number that stands on them runs, and stands once
+-- whether a number stands on an engine
+abbrev pub is_on : (number : ℕ) → List (Option ℕ) → Bool
+is_on number [] = false
+is_on number (e ∷ es) = is_number number e || is_on number es
 
--- its number runs
-pub first-runs : (number : ℕ) (es : List (Option ℕ)) (runs : Bool) → count_on number (Some number ∷ es) ≤ one runs → runs ≡ true
-first-runs number es true on = refl
-first-runs number es false on =
-    let own : one (nat_eq number number) ≡ 1 = ap one (itself number) in
-    absurd (omega (arith, count-cons number (Some number) es, own, on))
-
--- and stands on none of the others
-pub own-once : (number n : ℕ) (es : List (Option ℕ)) → nat_eq number n ≡ true → (runs : Bool) → count_on n (Some number ∷ es) ≤ one runs → count_on n es ≡ 0
-own-once number n es same runs on = at runs on
+none-on : (n : ℕ) (es : List (Option ℕ)) → count_on n es ≡ 0 → is_on n es ≡ false
+none-on n [] none = refl
+none-on n (e ∷ es) none = at (is_number n e) refl (none-on n es)
   where
-    at : (runs : Bool) → count_on n (Some number ∷ es) ≤ one runs → count_on n es ≡ 0
-    at true on = omega (arith, count-cons n (Some number) es, ap one same, on)
-    at false on = omega (arith, count-cons n (Some number) es, ap one same, on)
+    at : (b : Bool) → is_number n e ≡ b → (count_on n es ≡ 0 → is_on n es ≡ false) → is_number n e || is_on n es ≡ false
+    at true is below = absurd (omega (arith, count-cons n e es, ap one is, none))
+    at false is below = ap (λ b. b || is_on n es) is ∙ below (omega (arith, count-cons n e es, none))
 
--- without it, so it is of the others
-pub others-run : (number n : ℕ) (es : List (Option ℕ)) (was is : Bool) → is ≡ (if nat_eq number n then false else was) → count_on n (Some number ∷ es) ≤ one was → count_on n es ≤ one is
-others-run number n es was is but on = at (nat_eq number n) refl
+some-on : (n : ℕ) (es : List (Option ℕ)) → count_on n es ≡ 1 → is_on n es ≡ true
+some-on n [] some = absurd (omega (arith, some))
+some-on n (e ∷ es) some = at (is_number n e) refl (some-on n es)
   where
-    at : (b : Bool) → nat_eq number n ≡ b → count_on n es ≤ one is
-    at true same = omega (arith, own-once number n es same was on)
-    at false apart =
-        let now : one is ≡ one was = ap one (but ∙ ap (λ b. if b then false else was) apart) in
-        omega (arith, count-cons n (Some number) es, on, now)
+    at : (b : Bool) → is_number n e ≡ b → (count_on n es ≡ 1 → is_on n es ≡ true) → is_number n e || is_on n es ≡ true
+    at true is below = ap (λ b. b || is_on n es) is
+    at false is below = ap (λ b. b || is_on n es) is ∙ below (omega (arith, count-cons n e es, ap one is, some))
 
--- a number on none of them is another, and on none of the others
-pub absent-apart : (number n : ℕ) (es : List (Option ℕ)) → count_on n (Some number ∷ es) ≡ 0 → (nat_eq number n ≡ false) × (count_on n es ≡ 0)
-absent-apart number n es none = (at (nat_eq number n) refl, omega (arith, count-cons n (Some number) es, none))
+-- those that stand on engines are those that run
+pub on-runs : (queue : QueueState) (es : List (Option ℕ)) → RunsOnEngines queue es → (n : ℕ) → is_on n es ≡ entry_runs n queue
+on-runs queue es on n = at (entry_runs n queue) (on.each n)
   where
-    at : (b : Bool) → nat_eq number n ≡ b → nat_eq number n ≡ false
-    at true same = absurd (omega (arith, count-cons n (Some number) es, ap one same, none))
-    at false apart = apart
+    at : (b : Bool) → count_on n es ≡ one b → is_on n es ≡ b
+    at true is = some-on n es is
+    at false is = none-on n es is
 
 -- ---- as many run as there are engines, at most
 

@@ -1,6 +1,8 @@
+mod AbortLemmas
 mod AccountLemmas
 mod AnswerLemmas
 mod ChangeLemmas
+mod CountLemmas
 mod DeviceLemmas
 mod EngineLemmas
 mod EntryLemmas

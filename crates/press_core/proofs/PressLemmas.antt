@@ -6,10 +6,10 @@ use Rattle.press_queue.specs.declared.status.End.{End}
 use Rattle.press_queue.specs.Rows as rows
 use Rattle.press_queue.specs.State.{QueueState, empty_queue}
 use Rattle.press_core.specs.Engines.{RunsOnEngines, are_engines, left_by}
-use Rattle.press_core.specs.Events.{aborted_on, all_aborted}
-use Rattle.press_core.specs.Inside.{IsPress, begun_works}
+use Rattle.press_core.specs.Inside.{IsPress, aborted_on, begun_works}
 use Rattle.press_core.specs.Work.{Work}
 use Rattle.press_core.specs.World.{World, on_engine, works_without_job}
+use Rattle.press_core.proofs.AbortLemmas.{all_aborted}
 use Rattle.press_core.proofs.EngineLemmas.{RunsAsBefore, length-left_by, on_engines-kept, on_engines-left, on_engines-new, on_engines-taken, runs-on_engine, slot}
 use Rattle.press_core.proofs.RunsLemmas.{begun-but, finish-but}
 use Rattle.press_core.proofs.SoundLemmas.{IsSound-ended, IsSound-finished, Keeps}

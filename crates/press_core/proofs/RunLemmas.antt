@@ -21,6 +21,7 @@ use Rattle.press_core.specs.Turns.{IsJobOf, sheets_from}
 use Rattle.press_core.specs.Work.{new_work}
 use Rattle.press_core.specs.World.{World, is_listed, new_world}
 use Rattle.press_core.proofs.AccountLemmas.{Account, EnteredBy, IsKnown, account-listed, account-never, account-work, account-next, account-seen, found_now, given_as, is_given, seen_now-is}
+use Rattle.press_core.proofs.CountLemmas.{run-many}
 use Rattle.press_core.proofs.EngineLemmas.{on_engines-new, running-bound}
 use Rattle.press_core.proofs.HandedLemmas.{handed-append}
 use Rattle.press_core.proofs.JobLemmas.{IsJobOf-one, IsJobOf-some}
@@ -59,7 +60,7 @@ event-does law old (TurnOn engine most) (Turned result) handed next whole happen
     let becomes = turn-becomes law old engine most result handed next whole happens in
     record { queue = becomes.queue; on_engines = becomes.on_engines; each = becomes.each }
 event-does law old (Operator command) Nothing handed next whole happens =
-    let becomes = operator-becomes law command old whole in
+    let becomes = operator-becomes command old whole in
     record {
       queue = subst (λ (w : World). IsQueue w.queue) (sym happens.1) becomes.queue;
       on_engines = subst (λ (w : World). RunsOnEngines w.queue w.engines) (sym happens.1) becomes.on_engines;
@@ -263,6 +264,7 @@ whole-last law happenings last run = run-whole law (new_world run.engines) happe
 pub entries-are-bounded : EachRowKeepsTheQueue → EntriesAreBounded
 entries-are-bounded law = record {
   on_engines = λ happenings last run. (whole-last law happenings last run).on_engines;
+  count = run-many;
   running = λ happenings last run.
       let whole = whole-last law happenings last run in
       running-bound last.queue last.engines whole.numbers.queue_is.distinct whole.on_engines;

@@ -1,5 +1,5 @@
 -- What a turn, or a command of an operator, makes of the queue and of each number.
-use Rattle.std.proofs.Common.{◌≡◌, ◌≤◌, ◌<◌, ◌+◌, ◌-◌, ◌==◌, ◌&&◌, ℕ, nat_le, nat_eq, if◌then◌else◌, Bool, true, false, MatchBool, List, [], ◌∷◌, length, slice_set, Option, Some, None, Result, Ok, Err, is_some, refl, sym, ap, subst, ◌∙◌, arith, rules, true≢false}
+use Rattle.std.proofs.Common.{◌≡◌, ◌≤◌, ◌<◌, ◌+◌, ◌-◌, ◌==◌, ◌&&◌, ℕ, nat_le, nat_eq, if◌then◌else◌, Bool, true, false, MatchBool, List, [], length, slice_set, Option, Some, None, option_map, Result, Ok, Err, is_some, refl, sym, ap, subst, ◌∙◌, arith, rules, true≢false}
 use Rattle.std.specs.Map.{lookup, set_value}
 use Rattle.std.proofs.lemmas.Bool.{eqb-true}
 use Rattle.std.proofs.lemmas.Map.Steps.{set_value_same}
@@ -24,19 +24,20 @@ use Rattle.press_core.specs.declared.operator.OperatorCommand.TheVariants as ope
 use Rattle.press_core.specs.declared.turn.Turn.{Turn}
 use Rattle.press_core.specs.declared.turn.TurnError.{TurnError}
 use Rattle.press_core.specs.declared.turn.TurnError.TheVariants.{NoEngine}
-use Rattle.press_core.specs.Engines.{RunsOnEngines, count_on, is_number, left_by}
-use Rattle.press_core.specs.Events.{Event, TurnOn, EventAnswer, Turned, aborted_on, all_aborted, operated}
+use Rattle.press_core.specs.Engines.{RunsOnEngines, is_number, left_by}
+use Rattle.press_core.specs.Events.{Event, TurnOn, EventAnswer, Turned, operated, running_aborted}
 use Rattle.press_core.specs.History.{sheets_under, is_fault_of, steps_answered}
 use Rattle.press_core.specs.Turns.{EntrySteps, IsJobOf, StepsTo, TakesTurn, TakesTurnOn, TurnAt, at_turn, at_turn_with, completed, is_idle, place_in_job, steps_from, with_turn}
 use Rattle.press_core.specs.Work.{Work, at_place, with_delivered, without_job}
 use Rattle.press_core.specs.World.{World, has_engine, on_engine, with_work}
-use Rattle.press_core.proofs.ChangeLemmas.{finish-apart, finish-changes, idle, one-changes, set-entry, set-work}
-use Rattle.press_core.proofs.EngineLemmas.{RunsBut, absent-apart, first-runs, on_engines-left, on_engines-taken, one, others-run, own-once, runs-on_engine, set-same}
+use Rattle.press_core.proofs.AbortLemmas.{keyed-lookup, on_engines-free, queue-aborted, where_so}
+use Rattle.press_core.proofs.ChangeLemmas.{idle, one-changes, set-entry, set-work}
+use Rattle.press_core.proofs.EngineLemmas.{on_engines-left, on_engines-taken, runs-on_engine, set-same}
 use Rattle.press_core.proofs.HandedLemmas.{handed-other, handed-own}
 use Rattle.press_core.proofs.MessageChanges.{Becomes}
 use Rattle.press_core.proofs.RunsLemmas.{begun-but, finish-but}
 use Rattle.press_core.proofs.SoundLemmas.{runs_as}
-use Rattle.press_core.proofs.Standings.{Change, Stays, Steps, Completes, Fails, FrontOf, IsIdle, IsOpen, IsProper, IsWhole, IsWholeWorld, Listed, StepsOf, completed_entry, failed_entry, listed_is, listed_of, proper-kept, standing}
+use Rattle.press_core.proofs.Standings.{Change, Stays, Steps, Completes, Fails, Aborts, FrontOf, IsIdle, IsOpen, IsProper, IsWhole, IsWholeWorld, Listed, StepsOf, aborted_entry, completed_entry, failed_entry, listed_is, listed_of, standing, standing_of}
 use Rattle.press_core.proofs.TurnLemmas.{IsBegun, Waited, begun_is, begun_still, ended_is}
 
 -- ---- the entry that runs, or begins
@@ -338,65 +339,33 @@ turn-becomes law old engine most result handed next whole turn = at_engine (has_
 
 -- ---- commands of an operator
 
--- an entry that runs is aborted
-record AbortsIt (world next : World) (number : ℕ) : Type 0 where
-  pub whole : IsWholeWorld next
-  pub changes : (n : ℕ) → Change None (standing n world.queue world.works) (standing n next.queue next.works) [] 0 false
-  pub others : (n : ℕ) → nat_eq number n ≡ false → standing n next.queue next.works ≡ standing n world.queue world.works
-  pub runs : RunsBut number false world.queue next.queue
+-- each entry that runs is aborted; every other number stands as before
+abort-running : (world : World) → IsWholeWorld world → (n : ℕ)
+    → Change None (standing n world.queue world.works) (standing n (running_aborted world).queue (running_aborted world).works) [] 0 false
+abort-running world whole n = at (rows.entry_runs n world.queue) refl
+  where
+    now : (b : Bool) → rows.entry_runs n world.queue ≡ b
+        → standing n (running_aborted world).queue (running_aborted world).works
+        ≡ standing_of (nat_le n world.queue.last) (option_map (λ entry. if b then aborted_entry entry else entry) (entry_numbered n world.queue.entries)) (option_map (λ work. if b then without_job work else work) (lookup (nat_eq n) world.works))
+    now b is =
+        (λ j. standing_of (nat_le n world.queue.last) (keyed-lookup (where_so (λ m. rows.entry_runs m world.queue) aborted_entry) n world.queue.entries j) (keyed-lookup (where_so (λ m. rows.entry_runs m world.queue) without_job) n world.works j))
+        ∙ ap (λ b. standing_of (nat_le n world.queue.last) (option_map (λ entry. if b then aborted_entry entry else entry) (entry_numbered n world.queue.entries)) (option_map (λ work. if b then without_job work else work) (lookup (nat_eq n) world.works))) is
 
-aborts-it : EachRowKeepsTheQueue → (world : World) (number : ℕ) → IsWholeWorld world → rows.entry_runs number world.queue ≡ true → AbortsIt world (aborted_on (Some number) world) number
-aborts-it law world number whole is =
-    let runs = runs-of world.queue number is in
-    let next = aborted_on (Some number) world in
-    let changes : (n : ℕ) → Change None (standing n world.queue world.works) (standing n next.queue next.works) [] 0 false =
-    finish-changes number world.queue world.works runs.entry whole.numbers runs.there (ap has_ended runs.runs) in
-    record {
-      whole = record {
-        numbers = record {
-          queue_is = law.finish number Aborted world.queue whole.numbers.queue_is;
-          proper = λ n. proper-kept None (standing n world.queue world.works) (standing n next.queue next.works) [] 0 false (changes n) (whole.numbers.proper n);
-        };
-        on_engines = off-engines number Aborted world.queue world.engines whole.on_engines;
-      };
-      changes = changes;
-      others = finish-apart number world.queue world.works runs.entry whole.numbers runs.there;
-      runs = finish-but number Aborted world.queue;
-    }
+    same : {X : Type 0} (o : Option X) → option_map (λ x. x) o ≡ o
+    same None = refl
+    same (Some x) = refl
 
--- what the abortion of those that run on these engines does: a number that is on none of them stands as before
-record AbortsAll (engines : List (Option ℕ)) (world next : World) : Type 0 where
-  pub whole : IsWholeWorld next
-  pub changes : (n : ℕ) → Change None (standing n world.queue world.works) (standing n next.queue next.works) [] 0 false
-  pub others : (n : ℕ) → count_on n engines ≡ 0 → standing n next.queue next.works ≡ standing n world.queue world.works
+    at : (b : Bool) → rows.entry_runs n world.queue ≡ b → Change None (standing n world.queue world.works) (standing n (running_aborted world).queue (running_aborted world).works) [] 0 false
+    at false is = Stays (now false is ∙ (λ j. standing_of (nat_le n world.queue.last) (same (entry_numbered n world.queue.entries) j) (same (lookup (nat_eq n) world.works) j))) idle
+    at true is =
+        let runs = runs-of world.queue n is in
+        let listed = listed_of (nat_le n world.queue.last) (entry_numbered n world.queue.entries) (lookup (nat_eq n) world.works) runs.entry (whole.numbers.proper n) runs.there in
+        let of = listed_is (nat_le n world.queue.last) (entry_numbered n world.queue.entries) (lookup (nat_eq n) world.works) runs.entry listed.0 listed.1 in
+        Aborts runs.entry listed.0 (ap has_ended runs.runs) listed.1
+        (now true is ∙ (λ j. standing_of (of.given_is j) (option_map aborted_entry (of.entry_is j)) (option_map without_job (of.work_is j)))) idle
 
--- the first is aborted, and then the others
-aborts-then : (number : ℕ) (engines : List (Option ℕ)) (world mid last : World) → AbortsIt world mid number → AbortsAll engines mid last
-    → ((n : ℕ) → count_on n (Some number ∷ engines) ≤ one (rows.entry_runs n world.queue)) → AbortsAll (Some number ∷ engines) world last
-aborts-then number engines world mid last it rest on = record {
-  whole = rest.whole;
-  changes = λ n. by n (nat_eq number n) refl;
-  others = λ n none. let apart = absent-apart number n engines none in rest.others n apart.1 ∙ it.others n apart.0;
-} where
-  by : (n : ℕ) (b : Bool) → nat_eq number n ≡ b → Change None (standing n world.queue world.works) (standing n last.queue last.works) [] 0 false
-  by n true same =
-      let none : count_on n engines ≡ 0 = own-once number n engines same (rows.entry_runs n world.queue) (on n) in
-      subst (λ s. Change None (standing n world.queue world.works) s [] 0 false) (sym (rest.others n none)) (it.changes n)
-  by n false apart = subst (λ s. Change None s (standing n last.queue last.works) [] 0 false) (it.others n apart) (rest.changes n)
-
-aborts-all : EachRowKeepsTheQueue → (engines : List (Option ℕ)) (world : World) → IsWholeWorld world → ((n : ℕ) → count_on n engines ≤ one (rows.entry_runs n world.queue))
-    → AbortsAll engines world (all_aborted engines world)
-aborts-all law [] world whole on = record { whole = whole; changes = λ n. Stays refl idle; others = λ n none. refl }
-aborts-all law (None ∷ engines) world whole on = let rest = aborts-all law engines world whole on in record { whole = rest.whole; changes = rest.changes; others = rest.others }
-aborts-all law (Some number ∷ engines) world whole on =
-    let mid = aborted_on (Some number) world in
-    let it = aborts-it law world number whole (first-runs number engines (rows.entry_runs number world.queue) (on number)) in
-    aborts-then number engines world mid (all_aborted engines mid) it
-    (aborts-all law engines mid it.whole (λ n. others-run number n engines (rows.entry_runs n world.queue) (rows.entry_runs n mid.queue) (it.runs n) (on n))) on
-
-pub operator-becomes : EachRowKeepsTheQueue → (command : OperatorCommand) (world : World) → IsWholeWorld world → Becomes None world (operated command world)
-operator-becomes law operators.Pause world whole = record { queue = whole.numbers.queue_is; on_engines = whole.on_engines; each = λ n. Stays refl idle }
-operator-becomes law operators.Continue world whole = record { queue = whole.numbers.queue_is; on_engines = whole.on_engines; each = λ n. Stays refl idle }
-operator-becomes law operators.AbortRunning world whole =
-    let all = aborts-all law world.engines world whole (λ n. omega (arith, whole.on_engines.each n)) in
-    record { queue = all.whole.numbers.queue_is; on_engines = all.whole.on_engines; each = all.changes }
+pub operator-becomes : (command : OperatorCommand) (world : World) → IsWholeWorld world → Becomes None world (operated command world)
+operator-becomes operators.Pause world whole = record { queue = whole.numbers.queue_is; on_engines = whole.on_engines; each = λ n. Stays refl idle }
+operator-becomes operators.Continue world whole = record { queue = whole.numbers.queue_is; on_engines = whole.on_engines; each = λ n. Stays refl idle }
+operator-becomes operators.AbortRunning world whole =
+    record { queue = queue-aborted world whole.numbers.queue_is; on_engines = on_engines-free world whole.on_engines; each = abort-running world whole }

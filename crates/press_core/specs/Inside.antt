@@ -4,6 +4,8 @@ use Rattle.std.specs.declared.alloc.AllocError.{AllocError}
 use Rattle.std.specs.Map.{lookup}
 use Rattle.press_engine.specs.Machine.{Run}
 use Rattle.press_queue.specs.declared.entry.Entry.{Entry}
+use Rattle.press_queue.specs.declared.status.End.TheVariants.{Aborted}
+use Rattle.press_queue.specs.Rows.{finish_entry}
 use Rattle.press_queue.specs.State.{QueueState}
 use Rattle.press_queue.specs.Entries.{entry_numbered}
 use Rattle.press_queue.specs.Status.{has_ended, is_in_flight, is_running}
@@ -13,7 +15,7 @@ use Rattle.press_core.specs.Engines.{RunsOnEngines}
 use Rattle.press_core.specs.Jobs.{IsAt}
 use Rattle.press_core.specs.Turns.{IsJobOf, aborted, place_in_job, at_turn, with_turn}
 use Rattle.press_core.specs.Work.{Work, IsPrintable, at_place}
-use Rattle.press_core.specs.World.{work_changed, World, work_numbered}
+use Rattle.press_core.specs.World.{work_changed, World, given_up, with_queue, work_numbered}
 
 abbrev pub work_of : Inside → Work
 work_of work = record {
@@ -52,6 +54,11 @@ GoTogether (Some entry) (Some work) = AreTogether entry work
 GoTogether None None = Unit {0}
 GoTogether (Some entry) None = ⊥
 GoTogether None (Some work) = ⊥
+
+-- the entry that an engine runs, if it runs one, is aborted, and its job given up
+abbrev pub aborted_on : Option ℕ → World → World
+aborted_on None world = world
+aborted_on (Some number) world = given_up number (with_queue (finish_entry number Aborted world.queue) world)
 
 -- a work that has begun: at the place that it had, or at the first
 abbrev pub begun_work : Work → Work

@@ -73,10 +73,11 @@ pub record EntriesDoNotInterfere : Type 0 where
       → handed_under number happenings ≡ sheets_from 0 steps items
 
 -- The law of bounds: in every run of events each entry that runs is on an engine of its own, one of one to four, so that at most as
--- many run as there are engines; and the queue is as every queue is: at most eight are in flight, at most 64 are in the list, under
--- numbers that differ; and a number that was given is not given again.
+-- many run as there are engines, and these are as many as in the beginning; and the queue is as every queue is: at most eight are in
+-- flight, at most 64 are in the list, under numbers that differ; and a number that was given is not given again.
 pub record EntriesAreBounded : Type 0 where
   pub on_engines : (happenings : List Happening) (last : World) → IsRun happenings last → RunsOnEngines last.queue last.engines
+  pub count : (happenings : List Happening) (last : World) → (run : IsRun happenings last) → length last.engines ≡ run.engines
   pub running : (happenings : List Happening) (last : World) → IsRun happenings last
       → length (running_ones last.queue.entries) ≤ length last.engines
   pub queue : (happenings : List Happening) (last : World) → IsRun happenings last → IsQueue last.queue

@@ -43,8 +43,9 @@ pub fn entries_do_not_interfere()
     each_row_keeps_the_queue();
 }
 
-/// In every run of events each entry that runs is on an engine of its own, so at most as many run as there are engines; at most eight
-/// are in flight, and at most 64 are in the list, under numbers that differ; a number that was given is not given again.
+/// In every run of events each entry that runs is on an engine of its own, so at most as many run as there are engines, whose number
+/// stays; at most eight are in flight, and at most 64 are in the list, under numbers that differ; a number that was given is not given
+/// again.
 pub fn entries_are_bounded()
     ensures { EntriesAreBounded }
 {

@@ -1,11 +1,12 @@
 -- What the program tells of each fault, in one line.
-use Rattle.std.specs.Prelude.{ℕ, List, Option, Some, None, codes}
+use Rattle.std.specs.Prelude.{ℕ, List, Option, Some, None}
 use Rattle.press_units.specs.Faults.{fault_text}
 use Rattle.press_asm.specs.Faults as asm
 use Rattle.press_core.specs.TurnErrors.{bad_engines, turn_number}
 use Rattle.press_pbm.specs.Faults as pbm
 use Rattle.press_stream.specs.Faults.{read_fault}
 use Rattle.press_ticket.specs.Faults as ticket
+use Rattle.press_trace.specs.Faults.{output_text}
 use Rattle.press_writer.specs.Faults as writer
 use Rattle.press_main.specs.declared.assembly.TextError.{TextError}
 use Rattle.press_main.specs.declared.assembly.TextError.TheVariants as texts
@@ -26,10 +27,6 @@ use Rattle.press_main.specs.declared.traced.TracedError.TheVariants as traces
 abbrev pub input_number : InputError → Option ℕ
 input_number inputs.ReadFault = Some read_fault
 input_number inputs.NoMemory = None
-
--- that an answer, a text, a trace or a listing cannot be written
-abbrev pub output_text : List ℕ
-output_text = codes "fault output"
 
 abbrev pub input_text : InputError → List ℕ
 input_text error = fault_text (input_number error)

@@ -14,7 +14,7 @@ use Rattle.press_stream.specs.State.{JobState}
 use Rattle.press_stream.specs.Answers.{fault_of}
 use Rattle.press_stream.specs.Meaning.{meaning_of, with_exit}
 use Rattle.press_stream.specs.Printed.{Printed}
-use Rattle.press_main.specs.Faults.{output_text}
+use Rattle.press_trace.specs.Faults.{output_text}
 use Rattle.press_main.specs.Printing.{machine_of, status_of_fault, TellsFault}
 use Rattle.press_main.specs.Telling.{Tells, as_line}
 use Rattle.press_main.specs.declared.measures.Measures.{Measures}

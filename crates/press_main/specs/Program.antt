@@ -6,10 +6,11 @@ use Rattle.press_sink.specs.Faults.{sink_number}
 use Rattle.press_sink.specs.Outputs.{MadeOutput}
 use Rattle.press_sink.specs.declared.fault.SinkError.TheVariants.{SinkFault}
 use Rattle.press_stream.specs.Faults.{read_fault}
+use Rattle.press_trace.specs.Faults.{output_text}
 use Rattle.press_main.specs.Assembly.{AssembledInto, StopsMaking, DisassembledTo, StopsDisassembling}
 use Rattle.press_main.specs.Debugging.{Debugs, StopsDebugging}
 use Rattle.press_main.specs.Defaults.{HoldsBehind, with_front}
-use Rattle.press_main.specs.Faults.{output_text, told_of_debugger, told_of_job, told_of_session, told_of_text}
+use Rattle.press_main.specs.Faults.{told_of_debugger, told_of_job, told_of_session, told_of_text}
 use Rattle.press_main.specs.Files.{PrintsFiles, PrintsNoFiles, DoesNothing}
 use Rattle.press_main.specs.Jobs.{MakesTheTicket, StopsMakingJob}
 use Rattle.press_main.specs.Listing.{PrintsListing}

@@ -4,11 +4,9 @@ ghost use Rattle.press_pbm.specs.Spelling.{Writes};
 ghost use Rattle.press_main.specs.Telling.{Tells, as_line};
 
 use press_pbm::write_whole;
+pub use press_trace::NO_OUTPUT;
 use std::fmt::{self, Display};
 use std::io::{self, Write};
-
-/// What is told where an answer or a listing cannot be written.
-pub const NO_OUTPUT: &str = "fault output";
 
 /// Where faults are told, text behind text. Whether what is told reaches somebody is not asked: a teller has no faults.
 pub trait Teller {

@@ -5,6 +5,7 @@
 //! the frame lies the tile's dot at column `a` modulo its width of line `b` modulo its height.
 #![tactic(auto)]
 
+mod fault;
 mod fixed;
 mod ink;
 mod pattern;
@@ -13,9 +14,9 @@ mod tile;
 mod user_data;
 mod user_pattern;
 
+pub use fault::DefineError;
 pub use ink::Ink;
 pub use pattern::{Kind, Pattern};
 pub use patterns::Patterns;
 pub use tile::{OwnedTile, Tile};
-pub use user_data::DefineError;
 pub use user_pattern::UserPattern;

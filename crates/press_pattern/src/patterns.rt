@@ -7,11 +7,12 @@ ghost use Rattle.press_pattern.specs.UserData.{has_header, has_rows};
 ghost use Rattle.press_pattern.specs.Store.{tile_of, with_definition, made, permanent_only};
 ghost use Rattle.press_pattern.specs.Ink.{ink_of};
 
+use crate::fault::DefineError;
 use crate::fixed;
 use crate::ink::{Ink, mode_of};
 use crate::pattern::{Kind, Pattern};
 use crate::tile::Tile;
-use crate::user_data::{DefineError, read_tile};
+use crate::user_data::read_tile;
 use crate::user_pattern::UserPattern;
 use indexmap::IndexMap;
 use press_bits::Mode;

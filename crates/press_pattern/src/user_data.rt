@@ -3,44 +3,17 @@
 ghost use Rattle.std.specs.Prelude.{◌≡◌, ◌↔◌, ◌≤◌, length, true, false, IfOk, IsErrOf};
 ghost use Rattle.press_pattern.specs.UserData.{has_header, has_rows, tile_in};
 
+use crate::fault::DefineError;
 use crate::tile::OwnedTile;
 use byteorder::{BigEndian, ByteOrder};
 use press_bits::line_bytes;
-use press_units::NO_MEMORY;
-use std::alloc::{AllocError, Global};
-use thiserror::Error;
+use std::alloc::Global;
 
 /// How many bytes the header has.
 const HEADER_LENGTH: usize = 8;
 
 /// Format, continuation, encoding and the reserved byte of a pattern of one bit a dot.
 const ONE_BIT_A_DOT: [u8; 4] = [0, 0, 1, 0];
-
-/// Why no pattern was defined. The store is as it was.
-#[derive(Debug, Drop, Error)]
-pub enum DefineError {
-    /// The data has fewer than 8 bytes, or does not begin with the header of a pattern of one bit a dot,
-    /// with a height and a width above 0.
-    #[error("fault 201")]
-    BadHeader,
-    /// The data ends before the last row.
-    #[error("fault 202")]
-    ShortData,
-    /// Memory ran out.
-    #[error("{text}", text = NO_MEMORY)]
-    NoMemory,
-}
-
-impl From<AllocError> for DefineError {
-    ghost use Rattle.std.specs.Prelude.{◌≡◌};
-    ghost use Rattle.press_pattern.specs.declared.user_data.DefineError.TheVariants.{NoMemory};
-
-    ghost from_gives = { λ _ error. error ≡ NoMemory };
-
-    fn from(_error: AllocError) -> DefineError {
-        DefineError::NoMemory
-    }
-}
 
 /// Whether the header of a pattern of one bit a dot stands first, with a height and a width above 0.
 fn has_header(bytes: &[u8]) -> bool

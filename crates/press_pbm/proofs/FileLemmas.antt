@@ -8,8 +8,8 @@ use Rattle.press_bits.specs.Page.{Page, blank, is_page_size}
 use Rattle.press_bits.specs.Lines.{bytes_per_line}
 use Rattle.press_bits.specs.DotRows.{page_of_rows}
 use Rattle.press_bits.proofs.PageLemmas.{width-blank, height-blank}
-use Rattle.press_bits.specs.declared.bitmap.BlankError.{BlankError}
-use Rattle.press_bits.specs.declared.bitmap.BlankError.TheVariants as blanks
+use Rattle.press_bits.specs.declared.fault.BlankError.{BlankError}
+use Rattle.press_bits.specs.declared.fault.BlankError.TheVariants as blanks
 use Rattle.press_pbm.specs.Header.{header_spelling, width_of, height_of}
 use Rattle.press_pbm.specs.File.{IsFile, Refused}
 use Rattle.press_pbm.specs.Reading.{past_longest, ReadHeader, RowsStop}

@@ -4,7 +4,6 @@ use Rattle.std.specs.Prelude.{◌&&◌, is_some, is_none, nat_lt, min, pos}
 use Rattle.std.specs.List.{list_any}
 use Rattle.std.proofs.lemmas.Bool.{true≢false}
 use Rattle.std.proofs.lemmas.Bool.Decides.{nat_tests}
-use Rattle.std.proofs.lemmas.List.{length-replicate, same_lists, places}
 use Rattle.std.proofs.lemmas.List.Sums.{fold-append}
 use Rattle.press_bits.specs.Bands.{BandedPage}
 use Rattle.press_bits.specs.Lines.{bytes_per_line}
@@ -22,7 +21,7 @@ use Rattle.press_rows.specs.Blocks.{Item, count_rows}
 use Rattle.press_rows.specs.Row.{fitted, raster_row}
 use Rattle.press_rows.specs.declared.compression.Method.{Method}
 use Rattle.press_raster.specs.Drawing.{IsSetUp, drawn_by, layout, line_of, one_row_on, setup_of}
-use Rattle.press_raster.specs.Graphics.{RasterGraphics, graphics, is_below_height, most_rows, takes_row, whitened}
+use Rattle.press_raster.specs.Graphics.{RasterGraphics, graphics, is_below_height, most_rows, takes_row, trimmed, whitened}
 use Rattle.press_raster.specs.Mark.{raster_mark, row_on_frame}
 use Rattle.press_raster.specs.Rows.{Drawn, drawn, with_item, with_items}
 use Rattle.press_raster.specs.Settings.{dot_size, row_height}
@@ -32,12 +31,9 @@ use Rattle.press_raster.specs.declared.drawing.RowSetup.{RowSetup}
 use Rattle.press_raster.specs.declared.raster.RasterPosition.{RasterPosition}
 use Rattle.press_raster.specs.declared.raster.RowPlace.{RowPlace}
 use Rattle.press_raster.specs.declared.settings.RasterSettings.{RasterSettings}
-use Rattle.press_raster.proofs.DecodingLemmas.{raster_row-fitted}
+use Rattle.press_raster.proofs.DecodingLemmas.{fitted_twice, raster_row-fitted}
+use Rattle.press_raster.proofs.SeedLemmas.{fitted-trimmed, raster_row-trimmed}
 use Rattle.press_raster.proofs.StripLemmas.{row_turned}
-
--- a white row, cut or filled up, is white
-pub fitted-white : (width n : ℕ) → replicate width 0 ≡ fitted width (replicate n 0)
-fitted-white width n = same_lists _ _ (search (rules, places)) (λ k d l. grind (arith, places))
 
 module _ (environment : PageEnv) (settings : RasterSettings) (ink : Ink) where
   -- where a row lies at this cursor
@@ -47,7 +43,7 @@ module _ (environment : PageEnv) (settings : RasterSettings) (ink : Ink) where
   -- what is drawn with a row of these bits, which has effect
   abbrev pub with_bits : RasterGraphics → Page → CursorState → List ℕ → Drawn
   with_bits on page cursor bits =
-      drawn (Some (record { left = on.left; rows = min most_rows (on.rows + 1); seed = bits }))
+      drawn (Some (record { left = on.left; rows = min most_rows (on.rows + 1); seed = trimmed bits }))
       (painted page (raster_mark environment.media.orientation page (row_corner (place_at cursor) on.left)
       (dot_size settings.resolution environment.media.resolution)
       (record { bits = bits; dots = row_dots (place_at cursor) settings on.left }) ink))
@@ -77,7 +73,7 @@ module _ (environment : PageEnv) (settings : RasterSettings) (ink : Ink) where
   -- white once and twice
   white_twice : (graphics : Option RasterGraphics) → whitened (whitened graphics) ≡ whitened graphics
   white_twice None = refl
-  white_twice (Some on) = ap (λ n. Some (record on { seed = replicate n 0 })) (length-replicate (length on.seed) 0)
+  white_twice (Some on) = refl
 
   takes_row-whitened : (graphics : Option RasterGraphics) → takes_row settings (whitened graphics) ≡ takes_row settings graphics
   takes_row-whitened None = refl
@@ -110,22 +106,21 @@ module _ (environment : PageEnv) (settings : RasterSettings) (ink : Ink) where
       ap (with_items environment settings ink others) (with_item-untaken d row untaken)
       ∙ with_items-idle others d (still (takes_row settings d.graphics) (list_any is_some others) untaken)
 
-  -- the seed row counts as it is cut or filled up to the width of a row, where a row has effect
-  pub with_items-fitted : (xs : List Item) (on : RasterGraphics) (page : Page) (cursor : CursorState) (width : ℕ) →
+  -- seed rows count as they are cut or filled up to the width of a row, where a row has effect
+  pub with_items-fitted : (xs : List Item) (on : RasterGraphics) (seed : List ℕ) (page : Page) (cursor : CursorState) (width : ℕ) →
       width ≡ bytes_per_line (row_dots (place_at cursor) settings on.left) → is_below_height settings.source_height on.rows ≡ true → list_any is_some xs ≡ true →
-      with_items environment settings ink xs (drawn (Some (record on { seed = fitted width on.seed })) page cursor)
+      fitted width seed ≡ fitted width on.seed →
+      with_items environment settings ink xs (drawn (Some (record on { seed = seed })) page cursor)
       ≡ with_items environment settings ink xs (drawn (Some on) page cursor)
-  with_items-fitted [] on page cursor width wide below some = absurd (true≢false (sym some))
-  with_items-fitted (None ∷ others) on page cursor width wide below some =
-      let long : length (fitted width on.seed) ≡ width = search (rules, places) in
-      ap (λ bits. with_items environment settings ink others (drawn (Some (record on { seed = bits })) page cursor))
-      (ap (λ n. replicate n 0) long ∙ fitted-white width (length on.seed))
-      ∙ with_items-fitted others (record on { seed = replicate (length on.seed) 0 }) page cursor width wide below some
-  with_items-fitted (Some row ∷ others) on page cursor width wide below some =
+  with_items-fitted [] on seed page cursor width wide below some same = absurd (true≢false (sym some))
+  with_items-fitted (None ∷ others) on seed page cursor width wide below some same = refl
+  with_items-fitted (Some row ∷ others) on seed page cursor width wide below some same =
       ap (with_items environment settings ink others)
-      (with_item-taken (record on { seed = fitted width on.seed }) page cursor row below
+      (with_item-taken (record on { seed = seed }) page cursor row below
       ∙ ap (with_bits on page cursor)
-      (ap (raster_row row.0 row.1 (fitted width on.seed)) (sym wide) ∙ raster_row-fitted row.0 row.1 on.seed width ∙ ap (raster_row row.0 row.1 on.seed) wide)
+      (ap (raster_row row.0 row.1 seed) (sym wide)
+      ∙ sym (raster_row-fitted row.0 row.1 seed width) ∙ ap (λ bytes. raster_row row.0 row.1 bytes width) same ∙ raster_row-fitted row.0 row.1 on.seed width
+      ∙ ap (raster_row row.0 row.1 on.seed) wide)
       ∙ sym (with_item-taken on page cursor row below))
 
 -- how many rows a run is, before others
@@ -164,8 +159,10 @@ pub drawn-fitted : (setup : RowSetup) (environment : PageEnv) (settings : Raster
     ≡ with_items environment settings ink xs (drawn (graphics (Some position) seed) whole cursor)
 drawn-fitted setup environment settings ink width position seed drawing page whole cursor xs same place cut on_page taken some =
     (λ i. with_items (same i).environment (same i).settings ink xs (drawn (graphics (Some (place i)) (cut i)) ((ap (λ (s : RowSetup). page_of_frame s.environment.media.orientation page.page) same ∙ on_page) i) cursor))
-    ∙ with_items-fitted environment settings ink xs (record { left = position.left; rows = position.rows; seed = seed }) whole cursor (bytes_per_line setup.dots)
-    (ap (λ (s : RowSetup). bytes_per_line s.dots) same) taken some
+    ∙ with_items-fitted environment settings ink xs (record { left = position.left; rows = position.rows; seed = trimmed seed }) (trimmed (fitted (bytes_per_line setup.dots) seed)) whole cursor
+    (bytes_per_line setup.dots) (ap (λ (s : RowSetup). bytes_per_line s.dots) same) taken some
+    (fitted-trimmed (bytes_per_line setup.dots) (fitted (bytes_per_line setup.dots) seed) ∙ fitted_twice (bytes_per_line setup.dots) seed
+    ∙ sym (fitted-trimmed (bytes_per_line setup.dots) seed))
 
 -- a row that is painted on the frame, has become the seed row and has moved the cursor, is the next item
 pub row_drawn : (setup : RowSetup) (ink : Ink) (drawing : Drawing) (frame after : BandedPage) (cursor moved : CursorState) (row : Method × List ℕ) (line : ℕ) (source bits seed : List ℕ) (position : RasterPosition) →
@@ -179,7 +176,7 @@ pub row_drawn : (setup : RowSetup) (ink : Ink) (drawing : Drawing) (frame after 
 row_drawn setup ink drawing frame after cursor moved row line source bits seed position is below bits_are source_is seed_is line_is position_is moved_is painting =
     let o : Orientation = setup.environment.media.orientation in
     let page : Page = page_of_frame o frame.page in
-    let on : RasterGraphics = record { left = drawing.position.left; rows = drawing.position.rows; seed = drawing.seed.items } in
+    let on : RasterGraphics = record { left = drawing.position.left; rows = drawing.position.rows; seed = trimmed drawing.seed.items } in
     let place : RowPlace = place_at setup.environment setup.settings ink cursor in
     let left : setup.across.left ≡ (row_corner place on.left).x = ap (λ (s : RowSetup). s.across.left) is.same in
     let size : setup.across.size ≡ dot_size setup.settings.resolution setup.environment.media.resolution = ap (λ (s : RowSetup). s.across.size) is.same in
@@ -189,5 +186,6 @@ row_drawn setup ink drawing frame after cursor moved row line source bits seed p
     ∙ (λ i. drawn (graphics (Some (one_row_on drawing.position)) bits)
     (painted page (raster_mark o page (record { x = left i; y = line_is i }) (size i) (record { bits = source_is i; dots = dots i }) ink))
     (moved_y (pos (row_height setup.settings.resolution)) true (logical_page_of setup.environment) cursor))
-    ∙ ap (with_bits setup.environment setup.settings ink on page cursor) (bits_are ∙ ap (λ n. raster_row row.0 row.1 on.seed (bytes_per_line n)) dots)
+    ∙ ap (with_bits setup.environment setup.settings ink on page cursor)
+    (bits_are ∙ sym (raster_row-trimmed row.0 row.1 drawing.seed.items (bytes_per_line setup.dots)) ∙ ap (λ n. raster_row row.0 row.1 on.seed (bytes_per_line n)) dots)
     ∙ sym (with_item-taken setup.environment setup.settings ink on page cursor row below)

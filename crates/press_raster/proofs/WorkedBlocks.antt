@@ -57,7 +57,7 @@ five_down = refl
 cut_off :
     (after (set_source_height (tenthousandths_of (codes "2")) settings)
     (0x00 ∷ 0x00 ∷ 0x01 ∷ 0xFF ∷ 0x05 ∷ 0x00 ∷ 0x02 ∷ 0x00 ∷ 0x00 ∷ 0x01 ∷ 0xAA ∷ 0x05 ∷ 0x00 ∷ 0x00 ∷ []) (start [])).graphics
-    ≡ Some (record { left = 0; rows = 2; seed = 0x00 ∷ [] })
+    ≡ Some (record { left = 0; rows = 2; seed = [] })
 unfolding items raster_row deltas replacements laid_over
 cut_off = refl
 
@@ -78,7 +78,7 @@ cut_off_down = refl
 -- a white seed row between two blocks: what is repeated is white
 white_between :
     (after settings (0x00 ∷ 0x00 ∷ 0x01 ∷ 0xFF ∷ 0x04 ∷ 0x00 ∷ 0x00 ∷ 0x05 ∷ 0x00 ∷ 0x01 ∷ []) (start [])).graphics
-    ≡ Some (record { left = 0; rows = 2; seed = 0x00 ∷ [] })
+    ≡ Some (record { left = 0; rows = 2; seed = [] })
 unfolding items raster_row deltas replacements laid_over
 white_between = refl
 
@@ -95,6 +95,6 @@ unfolding items
 have_rows = refl
 
 -- a count of 0 alone makes the seed row white, and is no row
-white_alone : passed settings (0x05 ∷ 0x00 ∷ 0x00 ∷ []) (on (0xC3 ∷ [])) ≡ on (0x00 ∷ [])
+white_alone : passed settings (0x05 ∷ 0x00 ∷ 0x00 ∷ []) (on (0xC3 ∷ [])) ≡ on []
 unfolding items
 white_alone = refl

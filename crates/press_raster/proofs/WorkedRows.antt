@@ -125,7 +125,7 @@ unfolding raster_row deltas replacements laid_over
 repeated_row = refl
 
 white_row : transferred home sixteen_wide Unencoded [] (transferred home sixteen_wide Unencoded (0xF0 ∷ 0x0F ∷ []) (started 7 None))
-    ≡ Some (record { left = 7; rows = 2; seed = 0x00 ∷ 0x00 ∷ [] })
+    ≡ Some (record { left = 7; rows = 2; seed = [] })
 unfolding raster_row
 white_row = refl
 

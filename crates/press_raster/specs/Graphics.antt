@@ -1,7 +1,7 @@
 -- Raster graphics, off or on (PCL 5 Printer Language Technical Reference Manual, Raster Graphics: Start Raster Graphics,
 -- Raster Y Offset, End Raster Graphics and Set Compression Method commands).
-use Rattle.std.specs.Prelude.{ℕ, ◌+◌, ◌&&◌, Bool, true, false, if◌then◌else◌, nat_lt, min, List, [], length, replicate, Option, Some, None, option_map, is_some, is_none, refl}
-use Rattle.std.specs.List.{list_any}
+use Rattle.std.specs.Prelude.{ℕ, ◌+◌, ◌&&◌, Bool, true, false, if◌then◌else◌, nat_lt, min, ◌==◌, List, [], ◌∷◌, Option, Some, None, option_map, is_some, is_none, refl}
+use Rattle.std.specs.List.{list_all, list_any}
 use Rattle.std.specs.Coded.{Coded, code_by, coded×, coded_ℕ, coded_list, coded_option}
 use Rattle.press_units.specs.Value.{greatest}
 use Rattle.press_raster.specs.declared.raster.RasterPosition.{RasterPosition}
@@ -9,7 +9,7 @@ use Rattle.press_raster.specs.declared.settings.RasterSettings.{RasterSettings}
 use Rattle.press_raster.specs.Settings.{items_of}
 
 -- Raster graphics that is on: where its rows begin, in positions from the left edge of the logical page; how many rows
--- there were; and the seed row, the row before the next one, which is white behind its last byte.
+-- there were; and the seed row, the row before the next one, without the white bytes at its end.
 pub record RasterGraphics : Type 0 where
   pub left : ℕ
   pub rows : ℕ
@@ -23,6 +23,15 @@ graphics_code =
     (λ s. record { left = s.0; rows = s.1.0; seed = s.1.1 })
     (λ _. refl))
 
+-- whether all bytes are white
+abbrev pub are_white : List ℕ → Bool
+are_white bytes = list_all (λ byte. byte == 0) bytes
+
+-- a row without the white bytes at its end: a white one has none
+abbrev pub trimmed : List ℕ → List ℕ
+trimmed [] = []
+trimmed (byte ∷ bytes) = if are_white (byte ∷ bytes) then [] else byte ∷ trimmed bytes
+
 -- the most rows that are counted: the greatest value (this profile)
 abbrev pub most_rows : ℕ
 most_rows = greatest
@@ -30,7 +39,7 @@ most_rows = greatest
 -- raster graphics by where it stands, if it is on, and its seed row
 abbrev pub graphics : Option RasterPosition → List ℕ → Option RasterGraphics
 graphics position seed =
-    option_map (λ place. record { left = place.left; rows = place.rows; seed = seed }) position
+    option_map (λ place. record { left = place.left; rows = place.rows; seed = trimmed seed }) position
 
 -- where its rows begin, and how many there were, if it is on
 abbrev pub raster_position : Option RasterGraphics → Option RasterPosition
@@ -61,9 +70,9 @@ takes_row settings (Some on) = is_below_height settings.source_height on.rows
 abbrev pub takes_rows : RasterSettings → List ℕ → Option RasterGraphics → Bool
 takes_rows settings «data» graphics = takes_row settings graphics && list_any is_some (items_of settings.coding «data»)
 
--- raster graphics with a white seed row, as wide as it was
+-- raster graphics with a white seed row
 abbrev pub whitened : Option RasterGraphics → Option RasterGraphics
-whitened graphics = option_map (λ (on : RasterGraphics). record on { seed = replicate (length on.seed) 0 }) graphics
+whitened graphics = option_map (λ (on : RasterGraphics). record on { seed = [] }) graphics
 
 -- Raster graphics after data of which no row has effect: the seed row is white where an item says so.
 abbrev pub passed : RasterSettings → List ℕ → Option RasterGraphics → Option RasterGraphics

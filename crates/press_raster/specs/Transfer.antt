@@ -11,7 +11,7 @@ use Rattle.press_page.specs.declared.place.Dot.{Dot}
 use Rattle.press_pattern.specs.declared.ink.Ink.{Ink}
 use Rattle.press_rows.specs.Row.{raster_row}
 use Rattle.press_rows.specs.declared.compression.Method.{Method}
-use Rattle.press_raster.specs.Graphics.{RasterGraphics, most_rows, is_below_height}
+use Rattle.press_raster.specs.Graphics.{RasterGraphics, most_rows, is_below_height, trimmed}
 use Rattle.press_raster.specs.Mark.{raster_mark}
 use Rattle.press_raster.specs.Settings.{raster_dots_per_inch, dot_size}
 use Rattle.press_raster.specs.declared.raster.RowPlace.{RowPlace}
@@ -55,7 +55,7 @@ page_with_row place settings ink method «data» (Some on) page =
 
 -- Raster graphics after a row that has effect: the row is the seed, and there is one more.
 abbrev pub after_row : Row → RasterGraphics → RasterGraphics
-after_row row on = record on { rows = min most_rows (on.rows + 1); seed = row.bits }
+after_row row on = record on { rows = min most_rows (on.rows + 1); seed = trimmed row.bits }
 
 -- Raster graphics after a row.
 abbrev pub transferred : RowPlace → RasterSettings → Method → List ℕ → Option RasterGraphics → Option RasterGraphics

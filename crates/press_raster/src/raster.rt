@@ -1,8 +1,8 @@
 //! Raster graphics, and the transfer of its rows (PCL 5 Printer Language Technical Reference Manual, Raster Graphics).
 
-ghost use Rattle.std.specs.Prelude.{◌≡◌, ◌<◌, ◌^◌, false, true, None, Some, IfOk, IsOk, OnOk, OnErr, is_none, is_some, unsigned_abs};
+ghost use Rattle.std.specs.Prelude.{◌≡◌, ◌<◌, ◌^◌, false, true, None, Some, IfSome, IfOk, IsOk, OnOk, OnErr, is_none, is_some, unsigned_abs};
 ghost use Rattle.std.specs.List.{list_any};
-ghost use Rattle.press_raster.specs.Graphics.{raster_position, started, moved_down, is_below_height, takes_row, takes_rows, passed};
+ghost use Rattle.press_raster.specs.Graphics.{raster_position, started, moved_down, is_below_height, takes_row, takes_rows, passed, trimmed};
 ghost use Rattle.press_raster.specs.Settings.{items_of};
 ghost use Rattle.press_raster.specs.Rows.{drawn, drawn_rows};
 ghost use Rattle.press_raster.specs.Transfer.{row_corner};
@@ -155,9 +155,11 @@ impl Raster {
         self.position.is_some()
     }
 
-    /// Where it stands, if it is on.
+    /// Where it stands, if it is on. Of every raster graphics that is on: no white byte stands at the end of the seed row, so that
+    /// seed rows that are white behind the same bytes are the same.
     pub fn position(&self) -> Option<RasterPosition>
-        ensures { result ≡ raster_position self.now }
+        ensures position { result ≡ raster_position self.now }
+        ensures seed { IfSome self.now (λ on. trimmed on.seed ≡ on.seed) }
     {
         self.position
     }

@@ -397,9 +397,44 @@ impl Job {
             (both (S.told sheets.old) (P.told replies.old))
             (both (S.told sheets.new) (P.told replies.new)) }
     {
+        self.run_counted(reader, &mut ReadCount::none(), tag, sheets, replies)
+    }
+
+    /// Reads the rest of a stream to its end, as [`Job::run`] does, and counts the reads, of which there were none.
+    ///
+    /// # Errors
+    ///
+    /// Those of [`Job::run`]. `ReadFault` (304) comes only where a read failed, or where the most were made and none gave no bytes.
+    pub fn run_counted<R: Read, S: SheetSink, P: ReplySink>(
+        &mut self,
+        reader: &mut R,
+        count: &mut ReadCount,
+        tag: u64,
+        sheets: &mut S,
+        replies: &mut P,
+    ) -> Result<(), JobError>
+        requires none { count.old ≡ no_reads }
+        requires can_count { CanCount (both (S.told sheets.old) (P.told replies.old)) }
+        ensures runs { RunsReader self.old (R.remaining reader.old)
+            (R.remaining reader.new) tag result self.new
+            (both (S.told sheets.old) (P.told replies.old))
+            (both (S.told sheets.new) (P.told replies.new)) }
+        ensures unread { IsEarly result → reader.new ≡ reader.old }
+        ensures refused { IsAfterEnd self.old → IsErrOf result JobError.AfterEnd }
+        ensures failed { IsErrOf result JobError.Failed ↔ (self.old.machine ≡ None) }
+        ensures unchanged { IsEarly result → (self.new ≡ self.old)
+            × (both (S.told sheets.new) (P.told replies.new)
+            ≡ both (S.told sheets.old) (P.told replies.old)) }
+        ensures lost { IfErr result
+            (λ error. error ≢ JobError.AfterEnd → self.new.machine ≡ None) }
+        ensures counts { CountsFaults (fault_of result)
+            (both (S.told sheets.old) (P.told replies.old))
+            (both (S.told sheets.new) (P.told replies.new)) }
+        ensures bound { count.new.reads ≤ most_reads }
+        ensures fault { IsErrOf result JobError.ReadFault → HasFault count.new }
+    {
         self.check_going()?;
-        let mut count = ReadCount::none();
-        self.run_counted(reader, &mut count, tag, sheets, replies)
+        self.read_through(reader, count, tag, sheets, replies)
     }
 
     /// The job has not failed, and the end of input was not given.
@@ -472,7 +507,7 @@ impl Job {
     }
 
     /// Reads the rest of a stream piece by piece, and counts the reads.
-    fn run_counted<R: Read, S: SheetSink, P: ReplySink>(
+    fn read_through<R: Read, S: SheetSink, P: ReplySink>(
         &mut self,
         reader: &mut R,
         count: &mut ReadCount,

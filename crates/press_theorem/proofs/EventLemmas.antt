@@ -201,6 +201,7 @@ from-new given bounded start engines events last before after old new are is all
       happened = happened;
       given = λ number. given.under happened.happenings last number run;
       on_engines = bounded.on_engines happened.happenings last run;
+      count = bounded.count happened.happenings last run;
       queue = bounded.queue happened.happenings last run;
     }
 
@@ -218,5 +219,6 @@ up-to-from-new given bounded start error engines events last before after old ne
       happened = happened;
       given = λ number. given.under happenings last number run;
       on_engines = bounded.on_engines happenings last run;
+      count = bounded.count happenings last run;
       queue = bounded.queue happenings last run;
     }

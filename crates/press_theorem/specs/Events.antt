@@ -1,5 +1,5 @@
 -- What happens to a press, one event after another.
-use Rattle.std.specs.Prelude.{◌≡◌, ℕ, List, [], ◌∷◌, ◌++◌, Some, map, option_map, unwrap_or, Err}
+use Rattle.std.specs.Prelude.{◌≡◌, ℕ, List, [], ◌∷◌, ◌++◌, length, Some, map, option_map, unwrap_or, Err}
 use Rattle.std.specs.List.{All, flat_map}
 use Rattle.press_pbm.specs.Spelling.{AppendsFront}
 use Rattle.press_queue.specs.EveryQueue.{IsQueue}
@@ -38,11 +38,13 @@ pub record HappenAll (world : World) (events : List Event) (last : World) (befor
   pub responses : new ≡ old ++ flat_map (λ happening. line_of happening.answer) happenings
 
 -- They happened one after another to a new press of so many engines. Under each number was handed out what its entry says, as it was
--- seen last, with the steps that its turns were answered; each entry that runs is on an engine of its own; and the queue is as every queue is.
+-- seen last, with the steps that its turns were answered; each entry that runs is on an engine of its own; there are as many engines; and the
+-- queue is as every queue is.
 pub record HappenFromNew (engines : ℕ) (events : List Event) (last : World) (before after : SheetsTold) (old new : List ℕ) : Type 0 where
   pub happened : HappenAll (new_world engines) events last before after old new
   pub given : (number : ℕ) → GivenUnder (new_world engines) happened.happenings last number
   pub on_engines : RunsOnEngines last.queue last.engines
+  pub count : length last.engines ≡ engines
   pub queue : IsQueue last.queue
 
 -- What a fault leaves of the answer of its event, and of the responses. A turn is answered by it, and nothing is appended. At a message
@@ -73,4 +75,5 @@ pub record HappenFromNewUpTo (error : TurnError) (engines : ℕ) (events : List 
   pub happened : HappenUpTo error (new_world engines) events last before after old new
   pub given : (number : ℕ) → GivenUnder (new_world engines) (happened.happened.happenings ++ happened.stopped ∷ []) last number
   pub on_engines : RunsOnEngines last.queue last.engines
+  pub count : length last.engines ≡ engines
   pub queue : IsQueue last.queue

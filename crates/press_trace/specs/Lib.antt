@@ -1,5 +1,6 @@
 pub mod Told
 pub mod Numbers
+pub mod Faults
 pub mod Fields
 pub mod Seen
 pub mod Texts

@@ -1,7 +1,12 @@
-//! Why the telling of a trace ended early.
+//! Why the telling of a trace ended early, and what is told of it (this profile).
 
+use press_units::ToldFault;
 use std::alloc::AllocError;
-use std::io;
+use std::error::Error;
+use std::{fmt, io};
+
+/// What is told where an answer, a line or a listing cannot be written: it has no number.
+pub const NO_OUTPUT: &str = "fault output";
 
 /// Why the telling of a trace ended early.
 #[derive(Debug, Drop)]
@@ -10,6 +15,22 @@ pub enum TraceError {
     Output(io::Error),
     NoMemory,
 }
+
+impl fmt::Display for TraceError {
+    ghost use Rattle.std.specs.Prelude.{Some};
+    ghost use Rattle.press_trace.specs.Faults.{told_text};
+
+    ghost output = { λ error. Some (told_text error) };
+
+    fn fmt<W: fmt::Write>(&self, f: &mut fmt::Formatter<W>) -> fmt::Result {
+        match self {
+            TraceError::Output(_) => write!(f, "{NO_OUTPUT}"),
+            TraceError::NoMemory => write!(f, "{}", ToldFault(None)),
+        }
+    }
+}
+
+impl Error for TraceError {}
 
 impl From<io::Error> for TraceError {
     ghost use Rattle.std.specs.Prelude.{◌≡◌};

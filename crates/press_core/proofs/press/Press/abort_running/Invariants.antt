@@ -1,5 +1,5 @@
 use Rattle.std.proofs.Common.{◌≡◌, drop, length}
-use Rattle.press_core.specs.Events.{all_aborted}
+use Rattle.press_core.proofs.AbortLemmas.{all_aborted}
 use Rattle.press_core.proofs.press.Press.abort_running.Given as goal
 
 -- what is left to do makes of the press what all makes of it

@@ -1,0 +1,44 @@
+//! Why no blank bitmap was made, and the number of this fault (this profile).
+ghost use Rattle.std.specs.Prelude.{◌≡◌};
+ghost use Rattle.press_bits.specs.Faults.{blank_number};
+
+use press_units::ToldFault;
+use std::error::Error;
+use std::fmt;
+
+/// The number of [`BlankError::BadSize`].
+const BAD_SIZE: u16 = 101;
+
+/// Why no blank bitmap was made.
+#[derive(Debug, Drop)]
+pub enum BlankError {
+    /// A side is 0 or above [`crate::MAX_SIDE`].
+    BadSize,
+    /// Memory ran out.
+    NoMemory,
+}
+
+impl BlankError {
+    /// Its number: 101, unless memory ran out.
+    pub fn number(&self) -> Option<u16>
+        ensures { result ≡ blank_number self.now }
+    {
+        match self {
+            BlankError::BadSize => Some(BAD_SIZE),
+            BlankError::NoMemory => None,
+        }
+    }
+}
+
+impl fmt::Display for BlankError {
+    ghost use Rattle.std.specs.Prelude.{Some};
+    ghost use Rattle.press_units.specs.Faults.{fault_text};
+
+    ghost output = { λ error. Some (fault_text (blank_number error)) };
+
+    fn fmt<W: fmt::Write>(&self, f: &mut fmt::Formatter<W>) -> fmt::Result {
+        write!(f, "{}", ToldFault(self.number()))
+    }
+}
+
+impl Error for BlankError {}
