@@ -69,16 +69,16 @@ begun text out none = record { before = []; commands = []; cut = refl; give = re
 -- the text is cut before its next line
 cut_next : (text rest out : List ℕ) (number : ℕ) (line after : List ℕ) → 0 < length rest → line ≡ before_first is_feed rest → after ≡ after_first is_feed rest
     → (s : IsSoFar text rest out number) → lines_of text ≡ s.before ++ (line ∷ lines_of after)
-cut_next text rest out number line after some_ front back s =
+cut_next text rest out number line after some_ prefix back s =
     let filled : rest ≡ [] → ⊥ = λ e. let l = ap length e in omega (arith, l) in
-    s.cut ∙ ap (λ x. s.before ++ x) (first_line rest filled ∙ ap (λ x. x ∷ lines_of (after_first is_feed rest)) (sym front) ∙ ap (λ x. line ∷ lines_of x) (sym back))
+    s.cut ∙ ap (λ x. s.before ++ x) (first_line rest filled ∙ ap (λ x. x ∷ lines_of (after_first is_feed rest)) (sym prefix) ∙ ap (λ x. line ∷ lines_of x) (sym back))
 
 pub one_more : (text rest out new : List ℕ) (number : ℕ) (line after : List ℕ) → 0 < length rest → line ≡ before_first is_feed rest → after ≡ after_first is_feed rest
     → IsSoFar text rest out number → LineAdds line out new → IsSoFar text after new (number + 1)
-one_more text rest out new number line after some_ front back s added = record {
+one_more text rest out new number line after some_ prefix back s added = record {
   before = s.before ++ (line ∷ []);
   commands = s.commands ++ added.2.0;
-  cut = cut_next text rest out number line after some_ front back s ∙ sym (append_assoc s.before (line ∷ []) (lines_of after));
+  cut = cut_next text rest out number line after some_ prefix back s ∙ sym (append_assoc s.before (line ∷ []) (lines_of after));
   give = give-append s.before (line ∷ []) s.commands added.2.0 s.give (added.0, added.2.0, [], added.1, added.2.1, sym (append-nil added.2.0), refl);
   count = let e = length-append s.before (line ∷ []) in omega (arith, e, s.count);
   spelled = added.2.2 ∙ ap (λ x. x ++ all_bytes added.2.0) s.spelled ∙ sym (bytes-append s.commands added.2.0);
@@ -86,12 +86,12 @@ one_more text rest out new number line after some_ front back s added = record {
 
 first_fault : (text rest out : List ℕ) (number : ℕ) (line after : List ℕ) (P : List ℕ → Type 0) → 0 < length rest → line ≡ before_first is_feed rest → after ≡ after_first is_feed rest
     → IsSoFar text rest out number → P line → IsFirst text (number + 1) P
-first_fault text rest out number line after P some_ front back s fault = record {
+first_fault text rest out number line after P some_ prefix back s fault = record {
   before = s.before;
   line = line;
   after = lines_of after;
   commands = s.commands;
-  cut = cut_next text rest out number line after some_ front back s;
+  cut = cut_next text rest out number line after some_ prefix back s;
   give = s.give;
   count = omega (arith, s.count);
   fault = fault;
@@ -99,7 +99,7 @@ first_fault text rest out number line after P some_ front back s fault = record 
 
 pub refused : (text rest out : List ℕ) (number : ℕ) (line after : List ℕ) (fault : LineFault) → 0 < length rest → line ≡ before_first is_feed rest → after ≡ after_first is_feed rest
     → IsSoFar text rest out number → HasLineFault line fault → Refuses text (error_at fault (number + 1))
-refused text rest out number line after Line some_ front back s h = first_fault text rest out number line after IsBadLine some_ front back s h
-refused text rest out number line after Value some_ front back s h = first_fault text rest out number line after IsBadValue some_ front back s h
-refused text rest out number line after Data some_ front back s h = first_fault text rest out number line after IsBadData some_ front back s h
-refused text rest out number line after NoMemory some_ front back s h = tt
+refused text rest out number line after Line some_ prefix back s h = first_fault text rest out number line after IsBadLine some_ prefix back s h
+refused text rest out number line after Value some_ prefix back s h = first_fault text rest out number line after IsBadValue some_ prefix back s h
+refused text rest out number line after Data some_ prefix back s h = first_fault text rest out number line after IsBadData some_ prefix back s h
+refused text rest out number line after NoMemory some_ prefix back s h = tt

@@ -22,8 +22,8 @@ drop_least n xs e =
 
 pub named-form_of : (line name rest : List ℕ) → name ≡ take 4 line → rest ≡ drop 4 line → is_blank line ≡ false → bytes_eq line (codes "uel") ≡ false
     → named_in name rest ≡ form_of line
-named-form_of line name rest front back full other =
-    ap (λ n. named_in n rest) front ∙ ap (named_in (take 4 line)) back
+named-form_of line name rest prefix back full other =
+    ap (λ n. named_in n rest) prefix ∙ ap (named_in (take 4 line)) back
     ∙ sym (ap (λ b. cond b (Some Blank) (cond (bytes_eq line (codes "uel")) (Some ExitForm) (named_in (take 4 line) (drop 4 line)))) full
     ∙ ap (λ b. cond b (Some ExitForm) (named_in (take 4 line) (drop 4 line))) other)
 

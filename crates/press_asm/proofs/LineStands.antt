@@ -174,13 +174,13 @@ foreign_written b h =
     let fits = one_fits b h in
     written (ForeignByte b) (ForeignForm b) (encode_upper (b ∷ []), refl, decode_of-encode_upper (b ∷ []) fits) refl (digits_printable (b ∷ []) fits)
 
-no_line : (front : List ℕ) → front ++ (10 ∷ []) ≡ [] → ⊥
+no_line : (prefix : List ℕ) → prefix ++ (10 ∷ []) ≡ [] → ⊥
 no_line [] e = cc
-no_line (b ∷ front) e = cc
+no_line (b ∷ prefix) e = cc
 
 pub line_written : (line : List ℕ) → IsPjlLine line → IsBytes line → IsWritten (PjlLine line)
 line_written line is fits =
-    written (PjlLine line) (LineForm (encode_upper line)) (refl, digits_all line fits, digits_some line (λ e. no_line is.front (sym is.spelled ∙ e)))
+    written (PjlLine line) (LineForm (encode_upper line)) (refl, digits_all line fits, digits_some line (λ e. no_line is.prefix (sym is.spelled ∙ e)))
     (line, decode_of-encode_upper line fits, is, refl) (digits_printable line fits)
 
 abbrev has_some : List ℕ → Bool
@@ -227,10 +227,10 @@ broken_parts (Some s) bytes = refl
 
 pub broken_is_written : (broken : BrokenBytes) (s : Option (ℕ × ℕ)) (bytes : List ℕ) → broken_of s bytes ≡ broken_token broken → IsBytes (beginning s) → IsBytes bytes
     → IsWritten (broken_token broken)
-broken_is_written broken s bytes is front back =
+broken_is_written broken s bytes is prefix back =
     let same : Broken (beginning s ++ bytes) ≡ broken_token broken = sym (broken_parts s bytes) ∙ is in
     let known : ∥ IsBroken (beginning s ++ bytes) ∥₁ = subst (λ (x : List ℕ). ∥ IsBroken x ∥₁) (sym (ap bytes_of same)) broken.broken in
-    subst (λ (t : Token). IsWritten t) same (broken_written (beginning s ++ bytes) known (bytes_both (beginning s) bytes front back))
+    subst (λ (t : Token). IsWritten t) same (broken_written (beginning s ++ bytes) known (bytes_both (beginning s) bytes prefix back))
 
 -- along what a command is
 pub written_along : (command command' : Command) → command ≡ command' → IsWritten (token command') → IsWritten (token command)

@@ -8,23 +8,23 @@ use Rattle.press_cmd.specs.Token.{param_of, broken_of, field_of, end_of, data_of
 use Rattle.press_cmd.specs.View.{param_token}
 use Rattle.press_cmd.specs.declared.payload.Param.{Param}
 use Rattle.press_asm.specs.Form.{spaced}
-use Rattle.press_asm.specs.Written.{written_line, front_of, beginning}
+use Rattle.press_asm.specs.Written.{written_line, prefix_of, beginning}
 use Rattle.press_asm.proofs.Digits.{digits-append, digits-nil, digits_first}
 
 -- the line of a parameter, from the left
 pub param_line : (c : ℕ) (g : Option ℕ) (f : List ℕ) (e : ℕ) (d : List ℕ)
-    → let t = param_of c g f e d in written_line t ≡ front_of t ++ (field_of t ++ ((end_of t ∷ []) ++ spaced (encode_upper (data_of t))))
+    → let t = param_of c g f e d in written_line t ≡ prefix_of t ++ (field_of t ++ ((end_of t ∷ []) ++ spaced (encode_upper (data_of t))))
 param_line c None f e d = ap (λ x. codes "par " ++ (c ∷ x)) (append_assoc f (e ∷ []) (spaced (encode_upper d)))
 param_line c (Some g) f e d = ap (λ x. codes "par " ++ (c ∷ g ∷ x)) (append_assoc f (e ∷ []) (spaced (encode_upper d)))
 
 -- the same of a parameter, from what its parts are told to be
 pub param_from : (p : Param) (f : List ℕ) (e : ℕ) (d : List ℕ) → f ≡ field_of (param_token p) → e ≡ end_of (param_token p) → d ≡ data_of (param_token p)
-    → written_line (param_token p) ≡ front_of (param_token p) ++ (f ++ ((e ∷ []) ++ spaced (encode_upper d)))
+    → written_line (param_token p) ≡ prefix_of (param_token p) ++ (f ++ ((e ∷ []) ++ spaced (encode_upper d)))
 param_from p f e d hf he hd =
     param_line p.character p.group p.field.now p.end p.payload.now
-    ∙ ap (λ x. front_of (param_token p) ++ (x ++ ((end_of (param_token p) ∷ []) ++ spaced (encode_upper (data_of (param_token p)))))) (sym hf)
-    ∙ ap (λ x. front_of (param_token p) ++ (f ++ ((x ∷ []) ++ spaced (encode_upper (data_of (param_token p)))))) (sym he)
-    ∙ ap (λ x. front_of (param_token p) ++ (f ++ ((e ∷ []) ++ spaced (encode_upper x)))) (sym hd)
+    ∙ ap (λ x. prefix_of (param_token p) ++ (x ++ ((end_of (param_token p) ∷ []) ++ spaced (encode_upper (data_of (param_token p)))))) (sym hf)
+    ∙ ap (λ x. prefix_of (param_token p) ++ (f ++ ((x ∷ []) ++ spaced (encode_upper (data_of (param_token p)))))) (sym he)
+    ∙ ap (λ x. prefix_of (param_token p) ++ (f ++ ((e ∷ []) ++ spaced (encode_upper x)))) (sym hd)
 
 -- the line of a broken sequence, from the left
 pub broken_line : (s : Option (ℕ × ℕ)) (bytes : List ℕ) → written_line (broken_of s bytes) ≡ codes "brk " ++ (encode_upper (beginning s) ++ encode_upper bytes)
@@ -42,11 +42,11 @@ in_three o a b c out w x y hw hx hy h =
     hy ∙ ap (λ l. l ++ c) (hx ∙ ap (λ l. l ++ b) hw) ∙ append_assoc (o ++ a) b c ∙ append_assoc o a (b ++ c) ∙ ap (λ l. o ++ l) (sym h)
 
 -- what stood before an appended part stands before all that was appended behind it
-pub front_kept : (old added part new : List ℕ) → part ≡ old ++ added → take (length part) new ≡ part → take (length old) new ≡ old
-front_kept old added part new is kept =
+pub prefix_kept : (old added part new : List ℕ) → part ≡ old ++ added → take (length part) new ≡ part → take (length old) new ≡ old
+prefix_kept old added part new is kept =
     let whole : new ≡ old ++ (added ++ drop (length part) new) =
     sym (take-append-drop (length part) new)
-    ∙ ap (λ front. front ++ drop (length part) new) (kept ∙ is)
+    ∙ ap (λ prefix. prefix ++ drop (length part) new) (kept ∙ is)
     ∙ append_assoc old added (drop (length part) new) in
     ap (take (length old)) whole ∙ take-append_seam old (added ++ drop (length part) new)
 

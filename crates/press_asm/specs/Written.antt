@@ -24,8 +24,8 @@ text_of [] = []
 text_of (command ∷ commands) = written_line command ++ (10 ∷ text_of commands)
 
 -- the name of a parameter's line, its character, and its group if it has one
-abbrev pub front_of : Token → List ℕ
-front_of command = param_name ++ (character_of command ∷ option_to_list (group_of command))
+abbrev pub prefix_of : Token → List ℕ
+prefix_of command = param_name ++ (character_of command ∷ option_to_list (group_of command))
 
 -- the beginning of a sequence that stands apart: the escape character, the character and the group
 abbrev pub beginning : Option (ℕ × ℕ) → List ℕ

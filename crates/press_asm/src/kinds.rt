@@ -34,7 +34,7 @@ fn write_param_kind(
 ) -> Result<(), AllocError>
     ensures ok { OnOk result
         (out.new.items ≡ out.old.items ++ param_kind_line character group end) }
-    ensures front { take (length out.old.items) out.new.items ≡ out.old.items }
+    ensures prefix { take (length out.old.items) out.new.items ≡ out.old.items }
 {
     out.extend_from_slice(&names::PARAM)?;
     match group {
@@ -43,10 +43,10 @@ fn write_param_kind(
     }
 }
 
-/// Appends the line of a kind, or a front of it.
+/// Appends the line of a kind, or a prefix of it.
 fn write_whole_kind(kind: Kind, out: &mut Vec<u8>) -> Result<(), AllocError>
     ensures ok { OnOk result (out.new.items ≡ out.old.items ++ kind_line kind) }
-    ensures front { take (length out.old.items) out.new.items ≡ out.old.items }
+    ensures prefix { take (length out.old.items) out.new.items ≡ out.old.items }
 {
     match kind {
         Kind::Escape(byte) => {

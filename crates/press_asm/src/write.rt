@@ -3,7 +3,7 @@ ghost use Rattle.std.specs.Prelude.{◌≡◌, ◌∷◌, [], ◌++◌, length, 
 ghost use Rattle.hex.specs.Hex.{encode_upper};
 ghost use Rattle.press_cmd.specs.View.{token, param_token, broken_token};
 ghost use Rattle.press_asm.specs.Form.{escape_name, spaced};
-ghost use Rattle.press_asm.specs.Written.{written_line, front_of, beginning, IsWritten};
+ghost use Rattle.press_asm.specs.Written.{written_line, prefix_of, beginning, IsWritten};
 
 use crate::names;
 use crate::written::is_written;
@@ -16,7 +16,7 @@ const DIGITS: [u8; 16] = *b"0123456789ABCDEF";
 /// Appends two digits for each byte, in upper case.
 fn write_digits(bytes: &[u8], out: &mut Vec<u8>) -> Result<(), AllocError>
     ensures ok { OnOk result (out.new.items ≡ out.old.items ++ encode_upper bytes.now) }
-    ensures front { take (length out.old.items) out.new.items ≡ out.old.items }
+    ensures prefix { take (length out.old.items) out.new.items ≡ out.old.items }
 {
     for byte in bytes {
         let high = DIGITS[usize::from(byte / 16)];
@@ -30,7 +30,7 @@ fn write_digits(bytes: &[u8], out: &mut Vec<u8>) -> Result<(), AllocError>
 pub fn write_named(name: &[u8], bytes: &[u8], out: &mut Vec<u8>) -> Result<(), AllocError>
     ensures ok { OnOk result
         (out.new.items ≡ out.old.items ++ (name.now ++ encode_upper bytes.now)) }
-    ensures front { take (length out.old.items) out.new.items ≡ out.old.items }
+    ensures prefix { take (length out.old.items) out.new.items ≡ out.old.items }
 {
     out.extend_from_slice(name)?;
     write_digits(bytes, out)
@@ -39,7 +39,7 @@ pub fn write_named(name: &[u8], bytes: &[u8], out: &mut Vec<u8>) -> Result<(), A
 /// Appends the digits of data after a space, if there is any.
 fn write_spaced(payload: &[u8], out: &mut Vec<u8>) -> Result<(), AllocError>
     ensures ok { OnOk result (out.new.items ≡ out.old.items ++ spaced (encode_upper payload.now)) }
-    ensures front { take (length out.old.items) out.new.items ≡ out.old.items }
+    ensures prefix { take (length out.old.items) out.new.items ≡ out.old.items }
 {
     match payload {
         [] => Ok(()),
@@ -51,17 +51,17 @@ fn write_spaced(payload: &[u8], out: &mut Vec<u8>) -> Result<(), AllocError>
 fn write_escape(escape: EscapeByte, out: &mut Vec<u8>) -> Result<(), AllocError>
     ensures ok { OnOk result
         (out.new.items ≡ out.old.items ++ (escape_name ++ escape.byte ∷ [])) }
-    ensures front { take (length out.old.items) out.new.items ≡ out.old.items }
+    ensures prefix { take (length out.old.items) out.new.items ≡ out.old.items }
 {
     out.extend_from_slice(&names::ESCAPE)?;
     out.extend_from_slice(&[escape.byte])
 }
 
 /// Appends the name of a parameter's line, its character, and its group if it has one.
-fn write_front(param: &Param, out: &mut Vec<u8>) -> Result<(), AllocError>
+fn write_prefix(param: &Param, out: &mut Vec<u8>) -> Result<(), AllocError>
     ensures ok { OnOk result
-        (out.new.items ≡ out.old.items ++ front_of (param_token param.now)) }
-    ensures front { take (length out.old.items) out.new.items ≡ out.old.items }
+        (out.new.items ≡ out.old.items ++ prefix_of (param_token param.now)) }
+    ensures prefix { take (length out.old.items) out.new.items ≡ out.old.items }
 {
     out.extend_from_slice(&names::PARAM)?;
     let character = param.character();
@@ -75,9 +75,9 @@ fn write_front(param: &Param, out: &mut Vec<u8>) -> Result<(), AllocError>
 fn write_param(param: &Param, out: &mut Vec<u8>) -> Result<(), AllocError>
     ensures ok { OnOk result
         (out.new.items ≡ out.old.items ++ written_line (param_token param.now)) }
-    ensures front { take (length out.old.items) out.new.items ≡ out.old.items }
+    ensures prefix { take (length out.old.items) out.new.items ≡ out.old.items }
 {
-    write_front(param, out)?;
+    write_prefix(param, out)?;
     out.extend_from_slice(param.field())?;
     out.extend_from_slice(&[param.end()])?;
     write_spaced(param.data(), out)
@@ -86,7 +86,7 @@ fn write_param(param: &Param, out: &mut Vec<u8>) -> Result<(), AllocError>
 /// Appends the digits of the beginning of a sequence, if it stands apart.
 fn write_sequence(sequence: Option<(u8, u8)>, out: &mut Vec<u8>) -> Result<(), AllocError>
     ensures ok { OnOk result (out.new.items ≡ out.old.items ++ encode_upper (beginning sequence)) }
-    ensures front { take (length out.old.items) out.new.items ≡ out.old.items }
+    ensures prefix { take (length out.old.items) out.new.items ≡ out.old.items }
 {
     match sequence {
         Some((character, group)) => write_digits(&[ESCAPE, character, group], out),
@@ -98,7 +98,7 @@ fn write_sequence(sequence: Option<(u8, u8)>, out: &mut Vec<u8>) -> Result<(), A
 fn write_broken(broken: &Broken, out: &mut Vec<u8>) -> Result<(), AllocError>
     ensures ok { OnOk result
         (out.new.items ≡ out.old.items ++ written_line (broken_token broken.now)) }
-    ensures front { take (length out.old.items) out.new.items ≡ out.old.items }
+    ensures prefix { take (length out.old.items) out.new.items ≡ out.old.items }
 {
     let (sequence, bytes) = broken.parts();
     out.extend_from_slice(&names::BROKEN)?;
@@ -109,7 +109,7 @@ fn write_broken(broken: &Broken, out: &mut Vec<u8>) -> Result<(), AllocError>
 /// Appends the line of a command, without a line feed.
 fn write_text(command: &Command, out: &mut Vec<u8>) -> Result<(), AllocError>
     ensures ok { OnOk result (out.new.items ≡ out.old.items ++ written_line (token command.now)) }
-    ensures front { take (length out.old.items) out.new.items ≡ out.old.items }
+    ensures prefix { take (length out.old.items) out.new.items ≡ out.old.items }
 {
     match command {
         Command::Escape(escape) => write_escape(*escape, out),
@@ -123,11 +123,11 @@ fn write_text(command: &Command, out: &mut Vec<u8>) -> Result<(), AllocError>
     }
 }
 
-/// Appends the line of a command, with its line feed, or a front of it.
+/// Appends the line of a command, with its line feed, or a prefix of it.
 fn write_ended(command: &Command, out: &mut Vec<u8>) -> Result<(), AllocError>
     ensures ok { OnOk result
         (out.new.items ≡ out.old.items ++ (written_line (token command.now) ++ (10 ∷ []))) }
-    ensures front { take (length out.old.items) out.new.items ≡ out.old.items }
+    ensures prefix { take (length out.old.items) out.new.items ≡ out.old.items }
 {
     write_text(command, out)?;
     out.extend_from_slice(&[LINE_FEED])

@@ -49,14 +49,14 @@ painted_then old rows new mode source tile from at to begun left first second p 
           second p
           ∙ not_mixed _ mode (source p) (tile p) (row_dot rows p) (before_test at to p before)
           ∙ first p
-          ∙ ap (λ t. mixed_dot t mode (source p) (tile p) (row_dot old p)) (same_front from at to p before left)
+          ∙ ap (λ t. mixed_dot t mode (source p) (tile p) (row_dot old p)) (same_prefix from at to p before left)
       | inr behind ↦
           second p
           ∙ (λ i. mixed_dot (same_back from at to p behind begun i) mode (source p) (tile p) ((first p ∙ not_mixed _ mode (source p) (tile p) (row_dot old p) (past_test from at p behind)) i))
     ]
   where
-    same_front : (from at to p : ℕ) → p < at → at ≤ to → (nat_le from p && nat_lt p at) ≡ (nat_le from p && nat_lt p to)
-    same_front from at to p before left = grind (arith, nat_tests)
+    same_prefix : (from at to p : ℕ) → p < at → at ≤ to → (nat_le from p && nat_lt p at) ≡ (nat_le from p && nat_lt p to)
+    same_prefix from at to p before left = grind (arith, nat_tests)
 
     same_back : (from at to p : ℕ) → at ≤ p → from ≤ at → (nat_le at p && nat_lt p to) ≡ (nat_le from p && nat_lt p to)
     same_back from at to p behind begun = grind (arith, nat_tests)

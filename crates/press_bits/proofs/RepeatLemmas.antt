@@ -72,20 +72,20 @@ turned n s j small low within =
     itself true = refl
     itself false = refl
 
-pub turned_front : (pattern : Row) (front q j : ℕ) → front < 2 ^ 64 → 64 % pattern.dots ≡ 0 → ((i : ℕ) → i < 64 → word_dot front i ≡ repeated pattern i) → j < 64 →
-    word_dot (rotate_left w64 front (q % 64)) j ≡ repeated pattern (q + j)
-turned_front pattern front q j small divides dots within =
+pub turned_prefix : (pattern : Row) (prefix q j : ℕ) → prefix < 2 ^ 64 → 64 % pattern.dots ≡ 0 → ((i : ℕ) → i < 64 → word_dot prefix i ≡ repeated pattern i) → j < 64 →
+    word_dot (rotate_left w64 prefix (q % 64)) j ≡ repeated pattern (q + j)
+turned_prefix pattern prefix q j small divides dots within =
     let whole : (q % 64 + j) % 64 ≡ (q + j) % 64 = omega arith in
     let place : 64 * ((q + j) / 64) + (q + j) % 64 ≡ q + j = omega arith in
-    turned front (q % 64) j small (omega arith) within
-    ∙ ap (word_dot front) whole
+    turned prefix (q % 64) j small (omega arith) within
+    ∙ ap (word_dot prefix) whole
     ∙ dots ((q + j) % 64) (omega arith)
     ∙ sym (times_64 pattern ((q + j) / 64) (IsPeriod-64 pattern divides) ((q + j) % 64))
     ∙ ap (repeated pattern) place
 
 -- a pattern whose width divides sixty-four is black where its first sixty-four dots are
-pub black_front : (pattern : Row) (front : ℕ) → front ≡ 2 ^ 64 - 1 → 64 % pattern.dots ≡ 0 → ((i : ℕ) → i < 64 → word_dot front i ≡ repeated pattern i) → IsBlack pattern
-black_front pattern front full divides dots = λ i.
+pub black_prefix : (pattern : Row) (prefix : ℕ) → prefix ≡ 2 ^ 64 - 1 → 64 % pattern.dots ≡ 0 → ((i : ℕ) → i < 64 → word_dot prefix i ≡ repeated pattern i) → IsBlack pattern
+black_prefix pattern prefix full divides dots = λ i.
     let place : 64 * (i / 64) + i % 64 ≡ i = omega arith in
     ap (repeated pattern) (sym place)
     ∙ times_64 pattern (i / 64) (IsPeriod-64 pattern divides) (i % 64)

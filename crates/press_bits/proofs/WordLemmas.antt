@@ -240,24 +240,24 @@ nine_bytes bits first left right j small dots is within =
     ]
 
 -- the front of one word, and behind it another
-pub joined_front : (front rest count j : ℕ) → rest < 2 ^ 64 → count < 64 → j < count → word_dot (bit_or (front / 2 ^ (64 - count) * 2 ^ (64 - count) % 2 ^ 64) (rest / 2 ^ count)) j ≡ word_dot front j
-joined_front front rest count j small few before =
-    word_dot-or (front / 2 ^ (64 - count) * 2 ^ (64 - count) % 2 ^ 64) (rest / 2 ^ count) j
-    ∙ (λ i. shifted_left (front / 2 ^ (64 - count)) (64 - count) j (omega arith) i || white_before rest count j small before (omega arith) i)
-    ∙ or_false (word_dot (front / 2 ^ (64 - count)) (64 - count + j))
-    ∙ shifted_right front (64 - count) (64 - count + j) (omega arith) (omega arith)
-    ∙ ap (word_dot front) (omega arith)
+pub joined_prefix : (prefix rest count j : ℕ) → rest < 2 ^ 64 → count < 64 → j < count → word_dot (bit_or (prefix / 2 ^ (64 - count) * 2 ^ (64 - count) % 2 ^ 64) (rest / 2 ^ count)) j ≡ word_dot prefix j
+joined_prefix prefix rest count j small few before =
+    word_dot-or (prefix / 2 ^ (64 - count) * 2 ^ (64 - count) % 2 ^ 64) (rest / 2 ^ count) j
+    ∙ (λ i. shifted_left (prefix / 2 ^ (64 - count)) (64 - count) j (omega arith) i || white_before rest count j small before (omega arith) i)
+    ∙ or_false (word_dot (prefix / 2 ^ (64 - count)) (64 - count + j))
+    ∙ shifted_right prefix (64 - count) (64 - count + j) (omega arith) (omega arith)
+    ∙ ap (word_dot prefix) (omega arith)
 
-pub joined_rest : (front rest count j : ℕ) → count < 64 → count ≤ j → j < 64 → word_dot (bit_or (front / 2 ^ (64 - count) * 2 ^ (64 - count) % 2 ^ 64) (rest / 2 ^ count)) j ≡ word_dot rest (j - count)
-joined_rest front rest count j few behind within =
-    word_dot-or (front / 2 ^ (64 - count) * 2 ^ (64 - count) % 2 ^ 64) (rest / 2 ^ count) j
-    ∙ (λ i. white_behind (front / 2 ^ (64 - count)) (64 - count) j within (omega arith) i || shifted_right rest count j behind within i)
+pub joined_rest : (prefix rest count j : ℕ) → count < 64 → count ≤ j → j < 64 → word_dot (bit_or (prefix / 2 ^ (64 - count) * 2 ^ (64 - count) % 2 ^ 64) (rest / 2 ^ count)) j ≡ word_dot rest (j - count)
+joined_rest prefix rest count j few behind within =
+    word_dot-or (prefix / 2 ^ (64 - count) * 2 ^ (64 - count) % 2 ^ 64) (rest / 2 ^ count) j
+    ∙ (λ i. white_behind (prefix / 2 ^ (64 - count)) (64 - count) j within (omega arith) i || shifted_right rest count j behind within i)
 
 -- of sixty-four dots from `start` on, those from `from` on and before `to`
 pub masked : (start from to j : ℕ) → start ≤ from → to ≤ start + 64 → j < 64 →
     word_dot (bit_and ((2 ^ 64 - 1) / 2 ^ (from - start)) ((2 ^ 64 - 1) * 2 ^ (start + 64 - to) % 2 ^ 64)) j ≡ (nat_le from (start + j) && nat_lt (start + j) to)
 masked start from to j begun within low =
-    word_dot-and ((2 ^ 64 - 1) / 2 ^ (from - start)) ((2 ^ 64 - 1) * 2 ^ (start + 64 - to) % 2 ^ 64) j ∙ (λ i. front i && back i)
+    word_dot-and ((2 ^ 64 - 1) / 2 ^ (from - start)) ((2 ^ 64 - 1) * 2 ^ (start + 64 - to) % 2 ^ 64) j ∙ (λ i. prefix i && back i)
   where
     is_before : (from p : ℕ) → p < from → false ≡ nat_le from p
     is_before from p before = grind (arith, nat_tests)
@@ -271,8 +271,8 @@ masked start from to j begun within low =
     is_past : (p to : ℕ) → to ≤ p → false ≡ nat_lt p to
     is_past p to past = grind (arith, nat_tests)
 
-    front : word_dot ((2 ^ 64 - 1) / 2 ^ (from - start)) j ≡ nat_le from (start + j)
-    front =
+    prefix : word_dot ((2 ^ 64 - 1) / 2 ^ (from - start)) j ≡ nat_le from (start + j)
+    prefix =
         elim (cases_lt j (from - start)) [
           | inl before ↦ white_before (2 ^ 64 - 1) (from - start) j (omega arith) before low ∙ is_before from (start + j) (omega arith)
           | inr reached ↦ shifted_right (2 ^ 64 - 1) (from - start) j reached low ∙ word_dot-ones (j - (from - start)) ∙ is_from from (start + j) (omega arith)
@@ -288,21 +288,21 @@ masked start from to j begun within low =
 -- ---- bytes that are put into rows
 
 module _ (rows bytes : List ℕ) (index k : ℕ) (long : length bytes ≡ k) (room : index + k ≤ length rows) where
-  front_long : length (take index rows) ≡ index
-  front_long = omega (arith, length-take index rows, room)
+  prefix_long : length (take index rows) ≡ index
+  prefix_long = omega (arith, length-take index rows, room)
 
   pub put_at : (i : ℕ) → i < k → get_or (put_mid index k rows bytes) (index + i) 0 ≡ get_or bytes i 0
   put_at i within =
-      get_or-append_right (take index rows) _ index (index + i) 0 front_long (omega arith)
+      get_or-append_right (take index rows) _ index (index + i) 0 prefix_long (omega arith)
       ∙ get_or_append_left bytes _ 0 (index + i - index) (omega arith)
       ∙ ap (λ m. get_or bytes m 0) (omega arith)
 
   put_below : (i : ℕ) → i < index → get_or (put_mid index k rows bytes) i 0 ≡ get_or rows i 0
-  put_below i before = get_or_append_left (take index rows) _ 0 i (omega (arith, front_long)) ∙ get_or-take index rows i 0 before
+  put_below i before = get_or_append_left (take index rows) _ 0 i (omega (arith, prefix_long)) ∙ get_or-take index rows i 0 before
 
   put_above : (i : ℕ) → index + k ≤ i → get_or (put_mid index k rows bytes) i 0 ≡ get_or rows i 0
   put_above i past =
-      get_or-append_right (take index rows) _ index i 0 front_long (omega arith)
+      get_or-append_right (take index rows) _ index i 0 prefix_long (omega arith)
       ∙ get_or-append_right bytes _ k (i - index) 0 long (omega arith)
       ∙ get_or-drop k (drop index rows) (i - index - k) 0
       ∙ get_or-drop index rows (k + (i - index - k)) 0

@@ -55,7 +55,7 @@ impl Model for Bands {
 }
 
 /// The first of the bytes.
-fn front(bytes: &[u8], count: usize) -> &[u8]
+fn prefix(bytes: &[u8], count: usize) -> &[u8]
     requires { count ≤ length bytes.now }
     ensures { result.now ≡ take count bytes.now }
 {
@@ -209,9 +209,9 @@ impl Bands {
         let count = lines as usize * line_bytes(self.width as usize);
         let band = &self.bands[index as usize];
         if !band.is_there() {
-            return front(&[0; BAND * WIDEST_ROW], count);
+            return prefix(&[0; BAND * WIDEST_ROW], count);
         }
-        front(band.bytes(), count)
+        prefix(band.bytes(), count)
     }
 
     /// Whether a band has the bytes of another page's; so has one that is not there on both.

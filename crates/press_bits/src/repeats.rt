@@ -12,11 +12,11 @@ use crate::word::{joined, word_from};
 #[derive(Clone, Copy)]
 pub(crate) struct Repeats<'p> {
     pub(crate) pattern: DotRow<'p>,
-    front: u64,
+    prefix: u64,
     /// Whether its width divides sixty-four.
     divides: bool,
     ghost some: { 1 ≤ pattern.dots },
-    ghost dots: { (j : ℕ) → j < 64 → word_dot front j ≡ repeated (row pattern) j },
+    ghost dots: { (j : ℕ) → j < 64 → word_dot prefix j ≡ repeated (row pattern) j },
     ghost turns: { divides ≡ true → 64 % pattern.dots ≡ 0 },
 }
 
@@ -26,15 +26,15 @@ impl<'p> Repeats<'p> {
         requires { 1 ≤ pattern.dots }
         ensures { result.pattern ≡ pattern.entry }
     {
-        let mut front = word_from(pattern.bits, 0);
+        let mut prefix = word_from(pattern.bits, 0);
         let mut known = pattern.dots;
         while known < 64 {
-            front = joined(front, known, front);
+            prefix = joined(prefix, known, prefix);
             known *= 2;
         }
         Repeats {
             pattern,
-            front,
+            prefix,
             divides: 64 % pattern.dots == 0,
         }
     }
@@ -43,7 +43,7 @@ impl<'p> Repeats<'p> {
     pub(crate) fn is_black(&self) -> bool
         ensures { result ≡ true → IsBlack (row self.now.pattern) }
     {
-        self.divides && self.front == u64::MAX
+        self.divides && self.prefix == u64::MAX
     }
 
     /// Sixty-four of its dots, from dot `first` on. Where its width divides sixty-four, they are those of the front, turned.
@@ -53,13 +53,13 @@ impl<'p> Repeats<'p> {
             → word_dot result j ≡ repeated (row self.now.pattern) (first + j) }
     {
         if self.divides {
-            return self.front.rotate_left((first % 64) as u32);
+            return self.prefix.rotate_left((first % 64) as u32);
         }
         let phase = first % self.pattern.dots;
         let word = word_from(self.pattern.bits, phase);
         let known = self.pattern.dots - phase;
         if known < 64 {
-            joined(word, known, self.front)
+            joined(word, known, self.prefix)
         } else {
             word
         }

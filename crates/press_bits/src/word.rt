@@ -67,14 +67,14 @@ pub fn put_word(rows: &mut [u8], index: usize, word: u64)
 
 /// The first `count` dots of one word, and then dots of another from its first on.
 #[inline(always)]
-pub(crate) fn joined(front: u64, count: usize, rest: u64) -> u64
+pub(crate) fn joined(prefix: u64, count: usize, rest: u64) -> u64
     requires some { 1 ≤ count }
     requires few { count < 64 }
-    ensures front { (j : ℕ) → j < count → word_dot result j ≡ word_dot front j }
+    ensures prefix { (j : ℕ) → j < count → word_dot result j ≡ word_dot prefix j }
     ensures rest { (j : ℕ) → count ≤ j → j < 64 → word_dot result j ≡ word_dot rest (j - count) }
 {
     let past = 64 - count;
-    ((front >> past) << past) | (rest >> count)
+    ((prefix >> past) << past) | (rest >> count)
 }
 
 /// Sixty-four dots that are all black, or all white.

@@ -147,7 +147,7 @@ test_of false = inr refl
 module _ (step fronts : ℕ) (is : IsStep step fronts) (front rear j : ℕ) (low : j < 64) where
   pub front_dot : front < 2 ^ 64 → rear < 2 ^ 64 → word_dot (bit_or (bit_and front fronts) (bit_and rear fronts / 2 ^ step)) j
       ≡ (if is_front step j then word_dot front j else word_dot rear (j - step))
-  front_dot small_front small_rear =
+  front_dot small_prefix small_rear =
       word_dot-or (bit_and front fronts) (bit_and rear fronts / 2 ^ step) j
       ∙ elim (test_of (is_front step j)) [
         | inl test ↦
@@ -175,7 +175,7 @@ module _ (step fronts : ℕ) (is : IsStep step fronts) (front rear j : ℕ) (low
 
   pub rear_dot : front < 2 ^ 64 → rear < 2 ^ 64 → word_dot (bit_or (bit_and front (bit_not w64 fronts) * 2 ^ step % 2 ^ 64) (bit_and rear (bit_not w64 fronts))) j
       ≡ (if is_front step j then word_dot front (j + step) else word_dot rear j)
-  rear_dot small_front small_rear =
+  rear_dot small_prefix small_rear =
       word_dot-or (bit_and front (bit_not w64 fronts) * 2 ^ step % 2 ^ 64) (bit_and rear (bit_not w64 fronts)) j
       ∙ elim (test_of (is_front step j)) [
         | inl test ↦

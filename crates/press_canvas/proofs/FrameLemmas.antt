@@ -4,7 +4,7 @@ use Rattle.press_bits.specs.Mark.{Mark, painted}
 use Rattle.press_bits.specs.Page.{Page, blank, HasNoDotOutside}
 use Rattle.press_bits.proofs.MarkLemmas.{width-painted, height-painted}
 use Rattle.press_bits.proofs.PageLemmas.{page_where_itself, width-blank, height-blank}
-use Rattle.press_page.specs.Media.{turned}
+use Rattle.press_page.specs.PageSetup.{turned}
 use Rattle.press_page.specs.declared.media.Orientation.{Orientation}
 use Rattle.press_page.specs.declared.media.Orientation.TheVariants.{Portrait, Landscape, ReversePortrait, ReverseLandscape}
 use Rattle.press_page.specs.declared.place.Extent.{Extent}

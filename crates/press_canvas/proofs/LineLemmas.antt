@@ -42,8 +42,8 @@ painted_line page y source pattern wide solid =
 
 -- ---- the dots that are written
 
-pub row_dot-front : (bits : List ℕ) (n x : ℕ) → x < 8 * n → row_dot (take n bits) x ≡ row_dot bits x
-row_dot-front bits n x low =
+pub row_dot-prefix : (bits : List ℕ) (n x : ℕ) → x < 8 * n → row_dot (take n bits) x ≡ row_dot bits x
+row_dot-prefix bits n x low =
     let place : 8 * 0 + x ≡ x = omega arith in
     row_dot-slice bits 0 n x low ∙ ap (row_dot bits) place
 

@@ -5,7 +5,7 @@ use Rattle.press_bits.specs.Mark.{Mark, effect_at, marked_dot, painted}
 use Rattle.press_bits.specs.Page.{Page, black_at, blank, HasNoDotOutside}
 use Rattle.press_bits.proofs.MarkLemmas.{painted_by, black_at-painted}
 use Rattle.press_bits.proofs.PageLemmas.{page_where_itself, page_where_alike, width-page_where, height-page_where, black_at-page_where, page_where-HasNoDotOutside, black_at-blank, blank_is}
-use Rattle.press_page.specs.Media.{turned}
+use Rattle.press_page.specs.PageSetup.{turned}
 use Rattle.press_page.specs.Place.{placed_dot}
 use Rattle.press_page.specs.declared.media.Orientation.{Orientation}
 use Rattle.press_page.specs.declared.media.Orientation.TheVariants.{Portrait, Landscape, ReversePortrait, ReverseLandscape}

@@ -3,7 +3,7 @@
 use Rattle.std.specs.Prelude.{ℕ, Bool, true, false, ◌&&◌, nat_eq, nat_lt, if◌then◌else◌}
 use Rattle.press_bits.specs.Mark.{Mark}
 use Rattle.press_bits.specs.Page.{Page, black_at, page_where}
-use Rattle.press_page.specs.Media.{turned}
+use Rattle.press_page.specs.PageSetup.{turned}
 use Rattle.press_page.specs.Place.{placed_dot}
 use Rattle.press_page.specs.declared.media.Orientation.{Orientation}
 use Rattle.press_page.specs.declared.media.Orientation.TheVariants.{Portrait, Landscape, ReversePortrait, ReverseLandscape}

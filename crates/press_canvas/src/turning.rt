@@ -3,7 +3,7 @@
 
 ghost use Rattle.std.specs.Prelude.{◌≡◌, ℕ, ◌≤◌, true, IfOk, OnOk};
 ghost use Rattle.press_bits.specs.Page.{blank, is_page_size};
-ghost use Rattle.press_page.specs.Media.{turned};
+ghost use Rattle.press_page.specs.PageSetup.{turned};
 ghost use Rattle.press_canvas.specs.Turned.{extent, page_of_frame, upright};
 
 use crate::columns::put_columns;

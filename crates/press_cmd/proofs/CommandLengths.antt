@@ -7,7 +7,7 @@ use Rattle.press_units.specs.Field.{is_value_field, is_field_text, longest_field
 use Rattle.press_units.specs.Value.{with_sign, is_minus, whole_part, lowest, highest, greatest, parts_of, magnitude_of}
 use Rattle.std.specs.Option.{unwrap_or}
 use Rattle.press_cmd.specs.Carried.{count_of, carries_data, data_count, longest_data}
-use Rattle.press_cmd.specs.Mode.{Mode, Pcl}
+use Rattle.press_cmd.specs.ParserState.{ParserState, Pcl}
 use Rattle.press_cmd.specs.Grammar.{Whole, IsPjlLine, IsBroken}
 use Rattle.press_cmd.specs.Token.{Token, Escape, Grouped, Ungrouped, Control, Text, Broken, Uel, PjlLine, ForeignByte, bytes_of}
 use Rattle.press_cmd.specs.Stored.{IsSound, longest_command}
@@ -42,7 +42,7 @@ data_count-fits character group field end =
 value_field-fits : (field : List ℕ) → is_value_field field ≡ true → length field ≤ longest_field
 value_field-fits field is = leb-true _ _ (and_parts (is_field_text field) (nat_le (length field) longest_field) is).1
 
-whole-fits : (bytes : List ℕ) (command : Token) (next : Mode) → Whole Pcl bytes command next → length bytes ≤ longest_command
+whole-fits : (bytes : List ℕ) (command : Token) (next : ParserState) → Whole Pcl bytes command next → length bytes ≤ longest_command
 whole-fits bytes (Escape byte) next w = omega (arith, ap length w.1)
 whole-fits bytes (Grouped c g f e d) next w =
     let few = data_count-fits c (Some g) f e in

@@ -57,7 +57,7 @@ line-at u None e h fits = cc
 line-at u (Some x) e h fits =
     let r = ends_plain-true x h in
     record {
-      front = pjl_mark ++ r.text;
+      prefix = pjl_mark ++ r.text;
       spelled = stripped-true pjl_mark u x e ∙ ap (λ y. pjl_mark ++ y) r.spelled;
       begins = record { text = r.text; mark = refl; plain = r.plain };
       fits = fits;
@@ -90,7 +90,7 @@ take-not_differs (byte ∷ text) (other ∷ bytes) same enough =
 pub BeginsLine-from_tests : (bytes : List ℕ) → differs pjl_mark bytes ≡ false → 4 ≤ length bytes → list_all is_line_byte (drop 4 bytes) ≡ true → BeginsLine bytes
 BeginsLine-from_tests bytes same enough plain = record {
   text = drop 4 bytes;
-  mark = sym (take-append-drop 4 bytes) ∙ ap (λ front. front ++ drop 4 bytes) (take-not_differs pjl_mark bytes same enough);
+  mark = sym (take-append-drop 4 bytes) ∙ ap (λ prefix. prefix ++ drop 4 bytes) (take-not_differs pjl_mark bytes same enough);
   plain = plain;
 }
 

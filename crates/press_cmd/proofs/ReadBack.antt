@@ -1,7 +1,7 @@
 -- The written bytes of a command are read as the command.
 use Rattle.std.proofs.Common.{◌≡◌, ◌∙◌, ℕ, List, [], ◌∷◌, ◌++◌, length, false, cond, Option, Some, None, refl, sym, ap, subst, inl, IsTrue}
 use Rattle.press_cmd.specs.Token.{Token, Escape, Grouped, Ungrouped, Control, Text, Uel, PjlLine, bytes_of, param_of, broken_of, uel, pjl_mark}
-use Rattle.press_cmd.specs.Mode.{Mode, Exit, Pcl}
+use Rattle.press_cmd.specs.ParserState.{ParserState, Exit, Pcl}
 use Rattle.press_cmd.specs.Grammar.{Whole, Head, Stands, IsCharacter, IsGroup, IsEnd, IsPjlLine, differs}
 use Rattle.std.specs.Option.{ForSome}
 use Rattle.press_cmd.specs.Carried.{data_count}
@@ -16,15 +16,15 @@ use Rattle.press_cmd.proofs.Heads.{one_head}
 use Rattle.press_cmd.proofs.LineTest.{IsPjlLine-known}
 
 -- where a command is a Head whatever follows, the split begins with it
-begins_split : (from : Mode) (t : Token) (n : Mode) → ((v : List ℕ) → Head from (bytes_of t) v t n) → BeginsSplit from t
+begins_split : (from : ParserState) (t : Token) (n : ParserState) → ((v : List ℕ) → Head from (bytes_of t) v t n) → BeginsSplit from t
 begins_split from t n head v [] mode rest s =
-    absurd (s.short (bytes_of t) v t n (sym s.steps.1) (subst (λ (k : Mode). Head k (bytes_of t) v t n) s.steps.0 (head v)))
+    absurd (s.short (bytes_of t) v t n (sym s.steps.1) (subst (λ (k : ParserState). Head k (bytes_of t) v t n) s.steps.0 (head v)))
 begins_split from t n head v (c ∷ others) mode rest s =
     let h = s.steps in
     let same = one_head from h.0 h.1 (bytes_of t) v c t h.2 n h.4 (head v) (sym h.3) in
     (others, ap (λ x. x ∷ others) same.2)
 
-reads_back : (from : Mode) (t : Token) (n : Mode) → ((v : List ℕ) → Head from (bytes_of t) v t n) → ReadsBack from t n
+reads_back : (from : ParserState) (t : Token) (n : ParserState) → ((v : List ℕ) → Head from (bytes_of t) v t n) → ReadsBack from t n
 reads_back from t n head = record { head = head; split = begins_split from t n head }
 
 -- a parameter by itself is a whole command of PCL
@@ -54,7 +54,7 @@ at_mark u v is = ap (λ w. differs pjl_mark (w ++ v)) (is.spelled ∙ ap (λ w. 
 
 -- a PJL line is a Head in mode Exit
 pub line-Head : (u : List ℕ) → IsPjlLine u → (v : List ℕ) → Head Exit u v (PjlLine u) (mode_after u)
-line-Head u is v = subst (λ (k : Mode). Stands k u v (PjlLine u) (mode_after u)) (ap (λ d. cond d Pcl Exit) (sym (at_mark u v is))) (refl, is, refl)
+line-Head u is v = subst (λ (k : ParserState). Stands k u v (PjlLine u) (mode_after u)) (ap (λ d. cond d Pcl Exit) (sym (at_mark u v is))) (refl, is, refl)
 
 line-read_back : (u : List ℕ) → IsPjlLine u → ReadsBack Exit (PjlLine u) (mode_after u)
 line-read_back u is = reads_back Exit (PjlLine u) (mode_after u) (line-Head u is)

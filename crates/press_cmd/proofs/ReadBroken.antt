@@ -2,7 +2,7 @@
 use Rattle.std.proofs.Common.{◌≡◌, ◌<◌, ◌+◌, ◌∙◌, ◌⊎◌, ℕ, suc, List, [], ◌∷◌, ◌++◌, length, true, Some, None, refl, sym, ap, subst, inl, inr, arith, append_assoc, length-append, replicate}
 use Rattle.std.proofs.lemmas.List.{append-nil, length-replicate}
 use Rattle.press_cmd.specs.Token.{Token, Escape, Grouped, Ungrouped, escape_byte}
-use Rattle.press_cmd.specs.Mode.{Mode, Exit, Tail, Foreign, Pcl, Open}
+use Rattle.press_cmd.specs.ParserState.{ParserState, Exit, OverlongLine, OtherLanguage, Pcl, Open}
 use Rattle.press_units.specs.Field.{is_value_field}
 use Rattle.press_cmd.specs.Grammar.{Whole, GoesOn, Breaks, IsCharacter}
 use Rattle.press_cmd.proofs.Reading.{State, Start, Escaped, Single, Pair, SingleData, PairData, Step, Goes, Gives, Stops, Nothing, Found, step, after_step, read_on}
@@ -41,7 +41,7 @@ goes-single u c f is field r =
       ),
     )
 
-goes-pair : (m : Mode) (u : List ℕ) (c g : ℕ) (f : List ℕ) → is_value_field f ≡ true → Wraps m c g u f → GoesOn m u
+goes-pair : (m : ParserState) (u : List ℕ) (c g : ℕ) (f : List ℕ) → is_value_field f ≡ true → Wraps m c g u f → GoesOn m u
 goes-pair m u c g f field wraps = (
   64,
   [],
@@ -73,7 +73,7 @@ goes-single_data u c f e n d r =
       ),
     )
 
-goes-pair_data : (m : Mode) (u : List ℕ) (c g : ℕ) (f : List ℕ) (e : ℕ) (next : Mode) (n : ℕ) (d : List ℕ) → PairDataRead m u c g f e next n d → GoesOn m u
+goes-pair_data : (m : ParserState) (u : List ℕ) (c g : ℕ) (f : List ℕ) (e : ℕ) (next : ParserState) (n : ℕ) (d : List ℕ) → PairDataRead m u c g f e next n d → GoesOn m u
 goes-pair_data m u c g f e next n d r =
     let more : List ℕ = 0 ∷ replicate n 0 in
     let size : length (d ++ more) ≡ length d + suc n = length-append d more ∙ ap (λ k. length d + suc k) (length-replicate n 0) in (
@@ -86,49 +86,49 @@ goes-pair_data m u c g f e next n d r =
     )
 
 -- What has been read, but nothing, goes on to a whole command.
-pub reached-GoesOn : (s : State) (m : Mode) (u : List ℕ) → Reached s m u → (u ≡ [] → ⊥) → GoesOn m u
+pub reached-GoesOn : (s : State) (m : ParserState) (u : List ℕ) → Reached s m u → (u ≡ [] → ⊥) → GoesOn m u
 reached-GoesOn Start Pcl u r some_ = absurd (some_ r)
 reached-GoesOn Start (Open x y) u r some_ = absurd r
 reached-GoesOn Start Exit u r some_ = absurd r
-reached-GoesOn Start Tail u r some_ = absurd r
-reached-GoesOn Start Foreign u r some_ = absurd r
+reached-GoesOn Start OverlongLine u r some_ = absurd r
+reached-GoesOn Start OtherLanguage u r some_ = absurd r
 reached-GoesOn Escaped Pcl u r some_ = (64, [], Escape 64, Pcl, ((omega arith, omega arith), ap (λ w. w ++ (64 ∷ [])) r, refl))
 reached-GoesOn Escaped (Open x y) u r some_ = absurd r
 reached-GoesOn Escaped Exit u r some_ = absurd r
-reached-GoesOn Escaped Tail u r some_ = absurd r
-reached-GoesOn Escaped Foreign u r some_ = absurd r
+reached-GoesOn Escaped OverlongLine u r some_ = absurd r
+reached-GoesOn Escaped OtherLanguage u r some_ = absurd r
 reached-GoesOn (Single c f) Pcl u r some_ = goes-single u c f r.0 r.1 r.2
 reached-GoesOn (Single c f) (Open x y) u r some_ = absurd r
 reached-GoesOn (Single c f) Exit u r some_ = absurd r
-reached-GoesOn (Single c f) Tail u r some_ = absurd r
-reached-GoesOn (Single c f) Foreign u r some_ = absurd r
+reached-GoesOn (Single c f) OverlongLine u r some_ = absurd r
+reached-GoesOn (Single c f) OtherLanguage u r some_ = absurd r
 reached-GoesOn (SingleData c f e n d) Pcl u r some_ = goes-single_data u c f e n d r
 reached-GoesOn (SingleData c f e n d) (Open x y) u r some_ = absurd r
 reached-GoesOn (SingleData c f e n d) Exit u r some_ = absurd r
-reached-GoesOn (SingleData c f e n d) Tail u r some_ = absurd r
-reached-GoesOn (SingleData c f e n d) Foreign u r some_ = absurd r
+reached-GoesOn (SingleData c f e n d) OverlongLine u r some_ = absurd r
+reached-GoesOn (SingleData c f e n d) OtherLanguage u r some_ = absurd r
 reached-GoesOn (Pair c g f) m u r some_ = goes-pair m u c g f r.0 r.1
 reached-GoesOn (PairData c g f e next n d) m u r some_ = goes-pair_data m u c g f e next n d r
 
 -- ---- a walk over bytes that give no command yet
 
 -- after these bytes the state is this one
-pub record Walked (m : Mode) (u : List ℕ) (s : State) : Type 0 where
+pub record Walked (m : ParserState) (u : List ℕ) (s : State) : Type 0 where
   pub reached : Reached s m u
   pub leads : (z : List ℕ) → read_on (start m) (u ++ z) ≡ read_on s z
 
-walked-more : (m : Mode) (u : List ℕ) (s : State) (b : ℕ) (further : State) → Walked m u s → step s b ≡ Goes further → Walked m (u ++ (b ∷ [])) further
+walked-more : (m : ParserState) (u : List ℕ) (s : State) (b : ℕ) (further : State) → Walked m u s → step s b ≡ Goes further → Walked m (u ++ (b ∷ [])) further
 walked-more m u s b further w e =
     record {
       reached = subst (λ (o : Step). Sound m u b o) e (step_sound s m u b w.reached);
       leads = λ z. ap (read_on (start m)) (append_assoc u (b ∷ []) z) ∙ w.leads (b ∷ z) ∙ ap (λ o. after_step o b z (λ t. read_on t z)) e;
     }
 
-record SomeWalk (m : Mode) (u : List ℕ) : Type 0 where
+record SomeWalk (m : ParserState) (u : List ℕ) : Type 0 where
   state : State
   walked : Walked m u state
 
-walk-at : (m : Mode) (u0 : List ℕ) (s : State) (b : ℕ) (u y : List ℕ) (t : Token) (n : Mode) (left : List ℕ) (o : Step) → Walked m u0 s → step s b ≡ o
+walk-at : (m : ParserState) (u0 : List ℕ) (s : State) (b : ℕ) (u y : List ℕ) (t : Token) (n : ParserState) (left : List ℕ) (o : Step) → Walked m u0 s → step s b ≡ o
     → after_step o b (u ++ y) (λ k. read_on k (u ++ y)) ≡ Found t n left → length left < length y
     → ((further : State) → Walked m (u0 ++ (b ∷ [])) further → read_on further (u ++ y) ≡ Found t n left → SomeWalk m ((u0 ++ (b ∷ [])) ++ u))
     → SomeWalk m (u0 ++ (b ∷ u))
@@ -140,24 +140,24 @@ walk-at m u0 s b u y t n left (Stops c) w e h short ih =
     let same : b ∷ (u ++ y) ≡ left = cc in absurd (omega (arith, length-append u y, ap length same))
 walk-at m u0 s b u y t n left Nothing w e h short ih = cc
 
-walk : (m : Mode) (u0 : List ℕ) (s : State) (u y : List ℕ) (t : Token) (n : Mode) (left : List ℕ) → Walked m u0 s
+walk : (m : ParserState) (u0 : List ℕ) (s : State) (u y : List ℕ) (t : Token) (n : ParserState) (left : List ℕ) → Walked m u0 s
     → read_on s (u ++ y) ≡ Found t n left → length left < length y → SomeWalk m (u0 ++ u)
 walk m u0 s [] y t n left w h short = record { state = s; walked = subst (λ (x : List ℕ). Walked m x s) (sym (append-nil u0)) w }
 walk m u0 s (b ∷ u) y t n left w h short =
     walk-at m u0 s b u y t n left (step s b) w refl h short (λ further walked found. walk m (u0 ++ (b ∷ [])) further u y t n left walked found short)
 
 -- a mode of PCL
-abbrev pub OfPcl : Mode → Type 0
+abbrev pub OfPcl : ParserState → Type 0
 OfPcl Pcl = Unit {0}
 OfPcl (Open c g) = Unit {0}
 OfPcl _ = ⊥
 
-pub walked_none : (m : Mode) → OfPcl m → Walked m [] (start m)
+pub walked_none : (m : ParserState) → OfPcl m → Walked m [] (start m)
 walked_none Pcl is = record { reached = refl; leads = λ z. refl }
 walked_none (Open c g) is = record { reached = (refl, (refl, refl, refl)); leads = λ z. refl }
 walked_none Exit is = absurd is
-walked_none Tail is = absurd is
-walked_none Foreign is = absurd is
+walked_none OverlongLine is = absurd is
+walked_none OtherLanguage is = absurd is
 
 -- ---- a sequence that breaks
 
@@ -165,8 +165,8 @@ longer : (x : List ℕ) (y : ℕ) → x ++ (y ∷ []) ≡ [] → ⊥
 longer [] y h = cc
 longer (z ∷ x) y h = cc
 
-breaks-at : (m : Mode) (u : List ℕ) (s : State) (b : ℕ) (later : List ℕ) (o : Step) → (u ≡ [] → ⊥) → Walked m u s → step s b ≡ o → Sound m u b o
-    → ((more : List ℕ) (t : Token) (n : Mode) → Whole m (u ++ (b ∷ more)) t n → ⊥)
+breaks-at : (m : ParserState) (u : List ℕ) (s : State) (b : ℕ) (later : List ℕ) (o : Step) → (u ≡ [] → ⊥) → Walked m u s → step s b ≡ o → Sound m u b o
+    → ((more : List ℕ) (t : Token) (n : ParserState) → Whole m (u ++ (b ∷ more)) t n → ⊥)
     → after_step o b later (λ k. read_on k later) ≡ Found (broken_in m u) Pcl (b ∷ later)
 breaks-at m u s b later (Goes further) some_ w e sound cannot =
     let on = reached-GoesOn further m (u ++ (b ∷ [])) sound (λ empty. longer u b empty) in
@@ -176,7 +176,7 @@ breaks-at m u s b later (Stops t) some_ w e sound cannot = ap (λ x. Found x Pcl
 breaks-at m u s b later Nothing some_ w e sound cannot = absurd (some_ sound)
 
 -- Reading finds each sequence that breaks.
-pub breaks_reads : (m : Mode) → OfPcl m → (u v : List ℕ) → Breaks m u v → read_on (start m) (u ++ v) ≡ Found (broken_in m u) Pcl v
+pub breaks_reads : (m : ParserState) → OfPcl m → (u v : List ℕ) → Breaks m u v → read_on (start m) (u ++ v) ≡ Found (broken_in m u) Pcl v
 breaks_reads m is u v k =
     let w = k.could in
     let found : read_on (start m) (u ++ (w.0 ∷ w.1)) ≡ Found w.2 w.3 [] =
@@ -190,12 +190,12 @@ breaks_reads m is u v k =
 -- ---- what reading gives
 
 -- these bytes, followed by those, are the command, whole or broken
-pub record Gave (m : Mode) (u : List ℕ) (x : List ℕ) (t : Token) (n : Mode) (left : List ℕ) : Type 0 where
+pub record Gave (m : ParserState) (u : List ℕ) (x : List ℕ) (t : Token) (n : ParserState) (left : List ℕ) : Type 0 where
   pub used : List ℕ
   pub cut : x ≡ used ++ left
   pub what : Whole m (u ++ used) t n ⊎ ((t ≡ broken_in m (u ++ used)) × (n ≡ Pcl) × Breaks m (u ++ used) left)
 
-stops-Breaks : (m : Mode) (u : List ℕ) (s : State) (b : ℕ) (later : List ℕ) (t : Token) → (u ≡ [] → ⊥) → Walked m u s → step s b ≡ Stops t → Breaks m u (b ∷ later)
+stops-Breaks : (m : ParserState) (u : List ℕ) (s : State) (b : ℕ) (later : List ℕ) (t : Token) → (u ≡ [] → ⊥) → Walked m u s → step s b ≡ Stops t → Breaks m u (b ∷ later)
 stops-Breaks m u s b later t some_ w e =
     record {
       byte = b;
@@ -211,7 +211,7 @@ stops-Breaks m u s b later t some_ w e =
           cc;
     }
 
-gave-at : (m : Mode) (u : List ℕ) (s : State) (b : ℕ) (x : List ℕ) (t : Token) (n : Mode) (left : List ℕ) (o : Step) → Walked m u s → step s b ≡ o → Sound m u b o
+gave-at : (m : ParserState) (u : List ℕ) (s : State) (b : ℕ) (x : List ℕ) (t : Token) (n : ParserState) (left : List ℕ) (o : Step) → Walked m u s → step s b ≡ o → Sound m u b o
     → (u ≡ [] → EndsOpen m b → ⊥)
     → after_step o b x (λ k. read_on k x) ≡ Found t n left
     → ((further : State) → Walked m (u ++ (b ∷ [])) further → read_on further x ≡ Found t n left → Gave m (u ++ (b ∷ [])) x t n left)
@@ -224,7 +224,7 @@ gave-at m u s b x t n left (Gives c k) w e sound live h ih =
     let command : c ≡ t = cc in
     let mode : k ≡ n = cc in
     let rest : x ≡ left = cc in
-    record { used = b ∷ []; cut = ap (λ y. b ∷ y) rest; what = inl (subst (λ (y : Mode). Whole m (u ++ (b ∷ [])) t y) mode (subst (λ (y : Token). Whole m (u ++ (b ∷ [])) y k) command sound)) }
+    record { used = b ∷ []; cut = ap (λ y. b ∷ y) rest; what = inl (subst (λ (y : ParserState). Whole m (u ++ (b ∷ [])) t y) mode (subst (λ (y : Token). Whole m (u ++ (b ∷ [])) y k) command sound)) }
 gave-at m u s b x t n left (Stops c) w e sound live h ih =
     let command : c ≡ t = cc in
     let mode : Pcl ≡ n = cc in
@@ -235,7 +235,7 @@ gave-at m u s b x t n left (Stops c) w e sound live h ih =
     record { used = []; cut = rest; what = inr (sym command ∙ sound.0 ∙ ap (broken_in m) same, sym mode, subst (λ (y : List ℕ). Breaks m y left) same breaks) }
 gave-at m u s b x t n left Nothing w e sound live h ih = cc
 
-pub gave : (m : Mode) (u : List ℕ) (s : State) (x : List ℕ) (t : Token) (n : Mode) (left : List ℕ) → Walked m u s
+pub gave : (m : ParserState) (u : List ℕ) (s : State) (x : List ℕ) (t : Token) (n : ParserState) (left : List ℕ) → Walked m u s
     → (u ≡ [] → (b : ℕ) (y : List ℕ) → x ≡ b ∷ y → EndsOpen m b → ⊥)
     → read_on s x ≡ Found t n left → Gave m u x t n left
 gave m u s [] t n left w live h = cc

@@ -2,7 +2,7 @@
 use Rattle.std.proofs.Common.{◌≡◌, ◌∙◌, ◌==◌, ℕ, List, [], ◌∷◌, ◌++◌, Bool, true, false, cond, Option, Some, None, refl, sym, ap, subst, inl, inr, arith, append_assoc, eqb}
 use Rattle.std.proofs.lemmas.Bool.{eqb-true, true≢false}
 use Rattle.press_cmd.specs.Token.{Token, Escape, Grouped, Ungrouped, Control, Text, Broken, Uel, PjlLine, ForeignByte, uel, escape_byte, pjl_mark}
-use Rattle.press_cmd.specs.Mode.{Mode, Exit, Tail, Foreign, Pcl, Open}
+use Rattle.press_cmd.specs.ParserState.{ParserState, Exit, OverlongLine, OtherLanguage, Pcl, Open}
 use Rattle.press_cmd.specs.Grammar.{Whole, Breaks, BeginsLine, IsPjlLine, differs, begins_pair, scanned_in, Stands, Head}
 use Rattle.press_cmd.proofs.Reading.{Short, Found, stripped, read_line, read_after_mark, read_foreign, read_on, reading_in, reading}
 use Rattle.press_cmd.proofs.ReadWhole.{start, whole_reads}
@@ -49,16 +49,16 @@ begins-stripped u v is = ap (λ w. stripped pjl_mark (w ++ v)) is.mark
 
 line-stripped : (u v : List ℕ) (is : IsPjlLine u) → stripped pjl_mark (u ++ v) ≡ Some (is.begins.text ++ (10 ∷ v))
 line-stripped u v is =
-    ap (λ w. stripped pjl_mark (w ++ v)) is.spelled ∙ ap (stripped pjl_mark) (append_assoc is.front (10 ∷ []) v) ∙ begins-stripped is.front (10 ∷ v) is.begins
+    ap (λ w. stripped pjl_mark (w ++ v)) is.spelled ∙ ap (stripped pjl_mark) (append_assoc is.prefix (10 ∷ []) v) ∙ begins-stripped is.prefix (10 ∷ v) is.begins
 
-exit-reads : (u v : List ℕ) (t : Token) (n : Mode) (rest : List ℕ) → stripped pjl_mark (u ++ v) ≡ Some rest → read_line pjl_mark rest ≡ Found t n v → read_after_mark (stripped pjl_mark (u ++ v)) ≡ Found t n v
+exit-reads : (u v : List ℕ) (t : Token) (n : ParserState) (rest : List ℕ) → stripped pjl_mark (u ++ v) ≡ Some rest → read_line pjl_mark rest ≡ Found t n v → read_after_mark (stripped pjl_mark (u ++ v)) ≡ Found t n v
 exit-reads u v t n rest e h = ap read_after_mark e ∙ h
 
-foreign-reads : (b : ℕ) (v : List ℕ) → differs uel (b ∷ v) ≡ true → read_foreign (stripped uel (b ∷ v)) (differs uel (b ∷ v)) b v ≡ Found (ForeignByte b) Foreign v
-foreign-reads b v h = ap (λ o. read_foreign o (differs uel (b ∷ v)) b v) (differs-stripped uel (b ∷ v) h) ∙ ap (λ t. cond t (Found (ForeignByte b) Foreign v) Short) h
+foreign-reads : (b : ℕ) (v : List ℕ) → differs uel (b ∷ v) ≡ true → read_foreign (stripped uel (b ∷ v)) (differs uel (b ∷ v)) b v ≡ Found (ForeignByte b) OtherLanguage v
+foreign-reads b v h = ap (λ o. read_foreign o (differs uel (b ∷ v)) b v) (differs-stripped uel (b ∷ v) h) ∙ ap (λ t. cond t (Found (ForeignByte b) OtherLanguage v) Short) h
 
 -- What stands in the mode in which the bytes are scanned is read.
-pub stands_reads : (k : Mode) (u v : List ℕ) (t : Token) (n : Mode) → Stands k u v t n → reading_in k (u ++ v) ≡ Found t n v
+pub stands_reads : (k : ParserState) (u v : List ℕ) (t : Token) (n : ParserState) → Stands k u v t n → reading_in k (u ++ v) ≡ Found t n v
 stands_reads Exit u v (PjlLine line) n h =
     exit-reads u v (PjlLine line) n _ (line-stripped u v h.1)
     (line_reads u v h.1 _ (line-stripped u v h.1) ∙ cc (h.0, h.2))
@@ -69,13 +69,13 @@ stands_reads Exit u v (Broken broken) n h =
     ]
 stands_reads Exit u v (Escape b) n h = absurd h
 stands_reads Exit u v _ n h = absurd h
-stands_reads Tail u v (Broken broken) n h = ap (λ w. reading_in Tail (w ++ v)) h.1.1 ∙ cc (h.0, h.1.1, h.1.2)
-stands_reads Tail u v (Escape b) n h = absurd h
-stands_reads Tail u v _ n h = absurd h
-stands_reads Foreign u v Uel n h = ap (λ w. reading_in Foreign (w ++ v)) h.0 ∙ ap (λ x. Found Uel x v) (sym h.1)
-stands_reads Foreign u v (ForeignByte b) n h = ap (λ w. reading_in Foreign (w ++ v)) h.0 ∙ foreign-reads b v h.1 ∙ ap (λ x. Found (ForeignByte b) x v) (sym h.2)
-stands_reads Foreign u v (Escape b) n h = absurd h
-stands_reads Foreign u v _ n h = absurd h
+stands_reads OverlongLine u v (Broken broken) n h = ap (λ w. reading_in OverlongLine (w ++ v)) h.1.1 ∙ cc (h.0, h.1.1, h.1.2)
+stands_reads OverlongLine u v (Escape b) n h = absurd h
+stands_reads OverlongLine u v _ n h = absurd h
+stands_reads OtherLanguage u v Uel n h = ap (λ w. reading_in OtherLanguage (w ++ v)) h.0 ∙ ap (λ x. Found Uel x v) (sym h.1)
+stands_reads OtherLanguage u v (ForeignByte b) n h = ap (λ w. reading_in OtherLanguage (w ++ v)) h.0 ∙ foreign-reads b v h.1 ∙ ap (λ x. Found (ForeignByte b) x v) (sym h.2)
+stands_reads OtherLanguage u v (Escape b) n h = absurd h
+stands_reads OtherLanguage u v _ n h = absurd h
 stands_reads Pcl u v (Broken broken) n h = breaks_reads Pcl tt u v h.1 ∙ cc (h.0, h.2)
 stands_reads Pcl u v (Escape b) n h = whole_reads Pcl u (Escape b) n v h
 stands_reads Pcl u v (Grouped c g f e d) n h = whole_reads Pcl u (Grouped c g f e d) n v h
@@ -91,13 +91,13 @@ stands_reads (Open x y) u v (Escape b) n h = absurd h
 stands_reads (Open x y) u v _ n h = absurd h
 
 -- Reading finds the Head.
-pub head_reads : (m : Mode) (u v : List ℕ) (t : Token) (n : Mode) → Head m u v t n → reading m (u ++ v) ≡ Found t n v
+pub head_reads : (m : ParserState) (u v : List ℕ) (t : Token) (n : ParserState) → Head m u v t n → reading m (u ++ v) ≡ Found t n v
 head_reads m u v t n h = stands_reads (scanned_in m (u ++ v)) u v t n h
 
 -- ---- what is read stands
 
 -- where bytes are scanned in an open sequence, a pair begins with the first
-abbrev pub Settled : Mode → List ℕ → Type 0
+abbrev pub Settled : ParserState → List ℕ → Type 0
 Settled (Open c g) (b ∷ x) = begins_pair b ≡ true
 Settled _ _ = Unit {0}
 
@@ -105,7 +105,7 @@ settled-exit : (x : List ℕ) (t : Bool) → Settled (cond t Pcl Exit) x
 settled-exit x true = tt
 settled-exit x false = tt
 
-settled-tail : (x : List ℕ) (t s : Bool) → Settled (cond t (cond s Pcl Exit) Tail) x
+settled-tail : (x : List ℕ) (t s : Bool) → Settled (cond t (cond s Pcl Exit) OverlongLine) x
 settled-tail x true true = tt
 settled-tail x true false = tt
 settled-tail x false s = tt
@@ -114,22 +114,22 @@ settled-open : (c g b : ℕ) (x : List ℕ) (t : Bool) → begins_pair b ≡ t �
 settled-open c g b x true h = h
 settled-open c g b x false h = tt
 
-pub settled : (m : Mode) (x : List ℕ) → Settled (scanned_in m x) x
+pub settled : (m : ParserState) (x : List ℕ) → Settled (scanned_in m x) x
 settled Exit x = settled-exit x (differs pjl_mark x)
-settled Tail [] = tt
-settled Tail (b ∷ x) = settled-tail (b ∷ x) (eqb b escape_byte) (differs pjl_mark (b ∷ x))
+settled OverlongLine [] = tt
+settled OverlongLine (b ∷ x) = settled-tail (b ∷ x) (eqb b escape_byte) (differs pjl_mark (b ∷ x))
 settled (Open c g) [] = tt
 settled (Open c g) (b ∷ x) = settled-open c g b x (begins_pair b) refl
 settled Pcl x = tt
-settled Foreign x = tt
+settled OtherLanguage x = tt
 
 -- these bytes at the front stand for the command
-pub record Stood (k : Mode) (x : List ℕ) (t : Token) (n : Mode) (left : List ℕ) : Type 0 where
+pub record Stood (k : ParserState) (x : List ℕ) (t : Token) (n : ParserState) (left : List ℕ) : Type 0 where
   pub used : List ℕ
   pub cut : x ≡ used ++ left
   pub stands : Stands k used left t n
 
-pcl-stands : (k : Mode) → OfPcl k → (u v : List ℕ) (t : Token) (n : Mode) → Whole k u t n → Stands k u v t n
+pcl-stands : (k : ParserState) → OfPcl k → (u v : List ℕ) (t : Token) (n : ParserState) → Whole k u t n → Stands k u v t n
 pcl-stands Pcl is u v (Broken broken) n h = absurd h
 pcl-stands Pcl is u v (Escape b) n h = h
 pcl-stands Pcl is u v (Grouped c g f e d) n h = h
@@ -143,17 +143,17 @@ pcl-stands (Open x y) is u v (Grouped c g f e d) n h = h
 pcl-stands (Open x y) is u v (Escape b) n h = absurd h
 pcl-stands (Open x y) is u v _ n h = absurd h
 pcl-stands Exit is u v t n h = absurd is
-pcl-stands Tail is u v t n h = absurd is
-pcl-stands Foreign is u v t n h = absurd is
+pcl-stands OverlongLine is u v t n h = absurd is
+pcl-stands OtherLanguage is u v t n h = absurd is
 
-pcl-breaks : (k : Mode) → OfPcl k → (u v : List ℕ) (t : Token) (n : Mode) → t ≡ broken_in k u → n ≡ Pcl → Breaks k u v → Stands k u v t n
+pcl-breaks : (k : ParserState) → OfPcl k → (u v : List ℕ) (t : Token) (n : ParserState) → t ≡ broken_in k u → n ≡ Pcl → Breaks k u v → Stands k u v t n
 pcl-breaks Pcl is u v t n e m h = subst (λ (y : Token). Stands Pcl u v y n) (sym e) (refl, h, m)
 pcl-breaks (Open x y) is u v t n e m h = subst (λ (z : Token). Stands (Open x y) u v z n) (sym e) (refl, h, m)
 pcl-breaks Exit is u v t n e m h = absurd is
-pcl-breaks Tail is u v t n e m h = absurd is
-pcl-breaks Foreign is u v t n e m h = absurd is
+pcl-breaks OverlongLine is u v t n e m h = absurd is
+pcl-breaks OtherLanguage is u v t n e m h = absurd is
 
-pcl-stood : (k : Mode) → OfPcl k → (x : List ℕ) (t : Token) (n : Mode) (left : List ℕ) → ((b : ℕ) (y : List ℕ) → x ≡ b ∷ y → EndsOpen k b → ⊥) → read_on (start k) x ≡ Found t n left → Stood k x t n left
+pcl-stood : (k : ParserState) → OfPcl k → (x : List ℕ) (t : Token) (n : ParserState) (left : List ℕ) → ((b : ℕ) (y : List ℕ) → x ≡ b ∷ y → EndsOpen k b → ⊥) → read_on (start k) x ≡ Found t n left → Stood k x t n left
 pcl-stood k is x t n left live h =
     let g = gave k [] (start k) x t n left (walked_none k is) (λ _. live) h in
     record {
@@ -165,48 +165,48 @@ pcl-stood k is x t n left live h =
 open-live : (c g : ℕ) (x : List ℕ) → Settled (Open c g) x → (b : ℕ) (y : List ℕ) → x ≡ b ∷ y → EndsOpen (Open c g) b → ⊥
 open-live c g x is b y e ends = true≢false (sym (subst (λ (z : List ℕ). Settled (Open c g) z) e is) ∙ ends)
 
-exit-stood : (x : List ℕ) (t : Token) (n : Mode) (left : List ℕ) (o : Option (List ℕ)) → stripped pjl_mark x ≡ o → read_after_mark o ≡ Found t n left → Stood Exit x t n left
+exit-stood : (x : List ℕ) (t : Token) (n : ParserState) (left : List ℕ) (o : Option (List ℕ)) → stripped pjl_mark x ≡ o → read_after_mark o ≡ Found t n left → Stood Exit x t n left
 exit-stood x t n left None e h = cc
 exit-stood x t n left (Some rest) e h =
     let g = gave-line pjl_mark rest t n left (record { text = []; mark = refl; plain = refl }) (omega arith) h in
     record { used = pjl_mark ++ g.used; cut = stripped-true pjl_mark x rest e ∙ ap (λ y. pjl_mark ++ y) g.cut; stands = g.what }
 
-foreign-stood : (b : ℕ) (x : List ℕ) (t : Token) (n : Mode) (left : List ℕ) (o : Option (List ℕ)) (other : Bool) → stripped uel (b ∷ x) ≡ o → differs uel (b ∷ x) ≡ other
-    → read_foreign o other b x ≡ Found t n left → Stood Foreign (b ∷ x) t n left
+foreign-stood : (b : ℕ) (x : List ℕ) (t : Token) (n : ParserState) (left : List ℕ) (o : Option (List ℕ)) (other : Bool) → stripped uel (b ∷ x) ≡ o → differs uel (b ∷ x) ≡ other
+    → read_foreign o other b x ≡ Found t n left → Stood OtherLanguage (b ∷ x) t n left
 foreign-stood b x t n left (Some rest) other e d h =
     let command : Uel ≡ t = cc in
     let mode : Exit ≡ n = cc in
     let same : rest ≡ left = cc in
-    record { used = uel; cut = stripped-true uel (b ∷ x) rest e ∙ ap (λ y. uel ++ y) same; stands = subst (λ (y : Token). Stands Foreign uel left y n) command (refl, sym mode) }
+    record { used = uel; cut = stripped-true uel (b ∷ x) rest e ∙ ap (λ y. uel ++ y) same; stands = subst (λ (y : Token). Stands OtherLanguage uel left y n) command (refl, sym mode) }
 foreign-stood b x t n left None true e d h =
     let command : ForeignByte b ≡ t = cc in
-    let mode : Foreign ≡ n = cc in
+    let mode : OtherLanguage ≡ n = cc in
     let same : x ≡ left = cc in
-    record { used = b ∷ []; cut = ap (λ y. b ∷ y) same; stands = subst (λ (y : Token). Stands Foreign (b ∷ []) left y n) command (refl, ap (λ y. differs uel (b ∷ y)) (sym same) ∙ d, sym mode) }
+    record { used = b ∷ []; cut = ap (λ y. b ∷ y) same; stands = subst (λ (y : Token). Stands OtherLanguage (b ∷ []) left y n) command (refl, ap (λ y. differs uel (b ∷ y)) (sym same) ∙ d, sym mode) }
 foreign-stood b x t n left None false e d h = cc
 
 -- What is read stands, in the mode in which the bytes are scanned.
-pub stood : (k : Mode) (x : List ℕ) (t : Token) (n : Mode) (left : List ℕ) → Settled k x → reading_in k x ≡ Found t n left → Stood k x t n left
+pub stood : (k : ParserState) (x : List ℕ) (t : Token) (n : ParserState) (left : List ℕ) → Settled k x → reading_in k x ≡ Found t n left → Stood k x t n left
 stood Exit x t n left is h = exit-stood x t n left (stripped pjl_mark x) refl h
-stood Tail [] t n left is h = cc
-stood Tail (b ∷ x) t n left is h =
+stood OverlongLine [] t n left is h = cc
+stood OverlongLine (b ∷ x) t n left is h =
     let command : Broken (b ∷ []) ≡ t = cc in
-    let mode : cond (b == 10) Exit Tail ≡ n = cc in
+    let mode : cond (b == 10) Exit OverlongLine ≡ n = cc in
     let same : x ≡ left = cc in
-    record { used = b ∷ []; cut = ap (λ y. b ∷ y) same; stands = subst (λ (y : Token). Stands Tail (b ∷ []) left y n) command (refl, (b, refl, sym mode)) }
-stood Foreign [] t n left is h = cc
-stood Foreign (b ∷ x) t n left is h = foreign-stood b x t n left (stripped uel (b ∷ x)) (differs uel (b ∷ x)) refl refl h
+    record { used = b ∷ []; cut = ap (λ y. b ∷ y) same; stands = subst (λ (y : Token). Stands OverlongLine (b ∷ []) left y n) command (refl, (b, refl, sym mode)) }
+stood OtherLanguage [] t n left is h = cc
+stood OtherLanguage (b ∷ x) t n left is h = foreign-stood b x t n left (stripped uel (b ∷ x)) (differs uel (b ∷ x)) refl refl h
 stood Pcl x t n left is h = pcl-stood Pcl tt x t n left (λ b y e ends. ends) h
 stood (Open c g) x t n left is h = pcl-stood (Open c g) tt x t n left (open-live c g x is) h
 
 -- a Head at the front of the bytes
-pub record HeadAt (m : Mode) (x : List ℕ) (t : Token) (n : Mode) (left : List ℕ) : Type 0 where
+pub record HeadAt (m : ParserState) (x : List ℕ) (t : Token) (n : ParserState) (left : List ℕ) : Type 0 where
   pub used : List ℕ
   pub cut : x ≡ used ++ left
   pub head : Head m used left t n
 
 -- What is read is a Head.
-pub read_head : (m : Mode) (x : List ℕ) (t : Token) (n : Mode) (left : List ℕ) → reading m x ≡ Found t n left → HeadAt m x t n left
+pub read_head : (m : ParserState) (x : List ℕ) (t : Token) (n : ParserState) (left : List ℕ) → reading m x ≡ Found t n left → HeadAt m x t n left
 read_head m x t n left h =
     let s = stood (scanned_in m x) x t n left (settled m x) h in
     record { used = s.used; cut = s.cut; head = subst (λ (y : List ℕ). Stands (scanned_in m y) s.used left t n) s.cut s.stands }

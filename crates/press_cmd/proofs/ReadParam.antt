@@ -17,7 +17,7 @@ field-take (byte ∷ bytes) = at (is_past_field byte) (field-take bytes)
     at true rest = refl
     at false rest =
         let one : 1 + position_or_len is_past_field bytes ≡ suc (position_or_len is_past_field bytes) = omega arith in
-        ap (λ k. take k (byte ∷ bytes)) one ∙ ap (λ front. byte ∷ front) rest
+        ap (λ k. take k (byte ∷ bytes)) one ∙ ap (λ prefix. byte ∷ prefix) rest
 
 field-drop : (bytes : List ℕ) → drop (position_or_len is_past_field bytes) bytes ≡ (field_split bytes).1
 field-drop [] = refl
@@ -38,9 +38,9 @@ record Stands (bytes : List ℕ) (n byte : ℕ) (rest : List ℕ) : Type 0 where
 stands : (bytes : List ℕ) (n byte : ℕ) (rest : List ℕ) → drop n bytes ≡ byte ∷ rest → Stands bytes n byte rest
 stands [] zero byte rest h = absurd (cc)
 stands (b ∷ bytes) zero byte rest h =
-    let front : b ≡ byte = cc in
+    let prefix : b ≡ byte = cc in
     let back : bytes ≡ rest = cc in
-    record { within = omega arith; is = front; behind = back }
+    record { within = omega arith; is = prefix; behind = back }
 stands [] (suc n) byte rest h = absurd (cc)
 stands (b ∷ bytes) (suc n) byte rest h =
     let s = stands bytes n byte rest h in
@@ -59,18 +59,18 @@ pub record Ended (character : ℕ) (group : Option ℕ) (bytes : List ℕ) (n : 
 ended-at : (character : ℕ) (group : Option ℕ) (bytes : List ℕ) (n : ℕ) (field rest : List ℕ) → take n bytes ≡ field → drop n bytes ≡ rest
     → ended_with (param_of character group) field rest ≡ ending (param_of character group) (field_split bytes)
     → IsSound (ended_with (param_of character group) field rest) → Ended character group bytes n
-ended-at character group bytes n field [] front back is sound =
+ended-at character group bytes n field [] prefix back is sound =
     let parameter = parameter-sound character group field 0 [] sound in
     absurd (omega (arith, parameter.end_class.0))
-ended-at character group bytes n field (end ∷ payload) front back is sound =
+ended-at character group bytes n field (end ∷ payload) prefix back is sound =
     let s = stands bytes n end payload back in
     let parameter = parameter-sound character group field end payload sound in
     let next : n + 1 ≡ suc n = omega arith in
     let behind : between (n + 1) (length bytes) bytes ≡ payload = between_to_end bytes (n + 1) (length bytes) (omega arith) ∙ ap (λ k. drop k bytes) next ∙ s.behind in
     record {
       within = s.within;
-      parameter = rw (front, s.is, behind) parameter;
-      is = rw (front, s.is, behind) is;
+      parameter = rw (prefix, s.is, behind) parameter;
+      is = rw (prefix, s.is, behind) is;
     }
 
 pub ended : (character : ℕ) (group : Option ℕ) (bytes : List ℕ) (n : ℕ) → n ≡ position_or_len is_past_field bytes → IsSound (ending (param_of character group) (field_split bytes)) → Ended character group bytes n

@@ -7,7 +7,7 @@ use Rattle.press_units.specs.Value.{whole_part, tenthousandths_of}
 use Rattle.press_units.specs.Field.{is_sign, is_point, is_value_field, is_field_byte}
 use Rattle.std.specs.Char.{is_ascii_digit}
 use Rattle.press_cmd.specs.Token.{Token, Grouped, Broken, uel, escape_byte}
-use Rattle.press_cmd.specs.Mode.{Mode, Exit, Tail, Foreign, Pcl, Open}
+use Rattle.press_cmd.specs.ParserState.{ParserState, Exit, OverlongLine, OtherLanguage, Pcl, Open}
 use Rattle.press_cmd.specs.Carried.{data_count, count_of}
 use Rattle.press_cmd.specs.Grammar.{Whole, IsPair, Ends, IsEnd, IsGroup, IsCharacter, begins_pair}
 use Rattle.press_cmd.proofs.Reading.{State, Start, Escaped, Single, Pair, SingleData, PairData, Step, Goes, Gives, Stops, Nothing, extends, is_end, is_earlier_end, is_escape_end, is_character, is_control, is_text, is_escape, is_exit, single_with, pair_with, group_or_break, step}
@@ -15,13 +15,13 @@ use Rattle.press_units.proofs.FieldTest.{IsField-from_test}
 use Rattle.press_cmd.proofs.ByteTests.{is_end-true, is_earlier_end-true, is_escape_end-true, is_character-true, is_text-true, is_escape-true, is_escape-false, is_control-true, extends-true}
 
 -- these bytes are a pair so far, in mode Pcl after the escape character, character and group, in an open sequence by itself
-abbrev pub Wraps : Mode → ℕ → ℕ → List ℕ → List ℕ → Type 0
+abbrev pub Wraps : ParserState → ℕ → ℕ → List ℕ → List ℕ → Type 0
 Wraps Pcl c g u w = IsCharacter c × IsGroup g × (u ≡ escape_byte ∷ c ∷ g ∷ w)
 Wraps (Open c' g') c g u w = (c ≡ c') × (g ≡ g') × (u ≡ w)
 Wraps _ c g u w = ⊥
 
 -- the facts of the data of a pair that is read
-pub record PairDataRead (m : Mode) (u : List ℕ) (c g : ℕ) (f : List ℕ) (e : ℕ) (next : Mode) (n : ℕ) (d : List ℕ) : Type 0 where
+pub record PairDataRead (m : ParserState) (u : List ℕ) (c g : ℕ) (f : List ℕ) (e : ℕ) (next : ParserState) (n : ℕ) (d : List ℕ) : Type 0 where
   pub byte : ℕ
   pub ends : Ends c g byte e next
   pub field : is_value_field f ≡ true
@@ -36,7 +36,7 @@ pub record SingleDataRead (u : List ℕ) (c : ℕ) (f : List ℕ) (e : ℕ) (n :
   pub spelled : u ≡ escape_byte ∷ c ∷ (f ++ (e ∷ d))
 
 -- what has been read in the state, in the mode
-abbrev pub Reached : State → Mode → List ℕ → Type 0
+abbrev pub Reached : State → ParserState → List ℕ → Type 0
 Reached Start Pcl u = u ≡ []
 Reached Escaped Pcl u = u ≡ escape_byte ∷ []
 Reached (Single c f) Pcl u = IsCharacter c × (is_value_field f ≡ true) × (u ≡ escape_byte ∷ c ∷ f)
@@ -46,24 +46,24 @@ Reached (PairData c g f e next n d) m u = PairDataRead m u c g f e next n d
 Reached _ _ _ = ⊥
 
 -- the broken command of these bytes in the mode
-abbrev pub broken_in : Mode → List ℕ → Token
+abbrev pub broken_in : ParserState → List ℕ → Token
 broken_in (Open c g) u = Broken (escape_byte ∷ c ∷ g ∷ u)
 broken_in _ u = Broken u
 
 -- the byte begins no pair of an open sequence
-abbrev pub EndsOpen : Mode → ℕ → Type 0
+abbrev pub EndsOpen : ParserState → ℕ → Type 0
 EndsOpen (Open c g) b = begins_pair b ≡ false
 EndsOpen _ b = ⊥
 
 -- what a step says of what has been read with its byte
-abbrev pub Sound : Mode → List ℕ → ℕ → Step → Type 0
+abbrev pub Sound : ParserState → List ℕ → ℕ → Step → Type 0
 Sound m u b (Goes s) = Reached s m (u ++ (b ∷ []))
 Sound m u b (Gives t n) = Whole m (u ++ (b ∷ [])) t n
 Sound m u b (Stops t) = (t ≡ broken_in m u) × (u ≡ [] → EndsOpen m b)
 Sound m u b Nothing = u ≡ []
 
 -- choosing by a test
-choose : (m : Mode) (u : List ℕ) (b : ℕ) (t : Bool) (x y : Step) → (t ≡ true → Sound m u b x) → (t ≡ false → Sound m u b y) → Sound m u b (cond t x y)
+choose : (m : ParserState) (u : List ℕ) (b : ℕ) (t : Bool) (x y : Step) → (t ≡ true → Sound m u b x) → (t ≡ false → Sound m u b y) → Sound m u b (cond t x y)
 choose m u b true x y yes_ no_ = yes_ refl
 choose m u b false x y yes_ no_ = no_ refl
 
@@ -144,18 +144,18 @@ step-Single u c f b is field r =
     (λ neither. group-or-break u c f b (is_earlier_end b) refl is r))
 
 -- a pair that is wrapped, with one byte more
-pub wraps-more : (m : Mode) (c g : ℕ) (u w more : List ℕ) → Wraps m c g u w → Wraps m c g (u ++ more) (w ++ more)
+pub wraps-more : (m : ParserState) (c g : ℕ) (u w more : List ℕ) → Wraps m c g u w → Wraps m c g (u ++ more) (w ++ more)
 wraps-more Pcl c g u w more h = (h.0, h.1, ap (λ x. x ++ more) h.2)
 wraps-more (Open c' g') c g u w more h = (h.0, h.1, ap (λ x. x ++ more) h.2)
 wraps-more Exit c g u w more h = absurd h
-wraps-more Tail c g u w more h = absurd h
-wraps-more Foreign c g u w more h = absurd h
+wraps-more OverlongLine c g u w more h = absurd h
+wraps-more OtherLanguage c g u w more h = absurd h
 
-wraps-same : (m : Mode) (c g : ℕ) (u w v : List ℕ) → w ≡ v → Wraps m c g u w → Wraps m c g u v
+wraps-same : (m : ParserState) (c g : ℕ) (u w v : List ℕ) → w ≡ v → Wraps m c g u w → Wraps m c g u v
 wraps-same m c g u w v e h = subst (λ (x : List ℕ). Wraps m c g u x) e h
 
 -- a pair that is wrapped and whole is a command
-pub whole-pair : (m : Mode) (c g : ℕ) (u w f : List ℕ) (e : ℕ) (d : List ℕ) (next : Mode) → Wraps m c g u w → IsPair c g w f e d next → Whole m u (Grouped c g f e d) next
+pub whole-pair : (m : ParserState) (c g : ℕ) (u w f : List ℕ) (e : ℕ) (d : List ℕ) (next : ParserState) → Wraps m c g u w → IsPair c g w f e d next → Whole m u (Grouped c g f e d) next
 whole-pair Pcl c g u w f e d next h p = record { pair = w; spelled = h.2; character_class = h.0; group_class = h.1; is_pair = p }
 whole-pair (Open c' g') c g u w f e d next h p = (
   h.0,
@@ -164,10 +164,10 @@ whole-pair (Open c' g') c g u w f e d next h p = (
       (subst (λ (x : ℕ). IsPair x g' w f e d next) h.0 (subst (λ (y : ℕ). IsPair c y w f e d next) h.1 p)),
 )
 whole-pair Exit c g u w f e d next h p = absurd h
-whole-pair Tail c g u w f e d next h p = absurd h
-whole-pair Foreign c g u w f e d next h p = absurd h
+whole-pair OverlongLine c g u w f e d next h p = absurd h
+whole-pair OtherLanguage c g u w f e d next h p = absurd h
 
-pair-with : (m : Mode) (u : List ℕ) (c g : ℕ) (f : List ℕ) (e b : ℕ) (next : Mode) (count : ℕ) → is_value_field f ≡ true → Wraps m c g u f → Ends c g b e next → count ≡ data_count c (Some g) f e
+pair-with : (m : ParserState) (u : List ℕ) (c g : ℕ) (f : List ℕ) (e b : ℕ) (next : ParserState) (count : ℕ) → is_value_field f ≡ true → Wraps m c g u f → Ends c g b e next → count ≡ data_count c (Some g) f e
     → Sound m u b (pair_with c g f e next count)
 pair-with m u c g f e b next zero field wraps ends count =
     whole-pair m c g (u ++ (b ∷ [])) (f ++ (b ∷ [])) f e [] next (wraps-more m c g u f (b ∷ []) wraps)
@@ -176,12 +176,12 @@ pair-with m u c g f e b next (suc n) field wraps ends count =
     record { byte = b; ends = ends; field = field; count = omega arith; wraps = wraps-more m c g u f (b ∷ []) wraps }
 
 -- the broken command of a wrapped pair
-wraps-broken : (m : Mode) (c g : ℕ) (u f : List ℕ) (b : ℕ) → Wraps m c g u f → (f ≡ [] → begins_pair b ≡ false) → (Broken (escape_byte ∷ c ∷ g ∷ f) ≡ broken_in m u) × (u ≡ [] → EndsOpen m b)
+wraps-broken : (m : ParserState) (c g : ℕ) (u f : List ℕ) (b : ℕ) → Wraps m c g u f → (f ≡ [] → begins_pair b ≡ false) → (Broken (escape_byte ∷ c ∷ g ∷ f) ≡ broken_in m u) × (u ≡ [] → EndsOpen m b)
 wraps-broken Pcl c g u f b h other = (ap Broken (sym h.2), λ empty. cc (h.2, empty))
 wraps-broken (Open c' g') c g u f b h other = (cc (h.0, h.1, h.2), λ empty. other (sym h.2 ∙ empty))
 wraps-broken Exit c g u f b h other = absurd h
-wraps-broken Tail c g u f b h other = absurd h
-wraps-broken Foreign c g u f b h other = absurd h
+wraps-broken OverlongLine c g u f b h other = absurd h
+wraps-broken OtherLanguage c g u f b h other = absurd h
 
 -- at the front of a field each field byte may stand
 first_of_field : (b : ℕ) → extends [] b ≡ false → is_field_byte b ≡ false
@@ -198,7 +198,7 @@ begins_none : (b : ℕ) → is_field_byte b ≡ false → is_end b ≡ false →
 unfolding is_end is_earlier_end
 begins_none b field upper lower = or_from (is_field_byte b) _ field (or_from _ _ upper lower)
 
-step-Pair : (m : Mode) (u : List ℕ) (c g : ℕ) (f : List ℕ) (b : ℕ) → is_value_field f ≡ true → Wraps m c g u f → Sound m u b (step (Pair c g f) b)
+step-Pair : (m : ParserState) (u : List ℕ) (c g : ℕ) (f : List ℕ) (b : ℕ) → is_value_field f ≡ true → Wraps m c g u f → Sound m u b (step (Pair c g f) b)
 step-Pair m u c g f b field wraps =
     choose m u b (extends f b) _ _ (λ e. (extends-true f b e, wraps-more m c g u f (b ∷ []) wraps))
     (λ other. choose m u b (is_end b) _ _ (λ e. pair-with m u c g f b b Pcl (data_count c (Some g) f b) field wraps (inl (is_end-true b e, refl, refl)) refl)
@@ -228,11 +228,11 @@ step-SingleData u c f e (suc n) d b r =
       spelled = ap (λ w. w ++ (b ∷ [])) r.spelled ∙ ap (λ w. escape_byte ∷ c ∷ w) (append_assoc f (e ∷ d) (b ∷ []));
     }
 
-pub pair-data-more : (m : Mode) (u : List ℕ) (c g : ℕ) (f : List ℕ) (e : ℕ) (next : Mode) (n : ℕ) (d more : List ℕ) → (r : PairDataRead m u c g f e next n d) → Wraps m c g (u ++ more) (f ++ (r.byte ∷ (d ++ more)))
+pub pair-data-more : (m : ParserState) (u : List ℕ) (c g : ℕ) (f : List ℕ) (e : ℕ) (next : ParserState) (n : ℕ) (d more : List ℕ) → (r : PairDataRead m u c g f e next n d) → Wraps m c g (u ++ more) (f ++ (r.byte ∷ (d ++ more)))
 pair-data-more m u c g f e next n d more r =
     wraps-same m c g (u ++ more) _ _ (append_assoc f (r.byte ∷ d) more) (wraps-more m c g u (f ++ (r.byte ∷ d)) more r.wraps)
 
-step-PairData : (m : Mode) (u : List ℕ) (c g : ℕ) (f : List ℕ) (e : ℕ) (next : Mode) (n : ℕ) (d : List ℕ) (b : ℕ) → PairDataRead m u c g f e next n d
+step-PairData : (m : ParserState) (u : List ℕ) (c g : ℕ) (f : List ℕ) (e : ℕ) (next : ParserState) (n : ℕ) (d : List ℕ) (b : ℕ) → PairDataRead m u c g f e next n d
     → Sound m u b (step (PairData c g f e next n d) b)
 step-PairData m u c g f e next zero d b r =
     whole-pair m c g (u ++ (b ∷ [])) (f ++ (r.byte ∷ (d ++ (b ∷ [])))) f e (d ++ (b ∷ [])) next (pair-data-more m u c g f e next zero d (b ∷ []) r)
@@ -247,26 +247,26 @@ step-PairData m u c g f e next (suc n) d b r =
     }
 
 -- What one more byte makes of what has been read.
-pub step_sound : (s : State) (m : Mode) (u : List ℕ) (b : ℕ) → Reached s m u → Sound m u b (step s b)
+pub step_sound : (s : State) (m : ParserState) (u : List ℕ) (b : ℕ) → Reached s m u → Sound m u b (step s b)
 step_sound Start Pcl u b r = step-Start u b r
 step_sound Start (Open x y) u b r = absurd r
 step_sound Start Exit u b r = absurd r
-step_sound Start Tail u b r = absurd r
-step_sound Start Foreign u b r = absurd r
+step_sound Start OverlongLine u b r = absurd r
+step_sound Start OtherLanguage u b r = absurd r
 step_sound Escaped Pcl u b r = step-Escaped u b r
 step_sound Escaped (Open x y) u b r = absurd r
 step_sound Escaped Exit u b r = absurd r
-step_sound Escaped Tail u b r = absurd r
-step_sound Escaped Foreign u b r = absurd r
+step_sound Escaped OverlongLine u b r = absurd r
+step_sound Escaped OtherLanguage u b r = absurd r
 step_sound (Single c f) Pcl u b r = step-Single u c f b r.0 r.1 r.2
 step_sound (Single c f) (Open x y) u b r = absurd r
 step_sound (Single c f) Exit u b r = absurd r
-step_sound (Single c f) Tail u b r = absurd r
-step_sound (Single c f) Foreign u b r = absurd r
+step_sound (Single c f) OverlongLine u b r = absurd r
+step_sound (Single c f) OtherLanguage u b r = absurd r
 step_sound (SingleData c f e n d) Pcl u b r = step-SingleData u c f e n d b r
 step_sound (SingleData c f e n d) (Open x y) u b r = absurd r
 step_sound (SingleData c f e n d) Exit u b r = absurd r
-step_sound (SingleData c f e n d) Tail u b r = absurd r
-step_sound (SingleData c f e n d) Foreign u b r = absurd r
+step_sound (SingleData c f e n d) OverlongLine u b r = absurd r
+step_sound (SingleData c f e n d) OtherLanguage u b r = absurd r
 step_sound (Pair c g f) m u b r = step-Pair m u c g f b r.0 r.1
 step_sound (PairData c g f e next n d) m u b r = step-PairData m u c g f e next n d b r

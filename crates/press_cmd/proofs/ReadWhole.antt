@@ -4,16 +4,16 @@ use Rattle.std.proofs.lemmas.List.{append-nil}
 use Rattle.std.proofs.lemmas.Bool.{false_from_ne_true}
 use Rattle.std.proofs.lemmas.Slice.Eq.{bytes_eq-Decides}
 use Rattle.press_cmd.specs.Token.{Token, Escape, Grouped, Ungrouped, Control, Text, Broken, Uel, PjlLine, ForeignByte, uel, escape_byte}
-use Rattle.press_cmd.specs.Mode.{Mode, Exit, Tail, Foreign, Pcl, Open}
+use Rattle.press_cmd.specs.ParserState.{ParserState, Exit, OverlongLine, OtherLanguage, Pcl, Open}
 use Rattle.press_cmd.specs.Carried.{data_count}
 use Rattle.press_units.specs.Field.{is_value_field}
 use Rattle.press_cmd.specs.Grammar.{Whole, IsPair, IsGrouped, IsUngrouped, Ends, IsEnd, IsEarlierEnd}
 use Rattle.press_cmd.proofs.Reading.{State, Start, Single, Pair, SingleData, PairData, Step, Goes, Gives, Stops, Nothing, Found, extends, is_end, is_escape_end, is_character, is_escape, is_exit, single_with, pair_with, step, after_step, read_on}
-use Rattle.press_units.proofs.FieldTest.{test-from_IsField, test-front}
+use Rattle.press_units.proofs.FieldTest.{test-from_IsField, test-prefix}
 use Rattle.press_cmd.proofs.ByteTests.{is_end-from, is_end-above, is_earlier_end-from, is_escape_end-from, is_escape_end-below, is_character-from, is_text-from, is_escape-from, is_escape-other, is_control-from, is_control-above, extends-from, extends-past}
 
 -- more bytes after what was found change nothing but what is left
-stable-at : (o : Step) (b : ℕ) (x y : List ℕ) (t : Token) (n : Mode) (left : List ℕ) → after_step o b x (λ s. read_on s x) ≡ Found t n left
+stable-at : (o : Step) (b : ℕ) (x y : List ℕ) (t : Token) (n : ParserState) (left : List ℕ) → after_step o b x (λ s. read_on s x) ≡ Found t n left
     → ((s : State) → read_on s x ≡ Found t n left → read_on s (x ++ y) ≡ Found t n (left ++ y))
     → after_step o b (x ++ y) (λ s. read_on s (x ++ y)) ≡ Found t n (left ++ y)
 stable-at (Goes s) b x y t n left h further = further s h
@@ -24,7 +24,7 @@ stable-at (Stops c) b x y t n left h further =
     cc
 stable-at Nothing b x y t n left h further = cc
 
-pub stable : (s : State) (x y : List ℕ) (t : Token) (n : Mode) (left : List ℕ) → read_on s x ≡ Found t n left → read_on s (x ++ y) ≡ Found t n (left ++ y)
+pub stable : (s : State) (x y : List ℕ) (t : Token) (n : ParserState) (left : List ℕ) → read_on s x ≡ Found t n left → read_on s (x ++ y) ≡ Found t n (left ++ y)
 stable s [] y t n left h = cc
 stable s (b ∷ x) y t n left h = stable-at (step s b) b x y t n left h (λ further. stable further x y t n left)
 
@@ -33,18 +33,18 @@ pub pair_field : (c g : ℕ) (f more z : List ℕ) → is_value_field (f ++ more
 pair_field c g f [] z h = rw append-nil refl
 pair_field c g f (b ∷ more) z h =
     let whole : is_value_field ((f ++ (b ∷ [])) ++ more) ≡ true = rw append_assoc h in
-    let one : extends f b ≡ true = extends-from f b (test-front (f ++ (b ∷ [])) more whole) in
+    let one : extends f b ≡ true = extends-from f b (test-prefix (f ++ (b ∷ [])) more whole) in
     rw one (pair_field c g (f ++ (b ∷ [])) more z whole ∙ ap (λ w. read_on (Pair c g w) z) (append_assoc f (b ∷ []) more))
 
 pub single_field : (c : ℕ) (f more z : List ℕ) → is_value_field (f ++ more) ≡ true → read_on (Single c f) (more ++ z) ≡ read_on (Single c (f ++ more)) z
 single_field c f [] z h = rw append-nil refl
 single_field c f (b ∷ more) z h =
     let whole : is_value_field ((f ++ (b ∷ [])) ++ more) ≡ true = rw append_assoc h in
-    let one : extends f b ≡ true = extends-from f b (test-front (f ++ (b ∷ [])) more whole) in
+    let one : extends f b ≡ true = extends-from f b (test-prefix (f ++ (b ∷ [])) more whole) in
     rw one (single_field c (f ++ (b ∷ [])) more z whole ∙ ap (λ w. read_on (Single c w) z) (append_assoc f (b ∷ []) more))
 
 -- data is read byte by byte
-pair_data : (c g : ℕ) (f : List ℕ) (e : ℕ) (next : Mode) (n : ℕ) (d more z : List ℕ) → length more ≡ suc n
+pair_data : (c g : ℕ) (f : List ℕ) (e : ℕ) (next : ParserState) (n : ℕ) (d more z : List ℕ) → length more ≡ suc n
     → read_on (PairData c g f e next n d) (more ++ z) ≡ Found (Grouped c g f e (d ++ more)) next z
 pair_data c g f e next zero d [] z h = absurd (omega arith)
 pair_data c g f e next zero d (b ∷ []) z h = refl
@@ -62,7 +62,7 @@ single_data c f e (suc n) d [] z h = absurd (omega arith)
 single_data c f e (suc n) d (b ∷ more) z h =
     single_data c f e n (d ++ (b ∷ [])) more z (omega arith) ∙ ap (λ w. Found (Ungrouped c f e w) Pcl z) (append_assoc d (b ∷ []) more)
 
-pair_rest : (c g : ℕ) (f : List ℕ) (e : ℕ) (next : Mode) (count b : ℕ) (d z : List ℕ) → length d ≡ count
+pair_rest : (c g : ℕ) (f : List ℕ) (e : ℕ) (next : ParserState) (count b : ℕ) (d z : List ℕ) → length d ≡ count
     → after_step (pair_with c g f e next count) b (d ++ z) (λ s. read_on s (d ++ z)) ≡ Found (Grouped c g f e d) next z
 pair_rest c g f e next zero b [] z h = refl
 pair_rest c g f e next zero b (a ∷ d) z h = absurd (omega arith)
@@ -84,7 +84,7 @@ pair_lower : (c g : ℕ) (f : List ℕ) (b : ℕ) (d z : List ℕ) → IsEarlier
 pair_lower c g f b d z is count =
     rw (extends-past f b (omega arith), is_end-above b (omega arith), is_earlier_end-from b is) (pair_rest c g f (b - 32) (Open c g) _ b d z count)
 
-pair_end : (c g : ℕ) (f : List ℕ) (e b : ℕ) (d : List ℕ) (next : Mode) (z : List ℕ) → Ends c g b e next → length d ≡ data_count c (Some g) f e
+pair_end : (c g : ℕ) (f : List ℕ) (e b : ℕ) (d : List ℕ) (next : ParserState) (z : List ℕ) → Ends c g b e next → length d ≡ data_count c (Some g) f e
     → read_on (Pair c g f) (b ∷ (d ++ z)) ≡ Found (Grouped c g f e d) next z
 pair_end c g f e b d next z (inl is) count =
     let same : length d ≡ data_count c (Some g) f b = count ∙ ap (data_count c (Some g) f) is.1 in
@@ -97,7 +97,7 @@ pair_end c g f e b d next z (inr is) count =
     cc (found, below, is.2)
 
 -- A pair is read, whatever follows it.
-pub pair_reads : (c g : ℕ) (w f : List ℕ) (e : ℕ) (d : List ℕ) (next : Mode) (z : List ℕ) → IsPair c g w f e d next → read_on (Pair c g []) (w ++ z) ≡ Found (Grouped c g f e d) next z
+pub pair_reads : (c g : ℕ) (w f : List ℕ) (e : ℕ) (d : List ℕ) (next : ParserState) (z : List ℕ) → IsPair c g w f e d next → read_on (Pair c g []) (w ++ z) ≡ Found (Grouped c g f e d) next z
 pair_reads c g w f e d next z p =
     let field : is_value_field f ≡ true = test-from_IsField f p.value_field in
     ap (λ bytes. read_on (Pair c g []) (bytes ++ z)) p.spelled
@@ -125,7 +125,7 @@ single_reads u c f e d z is =
     ∙ single_field c [] f (e ∷ (d ++ z)) field
     ∙ single_upper c f e d z is.end_class is.count differs)
 
-grouped_reads : (u : List ℕ) (c g : ℕ) (f : List ℕ) (e : ℕ) (d : List ℕ) (next : Mode) (z : List ℕ) → IsGrouped u c g f e d next → read_on Start (u ++ z) ≡ Found (Grouped c g f e d) next z
+grouped_reads : (u : List ℕ) (c g : ℕ) (f : List ℕ) (e : ℕ) (d : List ℕ) (next : ParserState) (z : List ℕ) → IsGrouped u c g f e d next → read_on Start (u ++ z) ≡ Found (Grouped c g f e d) next z
 grouped_reads u c g f e d next z is =
     let no_escape_end = is_escape_end-below c (omega (arith, is.character_class)) in
     ap (λ bytes. read_on Start (bytes ++ z)) is.spelled
@@ -144,12 +144,12 @@ unfolding is_escape is_escape_end is_character extends is_end is_exit
 uel_reads z = refl
 
 -- the state in which reading begins
-abbrev pub start : Mode → State
+abbrev pub start : ParserState → State
 start (Open character group) = Pair character group []
 start mode = Start
 
 -- Reading finds each whole command, whatever follows it.
-pub whole_reads : (m : Mode) (u : List ℕ) (t : Token) (n : Mode) (z : List ℕ) → Whole m u t n → read_on (start m) (u ++ z) ≡ Found t n z
+pub whole_reads : (m : ParserState) (u : List ℕ) (t : Token) (n : ParserState) (z : List ℕ) → Whole m u t n → read_on (start m) (u ++ z) ≡ Found t n z
 whole_reads Pcl u (Escape b) n z w =
     ap (λ bytes. read_on Start (bytes ++ z)) w.1 ∙ rw (is_escape-from escape_byte refl, is_escape_end-from b w.0) (ap (λ mode. Found (Escape b) mode z) (sym w.2))
 whole_reads Pcl u (Grouped c g f e d) n z w = grouped_reads u c g f e d n z w
@@ -175,7 +175,7 @@ whole_reads (Open c' g') u (PjlLine l) n z w = absurd w
 whole_reads (Open c' g') u (ForeignByte b) n z w = absurd w
 whole_reads Exit u (Escape b) n z w = absurd w
 whole_reads Exit u _ n z w = absurd w
-whole_reads Tail u (Escape b) n z w = absurd w
-whole_reads Tail u _ n z w = absurd w
-whole_reads Foreign u (Escape b) n z w = absurd w
-whole_reads Foreign u _ n z w = absurd w
+whole_reads OverlongLine u (Escape b) n z w = absurd w
+whole_reads OverlongLine u _ n z w = absurd w
+whole_reads OtherLanguage u (Escape b) n z w = absurd w
+whole_reads OtherLanguage u _ n z w = absurd w

@@ -2,7 +2,7 @@
 use Rattle.std.specs.Prelude.{ℕ, zero, suc, ◌+◌, ◌-◌, Bool, true, ◌==◌, cond, List, [], ◌∷◌, ◌++◌, length, Option, Some, None, bytes_eq}
 use Rattle.std.specs.Int.{is_in_range}
 use Rattle.press_cmd.specs.Token.{Token, Escape, Grouped, Ungrouped, Control, Text, Broken, Uel, PjlLine, ForeignByte, uel, escape_byte, pjl_mark}
-use Rattle.press_cmd.specs.Mode.{Mode, Exit, Tail, Foreign, Pcl, Open}
+use Rattle.press_cmd.specs.ParserState.{ParserState, Exit, OverlongLine, OtherLanguage, Pcl, Open}
 use Rattle.press_cmd.specs.Carried.{data_count}
 use Rattle.press_units.specs.Field.{is_value_field}
 use Rattle.press_cmd.specs.Language.{mode_after}
@@ -16,19 +16,19 @@ pub data State : Type 0 where
   Single : ℕ → List ℕ → State
   Pair : ℕ → ℕ → List ℕ → State
   SingleData : ℕ → List ℕ → ℕ → ℕ → List ℕ → State
-  PairData : ℕ → ℕ → List ℕ → ℕ → Mode → ℕ → List ℕ → State
+  PairData : ℕ → ℕ → List ℕ → ℕ → ParserState → ℕ → List ℕ → State
 
 -- what the next byte does: it goes on, it is the last of a command, it breaks what stood before it, or it is no byte
 pub data Step : Type 0 where
   Goes : State → Step
-  Gives : Token → Mode → Step
+  Gives : Token → ParserState → Step
   Stops : Token → Step
   Nothing : Step
 
 -- the first command with the mode after it and what is left, or that none stands there yet
 pub data Reading : Type 0 where
   Short : Reading
-  Found : Token → Mode → List ℕ → Reading
+  Found : Token → ParserState → List ℕ → Reading
 
 -- whether the byte makes the field longer
 unfoldable pub extends : List ℕ → ℕ → Bool
@@ -65,7 +65,7 @@ single_with character field end zero = cond (is_exit character field end) (Gives
 single_with character field end (suc count) = Goes (SingleData character field end count [])
 
 -- a pair that has its ending byte, with the number of its data bytes
-abbrev pub pair_with : ℕ → ℕ → List ℕ → ℕ → Mode → ℕ → Step
+abbrev pub pair_with : ℕ → ℕ → List ℕ → ℕ → ParserState → ℕ → Step
 pair_with character group field end next zero = Gives (Grouped character group field end []) next
 pair_with character group field end next (suc count) = Goes (PairData character group field end next count [])
 
@@ -118,16 +118,16 @@ unfoldable pub is_feed : ℕ → Bool
 is_feed byte = byte == 10
 
 unfoldable pub is_full : List ℕ → Bool
-is_full front = length front + 1 == longest_line
+is_full prefix = length prefix + 1 == longest_line
 
 -- reading a PJL line on, of which the front stands
 abbrev pub read_line : List ℕ → List ℕ → Reading
-read_line front [] = Short
-read_line front (byte ∷ bytes) =
-    cond (is_feed byte) (Found (PjlLine (front ++ (byte ∷ []))) (mode_after (front ++ (byte ∷ []))) bytes)
-    (cond (is_escape byte) (Found (Broken front) Exit (byte ∷ bytes))
-    (cond (is_full front) (Found (Broken (front ++ (byte ∷ []))) Tail bytes)
-    (read_line (front ++ (byte ∷ [])) bytes)))
+read_line prefix [] = Short
+read_line prefix (byte ∷ bytes) =
+    cond (is_feed byte) (Found (PjlLine (prefix ++ (byte ∷ []))) (mode_after (prefix ++ (byte ∷ []))) bytes)
+    (cond (is_escape byte) (Found (Broken prefix) Exit (byte ∷ bytes))
+    (cond (is_full prefix) (Found (Broken (prefix ++ (byte ∷ []))) OverlongLine bytes)
+    (read_line (prefix ++ (byte ∷ [])) bytes)))
 
 abbrev pub read_after_mark : Option (List ℕ) → Reading
 read_after_mark None = Short
@@ -135,18 +135,18 @@ read_after_mark (Some bytes) = read_line pjl_mark bytes
 
 abbrev pub read_foreign : Option (List ℕ) → Bool → ℕ → List ℕ → Reading
 read_foreign (Some rest) other byte bytes = Found Uel Exit rest
-read_foreign None other byte bytes = cond other (Found (ForeignByte byte) Foreign bytes) Short
+read_foreign None other byte bytes = cond other (Found (ForeignByte byte) OtherLanguage bytes) Short
 
 -- the first command of the bytes in the mode in which they are scanned
-abbrev pub reading_in : Mode → List ℕ → Reading
+abbrev pub reading_in : ParserState → List ℕ → Reading
 reading_in Exit bytes = read_after_mark (stripped pjl_mark bytes)
-reading_in Tail [] = Short
-reading_in Tail (byte ∷ bytes) = Found (Broken (byte ∷ [])) (cond (byte == 10) Exit Tail) bytes
-reading_in Foreign [] = Short
-reading_in Foreign (byte ∷ bytes) = read_foreign (stripped uel (byte ∷ bytes)) (differs uel (byte ∷ bytes)) byte bytes
+reading_in OverlongLine [] = Short
+reading_in OverlongLine (byte ∷ bytes) = Found (Broken (byte ∷ [])) (cond (byte == 10) Exit OverlongLine) bytes
+reading_in OtherLanguage [] = Short
+reading_in OtherLanguage (byte ∷ bytes) = read_foreign (stripped uel (byte ∷ bytes)) (differs uel (byte ∷ bytes)) byte bytes
 reading_in Pcl bytes = read_on Start bytes
 reading_in (Open character group) bytes = read_on (Pair character group []) bytes
 
 -- The first command of the bytes.
-abbrev pub reading : Mode → List ℕ → Reading
+abbrev pub reading : ParserState → List ℕ → Reading
 reading mode bytes = reading_in (scanned_in mode bytes) bytes

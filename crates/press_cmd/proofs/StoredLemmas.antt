@@ -24,12 +24,12 @@ group-is : (b : ℕ) → IsGroup b → nat_le 96 b ≡ true
 group-is b h = grind (arith, nat_tests)
 
 -- a field is split off, where what follows begins with an end
-split-field : (front field : List ℕ) (end : ℕ) (payload : List ℕ) → is_value_field (front ++ field) ≡ true → IsEnd end → field_split (field ++ (end ∷ payload)) ≡ (field, end ∷ payload)
-split-field front [] end payload value ends =
+split-field : (prefix field : List ℕ) (end : ℕ) (payload : List ℕ) → is_value_field (prefix ++ field) ≡ true → IsEnd end → field_split (field ++ (end ∷ payload)) ≡ (field, end ∷ payload)
+split-field prefix [] end payload value ends =
     ap (λ (past : Bool). cond past ([], end ∷ payload) (end ∷ (field_split payload).0, (field_split payload).1)) (end-past end ends)
-split-field front (byte ∷ field) end payload value ends =
-    let rest = split-field (front ++ (byte ∷ [])) field end payload (ap is_value_field (append_assoc front (byte ∷ []) field) ∙ value) ends in
-    ap (λ (past : Bool). cond past ([], byte ∷ (field ++ (end ∷ payload))) (byte ∷ (field_split (field ++ (end ∷ payload))).0, (field_split (field ++ (end ∷ payload))).1)) (field_byte-small byte (test-byte front byte field value))
+split-field prefix (byte ∷ field) end payload value ends =
+    let rest = split-field (prefix ++ (byte ∷ [])) field end payload (ap is_value_field (append_assoc prefix (byte ∷ []) field) ∙ value) ends in
+    ap (λ (past : Bool). cond past ([], byte ∷ (field ++ (end ∷ payload))) (byte ∷ (field_split (field ++ (end ∷ payload))).0, (field_split (field ++ (end ∷ payload))).1)) (field_byte-small byte (test-byte prefix byte field value))
     ∙ ap (λ (parts : List ℕ × List ℕ). (byte ∷ parts.0, parts.1)) rest
 
 ungrouped : (character : ℕ) (field : List ℕ) (end : ℕ) (payload : List ℕ) → is_value_field field ≡ true → IsEnd end → param_from (27 ∷ character ∷ (field ++ (end ∷ payload))) ≡ Ungrouped character field end payload

@@ -6,7 +6,7 @@ use Rattle.std.proofs.lemmas.List.{append-nil, length-replicate}
 use Rattle.std.proofs.lemmas.Bool.{ne_eqb, le-ltb, cases_eq, cases_lt}
 use mathlib.Core.Logic.{∥∥₁_map}
 use Rattle.press_cmd.specs.Token.{Token, Escape, Grouped, Ungrouped, Control, Text, Broken, Uel, PjlLine, ForeignByte, bytes_of, param_of, broken_of, uel, escape_byte, pjl_mark}
-use Rattle.press_cmd.specs.Mode.{Mode, Exit, Tail, Foreign, Pcl}
+use Rattle.press_cmd.specs.ParserState.{ParserState, Exit, OverlongLine, OtherLanguage, Pcl}
 use Rattle.press_cmd.specs.Grammar.{Whole, Head, Stands, GoesOn, IsPjlLine, BeginsLine, IsBroken, is_line_byte, differs, longest_line, scanned_in}
 use Rattle.press_cmd.specs.Language.{mode_after}
 use Rattle.press_cmd.specs.Split.{closing}
@@ -16,14 +16,14 @@ use Rattle.press_cmd.specs.View.{token}
 use Rattle.press_cmd.specs.declared.command.Command.{Command}
 use Rattle.press_cmd.specs.declared.command.Command.TheVariants as commands
 use Rattle.press_cmd.proofs.ReadWhole.{whole_reads, stable}
-use Rattle.press_cmd.proofs.ReadLine.{line_front}
+use Rattle.press_cmd.proofs.ReadLine.{line_prefix}
 use Rattle.press_cmd.proofs.Heads.{no_end, short-NoHead, begins-differs}
 use Rattle.press_cmd.proofs.Splits.{closing-nothing, no_head_of_nothing}
 use Rattle.press_cmd.proofs.LineTest.{IsPjlLine-known}
 use Rattle.press_cmd.proofs.ReadBack.{param-Whole, line-Head}
 
 -- a stream of one command, at its front
-one_command : (u : List ℕ) (t : Token) (n : Mode) → Head Exit u [] t n → IsCommand t
+one_command : (u : List ℕ) (t : Token) (n : ParserState) → Head Exit u [] t n → IsCommand t
 one_command u t n head = (
   u,
   t ∷ [],
@@ -32,7 +32,7 @@ one_command u t n head = (
 )
 
 -- a stream of one command after another
-second_command : (x u : List ℕ) (s t : Token) (m n : Mode) → Head Exit x u s m → Head m u [] t n → IsCommand t
+second_command : (x u : List ℕ) (s t : Token) (m n : ParserState) → Head Exit x u s m → Head m u [] t n → IsCommand t
 second_command x u s t m n first head = (
   x ++ u,
   s ∷ t ∷ [],
@@ -46,9 +46,9 @@ rest_command u t short stands =
     (u, t ∷ [], ([], Exit, u, record { steps = (refl, refl); short = short-NoHead Exit u short }, sym stands), (0, lit< tt, refl))
 
 -- a byte other than the first of `@PJL` leaves mode Exit
-pcl-Head : (b : ℕ) (x : List ℕ) (t : Token) (n : Mode) → (b ≡ 64 → ⊥) → Stands Pcl (b ∷ x) [] t n → Head Exit (b ∷ x) [] t n
+pcl-Head : (b : ℕ) (x : List ℕ) (t : Token) (n : ParserState) → (b ≡ 64 → ⊥) → Stands Pcl (b ∷ x) [] t n → Head Exit (b ∷ x) [] t n
 pcl-Head b x t n other h =
-    subst (λ (k : Mode). Stands k (b ∷ x) [] t n) (ap (λ d. cond (cond d (differs (80 ∷ 74 ∷ 76 ∷ []) (x ++ [])) true) Pcl Exit) (sym (ne_eqb 64 b (λ e. other (sym e))))) h
+    subst (λ (k : ParserState). Stands k (b ∷ x) [] t n) (ap (λ d. cond (cond d (differs (80 ∷ 74 ∷ 76 ∷ []) (x ++ [])) true) Pcl Exit) (sym (ne_eqb 64 b (λ e. other (sym e))))) h
 
 text-IsCommand : (b : ℕ) → (32 ≤ b) × (b ≤ 255) → IsCommand (Text b)
 text-IsCommand b class =
@@ -69,14 +69,14 @@ foreign_line = codes "@PJL ENTER LANGUAGE=X\n"
 foreign_line-IsPjlLine : IsPjlLine foreign_line
 unfolding foreign_line
 foreign_line-IsPjlLine =
-    record { front = codes "@PJL ENTER LANGUAGE=X"; spelled = refl; begins = record { text = codes " ENTER LANGUAGE=X"; mark = refl; plain = refl }; fits = lit≤ tt }
+    record { prefix = codes "@PJL ENTER LANGUAGE=X"; spelled = refl; begins = record { text = codes " ENTER LANGUAGE=X"; mark = refl; plain = refl }; fits = lit≤ tt }
 
-foreign_line-mode : mode_after foreign_line ≡ Foreign
+foreign_line-mode : mode_after foreign_line ≡ OtherLanguage
 unfolding foreign_line
 foreign_line-mode = refl
 
-foreign_line-Head : (v : List ℕ) → Head Exit foreign_line v (PjlLine foreign_line) Foreign
-foreign_line-Head v = subst (λ (k : Mode). Head Exit foreign_line v (PjlLine foreign_line) k) foreign_line-mode (line-Head foreign_line foreign_line-IsPjlLine v)
+foreign_line-Head : (v : List ℕ) → Head Exit foreign_line v (PjlLine foreign_line) OtherLanguage
+foreign_line-Head v = subst (λ (k : ParserState). Head Exit foreign_line v (PjlLine foreign_line) k) foreign_line-mode (line-Head foreign_line foreign_line-IsPjlLine v)
 
 foreign-IsCommand : (b : ℕ) → IsCommand (ForeignByte b)
 foreign-IsCommand b =
@@ -86,26 +86,26 @@ foreign-IsCommand b =
         PjlLine foreign_line ∷ ForeignByte 27 ∷ [],
         (
           PjlLine foreign_line ∷ [],
-          Foreign,
+          OtherLanguage,
           27 ∷ [],
-          record { steps = (foreign_line, 27 ∷ [], Foreign, refl, foreign_line-Head (27 ∷ []), (refl, refl)); short = short-NoHead Foreign (27 ∷ []) refl },
+          record { steps = (foreign_line, 27 ∷ [], OtherLanguage, refl, foreign_line-Head (27 ∷ []), (refl, refl)); short = short-NoHead OtherLanguage (27 ∷ []) refl },
           refl,
         ),
         (1, lit< tt, refl),
       )
-      | inr other ↦ second_command foreign_line (b ∷ []) (PjlLine foreign_line) (ForeignByte b) Foreign Foreign (foreign_line-Head (b ∷ []))
+      | inr other ↦ second_command foreign_line (b ∷ []) (PjlLine foreign_line) (ForeignByte b) OtherLanguage OtherLanguage (foreign_line-Head (b ∷ []))
           (refl, ap (λ d. cond d (differs (37 ∷ 45 ∷ 49 ∷ 50 ∷ 51 ∷ 52 ∷ 53 ∷ 88 ∷ []) []) true) (ne_eqb 27 b (λ e. other (sym e))), refl)
     ]
 
 -- ---- broken bytes
 
 -- a line that is cut off where 4,096 bytes of it stand, or where the stream ends
-full-Head : (u : List ℕ) → BeginsLine u → length u ≡ longest_line → (v : List ℕ) → Head Exit u v (Broken u) Tail
+full-Head : (u : List ℕ) → BeginsLine u → length u ≡ longest_line → (v : List ℕ) → Head Exit u v (Broken u) OverlongLine
 full-Head u is full v =
-    subst (λ (k : Mode). Stands k u v (Broken u) Tail) (ap (λ d. cond d Pcl Exit) (sym (begins-differs u v is))) (refl, (is, inr (full, refl)))
+    subst (λ (k : ParserState). Stands k u v (Broken u) OverlongLine) (ap (λ d. cond d Pcl Exit) (sym (begins-differs u v is))) (refl, (is, inr (full, refl)))
 
 short-line : (text : List ℕ) → list_all is_line_byte text ≡ true → 4 + length text < longest_line → reading Exit (pjl_mark ++ text) ≡ Short
-short-line text plain short = ap (λ x. read_line pjl_mark x) (sym (append-nil text)) ∙ line_front pjl_mark text [] plain (omega arith)
+short-line text plain short = ap (λ x. read_line pjl_mark x) (sym (append-nil text)) ∙ line_prefix pjl_mark text [] plain (omega arith)
 
 line-closing : (text : List ℕ) → closing Exit (pjl_mark ++ text) ≡ Broken (pjl_mark ++ text) ∷ []
 line-closing text = rw (le-ltb (length (pjl_mark ++ text)) 4 (omega arith)) refl
@@ -115,7 +115,7 @@ line-IsCommand u is fits =
     elim (cases_lt (length u) longest_line) [
       | inl short ↦ subst (λ (x : List ℕ). IsCommand (Broken x)) (sym is.mark)
           (rest_command (pjl_mark ++ is.text) (Broken (pjl_mark ++ is.text)) (short-line is.text is.plain (omega (arith, ap length is.mark))) (line-closing is.text))
-      | inr full ↦ one_command u (Broken u) Tail (full-Head u is (omega arith) [])
+      | inr full ↦ one_command u (Broken u) OverlongLine (full-Head u is (omega arith) [])
     ]
 
 -- a line of 4,096 bytes
@@ -134,10 +134,10 @@ long_line-length : length long_line ≡ longest_line
 unfolding long_line
 long_line-length = ap (λ n. suc (suc (suc (suc n)))) (length-replicate {A = ℕ} 4092 0)
 
-tail-Head : (b : ℕ) → (b ≡ 27 → ⊥) → Head Tail (b ∷ []) [] (Broken (b ∷ [])) (cond (eqb b 10) Exit Tail)
+tail-Head : (b : ℕ) → (b ≡ 27 → ⊥) → Head OverlongLine (b ∷ []) [] (Broken (b ∷ [])) (cond (eqb b 10) Exit OverlongLine)
 tail-Head b other =
-    subst (λ (k : Mode). Stands k (b ∷ []) [] (Broken (b ∷ [])) (cond (eqb b 10) Exit Tail))
-    (ap (λ d. cond d (scanned_in Exit (b ∷ [])) Tail) (sym (ne_eqb b 27 other))) (refl, (b, refl, refl))
+    subst (λ (k : ParserState). Stands k (b ∷ []) [] (Broken (b ∷ [])) (cond (eqb b 10) Exit OverlongLine))
+    (ap (λ d. cond d (scanned_in Exit (b ∷ [])) OverlongLine) (sym (ne_eqb b 27 other))) (refl, (b, refl, refl))
 
 escape-Short : reading Exit (27 ∷ []) ≡ Short
 unfolding is_escape
@@ -147,12 +147,12 @@ byte-IsCommand : (b : ℕ) → IsCommand (Broken (b ∷ []))
 byte-IsCommand b =
     elim (cases_eq b 27) [
       | inl e ↦ subst (λ (x : ℕ). IsCommand (Broken (x ∷ []))) (sym e) (rest_command (27 ∷ []) (Broken (27 ∷ [])) escape-Short refl)
-      | inr other ↦ second_command long_line (b ∷ []) (Broken long_line) (Broken (b ∷ [])) Tail (cond (eqb b 10) Exit Tail)
+      | inr other ↦ second_command long_line (b ∷ []) (Broken long_line) (Broken (b ∷ [])) OverlongLine (cond (eqb b 10) Exit OverlongLine)
           (full-Head long_line long_line-BeginsLine long_line-length (b ∷ [])) (tail-Head b other)
     ]
 
 -- what goes on begins with the escape character
-pub goes_on-escape : (b : ℕ) (u : List ℕ) (x : ℕ) (more : List ℕ) (t : Token) (n : Mode) → Whole Pcl ((b ∷ u) ++ (x ∷ more)) t n → b ≡ 27
+pub goes_on-escape : (b : ℕ) (u : List ℕ) (x : ℕ) (more : List ℕ) (t : Token) (n : ParserState) → Whole Pcl ((b ∷ u) ++ (x ∷ more)) t n → b ≡ 27
 goes_on-escape b u x more (Escape e) n w = cc (w.1)
 goes_on-escape b u x more (Grouped c g f e d) n w = cc (w.spelled)
 goes_on-escape b u x more (Ungrouped c f e d) n w = cc (w.0.spelled)
@@ -169,7 +169,7 @@ goes_on-escape b u x more Uel n w = cc (w.0)
 goes_on-escape b u x more (PjlLine c) n w = absurd w
 goes_on-escape b u x more (ForeignByte c) n w = absurd w
 
-unfinished-at : (u : List ℕ) (x : ℕ) (more : List ℕ) (t : Token) (n : Mode) (a : Reading) → Whole Pcl (u ++ (x ∷ more)) t n → read_on Start u ≡ a → a ≡ Short
+unfinished-at : (u : List ℕ) (x : ℕ) (more : List ℕ) (t : Token) (n : ParserState) (a : Reading) → Whole Pcl (u ++ (x ∷ more)) t n → read_on Start u ≡ a → a ≡ Short
 unfinished-at u x more t n Short w e = refl
 unfinished-at u x more t n (Found t' n' left) w e =
     let whole : read_on Start (u ++ (x ∷ more)) ≡ Found t n [] = ap (read_on Start) (sym (append-nil (u ++ (x ∷ more)))) ∙ whole_reads Pcl (u ++ (x ∷ more)) t n [] w in
@@ -211,4 +211,4 @@ of_some_stream commands.Uel = ∣ one_command uel Uel Exit (refl, refl) ∣₁
 of_some_stream (commands.PjlLine line) =
     let is = IsPjlLine-known line.bytes.now line.line in
     ∣ one_command line.bytes.now (PjlLine line.bytes.now) (mode_after line.bytes.now) (line-Head line.bytes.now is []) ∣₁
-of_some_stream (commands.Foreign b) = ∣ foreign-IsCommand b ∣₁
+of_some_stream (commands.OtherLanguage b) = ∣ foreign-IsCommand b ∣₁

@@ -2,17 +2,17 @@
 use Rattle.std.proofs.Common.{◌≡◌, ℕ, zero, suc, List, [], ◌∷◌, ◌++◌, map, refl}
 use Rattle.std.specs.Prelude.{codes}
 use Rattle.press_cmd.specs.Token.{Token, Grouped, Control, Text, Broken, Uel, PjlLine, ForeignByte, uel}
-use Rattle.press_cmd.specs.Mode.{Mode, Exit}
+use Rattle.press_cmd.specs.ParserState.{ParserState, Exit}
 use Rattle.press_cmd.specs.Split.{closing}
 use Rattle.press_cmd.proofs.Reading.{Reading, Short, Found, reading, extends, is_end, is_earlier_end, is_escape_end, is_character, is_control, is_text, is_escape, is_exit, is_feed, is_full}
 
 -- the command that was read, and then those of what is left; or those that the rest stands for
-closed_after : (Mode → List ℕ → List Token) → Mode → List ℕ → Reading → List Token
+closed_after : (ParserState → List ℕ → List Token) → ParserState → List ℕ → Reading → List Token
 closed_after further mode bytes Short = closing mode bytes
 closed_after further mode bytes (Found command next left) = command ∷ further next left
 
 -- the commands of the bytes and of their rest closed, at most so many
-closed_within : ℕ → Mode → List ℕ → List Token
+closed_within : ℕ → ParserState → List ℕ → List Token
 unfolding closed_after
 closed_within zero mode bytes = []
 closed_within (suc count) mode bytes = closed_after (λ next left. closed_within count next left) mode bytes (reading mode bytes)

@@ -5,7 +5,7 @@ use Rattle.std.specs.Int.{IsInRange, is_in_range}
 use Rattle.std.specs.List.{list_all}
 use Rattle.press_units.specs.Field.{IsField, is_field_byte}
 use Rattle.press_cmd.specs.Token.{Token, Escape, Grouped, Ungrouped, Control, Text, Broken, Uel, PjlLine, ForeignByte, uel, pjl_mark, escape_byte}
-use Rattle.press_cmd.specs.Mode.{Mode, Exit, Tail, Foreign, Pcl, Open}
+use Rattle.press_cmd.specs.ParserState.{ParserState, Exit, OverlongLine, OtherLanguage, Pcl, Open}
 use Rattle.press_cmd.specs.Carried.{data_count}
 use Rattle.press_cmd.specs.Language.{mode_after}
 
@@ -41,12 +41,12 @@ IsEscapeEnd byte = IsInRange 48 126 byte
 
 -- the byte that ends a pair, the end that it stands for, and the mode after it: the sequence ends at a termination
 -- character, and goes on after a parameter character, which stands for the one 32 below it
-abbrev pub Ends : ℕ → ℕ → ℕ → ℕ → Mode → Type 0
+abbrev pub Ends : ℕ → ℕ → ℕ → ℕ → ParserState → Type 0
 Ends character group byte end next =
     (IsEnd byte × (end ≡ byte) × (next ≡ Pcl)) ⊎ (IsEarlierEnd byte × (end + 32 ≡ byte) × (next ≡ Open character group))
 
 -- These bytes are a pair of a value field and its ending byte, with the data that the value announces.
-pub record IsPair (character group : ℕ) (bytes field : List ℕ) (end : ℕ) (payload : List ℕ) (next : Mode) : Type 0 where
+pub record IsPair (character group : ℕ) (bytes field : List ℕ) (end : ℕ) (payload : List ℕ) (next : ParserState) : Type 0 where
   pub byte : ℕ
   pub spelled : bytes ≡ field ++ (byte ∷ payload)
   pub value_field : IsField field
@@ -54,7 +54,7 @@ pub record IsPair (character group : ℕ) (bytes field : List ℕ) (end : ℕ) (
   pub count : length payload ≡ data_count character (Some group) field end
 
 -- These bytes are a sequence with a group, up to the end of its first pair.
-pub record IsGrouped (bytes : List ℕ) (character group : ℕ) (field : List ℕ) (end : ℕ) (payload : List ℕ) (next : Mode) : Type 0 where
+pub record IsGrouped (bytes : List ℕ) (character group : ℕ) (field : List ℕ) (end : ℕ) (payload : List ℕ) (next : ParserState) : Type 0 where
   pub pair : List ℕ
   pub spelled : bytes ≡ escape_byte ∷ character ∷ group ∷ pair
   pub character_class : IsCharacter character
@@ -71,7 +71,7 @@ pub record IsUngrouped (bytes : List ℕ) (character : ℕ) (field : List ℕ) (
   pub no_exit : bytes ≡ uel → ⊥
 
 -- Whole commands of PCL: in which mode which bytes are which command, and the mode after it. What is not listed cannot be.
-abbrev pub Whole : Mode → List ℕ → Token → Mode → Type 0
+abbrev pub Whole : ParserState → List ℕ → Token → ParserState → Type 0
 Whole Pcl bytes (Escape byte) next = IsEscapeEnd byte × (bytes ≡ escape_byte ∷ byte ∷ []) × (next ≡ Pcl)
 Whole Pcl bytes (Grouped character group field end payload) next = IsGrouped bytes character group field end payload next
 Whole Pcl bytes (Ungrouped character field end payload) next = IsUngrouped bytes character field end payload × (next ≡ Pcl)
@@ -82,17 +82,17 @@ Whole (Open character group) bytes (Grouped c g field end payload) next = (c ≡
 Whole _ _ _ _ = ⊥
 
 -- What stands is the beginning of a whole command, and not yet one.
-abbrev pub GoesOn : Mode → List ℕ → Type 0
-GoesOn mode bytes = (byte : ℕ) × (more : List ℕ) × (command : Token) × (next : Mode) × Whole mode (bytes ++ (byte ∷ more)) command next
+abbrev pub GoesOn : ParserState → List ℕ → Type 0
+GoesOn mode bytes = (byte : ℕ) × (more : List ℕ) × (command : Token) × (next : ParserState) × Whole mode (bytes ++ (byte ∷ more)) command next
 
 -- A sequence breaks: what stands could go on to a whole command, and no longer can with the next byte.
-pub record Breaks (mode : Mode) (bytes following : List ℕ) : Type 0 where
+pub record Breaks (mode : ParserState) (bytes following : List ℕ) : Type 0 where
   pub byte : ℕ
   pub later : List ℕ
   pub stands : bytes ≡ [] → ⊥
   pub next_byte : following ≡ byte ∷ later
   pub could : GoesOn mode bytes
-  pub cannot : (more : List ℕ) (command : Token) (next : Mode) → Whole mode (bytes ++ (byte ∷ more)) command next → ⊥
+  pub cannot : (more : List ℕ) (command : Token) (next : ParserState) → Whole mode (bytes ++ (byte ∷ more)) command next → ⊥
 
 -- whether the byte may stand in a PJL line before its line feed: all but the line feed and the escape character
 abbrev pub is_line_byte : ℕ → Bool
@@ -106,21 +106,21 @@ pub record BeginsLine (bytes : List ℕ) : Type 0 where
 
 -- These bytes are a PJL line: up to and with its line feed, in at most 4,096 bytes.
 pub record IsPjlLine (bytes : List ℕ) : Type 0 where
-  pub front : List ℕ
-  pub spelled : bytes ≡ front ++ (10 ∷ [])
-  pub begins : BeginsLine front
+  pub prefix : List ℕ
+  pub spelled : bytes ≡ prefix ++ (10 ∷ [])
+  pub begins : BeginsLine prefix
   pub fits : length bytes ≤ longest_line
 
 -- A PJL line breaks: at an escape character, which is scanned anew in mode Exit, or where 4,096 bytes of it stand,
--- after which the mode is Tail.
-abbrev pub BreaksLine : List ℕ → List ℕ → Mode → Type 0
+-- after which the mode is OverlongLine.
+abbrev pub BreaksLine : List ℕ → List ℕ → ParserState → Type 0
 BreaksLine bytes following next =
     BeginsLine bytes × (((later : List ℕ) × (following ≡ escape_byte ∷ later) × (length bytes < longest_line) × (next ≡ Exit))
-    ⊎ ((length bytes ≡ longest_line) × (next ≡ Tail)))
+    ⊎ ((length bytes ≡ longest_line) × (next ≡ OverlongLine)))
 
 -- one byte of what is left of a line that is too long: after its line feed the mode is Exit
-abbrev pub IsTailByte : List ℕ → Mode → Type 0
-IsTailByte bytes next = (byte : ℕ) × (bytes ≡ byte ∷ []) × (next ≡ (if byte == 10 then Exit else Tail))
+abbrev pub IsTailByte : List ℕ → ParserState → Type 0
+IsTailByte bytes next = (byte : ℕ) × (bytes ≡ byte ∷ []) × (next ≡ (if byte == 10 then Exit else OverlongLine))
 
 -- whether the bytes differ from the text at a place that both have
 abbrev pub differs : List ℕ → List ℕ → Bool
@@ -133,14 +133,14 @@ abbrev pub begins_pair : ℕ → Bool
 begins_pair byte = is_field_byte byte || (is_in_range 64 94 byte || is_in_range 96 126 byte)
 
 -- The mode in which the bytes ahead are scanned. Without a command, bytes that do not begin with `@PJL` leave Exit
--- for Pcl, an escape character leaves Tail for Exit (and so for Pcl), and a byte that begins no pair leaves an open sequence.
-abbrev pub scanned_after_exit : List ℕ → Mode
+-- for Pcl, an escape character leaves OverlongLine for Exit (and so for Pcl), and a byte that begins no pair leaves an open sequence.
+abbrev pub scanned_after_exit : List ℕ → ParserState
 scanned_after_exit ahead = if differs pjl_mark ahead then Pcl else Exit
 
-abbrev pub scanned_in : Mode → List ℕ → Mode
+abbrev pub scanned_in : ParserState → List ℕ → ParserState
 scanned_in Exit ahead = scanned_after_exit ahead
-scanned_in Tail [] = Tail
-scanned_in Tail (byte ∷ ahead) = if byte == escape_byte then scanned_after_exit (byte ∷ ahead) else Tail
+scanned_in OverlongLine [] = OverlongLine
+scanned_in OverlongLine (byte ∷ ahead) = if byte == escape_byte then scanned_after_exit (byte ∷ ahead) else OverlongLine
 scanned_in (Open character group) [] = Open character group
 scanned_in (Open character group) (byte ∷ ahead) = if begins_pair byte then Open character group else Pcl
 scanned_in mode ahead = mode
@@ -148,19 +148,19 @@ scanned_in mode ahead = mode
 -- These bytes, followed by those, are the command, in the mode in which they are scanned; and the mode after it.
 -- A byte of a foreign language is one as soon as it begins no universal exit. A broken sequence that had given a
 -- command begins with its escape character, character and group again.
-abbrev pub Stands : Mode → List ℕ → List ℕ → Token → Mode → Type 0
+abbrev pub Stands : ParserState → List ℕ → List ℕ → Token → ParserState → Type 0
 Stands Exit bytes following (PjlLine line) next = (line ≡ bytes) × IsPjlLine bytes × (next ≡ mode_after bytes)
 Stands Exit bytes following (Broken broken) next = (broken ≡ bytes) × BreaksLine bytes following next
-Stands Tail bytes following (Broken broken) next = (broken ≡ bytes) × IsTailByte bytes next
-Stands Foreign bytes following Uel next = (bytes ≡ uel) × (next ≡ Exit)
-Stands Foreign bytes following (ForeignByte byte) next = (bytes ≡ byte ∷ []) × IsTrue (differs uel (byte ∷ following)) × (next ≡ Foreign)
+Stands OverlongLine bytes following (Broken broken) next = (broken ≡ bytes) × IsTailByte bytes next
+Stands OtherLanguage bytes following Uel next = (bytes ≡ uel) × (next ≡ Exit)
+Stands OtherLanguage bytes following (ForeignByte byte) next = (bytes ≡ byte ∷ []) × IsTrue (differs uel (byte ∷ following)) × (next ≡ OtherLanguage)
 Stands Pcl bytes following (Broken broken) next = (broken ≡ bytes) × Breaks Pcl bytes following × (next ≡ Pcl)
 Stands (Open character group) bytes following (Broken broken) next =
     (broken ≡ escape_byte ∷ character ∷ group ∷ bytes) × Breaks (Open character group) bytes following × (next ≡ Pcl)
 Stands mode bytes following command next = Whole mode bytes command next
 
 -- Head of a list of bytes: in this mode these bytes, followed by those, are the command and leave the next mode.
-abbrev pub Head : Mode → List ℕ → List ℕ → Token → Mode → Type 0
+abbrev pub Head : ParserState → List ℕ → List ℕ → Token → ParserState → Type 0
 Head mode bytes following command next = Stands (scanned_in mode (bytes ++ following)) bytes following command next
 
 -- Bytes that a broken command may have: one byte of what is left of a line, a line that is cut off, or the beginning

@@ -5,15 +5,15 @@ use Rattle.std.specs.List.{prefix_len, suffix_len, before_first, after_first, en
 use Rattle.std.specs.Bool.{nat_eq}
 use Rattle.std.specs.Char.{to_ascii_uppercase}
 use Rattle.press_cmd.specs.Token.{pjl_mark}
-use Rattle.press_cmd.specs.Mode.{Mode, Exit, Foreign, Pcl}
+use Rattle.press_cmd.specs.ParserState.{ParserState, Exit, OtherLanguage, Pcl}
 
 -- a space or a tab
 abbrev pub is_white : ℕ → Bool
 is_white byte = (byte == code " ") || (byte == code "\t")
 
 -- without the white space at the front
-abbrev pub trimmed_front : List ℕ → List ℕ
-trimmed_front bytes = drop (prefix_len is_white bytes) bytes
+abbrev pub trimmed_prefix : List ℕ → List ℕ
+trimmed_prefix bytes = drop (prefix_len is_white bytes) bytes
 
 -- without the white space at the end
 abbrev pub trimmed_end : List ℕ → List ℕ
@@ -21,7 +21,7 @@ trimmed_end bytes = take (length bytes - suffix_len is_white bytes) bytes
 
 -- without the white space at both ends
 abbrev pub trimmed : List ℕ → List ℕ
-trimmed bytes = trimmed_end (trimmed_front bytes)
+trimmed bytes = trimmed_end (trimmed_prefix bytes)
 
 -- in upper case; other bytes than letters of ASCII stay
 abbrev pub raised : List ℕ → List ℕ
@@ -42,11 +42,11 @@ begins_white (byte ∷ _) = is_white byte
 
 -- the command word of a line: after the white space that follows `@PJL`, up to the next white space or the end
 abbrev pub command_word : List ℕ → List ℕ
-command_word line = before_first is_white (trimmed_front (line_text line))
+command_word line = before_first is_white (trimmed_prefix (line_text line))
 
 -- what stands after the command word
 abbrev pub command_rest : List ℕ → List ℕ
-command_rest line = after_first is_white (trimmed_front (line_text line))
+command_rest line = after_first is_white (trimmed_prefix (line_text line))
 
 -- an equals sign
 abbrev pub is_equals : ℕ → Bool
@@ -65,9 +65,9 @@ enters_language line =
     begins_white (line_text line) && (bytes_eq (raised (command_word line)) (codes "ENTER")
     && (bytes_eq (raised (name_of line)) (codes "LANGUAGE") && not (length (assigned_value line) == 0)))
 
--- The mode after a line: Pcl or Foreign where it enters PCL or another language, else Exit.
-abbrev pub mode_after : List ℕ → Mode
+-- The mode after a line: Pcl or OtherLanguage where it enters PCL or another language, else Exit.
+abbrev pub mode_after : List ℕ → ParserState
 mode_after line =
     if enters_language line
-    then (if bytes_eq (raised (assigned_value line)) (codes "PCL") then Pcl else Foreign)
+    then (if bytes_eq (raised (assigned_value line)) (codes "PCL") then Pcl else OtherLanguage)
     else Exit

@@ -81,7 +81,7 @@ pub fn write_command(command: &Command, out: &mut Vec<u8>) -> Result<(), AllocEr
 /// Appends the command's bytes. An error leaves the vector longer, with its old front.
 fn append(command: &Command, out: &mut Vec<u8>) -> Result<(), AllocError>
     ensures ok { OnOk result (out.new.items ≡ out.old.items ++ bytes_of (token command.now)) }
-    ensures front { take (length out.old.items) out.new.items ≡ out.old.items }
+    ensures prefix { take (length out.old.items) out.new.items ≡ out.old.items }
 {
     match command {
         Command::Escape(escape) => out.extend_from_slice(&[ESCAPE, escape.byte]),
@@ -98,7 +98,7 @@ fn append(command: &Command, out: &mut Vec<u8>) -> Result<(), AllocError>
 /// Appends the parameter as a sequence of its own. An error leaves the vector longer, with its old front.
 fn append_param(param: &Param, out: &mut Vec<u8>) -> Result<(), AllocError>
     ensures ok { OnOk result (out.new.items ≡ out.old.items ++ bytes_of (param_token param.now)) }
-    ensures front { take (length out.old.items) out.new.items ≡ out.old.items }
+    ensures prefix { take (length out.old.items) out.new.items ≡ out.old.items }
 {
     append_head(param, out)?;
     out.extend_from_slice(param.field)?;
@@ -121,7 +121,7 @@ fn append_head(param: &Param, out: &mut Vec<u8>) -> Result<(), AllocError>
 /// Appends the bytes, with the beginning of their sequence. An error leaves the vector longer, with its old front.
 pub fn append_broken(broken: &Broken, out: &mut Vec<u8>) -> Result<(), AllocError>
     ensures ok { OnOk result (out.new.items ≡ out.old.items ++ bytes_of (broken_token broken.now)) }
-    ensures front { take (length out.old.items) out.new.items ≡ out.old.items }
+    ensures prefix { take (length out.old.items) out.new.items ≡ out.old.items }
 {
     if let Some((character, group)) = broken.sequence {
         out.extend_from_slice(&[ESCAPE, character, group])?;

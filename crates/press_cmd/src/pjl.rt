@@ -3,7 +3,7 @@
 //! Source: PJL Technical Reference Manual, the syntax of PJL commands.
 ghost use Rattle.std.specs.Prelude.{◌≡◌, ◌↔◌, true, false, IsTrue, MatchOption, position, bytes_eq};
 ghost use Rattle.std.specs.List.{before_first, after_first, list_all};
-ghost use Rattle.press_cmd.specs.Language.{is_white, is_equals, begins_white, trimmed_front, trimmed_end, trimmed, without_end};
+ghost use Rattle.press_cmd.specs.Language.{is_white, is_equals, begins_white, trimmed_prefix, trimmed_end, trimmed, without_end};
 ghost use Rattle.press_cmd.specs.Language.{line_text, command_word, command_rest, name_of, assigned_value, raised};
 ghost use Rattle.press_cmd.specs.Language.{enters_language};
 ghost use Rattle.press_cmd.specs.Grammar.{BeginsLine, IsPjlLine, is_line_byte};
@@ -28,8 +28,8 @@ pub fn begins_white(bytes: &[u8]) -> bool
 }
 
 /// The bytes without the white space at their front.
-pub fn trimmed_front(bytes: &[u8]) -> &[u8]
-    ensures { result.now ≡ trimmed_front bytes.now }
+pub fn trimmed_prefix(bytes: &[u8]) -> &[u8]
+    ensures { result.now ≡ trimmed_prefix bytes.now }
 {
     let mut start = 0;
     while start < bytes.len() && is_white(bytes[start]) {
@@ -53,7 +53,7 @@ fn trimmed_end(bytes: &[u8]) -> &[u8]
 pub fn trimmed(bytes: &[u8]) -> &[u8]
     ensures { result.now ≡ trimmed bytes.now }
 {
-    trimmed_end(trimmed_front(bytes))
+    trimmed_end(trimmed_prefix(bytes))
 }
 
 /// The bytes without this one at their end, if it stands there.
@@ -131,7 +131,7 @@ pub fn command_of(line: &[u8]) -> (&[u8], &[u8])
     ensures word { result.0.now ≡ command_word line.now }
     ensures rest { result.1.now ≡ command_rest line.now }
 {
-    split_word(trimmed_front(line_text(line)))
+    split_word(trimmed_prefix(line_text(line)))
 }
 
 /// The name before the first equals sign behind the command word, and the value after it, both without white space
@@ -183,7 +183,7 @@ pub fn is_line(bytes: &[u8]) -> bool
     ensures { IsTrue result ↔ IsPjlLine bytes.now }
 {
     match bytes.split_last() {
-        Some((&LINE_FEED, front)) if bytes.len() <= LONGEST_LINE => begins_line(front),
+        Some((&LINE_FEED, prefix)) if bytes.len() <= LONGEST_LINE => begins_line(prefix),
         _ => false,
     }
 }

@@ -19,7 +19,7 @@ use Rattle.press_queue.specs.Priority.{priority_of, position_within}
 use Rattle.press_queue.specs.Rows as rows
 use Rattle.press_queue.specs.State.{QueueState}
 use Rattle.press_queue.specs.Status.{has_ended, is_running, new_entry}
-use Rattle.press_sink.specs.Sides.{Sides}
+use Rattle.press_sink.specs.PrintedSheet.{PrintedSheet}
 use Rattle.press_ticket.specs.Ticket.{JobTicket}
 use Rattle.press_core.specs.Work.{IsPrintable, Work, new_work, without_job}
 use Rattle.press_core.specs.World.{works_listed, works_without_job}
@@ -51,7 +51,7 @@ stands-apart old new works after number is left entry_set work_set n apart =
     (λ j. standing_of (given j) (entry_is j) (work_is j))
 
 -- what happens to each number, where one entry and its work change
-pub one-changes : (submits : Option (JobTicket × List Page)) (old new : QueueState) (works after : List (ℕ × Work)) (number : ℕ) (was is : Entry) (work left : Work) (sheets : List Sides) (steps : ℕ) (failed : Bool)
+pub one-changes : (submits : Option (JobTicket × List Page)) (old new : QueueState) (works after : List (ℕ × Work)) (number : ℕ) (was is : Entry) (work left : Work) (sheets : List PrintedSheet) (steps : ℕ) (failed : Bool)
     → standing number old works ≡ Listed was work → SetsEntry old new number is → SetsWork works after number left
     → (n : ℕ) → (nat_eq number n ≡ true → Change submits (Listed was work) (Listed is left) sheets steps failed) → (nat_eq number n ≡ false → IsIdle sheets steps)
     → Change submits (standing n old works) (standing n new after) sheets steps failed

@@ -14,13 +14,13 @@ use Rattle.press_core.specs.declared.operator.OperatorCommand.TheVariants as ope
 use Rattle.press_core.specs.declared.turn.Turn.{Turn}
 use Rattle.press_core.specs.declared.turn.TurnError.{TurnError}
 use Rattle.press_core.specs.declared.turn.TurnError.TheVariants.{NoEngine}
-use Rattle.press_core.specs.Events.{Event, EventAnswer, Happening, Happens, IsRun, Leads, Message, Nothing, Operator, Response, TurnOn, Turned, operated}
+use Rattle.press_core.specs.Events.{Event, EventAnswer, Transition, Happens, IsRun, IsExecution, Message, Nothing, Operator, Response, TurnOn, Turned, operated}
 use Rattle.press_core.specs.Listings.{entry_id}
 use Rattle.press_core.specs.Messages.{Heading, Headed, heading_of, message_in}
 use Rattle.press_core.specs.Response.{Additions, adding}
 use Rattle.press_core.specs.Rows as table
-use Rattle.press_core.specs.Turns.{EntrySteps, TakesTurn, TakesTurnOn, TurnAt, at_turn, completed, is_idle, place_in_job, steps_of, with_turn}
-use Rattle.press_core.specs.Work.{at_place, new_work, with_delivered}
+use Rattle.press_core.specs.Turns.{EntrySteps, TakesTurn, TakesTurnOn, TurnAt, at_turn, completed, is_idle, progress_in_job, steps_of, with_turn}
+use Rattle.press_core.specs.Work.{at_progress, new_work, with_delivered}
 use Rattle.press_core.specs.World.{World, given_up, has_engine, new_world, off_engine, with_new_work, with_work, without_gone}
 use Rattle.press_core.proofs.AbortLemmas.{length-aborted_running}
 use Rattle.press_core.proofs.EngineLemmas.{length-left_by, length-none, length-slice_set}
@@ -62,7 +62,7 @@ number-many key message world row =
     named-many (table.named_entry_with key message world.queue) world (λ both. table.after_queue_row (row both.0 both.1 world.queue) world (λ _ after. table.accepting after))
     (λ both. row-many (row both.0 both.1 world.queue) world (λ _ after. table.accepting after) (λ a after many. many))
 
-answered-many : (message_type : MessageType) (message : Data) (images : List Page) (world : World) → AsMany world (table.answered message_type message images world).1
+answered-many : (message_type : MessageType) (message : Data) (images : List Page) (world : World) → AsMany world (table.response_row message_type message images world).1
 answered-many types.SubmitQueueEntry message images world =
     named-many (table.submission message images) world
     (λ both. table.after_queue_row (rows.submit both.1 world.queue) world (λ number after. table.telling (told_entry number) (with_new_work number (new_work both.0 images) after)))
@@ -96,7 +96,7 @@ responding-world heading (Err refused, world) = refl
 headed-many : (message : Data) (found : Headed) (images : List Page) (world : World) → AsMany world (table.responding_to found message images world).1
 headed-many message (Err stopped) images world = refl
 headed-many message (Ok headed) images world =
-    ap (λ (w : World). length w.engines) (responding-world headed.0 (table.answered headed.1 message images world)) ∙ answered-many headed.1 message images world
+    ap (λ (w : World). length w.engines) (responding-world headed.0 (table.response_row headed.1 message images world)) ∙ answered-many headed.1 message images world
 
 in-many : (found : Option Data) (images : List Page) (world : World) → AsMany world (table.responding_in found images world).1
 in-many None images world = refl
@@ -106,10 +106,10 @@ in-many (Some message) images world = headed-many message (heading_of message) i
 
 steps-many : (number : ℕ) (world : World) (most : ℕ) (result : Result ℕ TurnError) (handed : List Delivery) (next : World) → EntrySteps world number most result handed next → AsMany world next
 steps-many number world most (Err error) handed next es = ap (λ (w : World). length w.engines) es.after ∙ length-left_by number world.engines
-steps-many number world most (Ok steps) handed next es = at (place_in_job (with_delivered es.sheets es.work) + steps == length es.items) (ap (λ (w : World). length w.engines) es.after)
+steps-many number world most (Ok steps) handed next es = at (progress_in_job (with_delivered es.sheets es.work) + steps == length es.items) (ap (λ (w : World). length w.engines) es.after)
   where
     at : (b : Bool) → length next.engines ≡ length (if b then completed number (with_delivered es.sheets es.work) world
-        else with_work number (at_place (place_in_job (with_delivered es.sheets es.work) + steps) (with_delivered es.sheets es.work)) world).engines → AsMany world next
+        else with_work number (at_progress (progress_in_job (with_delivered es.sheets es.work) + steps) (with_delivered es.sheets es.work)) world).engines → AsMany world next
     at true is = is ∙ length-left_by number world.engines
     at false is = is
 
@@ -152,10 +152,10 @@ event-many world (TurnOn engine most) Nothing handed next happens = absurd happe
 event-many world (Operator command) (Response bytes) handed next happens = absurd happens
 event-many world (Operator command) (Turned result) handed next happens = absurd happens
 
-leads-many : (world : World) (happenings : List Happening) (last : World) → Leads world happenings last → AsMany world last
+leads-many : (world : World) (happenings : List Transition) (last : World) → IsExecution world happenings last → AsMany world last
 leads-many world [] last leads = ap (λ (w : World). length w.engines) leads
 leads-many world (h ∷ happenings) last (happens, leads) =
     leads-many h.next happenings last leads ∙ event-many world h.event h.answer h.handed h.next happens
 
-pub run-many : (happenings : List Happening) (last : World) → (run : IsRun happenings last) → length last.engines ≡ run.engines
+pub run-many : (happenings : List Transition) (last : World) → (run : IsRun happenings last) → length last.engines ≡ run.engines
 run-many happenings last run = leads-many (new_world run.engines) happenings last run.leads ∙ length-none run.engines

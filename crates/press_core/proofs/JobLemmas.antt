@@ -3,7 +3,7 @@ use Rattle.std.proofs.Common.{◌≡◌, ◌∙◌, ◌+◌, ◌<◌, ◌≤◌,
 use Rattle.std.proofs.lemmas.Bool.{true≢false}
 use Rattle.std.proofs.lemmas.List.{append-nil}
 use Rattle.press_bits.specs.Page.{Page}
-use Rattle.press_cmd.specs.Mode.{Exit}
+use Rattle.press_cmd.specs.ParserState.{Exit}
 use Rattle.press_cmd.specs.Split.{Closed, closing}
 use Rattle.press_cmd.specs.Token.{Token, Uel}
 use Rattle.press_cmd.specs.declared.variant.Kind.{Kind}
@@ -11,7 +11,7 @@ use Rattle.press_cmd.proofs.Splits.{closed_once, some_split}
 use Rattle.press_engine.specs.declared.effect.StepOutput.{StepOutput}
 use Rattle.press_engine.specs.declared.machine.Machine.{Machine}
 use Rattle.press_engine.specs.Outputs.{all_outputs}
-use Rattle.press_engine.specs.Machine.{Run, power_on}
+use Rattle.press_engine.specs.Machine.{StepResult, power_on}
 use Rattle.press_engine.specs.Trace.{joined, last_machine, trace}
 use Rattle.press_sink.specs.Sending.{sheets_of}
 use Rattle.press_stream.specs.declared.step.JobStep.{JobStep}
@@ -32,11 +32,11 @@ use Rattle.press_core.specs.Work.{Work}
 
 -- ---- the items of a job are one list
 
-pub IsJobOf-one : (work : Work) (items others : List Run) → IsJobOf work items → IsJobOf work others → items ≡ others
+pub IsJobOf-one : (work : Work) (items others : List StepResult) → IsJobOf work items → IsJobOf work others → items ≡ others
 IsJobOf-one work items others (c, closed, is) (d, other, are) =
     is ∙ ap (λ (commands : List Token). trace (with_exit commands) power_on) (closed_once Exit (job_bytes work.ticket work.images) c d closed other) ∙ sym are
 
-pub IsJobOf-some : (work : Work) → (items : List Run) × IsJobOf work items
+pub IsJobOf-some : (work : Work) → (items : List StepResult) × IsJobOf work items
 IsJobOf-some work =
     let found = some_split Exit (job_bytes work.ticket work.images) in
     let closed = found.commands ++ closing found.mode found.rest in
@@ -45,7 +45,7 @@ IsJobOf-some work =
 -- ---- the beginning
 
 -- each command of a written job is one item, and there are few
-pub items-few : (work : Work) (items : List Run) → IsJobOf work items → PrintsTheTicket work.ticket work.images (job_bytes work.ticket work.images)
+pub items-few : (work : Work) (items : List StepResult) → IsJobOf work items → PrintsTheTicket work.ticket work.images (job_bytes work.ticket work.images)
     → ((commands : List Token) → Closed (job_bytes work.ticket work.images) commands → length commands ≤ most_job_commands) → length items ≤ most_job_commands + 1
 items-few work items (closed, is_closed, is) prints few =
     let same = prints.only closed is_closed in
@@ -58,7 +58,7 @@ items-few work items (closed, is_closed, is) prints few =
       length-append prints.commands (Uel ∷ []),
     )
 
-pub starts_at : LeftGoesOn → (work : Work) (items : List Run) (job : JobState) (writer : JobLeft) → IsJobOf work items → job ≡ opened
+pub starts_at : LeftGoesOn → (work : Work) (items : List StepResult) (job : JobState) (writer : JobLeft) → IsJobOf work items → job ≡ opened
     → bytes_left writer work.images ≡ job_bytes work.ticket work.images → HasImages (length work.images) writer → PrintsTheTicket work.ticket work.images (job_bytes work.ticket work.images)
     → ((commands : List Token) → Closed (job_bytes work.ticket work.images) commands → length commands ≤ most_job_commands)
     → IsAt items work.images (record { job = job; writer = writer; steps = 0 })
@@ -72,13 +72,13 @@ starts_at law work items job writer job_is opens bytes has prints few = record {
   left_at : IsJobOf work items → LeftWith job (bytes_left writer work.images) items
   left_at (closed, is_closed, is) =
       subst (λ (j : JobState). LeftWith j (bytes_left writer work.images) items) (sym opens)
-      (subst (λ (all : List Run). LeftWith opened (bytes_left writer work.images) all) (sym is)
+      (subst (λ (all : List StepResult). LeftWith opened (bytes_left writer work.images) all) (sym is)
       (subst (λ (bytes : List ℕ). LeftWith opened bytes (trace (with_exit closed) power_on)) (sym bytes) (law.opens (job_bytes work.ticket work.images) closed is_closed)))
 
 -- ---- what comes in
 
 -- a piece was pushed
-pub pushed_at : LeftGoesOn → (items : List Run) (images : List Page) (old : RunningJob) (job : JobState) (writer : JobLeft) (piece : List ℕ) → old.job.held.ended ≡ false
+pub pushed_at : LeftGoesOn → (items : List StepResult) (images : List Page) (old : RunningJob) (job : JobState) (writer : JobLeft) (piece : List ℕ) → old.job.held.ended ≡ false
     → bytes_left old.writer images ≡ piece ++ bytes_left writer images → job ≡ with_piece piece old.job → HasImages (length images) writer → IsAt items images old
     → IsAt items images (record { job = job; writer = writer; steps = old.steps })
 pushed_at law items images old job writer piece going next is has at =
@@ -103,7 +103,7 @@ pushes_ok old new piece (Ok done) ok pushes = pushes.2
 pushes_ok old new piece (Err error) ok pushes = absurd (true≢false ok)
 
 -- the end was given, where nothing is to come
-pub ended_at : LeftGoesOn → (items : List Run) (images : List Page) (old : RunningJob) (job : JobState) (writer : JobLeft) → bytes_left old.writer images ≡ []
+pub ended_at : LeftGoesOn → (items : List StepResult) (images : List Page) (old : RunningJob) (job : JobState) (writer : JobLeft) → bytes_left old.writer images ≡ []
     → job ≡ input_ended old.job → writer ≡ old.writer → IsAt items images old → IsAt items images (record { job = job; writer = writer; steps = old.steps })
 ended_at law items images old job writer none is kept at =
     let nothing : bytes_left writer images ≡ [] = ap (λ (left : JobLeft). bytes_left left images) kept ∙ none in
@@ -152,24 +152,24 @@ take_one : {X : Type 0} (xs rest : List X) (x : X) → xs ≡ x ∷ rest → tak
 take_one [] rest x is = absurd (cc)
 take_one (y ∷ xs) rest x is = grind (arith, rules, is)
 
-last_of_more : (items : List Run) (item : Run) (machine : Machine) → last_machine machine (items ++ item ∷ []) ≡ item.machine
+last_of_more : (items : List StepResult) (item : StepResult) (machine : Machine) → last_machine machine (items ++ item ∷ []) ≡ item.machine
 last_of_more [] item machine = refl
 last_of_more (first ∷ items) item machine = last_of_more items item first.machine
 
 -- What a step of a job at its place leaves: it is at the next place, and the outputs are those of the item there.
-pub steps_on : LeftGoesOn → (items : List Run) (images : List Page) (old : RunningJob) (job : JobState) (item : Run) (kind : Kind) → IsAt items images old → Does old.job item kind job
+pub steps_on : LeftGoesOn → (items : List StepResult) (images : List Page) (old : RunningJob) (job : JobState) (item : StepResult) (kind : Kind) → IsAt items images old → Does old.job item kind job
     → IsAt items images (record { job = job; writer = old.writer; steps = old.steps + 1 }) × (item.outputs ≡ joined (take 1 (drop old.steps items)))
 steps_on law items images old job item kind at did =
-    let place = old.steps in
-    let on = law.does old.job job item kind (bytes_left old.writer images) (drop place items) at.left did in (
+    let progress = old.steps in
+    let on = law.does old.job job item kind (bytes_left old.writer images) (drop progress items) at.left did in (
       record {
-        within = before_more place items on.others item on.are;
-        machine = did.ends ∙ ap (λ (machine : Machine). Some machine) (sym (ap (last_machine power_on) (take_more place items on.others item on.are) ∙ last_of_more (take place items) item power_on));
-        left = subst (λ (these : List Run). LeftWith job (bytes_left old.writer images) these) (sym (drop_more place items on.others item on.are)) on.still;
+        within = before_more progress items on.others item on.are;
+        machine = did.ends ∙ ap (λ (machine : Machine). Some machine) (sym (ap (last_machine power_on) (take_more progress items on.others item on.are) ∙ last_of_more (take progress items) item power_on));
+        left = subst (λ (these : List StepResult). LeftWith job (bytes_left old.writer images) these) (sym (drop_more progress items on.others item on.are)) on.still;
         has_images = at.has_images;
         fits = at.fits;
       },
-      sym (ap joined (take_one (drop place items) on.others item on.are) ∙ append-nil item.outputs),
+      sym (ap joined (take_one (drop progress items) on.others item on.are) ∙ append-nil item.outputs),
     )
 
 -- ---- the end
@@ -180,15 +180,15 @@ length_dropped (suc k) [] within = absurd (omega (arith, within))
 length_dropped (suc k) (x ∷ xs) within = omega (arith, length_dropped k xs (omega (arith, within)))
 
 -- no item is left exactly at the end
-pub at_end : (items : List Run) (images : List Page) (running : RunningJob) → IsAt items images running → drop running.steps items ≡ [] → running.steps ≡ length items
+pub at_end : (items : List StepResult) (images : List Page) (running : RunningJob) → IsAt items images running → drop running.steps items ≡ [] → running.steps ≡ length items
 at_end items images running at none = omega (arith, length_dropped running.steps items at.within, ap length none)
 
 nothing_behind : {X : Type 0} (xs : List X) → length xs ≡ 0 → xs ≡ []
 nothing_behind [] none = refl
 nothing_behind (x ∷ xs) none = absurd (omega (arith, none))
 
-pub over_is : (items : List Run) (images : List Page) (running : RunningJob) (over : Bool) → IsAt items images running
-    → ((bytes : List ℕ) (left : List Run) → LeftWith running.job bytes left → IsTrue over ↔ (left ≡ [])) → over ≡ nat_eq running.steps (length items)
+pub over_is : (items : List StepResult) (images : List Page) (running : RunningJob) (over : Bool) → IsAt items images running
+    → ((bytes : List ℕ) (left : List StepResult) → LeftWith running.job bytes left → IsTrue over ↔ (left ≡ [])) → over ≡ nat_eq running.steps (length items)
 over_is items images running true at tells =
     let end = at_end items images running at ((tells (bytes_left running.writer images) (drop running.steps items) at.left).0 refl) in
     grind (arith, rules, end)
@@ -201,15 +201,15 @@ over_is items images running false at tells = by (nat_eq running.steps (length i
       absurd (true≢false (sym ((tells (bytes_left running.writer images) (drop running.steps items) at.left).1 (nothing_behind (drop running.steps items) none))))
 
 -- a job before its end is not over
-pub not_over : LeftGoesOn → (items : List Run) (images : List Page) (running : RunningJob) → IsAt items images running → running.steps < length items → IsOver running.job → ⊥
+pub not_over : LeftGoesOn → (items : List StepResult) (images : List Page) (running : RunningJob) → IsAt items images running → running.steps < length items → IsOver running.job → ⊥
 not_over law items images running at within over =
     omega (arith, within, at_end items images running at (law.over running.job (bytes_left running.writer images) (drop running.steps items) over at.left))
 
 -- a step, and its sheets
-goes_on : LeftGoesOn → (items : List Run) (images : List Page) (step : StepOutput) (old now : RunningJob) (job : JobState) → IsAt items images now → now.steps ≡ old.steps → DoesStep now.job step job
+goes_on : LeftGoesOn → (items : List StepResult) (images : List Page) (step : StepOutput) (old now : RunningJob) (job : JobState) → IsAt items images now → now.steps ≡ old.steps → DoesStep now.job step job
     → JobGoesOn items images old (record { job = job; writer = now.writer; steps = now.steps + 1 }) (sheets_of (all_outputs step.sent.items))
 goes_on law items images step old now job at here (machine, did) =
-    let item : Run = record { machine = machine; outputs = all_outputs step.sent.items } in
+    let item : StepResult = record { machine = machine; outputs = all_outputs step.sent.items } in
     let on = steps_on law items images now job item step.kind at did in
     record {
       at = on.0;
@@ -218,12 +218,12 @@ goes_on law items images step old now job at here (machine, did) =
     }
 
 -- by what the step was
-pub goes_on_after : LeftGoesOn → (items : List Run) (images : List Page) (step : StepOutput) (answer : JobStep) (old now : RunningJob) (job : JobState) → IsAt items images now → now.steps ≡ old.steps
+pub goes_on_after : LeftGoesOn → (items : List StepResult) (images : List Page) (step : StepOutput) (answer : JobStep) (old now : RunningJob) (job : JobState) → IsAt items images now → now.steps ≡ old.steps
     → answer ≡ answers.Ran step → TakesStep now.job (Ok answer) job → JobGoesOn items images old (record { job = job; writer = now.writer; steps = now.steps + 1 }) (sheets_of (all_outputs step.sent.items))
 goes_on_after law items images step answer old now job at here is takes =
     goes_on law items images step old now job at here (subst (λ s. TakesStep now.job (Ok s) job) is takes)
 
-pub not_ended : LeftGoesOn → (items : List Run) (images : List Page) (answer : JobStep) (running : RunningJob) (job : JobState) → IsAt items images running
+pub not_ended : LeftGoesOn → (items : List StepResult) (images : List Page) (answer : JobStep) (running : RunningJob) (job : JobState) → IsAt items images running
     → running.steps < length items → answer ≡ answers.Ended → TakesStep running.job (Ok answer) job → ⊥
 not_ended law items images answer running job at within is takes =
     not_over law items images running at within (subst (λ s. TakesStep running.job (Ok s) job) is takes).0

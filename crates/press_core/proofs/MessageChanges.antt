@@ -101,7 +101,7 @@ flag-becomes law flags.Close world whole =
 
 answered-becomes : EachRowKeepsTheQueue → (message_type : MessageType) (message : Data) (images : List Page) (world : World) → IsWholeWorld world
     → IfSome (table.ticket_of_type message_type message images) (λ ticket. IsPrintable ticket images)
-    → Becomes (submits_in images (table.ticket_of_type message_type message images)) world (table.answered message_type message images world).1
+    → Becomes (submits_in images (table.ticket_of_type message_type message images)) world (table.response_row message_type message images world).1
 answered-becomes law types.SubmitQueueEntry message images world whole printable = submit-becomes law images (table.submission message images) world whole printable
 answered-becomes law types.HoldQueueEntry message images world whole printable =
     named-becomes None (table.named_entry message world.queue) world _ whole (λ number _.
@@ -169,7 +169,7 @@ headed-becomes : EachRowKeepsTheQueue → (message : Data) (found : Headed) (ima
     → Becomes (submits_in images (table.ticket_of_headed found message images)) world (table.responding_to found message images world).1
 headed-becomes law message (Err stopped) images world whole printable = becomes_same None world whole
 headed-becomes law message (Ok headed) images world whole printable =
-    subst (Becomes (submits_in images (table.ticket_of_type headed.1 message images)) world) (sym (responding-world headed.0 (table.answered headed.1 message images world)))
+    subst (Becomes (submits_in images (table.ticket_of_type headed.1 message images)) world) (sym (responding-world headed.0 (table.response_row headed.1 message images world)))
     (answered-becomes law headed.1 message images world whole printable)
 
 in-becomes : EachRowKeepsTheQueue → (found : Option Data) (images : List Page) (world : World) → IsWholeWorld world

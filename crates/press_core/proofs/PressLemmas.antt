@@ -27,7 +27,7 @@ pub IsPress-same : (old new : QueueState) (works : List (ℕ × Work)) (engines 
 IsPress-same old new works engines same press = subst (λ q. IsPress q works engines) (sym same) press
 
 -- an entry that ran ends, and leaves its engine
-pub IsPress-ended : (number : ℕ) (end : End) (queue : QueueState) (works : List (ℕ × Work)) (engines : List (Option ℕ)) (work : Work) → IsTrue (rows.entry_runs number queue) → work.place ≡ None
+pub IsPress-ended : (number : ℕ) (end : End) (queue : QueueState) (works : List (ℕ × Work)) (engines : List (Option ℕ)) (work : Work) → IsTrue (rows.entry_runs number queue) → work.progress ≡ None
     → work.kept ≡ false → IsPress queue works engines → IsPress (rows.finish_entry number end queue) (set_value (nat_eq number) works work) (left_by number engines)
 IsPress-ended number end queue works engines work runs none gone press = record {
   sound = IsSound-ended number end queue works work runs none gone press.sound;

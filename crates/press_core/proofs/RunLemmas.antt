@@ -6,15 +6,15 @@ use Rattle.std.specs.Option.{option_or}
 use Rattle.std.proofs.lemmas.List.Sums.{sum_by-cons}
 use Rattle.std.proofs.lemmas.Option.{same_Some}
 use Rattle.press_bits.specs.Page.{Page}
-use Rattle.press_engine.specs.Machine.{Run}
+use Rattle.press_engine.specs.Machine.{StepResult}
 use Rattle.press_queue.specs.Entries.{entry_numbered}
 use Rattle.press_queue.specs.EveryQueue.{IsQueue}
 use Rattle.press_queue.specs.Laws.{EachRowKeepsTheQueue}
 use Rattle.press_sink.specs.declared.sheet.Delivery.{Delivery}
-use Rattle.press_sink.specs.Sides.{Sides}
+use Rattle.press_sink.specs.PrintedSheet.{PrintedSheet}
 use Rattle.press_ticket.specs.Ticket.{JobTicket}
 use Rattle.press_core.specs.Engines.{RunsOnEngines, are_engines}
-use Rattle.press_core.specs.Events.{Event, EventAnswer, Happening, Happens, IsRun, Leads, Message, Nothing, Operator, Response, TurnOn, Turned}
+use Rattle.press_core.specs.Events.{Event, EventAnswer, Transition, Happens, IsRun, IsExecution, Message, Nothing, Operator, Response, TurnOn, Turned}
 use Rattle.press_core.specs.History.{Seen, TakesInAll, both_seen, entering, handed_under, sheets_under, is_fault_of, last_seen, met_fault, seen_after, steps_answered, steps_in, submitted_by}
 use Rattle.press_core.specs.Laws.{EntriesAreBounded, EntriesDoNotInterfere, GivenUnder, JobsAreShort, JobsHandOutTheWantedSheets, SheetsAreGiven, StaysGone}
 use Rattle.press_core.specs.Turns.{IsJobOf, sheets_from}
@@ -99,7 +99,7 @@ new-whole law engines are = record {
   on_engines = on_engines-new engines are;
 }
 
-run-whole : EachRowKeepsTheQueue → (world : World) (happenings : List Happening) (last : World) → IsWholeWorld world → Leads world happenings last → IsWholeWorld last
+run-whole : EachRowKeepsTheQueue → (world : World) (happenings : List Transition) (last : World) → IsWholeWorld world → IsExecution world happenings last → IsWholeWorld last
 run-whole law world [] last whole leads = subst IsWholeWorld (sym leads) whole
 run-whole law world (h ∷ happenings) last whole (happens, leads) =
     run-whole law h.next happenings last (whole-next world h.event h.answer h.handed h.next whole (event-does law world h.event h.answer h.handed h.next whole happens)) leads
@@ -107,7 +107,7 @@ run-whole law world (h ∷ happenings) last whole (happens, leads) =
 -- ---- the account of a number in a run
 
 -- the event that is found first, one further on
-found-next : (p : Happening → Bool) (h : Happening) (happenings : List Happening) (before : Option Happening)
+found-next : (p : Transition → Bool) (h : Transition) (happenings : List Transition) (before : Option Transition)
     → option_or (option_or before (cond (p h) (Some h) None)) (find p happenings) ≡ option_or before (find p (h ∷ happenings))
 found-next p h happenings None = at (p h) refl
   where
@@ -124,8 +124,8 @@ empty-account : (n : ℕ) (given : Bool) → Account (standing_of given None Non
 empty-account n true = record { no_sheets = refl; no_steps = refl }
 empty-account n false = (refl, refl, record { no_sheets = refl; no_steps = refl })
 
-run-account : JobsHandOutTheWantedSheets → EachRowKeepsTheQueue → (n : ℕ) (world : World) (happenings : List Happening) (last : World) (seen : Option Seen) (found : Option Happening) (sheets : List Sides) (steps : ℕ)
-    (failed : Bool) → IsWholeWorld world → Leads world happenings last → Account (standing n world.queue world.works) seen found sheets steps failed
+run-account : JobsHandOutTheWantedSheets → EachRowKeepsTheQueue → (n : ℕ) (world : World) (happenings : List Transition) (last : World) (seen : Option Seen) (found : Option Transition) (sheets : List PrintedSheet) (steps : ℕ)
+    (failed : Bool) → IsWholeWorld world → IsExecution world happenings last → Account (standing n world.queue world.works) seen found sheets steps failed
     → Account (standing n last.queue last.works) (seen_after n seen happenings) (option_or found (entering n happenings)) (sheets ++ handed_under n happenings) (steps + steps_in n happenings)
     (failed || met_fault n world happenings)
 run-account jobs law n world [] last seen found sheets steps failed whole leads account =
@@ -135,7 +135,7 @@ run-account jobs law n world [] last seen found sheets steps failed whole leads 
     (subst (λ k. Account (standing n world.queue world.works) seen found sheets k (failed || false)) (omega arith)
     (subst (λ b. Account (standing n world.queue world.works) seen found sheets steps b) (or-false failed) account))))
   where
-    or-none : (o : Option Happening) → o ≡ option_or o None
+    or-none : (o : Option Transition) → o ≡ option_or o None
     or-none None = refl
     or-none (Some h) = refl
 
@@ -159,18 +159,18 @@ run-account jobs law n world (h ∷ happenings) last seen found sheets steps fai
     after leads next_seen in
     let sheets_are : (sheets ++ sheets_under n h.handed) ++ handed_under n happenings ≡ sheets ++ handed_under n (h ∷ happenings) =
     append_assoc sheets (sheets_under n h.handed) (handed_under n happenings)
-    ∙ ap (λ l. sheets ++ l) (sym (handed-append n h.handed (flat_map (λ (x : Happening). x.handed) happenings))) in
+    ∙ ap (λ l. sheets ++ l) (sym (handed-append n h.handed (flat_map (λ (x : Transition). x.handed) happenings))) in
     let steps_are : (steps + steps_answered n h.answer) + steps_in n happenings ≡ steps + steps_in n (h ∷ happenings) =
-    omega (arith, sum_by-cons (λ (x : Happening). steps_answered n x.answer) h happenings) in
+    omega (arith, sum_by-cons (λ (x : Transition). steps_answered n x.answer) h happenings) in
     let failed_is = or-assoc failed (is_fault_of n world h.event h.answer) (met_fault n h.next happenings) in
-    let found_is = found-next (λ (x : Happening). nat_le n x.next.queue.last) h happenings found in
+    let found_is = found-next (λ (x : Transition). nat_le n x.next.queue.last) h happenings found in
     subst (λ o. Account (standing n last.queue last.works) (seen_after n seen_next happenings) o (sheets ++ handed_under n (h ∷ happenings)) (steps + steps_in n (h ∷ happenings)) (failed || met_fault n world (h ∷ happenings))) found_is
     (subst (λ l. Account (standing n last.queue last.works) (seen_after n seen_next happenings) (option_or (found_now given h found) (entering n happenings)) l (steps + steps_in n (h ∷ happenings)) (failed || met_fault n world (h ∷ happenings))) sheets_are
     (subst (λ k. Account (standing n last.queue last.works) (seen_after n seen_next happenings) (option_or (found_now given h found) (entering n happenings)) ((sheets ++ sheets_under n h.handed) ++ handed_under n happenings) k (failed || met_fault n world (h ∷ happenings))) steps_are
     (subst (λ b. Account (standing n last.queue last.works) (seen_after n seen_next happenings) (option_or (found_now given h found) (entering n happenings)) ((sheets ++ sheets_under n h.handed) ++ handed_under n happenings) ((steps + steps_answered n h.answer) + steps_in n happenings) b) failed_is run)))
 
 -- from a press at its beginning
-run-from-new : JobsHandOutTheWantedSheets → EachRowKeepsTheQueue → (n : ℕ) (happenings : List Happening) (last : World) → (run : IsRun happenings last)
+run-from-new : JobsHandOutTheWantedSheets → EachRowKeepsTheQueue → (n : ℕ) (happenings : List Transition) (last : World) → (run : IsRun happenings last)
     → Account (standing n last.queue last.works) (last_seen n happenings) (entering n happenings) (handed_under n happenings) (steps_in n happenings) (met_fault n (new_world run.engines) happenings)
 run-from-new jobs law n happenings last run =
     let first = new_world run.engines in
@@ -179,7 +179,7 @@ run-from-new jobs law n happenings last run =
 
 -- ---- given sheets
 
-given-under : JobsHandOutTheWantedSheets → JobsAreShort → EachRowKeepsTheQueue → (happenings : List Happening) (last : World) (number : ℕ) → (run : IsRun happenings last) → GivenUnder (new_world run.engines) happenings last number
+given-under : JobsHandOutTheWantedSheets → JobsAreShort → EachRowKeepsTheQueue → (happenings : List Transition) (last : World) (number : ℕ) → (run : IsRun happenings last) → GivenUnder (new_world run.engines) happenings last number
 given-under jobs short law happenings last number run = record {
   given = λ seen is. let known = of seen is in is_given short seen.entry seen.work _ _ _ known.1;
   entered = λ seen is. (of seen is).0;
@@ -198,18 +198,18 @@ given-under jobs short law happenings last number run = record {
 
 -- ---- numbers that are gone
 
-run-gone : EachRowKeepsTheQueue → (n : ℕ) (world : World) (happenings : List Happening) (last : World) → IsWholeWorld world → Leads world happenings last
+run-gone : EachRowKeepsTheQueue → (n : ℕ) (world : World) (happenings : List Transition) (last : World) → IsWholeWorld world → IsExecution world happenings last
     → standing n world.queue world.works ≡ Gone → (handed_under n happenings ≡ []) × (standing n last.queue last.works ≡ Gone)
 run-gone law n world [] last whole leads gone = (refl, ap (λ (w : World). standing n w.queue w.works) leads ∙ gone)
 run-gone law n world (h ∷ happenings) last whole (happens, leads) gone =
     let does = event-does law world h.event h.answer h.handed h.next whole happens in
     let kept = gone-kept _ _ _ _ _ _ (does.each n) gone in
     let rest = run-gone law n h.next happenings last (whole-next world h.event h.answer h.handed h.next whole does) leads kept.0 in (
-      handed-append n h.handed (flat_map (λ (x : Happening). x.handed) happenings) ∙ ap (λ l. l ++ handed_under n happenings) kept.1 ∙ rest.0,
+      handed-append n h.handed (flat_map (λ (x : Transition). x.handed) happenings) ∙ ap (λ l. l ++ handed_under n happenings) kept.1 ∙ rest.0,
       rest.1,
     )
 
-stays-gone : EachRowKeepsTheQueue → (before after : List Happening) (mid last : World) (number : ℕ) → IsRun before mid → Leads mid after last → number ≤ mid.queue.last
+stays-gone : EachRowKeepsTheQueue → (before after : List Transition) (mid last : World) (number : ℕ) → IsRun before mid → IsExecution mid after last → number ≤ mid.queue.last
     → is_listed number mid.queue ≡ false → StaysGone after last number
 stays-gone law before after mid last number run leads below absent =
     let whole = run-whole law (new_world run.engines) before mid (new-whole law run.engines run.are) run.leads in
@@ -227,7 +227,7 @@ sheets-are-given jobs short law = record { under = given-under jobs short law; g
 -- ---- no interference
 
 -- what was handed out in so many steps
-took-sheets : JobsHandOutTheWantedSheets → EachRowKeepsTheQueue → (ticket : JobTicket) (images : List Page) (steps number : ℕ) (happenings : List Happening) (items : List Run)
+took-sheets : JobsHandOutTheWantedSheets → EachRowKeepsTheQueue → (ticket : JobTicket) (images : List Page) (steps number : ℕ) (happenings : List Transition) (items : List StepResult)
     → TakesInAll number steps ticket images happenings → IsJobOf (new_work ticket images) items → handed_under number happenings ≡ sheets_from 0 steps items
 took-sheets jobs law ticket images steps number happenings items took job = at (last_seen number happenings) account
   where
@@ -258,7 +258,7 @@ entries-do-not-interfere jobs law = record {
 -- ---- bounds
 
 -- the world that a run leads to
-whole-last : EachRowKeepsTheQueue → (happenings : List Happening) (last : World) → IsRun happenings last → IsWholeWorld last
+whole-last : EachRowKeepsTheQueue → (happenings : List Transition) (last : World) → IsRun happenings last → IsWholeWorld last
 whole-last law happenings last run = run-whole law (new_world run.engines) happenings last (new-whole law run.engines run.are) run.leads
 
 pub entries-are-bounded : EachRowKeepsTheQueue → EntriesAreBounded

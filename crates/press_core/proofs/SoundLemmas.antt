@@ -240,7 +240,7 @@ IsSound-finished number end queue works runs sound =
     (ended_entry number it.entry (record it.entry { status = status_at_end end }) queue works it.there (over_at_end end) (still_at_end end) sound)
 
 -- it ends, and another work without a job stands for its own
-pub IsSound-ended : (number : ℕ) (end : End) (queue : QueueState) (works : List (ℕ × Work)) (work : Work) → IsTrue (rows.entry_runs number queue) → work.place ≡ None
+pub IsSound-ended : (number : ℕ) (end : End) (queue : QueueState) (works : List (ℕ × Work)) (work : Work) → IsTrue (rows.entry_runs number queue) → work.progress ≡ None
     → work.kept ≡ false → IsSound queue works → IsSound (rows.finish_entry number end queue) (set_value (nat_eq number) works work)
 IsSound-ended number end queue works work runs none gone sound =
     let it = runs_as number queue runs in
@@ -362,7 +362,7 @@ submit_err_same priority queue new (submissions.Refused refusal) h = submit_refu
 submit_err_same priority queue new submissions.NoMemory h = h.0
 
 pub IsSound-entered : (priority : ℤ) (queue new : QueueState) (number : ℕ) (work : Work) (works after : List (ℕ × Work)) → (new, Ok number) ≡ rows.submit priority queue
-    → entry_numbered number queue.entries ≡ None → work.place ≡ None → work.kept ≡ true → after ≡ works ++ (number, work) ∷ [] → IsSound queue works → IsSound new after
+    → entry_numbered number queue.entries ≡ None → work.progress ≡ None → work.kept ≡ true → after ≡ works ++ (number, work) ∷ [] → IsSound queue works → IsSound new after
 IsSound-entered priority queue new number work works after is fresh none kept added sound =
     let submitted = submitted_is priority queue new number is in
     let entry : Entry = new_entry submitted.priority in

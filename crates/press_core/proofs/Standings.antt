@@ -4,7 +4,7 @@ use Rattle.std.specs.Prelude.{⊤}
 use Rattle.std.specs.Map.{lookup}
 use Rattle.std.proofs.lemmas.Option.{same_Some}
 use Rattle.press_bits.specs.Page.{Page}
-use Rattle.press_engine.specs.Machine.{Run}
+use Rattle.press_engine.specs.Machine.{StepResult}
 use Rattle.press_queue.specs.declared.entry.Entry.{Entry}
 use Rattle.press_queue.specs.declared.status.Status.TheVariants as statuses
 use Rattle.press_queue.specs.Entries.{entry_numbered}
@@ -12,24 +12,24 @@ use Rattle.press_queue.specs.EveryQueue.{IsQueue}
 use Rattle.press_queue.specs.Rows as rows
 use Rattle.press_queue.specs.State.{QueueState}
 use Rattle.press_queue.specs.Status.{has_ended, is_running, new_entry}
-use Rattle.press_sink.specs.Sides.{Sides}
+use Rattle.press_sink.specs.PrintedSheet.{PrintedSheet}
 use Rattle.press_ticket.specs.Ticket.{JobTicket}
 use Rattle.press_core.specs.Engines.{RunsOnEngines}
-use Rattle.press_core.specs.Turns.{IsJobOf, place_in_job, sheets_from}
-use Rattle.press_core.specs.Work.{IsPrintable, Work, at_place, new_work, with_delivered, without_job}
+use Rattle.press_core.specs.Turns.{IsJobOf, progress_in_job, sheets_from}
+use Rattle.press_core.specs.Work.{IsPrintable, Work, at_progress, new_work, with_delivered, without_job}
 use Rattle.press_core.specs.World.{World}
 
 -- ---- how a number stands
 
 -- It was not given yet; its entry is in the list, with its work; it was given, and its entry left the list. No number of a press
 -- stands otherwise.
-pub data Standing : Type 0 where
-  Unknown : Standing
-  Listed : Entry → Work → Standing
-  Gone : Standing
-  Torn : Standing
+pub data EntryHistory : Type 0 where
+  Unknown : EntryHistory
+  Listed : Entry → Work → EntryHistory
+  Gone : EntryHistory
+  Torn : EntryHistory
 
-abbrev pub standing_of : (given : Bool) → Option Entry → Option Work → Standing
+abbrev pub standing_of : (given : Bool) → Option Entry → Option Work → EntryHistory
 standing_of true (Some entry) (Some work) = Listed entry work
 standing_of true (Some entry) None = Torn
 standing_of true None (Some work) = Torn
@@ -38,11 +38,11 @@ standing_of false (Some entry) work = Torn
 standing_of false None (Some work) = Torn
 standing_of false None None = Unknown
 
-abbrev pub standing : (number : ℕ) → QueueState → List (ℕ × Work) → Standing
+abbrev pub standing : (number : ℕ) → QueueState → List (ℕ × Work) → EntryHistory
 standing number queue works = standing_of (nat_le number queue.last) (entry_numbered number queue.entries) (lookup (nat_eq number) works)
 
 -- an entry that runs has begun
-abbrev pub IsProper : Standing → Type 0
+abbrev pub IsProper : EntryHistory → Type 0
 IsProper Unknown = ⊤
 IsProper (Listed entry work) = is_running entry.status ≡ true → entry.begun ≡ true
 IsProper Gone = ⊤
@@ -64,7 +64,7 @@ abbrev pub IsOpen : Entry → Type 0
 IsOpen entry = has_ended entry.status ≡ false
 
 -- nothing is handed out, and no step taken
-pub record IsIdle (sheets : List Sides) (steps : ℕ) : Type 0 where
+pub record IsIdle (sheets : List PrintedSheet) (steps : ℕ) : Type 0 where
   pub no_sheets : sheets ≡ []
   pub no_steps : steps ≡ 0
 
@@ -86,30 +86,30 @@ abbrev pub aborted_entry : Entry → Entry
 aborted_entry entry = record entry { status = statuses.Aborted }
 
 -- steps of a work's job, and their sheets
-pub record StepsOf (work : Work) (items : List Run) (steps : ℕ) (sheets : List Sides) : Type 0 where
+pub record StepsOf (work : Work) (items : List StepResult) (steps : ℕ) (sheets : List PrintedSheet) : Type 0 where
   pub is_job : IsJobOf work items
-  pub few : steps ≤ length items - place_in_job work
-  pub sheets_are : sheets ≡ sheets_from (place_in_job work) steps items
+  pub few : steps ≤ length items - progress_in_job work
+  pub sheets_are : sheets ≡ sheets_from (progress_in_job work) steps items
 
--- a front of the sheets of some steps
-pub record FrontOf (work : Work) (items : List Run) (sheets : List Sides) : Type 0 where
+-- a prefix of the sheets of some steps
+pub record PrefixOf (work : Work) (items : List StepResult) (sheets : List PrintedSheet) : Type 0 where
   pub steps : ℕ
-  pub others : List Sides
+  pub others : List PrintedSheet
   pub taken : StepsOf work items steps (sheets ++ others)
 
 -- What happens to a number in one event, which submits this or nothing: what was handed out under it, how many steps of its job
 -- were taken, and whether it met a fault.
-pub data Change (submits : Option (JobTicket × List Page)) (old new : Standing) (sheets : List Sides) (steps : ℕ) (failed : Bool) : Type 0 where
+pub data Change (submits : Option (JobTicket × List Page)) (old new : EntryHistory) (sheets : List PrintedSheet) (steps : ℕ) (failed : Bool) : Type 0 where
   Stays : new ≡ old → IsIdle sheets steps → Change submits old new sheets steps failed
   Enters : (priority : ℕ) (ticket : JobTicket) (images : List Page) → submits ≡ Some (ticket, images) → IsPrintable ticket images
       → old ≡ Unknown → new ≡ Listed (new_entry priority) (new_work ticket images) → IsIdle sheets steps → Change submits old new sheets steps failed
   Moves : (was is : Entry) (work : Work) → MayStand was is → old ≡ Listed was work → new ≡ Listed is work → IsIdle sheets steps
       → Change submits old new sheets steps failed
-  Steps : (was : Entry) (work : Work) (items : List Run) → IsOpen was → StepsOf work items steps sheets → old ≡ Listed was work
-      → new ≡ Listed (rows.begun_entry was) (at_place (place_in_job work + steps) (with_delivered sheets work)) → Change submits old new sheets steps failed
-  Completes : (was : Entry) (work : Work) (items : List Run) → IsOpen was → StepsOf work items steps sheets → place_in_job work + steps ≡ length items
+  Steps : (was : Entry) (work : Work) (items : List StepResult) → IsOpen was → StepsOf work items steps sheets → old ≡ Listed was work
+      → new ≡ Listed (rows.begun_entry was) (at_progress (progress_in_job work + steps) (with_delivered sheets work)) → Change submits old new sheets steps failed
+  Completes : (was : Entry) (work : Work) (items : List StepResult) → IsOpen was → StepsOf work items steps sheets → progress_in_job work + steps ≡ length items
       → old ≡ Listed was work → new ≡ Listed (completed_entry was) (without_job (with_delivered sheets work)) → Change submits old new sheets steps failed
-  Fails : (was : Entry) (work : Work) (items : List Run) → IsOpen was → FrontOf work items sheets → failed ≡ true → old ≡ Listed was work
+  Fails : (was : Entry) (work : Work) (items : List StepResult) → IsOpen was → PrefixOf work items sheets → failed ≡ true → old ≡ Listed was work
       → new ≡ Listed (failed_entry was) (without_job (with_delivered sheets work)) → Change submits old new sheets steps failed
   Aborts : (was : Entry) (work : Work) → IsOpen was → old ≡ Listed was work → new ≡ Listed (aborted_entry was) (without_job work) → IsIdle sheets steps
       → Change submits old new sheets steps failed
@@ -117,13 +117,13 @@ pub data Change (submits : Option (JobTicket × List Page)) (old new : Standing)
 
 -- ---- what a standing says
 
-abbrev entry_of : Standing → Option Entry
+abbrev entry_of : EntryHistory → Option Entry
 entry_of Unknown = None
 entry_of (Listed entry work) = Some entry
 entry_of Gone = None
 entry_of Torn = None
 
-abbrev work_of : Standing → Option Work
+abbrev work_of : EntryHistory → Option Work
 work_of Unknown = None
 work_of (Listed entry work) = Some work
 work_of Gone = None
@@ -135,22 +135,22 @@ same_entry one other work after e = same_Some one other (ap entry_of e)
 pub same_work : (one other : Entry) (work after : Work) → Listed one work ≡ Listed other after → work ≡ after
 same_work one other work after e = same_Some work after (ap work_of e)
 
-abbrev is_listed_one : Standing → Bool
+abbrev is_listed_one : EntryHistory → Bool
 is_listed_one Unknown = false
 is_listed_one (Listed entry work) = true
 is_listed_one Gone = false
 is_listed_one Torn = false
 
-abbrev is_gone : Standing → Bool
+abbrev is_gone : EntryHistory → Bool
 is_gone Unknown = false
 is_gone (Listed entry work) = false
 is_gone Gone = true
 is_gone Torn = false
 
-pub not_listed : {P : Type 0} (s : Standing) (entry : Entry) (work : Work) → is_listed_one s ≡ false → s ≡ Listed entry work → P
+pub not_listed : {P : Type 0} (s : EntryHistory) (entry : Entry) (work : Work) → is_listed_one s ≡ false → s ≡ Listed entry work → P
 not_listed s entry work not is = absurd (true≢false (sym (ap is_listed_one is) ∙ not))
 
-pub not_gone : {P : Type 0} (s : Standing) → is_gone s ≡ false → s ≡ Gone → P
+pub not_gone : {P : Type 0} (s : EntryHistory) → is_gone s ≡ false → s ≡ Gone → P
 not_gone s not is = absurd (true≢false (sym (ap is_gone is) ∙ not))
 
 -- what an entry of the list is of
@@ -199,7 +199,7 @@ gone_absent false (Some e) p is = not_gone Torn refl is
 
 -- ---- each event leaves the standings proper
 
-pub proper-kept : (submits : Option (JobTicket × List Page)) (old new : Standing) (sheets : List Sides) (steps : ℕ) (failed : Bool) → Change submits old new sheets steps failed
+pub proper-kept : (submits : Option (JobTicket × List Page)) (old new : EntryHistory) (sheets : List PrintedSheet) (steps : ℕ) (failed : Bool) → Change submits old new sheets steps failed
     → IsProper old → IsProper new
 proper-kept submits old new sheets steps failed (Stays same idle) proper = subst IsProper (sym same) proper
 proper-kept submits old new sheets steps failed (Enters priority ticket images brings printable was is idle) proper =
@@ -213,7 +213,7 @@ proper-kept submits old new sheets steps failed (Aborts was work is_open before 
 proper-kept submits old new sheets steps failed (Leaves was work before after idle) proper = subst IsProper (sym after) tt
 
 -- a number that is gone stays so, and nothing is handed out under it
-pub gone-kept : (submits : Option (JobTicket × List Page)) (old new : Standing) (sheets : List Sides) (steps : ℕ) (failed : Bool) → Change submits old new sheets steps failed
+pub gone-kept : (submits : Option (JobTicket × List Page)) (old new : EntryHistory) (sheets : List PrintedSheet) (steps : ℕ) (failed : Bool) → Change submits old new sheets steps failed
     → old ≡ Gone → (new ≡ Gone) × (sheets ≡ [])
 gone-kept submits old new sheets steps failed (Stays same idle) gone = (same ∙ gone, idle.no_sheets)
 gone-kept submits old new sheets steps failed (Enters priority ticket images brings printable was is idle) gone = not_gone Unknown refl (sym was ∙ gone)

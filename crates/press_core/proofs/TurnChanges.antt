@@ -4,7 +4,7 @@ use Rattle.std.specs.Map.{lookup, set_value}
 use Rattle.std.proofs.lemmas.Bool.{eqb-true}
 use Rattle.std.proofs.lemmas.Map.Steps.{set_value_same}
 use Rattle.std.proofs.lemmas.Option.{same_Some}
-use Rattle.press_engine.specs.Machine.{Run}
+use Rattle.press_engine.specs.Machine.{StepResult}
 use Rattle.press_queue.specs.declared.entry.Entry.{Entry}
 use Rattle.press_queue.specs.declared.status.End.{End}
 use Rattle.press_queue.specs.declared.status.End.TheVariants.{Completed, Aborted}
@@ -18,7 +18,7 @@ use Rattle.press_queue.specs.State.{QueueState}
 use Rattle.press_queue.specs.Status.{has_ended, is_running, is_waiting, status_at_end}
 use Rattle.press_sink.specs.declared.sheet.Delivery.{Delivery}
 use Rattle.press_sink.specs.Sending.{under_tag}
-use Rattle.press_sink.specs.Sides.{Sides}
+use Rattle.press_sink.specs.PrintedSheet.{PrintedSheet}
 use Rattle.press_core.specs.declared.operator.OperatorCommand.{OperatorCommand}
 use Rattle.press_core.specs.declared.operator.OperatorCommand.TheVariants as operators
 use Rattle.press_core.specs.declared.turn.Turn.{Turn}
@@ -27,8 +27,8 @@ use Rattle.press_core.specs.declared.turn.TurnError.TheVariants.{NoEngine}
 use Rattle.press_core.specs.Engines.{RunsOnEngines, is_number, left_by}
 use Rattle.press_core.specs.Events.{Event, TurnOn, EventAnswer, Turned, operated, running_aborted}
 use Rattle.press_core.specs.History.{sheets_under, is_fault_of, steps_answered}
-use Rattle.press_core.specs.Turns.{EntrySteps, IsJobOf, StepsTo, TakesTurn, TakesTurnOn, TurnAt, at_turn, at_turn_with, completed, is_idle, place_in_job, steps_from, with_turn}
-use Rattle.press_core.specs.Work.{Work, at_place, with_delivered, without_job}
+use Rattle.press_core.specs.Turns.{EntrySteps, IsJobOf, StepsTo, TakesTurn, TakesTurnOn, TurnAt, at_turn, at_turn_with, completed, is_idle, progress_in_job, steps_from, with_turn}
+use Rattle.press_core.specs.Work.{Work, at_progress, with_delivered, without_job}
 use Rattle.press_core.specs.World.{World, has_engine, on_engine, with_work}
 use Rattle.press_core.proofs.AbortLemmas.{keyed-lookup, on_engines-free, queue-aborted, where_so}
 use Rattle.press_core.proofs.ChangeLemmas.{idle, one-changes, set-entry, set-work}
@@ -37,7 +37,7 @@ use Rattle.press_core.proofs.HandedLemmas.{handed-other, handed-own}
 use Rattle.press_core.proofs.MessageChanges.{Becomes}
 use Rattle.press_core.proofs.RunsLemmas.{begun-but, finish-but}
 use Rattle.press_core.proofs.SoundLemmas.{runs_as}
-use Rattle.press_core.proofs.Standings.{Change, Stays, Steps, Completes, Fails, Aborts, FrontOf, IsIdle, IsOpen, IsProper, IsWhole, IsWholeWorld, Listed, StepsOf, aborted_entry, completed_entry, failed_entry, listed_is, listed_of, standing, standing_of}
+use Rattle.press_core.proofs.Standings.{Change, Stays, Steps, Completes, Fails, Aborts, PrefixOf, IsIdle, IsOpen, IsProper, IsWhole, IsWholeWorld, Listed, StepsOf, aborted_entry, completed_entry, failed_entry, listed_is, listed_of, standing, standing_of}
 use Rattle.press_core.proofs.TurnLemmas.{IsBegun, Waited, begun_is, begun_still, ended_is}
 
 -- ---- the entry that runs, or begins
@@ -119,7 +119,7 @@ record Stepped (old new : World) (number : ℕ) (was is : Entry) (work left : Wo
   pub queue_is : new.queue ≡ rows.with_entries (with_entry number is old.queue.entries) old.queue
   pub works_are : new.works ≡ set_value (nat_eq number) old.works left
 
-stepped-each : (old new : World) (number : ℕ) (was is : Entry) (work left : Work) (sheets : List Sides) (event : Event) (answer : EventAnswer) → IsWhole old.queue old.works → Stepped old new number was is work left
+stepped-each : (old new : World) (number : ℕ) (was is : Entry) (work left : Work) (sheets : List PrintedSheet) (event : Event) (answer : EventAnswer) → IsWhole old.queue old.works → Stepped old new number was is work left
     → ((n : ℕ) → nat_eq number n ≡ false → steps_answered n answer ≡ 0)
     → Change None (Listed was work) (Listed is left) sheets (steps_answered number answer) (is_fault_of number old event answer)
     → (n : ℕ) → Change None (standing n old.queue old.works) (standing n new.queue new.works) (sheets_under n (under_tag number sheets)) (steps_answered n answer) (is_fault_of n old event answer)
@@ -151,21 +151,21 @@ steps-own turn number names =
 
 -- ---- by what is answered
 
-few : (place most : ℕ) (items : List Run) → steps_from place most items ≤ length items - place
-few place most items = omega arith
+few : (progress most : ℕ) (items : List StepResult) → steps_from progress most items ≤ length items - progress
+few progress most items = omega arith
 
-steps-of : (work : Work) (items : List Run) (most steps : ℕ) (sheets : List Sides) → IsJobOf work items → StepsTo work items most (Ok steps) sheets → StepsOf work items steps sheets
+steps-of : (work : Work) (items : List StepResult) (most steps : ℕ) (sheets : List PrintedSheet) → IsJobOf work items → StepsTo work items most (Ok steps) sheets → StepsOf work items steps sheets
 steps-of work items most steps sheets job to = record {
   is_job = job;
-  few = subst (λ n. n ≤ length items - place_in_job work) (sym to.0) (few (place_in_job work) most items);
+  few = subst (λ n. n ≤ length items - progress_in_job work) (sym to.0) (few (progress_in_job work) most items);
   sheets_are = to.1;
 }
 
-front-of : (work : Work) (items : List Run) (most : ℕ) (error : TurnError) (sheets : List Sides) → IsJobOf work items → StepsTo work items most (Err error) sheets → FrontOf work items sheets
-front-of work items most error sheets job to = record {
-  steps = steps_from (place_in_job work) most items;
+prefix-of : (work : Work) (items : List StepResult) (most : ℕ) (error : TurnError) (sheets : List PrintedSheet) → IsJobOf work items → StepsTo work items most (Err error) sheets → PrefixOf work items sheets
+prefix-of work items most error sheets job to = record {
+  steps = steps_from (progress_in_job work) most items;
   others = to.0;
-  taken = record { is_job = job; few = few (place_in_job work) most items; sheets_are = sym to.1 };
+  taken = record { is_job = job; few = few (progress_in_job work) most items; sheets_are = sym to.1 };
 }
 
 -- the entry ended
@@ -196,17 +196,17 @@ off-engines number end new engines on = on_engines-left number new (rows.finish_
 
 turn-ok : EachRowKeepsTheQueue → (event : Event) (old : World) (new : QueueState) (engines : List (Option ℕ)) (number most : ℕ) (turn : Turn) (handed : List Delivery) (next : World)
     → Taking old new engines number → turn.entry ≡ Some number → (es : EntrySteps (taken new engines old) number most (Ok turn.steps) handed next)
-    → (b : Bool) → (place_in_job es.work + turn.steps == length es.items) ≡ b → TurnBecomes old next event handed (Turned (Ok turn))
+    → (b : Bool) → (progress_in_job es.work + turn.steps == length es.items) ≡ b → TurnBecomes old next event handed (Turned (Ok turn))
 turn-ok law event old new engines number most turn handed next taking names es true is =
     let work = es.work in
     let left = without_job (with_delivered es.sheets work) in
     let after : next ≡ completed number (with_delivered es.sheets work) (taken new engines old) =
     es.after ∙ ap (λ b. if b then completed number (with_delivered es.sheets work) (taken new engines old)
-    else with_work number (at_place (place_in_job work + turn.steps) (with_delivered es.sheets work)) (taken new engines old)) is in
+    else with_work number (at_progress (progress_in_job work + turn.steps) (with_delivered es.sheets work)) (taken new engines old)) is in
     let entry = taking.takes.begins.entry in
     let went : Stepped old next number entry (completed_entry entry) work left =
     ended old new next number Completed work left (completed_entry entry) taking.takes.begins es.is_work (ap (λ (w : World). w.queue) after) (ap (λ (w : World). w.works) after) refl in
-    let all : place_in_job work + turn.steps ≡ length es.items = grind (arith, rules, is) in
+    let all : progress_in_job work + turn.steps ≡ length es.items = grind (arith, rules, is) in
     let change : Change None (Listed entry work) (Listed (completed_entry entry) left) es.sheets (steps_answered number (Turned (Ok turn))) (is_fault_of number old event (Turned (Ok turn))) =
     subst (λ k. Change None (Listed entry work) (Listed (completed_entry entry) left) es.sheets k (is_fault_of number old event (Turned (Ok turn)))) (sym (steps-own turn number names))
     (Completes entry work es.items taking.takes.is_open (steps-of work es.items most turn.steps es.sheets es.is_job es.steps) all refl refl) in
@@ -218,7 +218,7 @@ turn-ok law event old new engines number most turn handed next taking names es t
     }
 turn-ok law event old new engines number most turn handed next taking names es false is =
     let work = es.work in
-    let left = at_place (place_in_job work + turn.steps) (with_delivered es.sheets work) in
+    let left = at_progress (progress_in_job work + turn.steps) (with_delivered es.sheets work) in
     let after : next ≡ with_work number left (taken new engines old) =
     es.after ∙ ap (λ b. if b then completed number (with_delivered es.sheets work) (taken new engines old)
     else with_work number left (taken new engines old)) is in
@@ -249,7 +249,7 @@ turn-err law event old new engines number most error handed next taking fault es
     let went : Stepped old next number entry (failed_entry entry) work left =
     ended old new next number Aborted work left (failed_entry entry) taking.takes.begins es.is_work (ap (λ (w : World). w.queue) es.after) (ap (λ (w : World). w.works) es.after) refl in
     let change : Change None (Listed entry work) (Listed (failed_entry entry) left) es.sheets 0 (is_fault_of number old event (Turned (Err error))) =
-    Fails entry work es.items taking.takes.is_open (front-of work es.items most error es.sheets es.is_job es.steps) fault refl refl in
+    Fails entry work es.items taking.takes.is_open (prefix-of work es.items most error es.sheets es.is_job es.steps) fault refl refl in
     record {
       queue = subst IsQueue (sym (ap (λ (w : World). w.queue) es.after)) (law.finish number Aborted new taking.queue_is);
       on_engines = subst (λ (w : World). RunsOnEngines w.queue w.engines) (sym es.after) (off-engines number Aborted new engines taking.on_engines);
@@ -261,7 +261,7 @@ turn-some : EachRowKeepsTheQueue → (old : World) (new : QueueState) (engines :
     → Taking old new engines number → (at_turn engine old).1 ≡ Some number → TurnAt (taken new engines old) (Some number) most result handed next
     → TurnBecomes old next (TurnOn engine most) handed (Turned result)
 turn-some law old new engines engine number most (Ok turn) handed next taking named (names, es) =
-    turn-ok law (TurnOn engine most) old new engines number most turn handed next taking names es (place_in_job es.work + turn.steps == length es.items) refl
+    turn-ok law (TurnOn engine most) old new engines number most turn handed next taking names es (progress_in_job es.work + turn.steps == length es.items) refl
 turn-some law old new engines engine number most (Err error) handed next taking named (names, es) =
     let own : nat_eq number number ≡ true = grind (arith, rules) in
     let fault : is_fault_of number old (TurnOn engine most) (Turned (Err error)) ≡ true =

@@ -5,7 +5,7 @@ use Rattle.std.specs.List.{IsDistinct}
 use Rattle.std.specs.Map.{keys_of, lookup, set_value}
 use Rattle.std.specs.Option.{option_map_or}
 use Rattle.std.proofs.lemmas.Map.Steps.{set_value_same}
-use Rattle.press_engine.specs.Machine.{Run}
+use Rattle.press_engine.specs.Machine.{StepResult}
 use Rattle.press_page.specs.Environment.{changed_by}
 use Rattle.press_queue.specs.declared.entry.Entry.{Entry}
 use Rattle.press_queue.specs.declared.status.End.{End}
@@ -19,40 +19,40 @@ use Rattle.press_queue.specs.Status.{has_ended, is_running, is_waiting, status_a
 use Rattle.press_queue.proofs.FirstLemmas.{next_is_numbered}
 use Rattle.press_sink.specs.declared.sheet.Delivery.{Delivery}
 use Rattle.press_sink.specs.Sending.{under_tag}
-use Rattle.press_sink.specs.Sides.{Sides}
-use Rattle.press_sink.specs.Told.{SheetsTold}
+use Rattle.press_sink.specs.PrintedSheet.{PrintedSheet}
+use Rattle.press_sink.specs.SinkLog.{SheetLog}
 use Rattle.press_sink.proofs.SendingLemmas.{told-nothing}
 use Rattle.press_core.specs.declared.turn.Turn.{Turn}
 use Rattle.press_core.specs.declared.turn.TurnError.{TurnError}
 use Rattle.press_core.specs.declared.turn.TurnError.TheVariants.{NoEngine, SinkFault, NoMemory}
 use Rattle.press_core.specs.Engines.{are_engines, left_by}
 use Rattle.press_core.specs.Handing.{IsAfterSteps, TakesSteps}
-use Rattle.press_core.specs.Inside.{AreTogether, Begins, HasPlace, IsSound, begun_work, begun_works, with_begun}
-use Rattle.press_core.specs.Turns.{EntrySteps, FaultsAfter, IsJobOf, NamesEntry, StepsTo, TakesTurn, TakesTurnOn, TurnAt, WereHandedOut, aborted, after_steps, completed, is_idle, is_fault, no_turn, place_in_job, sheets_from, steps_from, steps_of, at_turn, at_turn_with, with_turn}
-use Rattle.press_core.specs.Work.{Work, at_place, with_delivered, without_job}
+use Rattle.press_core.specs.Inside.{AreTogether, Begins, HasProgress, IsSound, begun_work, begun_works, with_begun}
+use Rattle.press_core.specs.Turns.{EntrySteps, FaultsAfter, IsJobOf, NamesEntry, StepsTo, TakesTurn, TakesTurnOn, TurnAt, WereHandedOut, aborted, after_steps, completed, is_idle, is_fault, no_turn, progress_in_job, sheets_from, steps_from, steps_of, at_turn, at_turn_with, with_turn}
+use Rattle.press_core.specs.Work.{Work, at_progress, with_delivered, without_job}
 use Rattle.press_core.specs.World.{World, has_engine, off_engine, on_engine, works_without_job, with_queue, with_work, work_numbered}
 use Rattle.press_core.proofs.EngineLemmas.{set-same}
 use Rattle.press_core.proofs.EntryLemmas.{set_twice, there_set}
 use Rattle.press_core.proofs.JobLemmas.{IsJobOf-some}
 use Rattle.press_core.proofs.SoundLemmas.{over_at_end, runs_as, some_not, still_at_end}
-use Rattle.press_core.proofs.WorkLemmas.{ended_entry, has_work, running_place, set_both, set_work}
+use Rattle.press_core.proofs.WorkLemmas.{ended_entry, has_work, running_progress, set_both, set_work}
 
 -- ---- works of entries that run
 
 -- the work of an entry that runs stands at a place
-pub runs_placed : (number : ℕ) (queue : QueueState) (works : List (ℕ × Work)) → IsTrue (rows.entry_runs number queue) → IsSound queue works → HasPlace works number
+pub runs_placed : (number : ℕ) (queue : QueueState) (works : List (ℕ × Work)) → IsTrue (rows.entry_runs number queue) → IsSound queue works → HasProgress works number
 runs_placed number queue works runs sound =
     let it = runs_as number queue runs in
     let has = has_work queue works number it.entry it.there sound in
-    subst (λ o. IsSome (option_and_then (λ work. work.place) o)) (sym has.is) (running_place it.entry has.work it.runs has.together)
+    subst (λ o. IsSome (option_and_then (λ work. work.progress) o)) (sym has.is) (running_progress it.entry has.work it.runs has.together)
 
 -- another that stands at a place may stand for it
-pub IsSound-placed : (number : ℕ) (queue : QueueState) (works : List (ℕ × Work)) (work : Work) → IsTrue (rows.entry_runs number queue) → IsSome work.place
+pub IsSound-placed : (number : ℕ) (queue : QueueState) (works : List (ℕ × Work)) (work : Work) → IsTrue (rows.entry_runs number queue) → IsSome work.progress
     → ((was : Work) → lookup (nat_eq number) works ≡ Some was → work.kept ≡ was.kept) → IsSound queue works → IsSound queue (set_value (nat_eq number) works work)
 IsSound-placed number queue works work runs placed stays sound =
     let it = runs_as number queue runs in
     let has = has_work queue works number it.entry it.there sound in
-    let flies = sym has.together.in_flight ∙ running_place it.entry has.work it.runs has.together in
+    let flies = sym has.together.in_flight ∙ running_progress it.entry has.work it.runs has.together in
     set_work number queue works it.entry has.work work it.there has.is (record { in_flight = placed ∙ sym flies; kept = stays has.work has.is ∙ has.together.kept; begun = has.together.begun }) sound
 
 -- ---- an entry that begins
@@ -141,25 +141,25 @@ IsSound-begun queue new works number waited sound =
 -- ---- the entry that runs
 
 -- its work, and that its job has begun
-pub placed_work : (number : ℕ) (works : List (ℕ × Work)) (o : Option Work) (work : Work) → HasPlace works number → lookup (nat_eq number) works ≡ o → o ≡ Some work → IsSome work.place
+pub placed_work : (number : ℕ) (works : List (ℕ × Work)) (o : Option Work) (work : Work) → HasProgress works number → lookup (nat_eq number) works ≡ o → o ≡ Some work → IsSome work.progress
 placed_work number works o work has is same =
-    sym (ap (λ o. is_some (option_and_then (λ work. work.place) o)) (is ∙ same)) ∙ has
+    sym (ap (λ o. is_some (option_and_then (λ work. work.progress) o)) (is ∙ same)) ∙ has
 
 -- the work of an entry that runs has begun before
-begun_place : (work : Work) (o : Option ℕ) → work.place ≡ o → IsSome o → begun_work work ≡ work
-begun_place work None is placed = absurd (true≢false (sym placed))
-begun_place work (Some place) is placed =
-    let here : Some (place_in_job work) ≡ work.place = rw is refl in
-    ap (λ o. record work { place = o }) here
+begun_progress : (work : Work) (o : Option ℕ) → work.progress ≡ o → IsSome o → begun_work work ≡ work
+begun_progress work None is placed = absurd (true≢false (sym placed))
+begun_progress work (Some progress) is placed =
+    let here : Some (progress_in_job work) ≡ work.progress = rw is refl in
+    ap (λ o. record work { progress = o }) here
 
-pub begun_already : (number : ℕ) (works : List (ℕ × Work)) → HasPlace works number → begun_works number works ≡ works
+pub begun_already : (number : ℕ) (works : List (ℕ × Work)) → HasProgress works number → begun_works number works ≡ works
 begun_already number works has = at_work (lookup (nat_eq number) works) refl
   where
     at_work : (o : Option Work) → lookup (nat_eq number) works ≡ o → begun_works number works ≡ works
     at_work None is = rw is refl
     at_work (Some work) is =
-        let placed : IsSome work.place = sym (ap (λ o. is_some (option_and_then (λ work. work.place) o)) is) ∙ has in
-        let same = begun_place work work.place refl placed in
+        let placed : IsSome work.progress = sym (ap (λ o. is_some (option_and_then (λ work. work.progress) o)) is) ∙ has in
+        let same = begun_progress work work.progress refl placed in
         rw is (ap (λ w. set_value (nat_eq number) works w) same ∙ set_value_same (nat_eq number) works work is)
 
 abbrev pub the_world : QueueState → Bool → List (ℕ × Work) → List (Option ℕ) → World
@@ -242,28 +242,28 @@ without_job_set number works old work there =
 -- ---- steps
 
 -- what steps leave, where the job goes on, is at its end, or met a fault
-pub leaves_going : (world : World) (number steps : ℕ) (old new : Work) (sheets : List Sides) (items : List Run) → new ≡ at_place (place_in_job old + steps) (with_delivered sheets old)
-    → nat_eq (place_in_job new) (length items) ≡ false → with_work number new world ≡ after_steps number old items (Ok steps) sheets world
+pub leaves_going : (world : World) (number steps : ℕ) (old new : Work) (sheets : List PrintedSheet) (items : List StepResult) → new ≡ at_progress (progress_in_job old + steps) (with_delivered sheets old)
+    → nat_eq (progress_in_job new) (length items) ≡ false → with_work number new world ≡ after_steps number old items (Ok steps) sheets world
 leaves_going world number steps old new sheets items left going =
-    let e : (place_in_job old + steps == length items) ≡ false = sym (ap (λ (w : Work). nat_eq (place_in_job w) (length items)) left) ∙ going in
+    let e : (progress_in_job old + steps == length items) ≡ false = sym (ap (λ (w : Work). nat_eq (progress_in_job w) (length items)) left) ∙ going in
     rw e (ap (λ (w : Work). with_work number w world) left)
 
-pub leaves_over : (world : World) (number steps : ℕ) (old new : Work) (sheets : List Sides) (items : List Run) → new ≡ at_place (place_in_job old + steps) (with_delivered sheets old)
-    → nat_eq (place_in_job new) (length items) ≡ true → completed number new world ≡ after_steps number old items (Ok steps) sheets world
+pub leaves_over : (world : World) (number steps : ℕ) (old new : Work) (sheets : List PrintedSheet) (items : List StepResult) → new ≡ at_progress (progress_in_job old + steps) (with_delivered sheets old)
+    → nat_eq (progress_in_job new) (length items) ≡ true → completed number new world ≡ after_steps number old items (Ok steps) sheets world
 leaves_over world number steps old new sheets items left over =
-    let e : (place_in_job old + steps == length items) ≡ true = sym (ap (λ (w : Work). nat_eq (place_in_job w) (length items)) left) ∙ over in
+    let e : (progress_in_job old + steps == length items) ≡ true = sym (ap (λ (w : Work). nat_eq (progress_in_job w) (length items)) left) ∙ over in
     rw e (ap (λ (w : Work). completed number w world) left)
 
-pub leaves_fault : (world : World) (number : ℕ) (error : TurnError) (old new : Work) (sheets : List Sides) (items : List Run) → without_job new ≡ without_job (with_delivered sheets old)
+pub leaves_fault : (world : World) (number : ℕ) (error : TurnError) (old new : Work) (sheets : List PrintedSheet) (items : List StepResult) → without_job new ≡ without_job (with_delivered sheets old)
     → aborted number new world ≡ after_steps number old items (Err error) sheets world
 leaves_fault world number error old new sheets items left =
     ap (λ (w : Work). record world { queue = rows.finish_entry number Aborted world.queue; works = set_value (nat_eq number) world.works w; engines = left_by number world.engines }) left
 
-pub after_ok : (old new : Work) (result : Result ℕ TurnError) (steps : ℕ) (sheets : List Sides) → result ≡ Ok steps → IsAfterSteps old result sheets new
-    → new ≡ at_place (place_in_job old + steps) (with_delivered sheets old)
+pub after_ok : (old new : Work) (result : Result ℕ TurnError) (steps : ℕ) (sheets : List PrintedSheet) → result ≡ Ok steps → IsAfterSteps old result sheets new
+    → new ≡ at_progress (progress_in_job old + steps) (with_delivered sheets old)
 after_ok old new result steps sheets is left = subst (λ r. IsAfterSteps old r sheets new) is left
 
-pub after_err : (old new : Work) (result : Result ℕ TurnError) (error : TurnError) (sheets : List Sides) → result ≡ Err error → IsAfterSteps old result sheets new
+pub after_err : (old new : Work) (result : Result ℕ TurnError) (error : TurnError) (sheets : List PrintedSheet) → result ≡ Err error → IsAfterSteps old result sheets new
     → without_job new ≡ without_job (with_delivered sheets old)
 after_err old new result error sheets is left = subst (λ r. IsAfterSteps old r sheets new) is left
 
@@ -277,9 +277,9 @@ ended_world world number end old new queue works engines there ends lands leaves
     ∙ ap (λ es. the_world (rows.finish_entry number end world.queue) world.paused (set_value (nat_eq number) world.works (without_job new)) es) leaves
 
 -- the steps of an entry, from those of its work
-pub entry_steps : (world : World) (number most : ℕ) (old new : Work) (result : Result ℕ TurnError) (before after : SheetsTold) (next : World) → work_numbered number world ≡ Some old
+pub entry_steps : (world : World) (number most : ℕ) (old new : Work) (result : Result ℕ TurnError) (before after : SheetLog) (next : World) → work_numbered number world ≡ Some old
     → (took : TakesSteps number most old result new before after)
-    → ((items : List Run) → IsJobOf old items → next ≡ after_steps number old items result took.sheets world)
+    → ((items : List StepResult) → IsJobOf old items → next ≡ after_steps number old items result took.sheets world)
     → (handed : List Delivery) × EntrySteps world number most result handed next × WereHandedOut handed result before after
 entry_steps world number most old new result before after next is took leaves =
     let some = IsJobOf-some old in (
@@ -307,16 +307,16 @@ begun_again : (number : ℕ) (works : List (ℕ × Work)) (work other : Work) �
 begun_again number works work other is =
     ap (λ o. set_value (nat_eq number) (changed_by o (λ w all. set_value (nat_eq number) all (begun_work w)) works) other) is ∙ set_twice number works (begun_work work) other
 
-after_begun : (world : World) (number : ℕ) (work : Work) (items : List Run) (result : Result ℕ TurnError) (sheets : List Sides) → work_numbered number world ≡ Some work
+after_begun : (world : World) (number : ℕ) (work : Work) (items : List StepResult) (result : Result ℕ TurnError) (sheets : List PrintedSheet) → work_numbered number world ≡ Some work
     → after_steps number (begun_work work) items result sheets (with_begun number world) ≡ after_steps number work items result sheets world
 after_begun world number work items (Ok steps) sheets is =
-    ifs (place_in_job work + steps == length items) _ _ _ _
+    ifs (progress_in_job work + steps == length items) _ _ _ _
     (ap (λ works. record world { queue = rows.finish_entry number Completed world.queue; works = works; engines = left_by number world.engines }) (begun_again number world.works work (without_job (with_delivered sheets work)) is))
-    (ap (λ works. record world { works = works }) (begun_again number world.works work (at_place (place_in_job work + steps) (with_delivered sheets work)) is))
+    (ap (λ works. record world { works = works }) (begun_again number world.works work (at_progress (progress_in_job work + steps) (with_delivered sheets work)) is))
 after_begun world number work items (Err error) sheets is =
     ap (λ works. record world { queue = rows.finish_entry number Aborted world.queue; works = works; engines = left_by number world.engines }) (begun_again number world.works work (without_job (with_delivered sheets work)) is)
 
-steps_begun : (work : Work) (items : List Run) (most : ℕ) (result : Result ℕ TurnError) (sheets : List Sides) → StepsTo (begun_work work) items most result sheets
+steps_begun : (work : Work) (items : List StepResult) (most : ℕ) (result : Result ℕ TurnError) (sheets : List PrintedSheet) → StepsTo (begun_work work) items most result sheets
     → StepsTo work items most result sheets
 steps_begun work items most (Ok steps) sheets took = took
 steps_begun work items most (Err error) sheets took = took
@@ -370,7 +370,7 @@ turn_stopped world next engine most error works (number, work, is, there, after)
         items = some.0;
         is_job = some.1;
         sheets = [];
-        steps = (sheets_from (place_in_job work) (steps_from (place_in_job work) most some.0) some.0, refl, refl);
+        steps = (sheets_from (progress_in_job work) (steps_from (progress_in_job work) most some.0) some.0, refl, refl);
         handed_are = refl;
         after = after;
       },
@@ -413,7 +413,7 @@ turn_on_fault world next engine most result handed there turn =
     turn_fault world next engine most result handed
     (subst (λ b. MatchBool b (TakesTurn world engine most result handed next) ((result ≡ Err NoEngine) × (handed ≡ []) × (next ≡ world))) there turn)
 
-pub nothing_handed : {A : Type 0} (result : Result A TurnError) (told : SheetsTold) → FaultsAfter result told.faults told.faults → WereHandedOut [] result told told
+pub nothing_handed : {A : Type 0} (result : Result A TurnError) (told : SheetLog) → FaultsAfter result told.faults told.faults → WereHandedOut [] result told told
 nothing_handed result told faults = record { told = told-nothing told.delivered; faults = faults }
 
 pub begins_some : (world begun : World) (engine : ℕ) (entry : Option ℕ) (number : ℕ) → entry ≡ Some number → Begins engine world (Ok entry) begun → Begins engine world (Ok (Some number)) begun

@@ -54,8 +54,8 @@ running_open statuses.Suspended runs = refl
 running_open statuses.Completed runs = absurd (true≢false (sym runs))
 running_open statuses.Aborted runs = absurd (true≢false (sym runs))
 
-pub running_place : (entry : Entry) (work : Work) → is_running entry.status ≡ true → AreTogether entry work → IsSome work.place
-running_place entry work runs together =
+pub running_progress : (entry : Entry) (work : Work) → is_running entry.status ≡ true → AreTogether entry work → IsSome work.progress
+running_progress entry work runs together =
     together.in_flight ∙ (λ j. together.begun runs j && not (running_open entry.status runs j))
 
 -- ---- a work that changes, an entry that does, and both
@@ -98,7 +98,7 @@ and_false : (b : Bool) → b && false ≡ false
 and_false true = refl
 and_false false = refl
 
-pub ended_together : (entry : Entry) (work : Work) → has_ended entry.status ≡ true → is_running entry.status ≡ false → work.place ≡ None → work.kept ≡ false
+pub ended_together : (entry : Entry) (work : Work) → has_ended entry.status ≡ true → is_running entry.status ≡ false → work.progress ≡ None → work.kept ≡ false
     → AreTogether entry work
 ended_together entry work ended still none gone = record {
   in_flight = ap is_some none ∙ sym (ap (λ b. entry.begun && not b) ended ∙ and_false entry.begun);

@@ -6,15 +6,15 @@ use Rattle.press_queue.specs.declared.entry.Entry.{Entry}
 use Rattle.press_queue.specs.declared.status.Status.TheVariants.{Running, Completed, Aborted}
 use Rattle.press_queue.specs.State.{QueueState}
 use Rattle.press_queue.specs.Status.{new_entry}
-use Rattle.press_sink.specs.Sides.{Sides}
+use Rattle.press_sink.specs.PrintedSheet.{PrintedSheet}
 use Rattle.press_core.specs.declared.operator.OperatorCommand.TheVariants.{AbortRunning, Continue, Pause}
 use Rattle.press_core.specs.declared.turn.TurnError.TheVariants.{NoEngine, SinkFault}
-use Rattle.press_core.specs.Events.{Event, EventAnswer, Happening, IsRun, Message, Nothing, Operator, Response, TurnOn, Turned}
+use Rattle.press_core.specs.Events.{Event, EventAnswer, Transition, IsRun, Message, Nothing, Operator, Response, TurnOn, Turned}
 use Rattle.press_core.specs.History.{entering, handed_under, last_seen, met_fault, steps_in}
 use Rattle.press_core.specs.Work.{Work}
 use Rattle.press_core.specs.World.{World, new_world, with_pause}
 
-abbrev sheet_of : (width : ℕ) → Sides
+abbrev sheet_of : (width : ℕ) → PrintedSheet
 sheet_of width = record { front = blank width 1; back = None }
 
 abbrev queue_with : List (ℕ × Entry) → QueueState
@@ -34,11 +34,11 @@ abbrev aborted_entry : Entry
 aborted_entry = record running_entry { status = Aborted }
 
 -- two entries come; 1 takes three steps, and then its last two; it is removed; the turn of 2 has a fault
-abbrev both_come : (one two : Work) → Happening
+abbrev both_come : (one two : Work) → Transition
 both_come one two =
     record { event = Message [] []; answer = Response (Some []); handed = []; next = world_with ((1, new_entry 50) ∷ (2, new_entry 50) ∷ []) ((1, one) ∷ (2, two) ∷ []) None }
 
-abbrev first_turn : (one two : Work) → Happening
+abbrev first_turn : (one two : Work) → Transition
 first_turn one two = record {
   event = TurnOn 1 3;
   answer = Turned (Ok (record { entry = Some 1; steps = 3 }));
@@ -46,7 +46,7 @@ first_turn one two = record {
   next = world_with ((1, running_entry) ∷ (2, new_entry 50) ∷ []) ((1, one) ∷ (2, two) ∷ []) (Some 1);
 }
 
-abbrev last_turn : (one two : Work) → Happening
+abbrev last_turn : (one two : Work) → Transition
 last_turn one two = record {
   event = TurnOn 1 3;
   answer = Turned (Ok (record { entry = Some 1; steps = 2 }));
@@ -54,10 +54,10 @@ last_turn one two = record {
   next = world_with ((1, completed_entry) ∷ (2, new_entry 50) ∷ []) ((1, one) ∷ (2, two) ∷ []) None;
 }
 
-abbrev removal : (two : Work) → Happening
+abbrev removal : (two : Work) → Transition
 removal two = record { event = Message [] []; answer = Response (Some []); handed = []; next = world_with ((2, new_entry 50) ∷ []) ((2, two) ∷ []) None }
 
-abbrev failed_turn : (two : Work) → Happening
+abbrev failed_turn : (two : Work) → Transition
 failed_turn two = record {
   event = TurnOn 1 3;
   answer = Turned (Err SinkFault);
@@ -65,7 +65,7 @@ failed_turn two = record {
   next = world_with ((2, aborted_entry) ∷ []) ((2, two) ∷ []) None;
 }
 
-abbrev history : (one two : Work) → List Happening
+abbrev history : (one two : Work) → List Transition
 history one two = both_come one two ∷ first_turn one two ∷ last_turn one two ∷ removal two ∷ failed_turn two ∷ []
 
 -- what was handed out under each number
@@ -104,7 +104,7 @@ fault_of_two one two = refl
 
 -- A run from a new press of two engines: it is paused, its turns do nothing; a message meets want of memory; it goes on, no entry
 -- waits, and none runs that an operator could abort; and there is no third engine.
-abbrev nothing_of : (event : Event) → EventAnswer → World → Happening
+abbrev nothing_of : (event : Event) → EventAnswer → World → Transition
 nothing_of event answer next = record { event = event; answer = answer; handed = []; next = next }
 
 abbrev no_turn : EventAnswer
@@ -113,14 +113,14 @@ no_turn = Turned (Ok (record { entry = None; steps = 0 }))
 abbrev beginning : World
 beginning = new_world 2
 
-abbrev quiet_run : List Happening
-quiet_run =
+abbrev silent_run : List Transition
+silent_run =
     nothing_of (Operator Pause) Nothing (with_pause true beginning) ∷ nothing_of (TurnOn 1 3) no_turn (with_pause true beginning)
     ∷ nothing_of (Message [] []) (Response None) (with_pause true beginning) ∷ nothing_of (Operator Continue) Nothing beginning
     ∷ nothing_of (TurnOn 0 3) no_turn beginning ∷ nothing_of (Operator AbortRunning) Nothing beginning
     ∷ nothing_of (TurnOn 2 3) (Turned (Err NoEngine)) beginning ∷ []
 
-pub quiet_run_is : IsRun quiet_run beginning
+pub quiet_run_is : IsRun silent_run beginning
 quiet_run_is = record {
   engines = 2;
   are = refl;
@@ -128,5 +128,5 @@ quiet_run_is = record {
 }
 
 -- an engine that is not there is no fault of an entry
-pub no_engine_no_fault : (number : ℕ) → met_fault number beginning quiet_run ≡ false
+pub no_engine_no_fault : (number : ℕ) → met_fault number beginning silent_run ≡ false
 no_engine_no_fault number = refl

@@ -3,18 +3,18 @@ use Rattle.std.specs.Prelude.{◌≡◌, ◌≤◌, ◌++◌, ◌==◌, ◌||◌
 use Rattle.std.specs.List.{flat_map, sum_by}
 use Rattle.std.specs.Option.{option_or}
 use Rattle.press_bits.specs.Page.{Page}
-use Rattle.press_engine.specs.Machine.{Run}
+use Rattle.press_engine.specs.Machine.{StepResult}
 use Rattle.press_queue.specs.declared.entry.Entry.{Entry}
 use Rattle.press_queue.specs.declared.status.Status.TheVariants.{Completed}
 use Rattle.press_queue.specs.Entries.{entry_numbered}
 use Rattle.press_queue.specs.Status.{has_ended, is_in_flight}
 use Rattle.press_sink.specs.declared.sheet.Delivery.{Delivery}
 use Rattle.press_sink.specs.Sending.{sheets_in}
-use Rattle.press_sink.specs.Sides.{Sides}
+use Rattle.press_sink.specs.PrintedSheet.{PrintedSheet}
 use Rattle.press_ticket.specs.Ticket.{JobTicket}
 use Rattle.press_writer.specs.Wanted.{wanted}
 use Rattle.press_core.specs.Engines.{is_number}
-use Rattle.press_core.specs.Events.{Event, Message, TurnOn, EventAnswer, Turned, Happening, IsRun}
+use Rattle.press_core.specs.Events.{Event, Message, TurnOn, EventAnswer, Turned, Transition, IsRun}
 use Rattle.press_core.specs.Rows.{ticket_in}
 use Rattle.press_core.specs.Turns.{IsJobOf, at_turn, is_fault, sheets_from}
 use Rattle.press_core.specs.Work.{Work}
@@ -23,24 +23,24 @@ use Rattle.press_core.specs.World.{World, new_world, work_numbered}
 -- ---- what was handed out
 
 -- the sheets that were delivered under a number
-abbrev pub sheets_under : (number : ℕ) → List Delivery → List Sides
+abbrev pub sheets_under : (number : ℕ) → List Delivery → List PrintedSheet
 sheets_under number deliveries = sheets_in (filter (λ (delivery : Delivery). delivery.tag == number) deliveries)
 
 -- what events handed out under a number
-abbrev pub handed_under : (number : ℕ) → List Happening → List Sides
-handed_under number happenings = sheets_under number (flat_map (λ (happening : Happening). happening.handed) happenings)
+abbrev pub handed_under : (number : ℕ) → List Transition → List PrintedSheet
+handed_under number happenings = sheets_under number (flat_map (λ (happening : Transition). happening.handed) happenings)
 
 -- the sheets that the ticket of a work wants
-abbrev pub wanted_of : Work → List Sides
+abbrev pub wanted_of : Work → List PrintedSheet
 wanted_of work = wanted work.ticket work.images
 
 -- these are the first of all sheets
-abbrev pub IsFront : List Sides → List Sides → Type 0
-IsFront sheets all = (others : List Sides) × (all ≡ sheets ++ others)
+abbrev pub IsPrefix : List PrintedSheet → List PrintedSheet → Type 0
+IsPrefix sheets all = (others : List PrintedSheet) × (all ≡ sheets ++ others)
 
 -- These are the sheets of the first so many steps of a work's job, and it has as many.
-pub record AreFirst (steps : ℕ) (work : Work) (sheets : List Sides) : Type 0 where
-  pub items : List Run
+pub record AreFirst (steps : ℕ) (work : Work) (sheets : List PrintedSheet) : Type 0 where
+  pub items : List StepResult
   pub is_job : IsJobOf work items
   pub within : steps ≤ length items
   pub sheets_are : sheets ≡ sheets_from 0 steps items
@@ -49,11 +49,11 @@ pub record AreFirst (steps : ℕ) (work : Work) (sheets : List Sides) : Type 0 w
 -- these steps, behind which it stands in its job; and where no turn met a fault, whatever became of it, the sheets of these steps. Where it is
 -- completed, all sheets that are wanted. In each case they are the first of those, and there are none where it never began; the work counts
 -- them; and its images are kept until it ends.
-pub record AreGiven (entry : Entry) (work : Work) (steps : ℕ) (failed : Bool) (sheets : List Sides) : Type 0 where
-  pub in_flight : is_in_flight entry ≡ true → (work.place ≡ Some steps) × AreFirst steps work sheets
+pub record AreGiven (entry : Entry) (work : Work) (steps : ℕ) (failed : Bool) (sheets : List PrintedSheet) : Type 0 where
+  pub in_flight : is_in_flight entry ≡ true → (work.progress ≡ Some steps) × AreFirst steps work sheets
   pub counted : failed ≡ false → AreFirst steps work sheets
   pub completed : entry.status ≡ Completed → sheets ≡ wanted_of work
-  pub front : IsFront sheets (wanted_of work)
+  pub prefix : IsPrefix sheets (wanted_of work)
   pub unbegun : entry.begun ≡ false → sheets ≡ []
   pub delivered : work.delivered ≡ length sheets
   pub kept : work.kept ≡ not (has_ended entry.status)
@@ -74,11 +74,11 @@ abbrev pub seen_in : (number : ℕ) → World → Option Seen
 seen_in number world = both_seen (entry_numbered number world.queue.entries) (work_numbered number world)
 
 -- How an entry was seen last: as the last of the worlds shows it that has it in its list, or, where none has, as before them.
-abbrev pub seen_after : (number : ℕ) → Option Seen → List Happening → Option Seen
+abbrev pub seen_after : (number : ℕ) → Option Seen → List Transition → Option Seen
 seen_after number before [] = before
 seen_after number before (happening ∷ happenings) = seen_after number (option_or (seen_in number happening.next) before) happenings
 
-abbrev pub last_seen : (number : ℕ) → List Happening → Option Seen
+abbrev pub last_seen : (number : ℕ) → List Transition → Option Seen
 last_seen number happenings = seen_after number None happenings
 
 -- ---- with what an entry entered
@@ -89,12 +89,12 @@ submitted_by (Message text images) = option_map (λ ticket. (ticket, images)) (t
 submitted_by event = None
 
 -- the first event after which this number is given
-abbrev pub entering : (number : ℕ) → List Happening → Option Happening
-entering number happenings = find (λ (happening : Happening). nat_le number happening.next.queue.last) happenings
+abbrev pub entering : (number : ℕ) → List Transition → Option Transition
+entering number happenings = find (λ (happening : Transition). nat_le number happening.next.queue.last) happenings
 
 -- the ticket and the images that this event submits
-abbrev pub entered_with : (number : ℕ) → List Happening → Option (JobTicket × List Page)
-entered_with number happenings = option_and_then (λ (happening : Happening). submitted_by happening.event) (entering number happenings)
+abbrev pub entered_with : (number : ℕ) → List Transition → Option (JobTicket × List Page)
+entered_with number happenings = option_and_then (λ (happening : Transition). submitted_by happening.event) (entering number happenings)
 
 -- ---- steps and faults of its own turns
 
@@ -104,8 +104,8 @@ steps_answered number (Turned (Ok turn)) = if is_number number turn.entry then t
 steps_answered number answer = 0
 
 -- the steps of the turns of this number in all
-abbrev pub steps_in : (number : ℕ) → List Happening → ℕ
-steps_in number happenings = sum_by (λ (happening : Happening). steps_answered number happening.answer) happenings
+abbrev pub steps_in : (number : ℕ) → List Transition → ℕ
+steps_in number happenings = sum_by (λ (happening : Transition). steps_answered number happening.answer) happenings
 
 -- whether the answer to an event in a world is a fault in a turn of this number
 abbrev pub is_fault_of : (number : ℕ) → World → Event → EventAnswer → Bool
@@ -113,14 +113,14 @@ is_fault_of number world (TurnOn engine most) (Turned (Err error)) = is_fault er
 is_fault_of number world event answer = false
 
 -- whether a turn of this number met a fault, from a world on
-abbrev pub met_fault : (number : ℕ) → World → List Happening → Bool
+abbrev pub met_fault : (number : ℕ) → World → List Transition → Bool
 met_fault number world [] = false
 met_fault number world (happening ∷ happenings) =
     is_fault_of number world happening.event happening.answer || met_fault number happening.next happenings
 
 -- In a run of events the entry of a number entered with this ticket and these images, took so many steps in all, and met no
 -- fault in its own turns.
-pub record TakesInAll (number steps : ℕ) (ticket : JobTicket) (images : List Page) (happenings : List Happening) : Type 0 where
+pub record TakesInAll (number steps : ℕ) (ticket : JobTicket) (images : List Page) (happenings : List Transition) : Type 0 where
   pub last : World
   pub run : IsRun happenings last
   pub entered : entered_with number happenings ≡ Some (ticket, images)

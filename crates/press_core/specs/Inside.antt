@@ -2,7 +2,7 @@
 use Rattle.std.specs.Prelude.{◌≡◌, ℕ, List, not, true, Option, Some, None, IfSome, IsSome, option_map, option_and_then, is_some, nat_eq, Result, Ok, Err}
 use Rattle.std.specs.declared.alloc.AllocError.{AllocError}
 use Rattle.std.specs.Map.{lookup}
-use Rattle.press_engine.specs.Machine.{Run}
+use Rattle.press_engine.specs.Machine.{StepResult}
 use Rattle.press_queue.specs.declared.entry.Entry.{Entry}
 use Rattle.press_queue.specs.declared.status.End.TheVariants.{Aborted}
 use Rattle.press_queue.specs.Rows.{finish_entry}
@@ -13,8 +13,8 @@ use Rattle.press_core.specs.declared.work.RunningJob.{RunningJob}
 use Rattle.press_core.specs.declared.work.Work.TheInside.{Inside}
 use Rattle.press_core.specs.Engines.{RunsOnEngines}
 use Rattle.press_core.specs.Jobs.{IsAt}
-use Rattle.press_core.specs.Turns.{IsJobOf, aborted, place_in_job, at_turn, with_turn}
-use Rattle.press_core.specs.Work.{Work, IsPrintable, at_place}
+use Rattle.press_core.specs.Turns.{IsJobOf, aborted, progress_in_job, at_turn, with_turn}
+use Rattle.press_core.specs.Work.{Work, IsPrintable, at_progress}
 use Rattle.press_core.specs.World.{work_changed, World, given_up, with_queue, work_numbered}
 
 abbrev pub work_of : Inside → Work
@@ -22,13 +22,13 @@ work_of work = record {
   ticket = work.ticket;
   images = work.entered.value.items;
   delivered = work.delivered;
-  place = option_map (λ running. running.steps) work.running;
+  progress = option_map (λ running. running.steps) work.running;
   kept = is_some work.images;
 }
 
 -- it is at its place in the job of the work
 abbrev pub IsJobAt : Work → RunningJob → Type 0
-IsJobAt work running = (items : List Run) × IsJobOf work items × IsAt items work.images running
+IsJobAt work running = (items : List StepResult) × IsJobOf work items × IsAt items work.images running
 
 -- Its ticket is printed with its images, and its job stands at its place. The images that are kept are those with which it entered,
 -- and while it has a job they are kept.
@@ -39,13 +39,13 @@ pub record IsSoundWork (work : Inside) : Type 0 where
   pub needed : IfSome work.running (λ running. IsSome work.images)
 
 -- the entry of this number has begun: its work has a place in its job
-abbrev pub HasPlace : List (ℕ × Work) → (number : ℕ) → Type 0
-HasPlace works number = IsSome (option_and_then (λ work. work.place) (lookup (nat_eq number) works))
+abbrev pub HasProgress : List (ℕ × Work) → (number : ℕ) → Type 0
+HasProgress works number = IsSome (option_and_then (λ work. work.progress) (lookup (nat_eq number) works))
 
 -- An entry and its work: the work stands at a place of its job exactly where the entry is in flight; its images are kept exactly where
 -- the entry has not ended; and an entry that runs has begun.
 pub record AreTogether (entry : Entry) (work : Work) : Type 0 where
-  pub in_flight : is_some work.place ≡ is_in_flight entry
+  pub in_flight : is_some work.progress ≡ is_in_flight entry
   pub kept : work.kept ≡ not (has_ended entry.status)
   pub begun : is_running entry.status ≡ true → entry.begun ≡ true
 
@@ -62,7 +62,7 @@ aborted_on (Some number) world = given_up number (with_queue (finish_entry numbe
 
 -- a work that has begun: at the place that it had, or at the first
 abbrev pub begun_work : Work → Work
-begun_work work = at_place (place_in_job work) work
+begun_work work = at_progress (progress_in_job work) work
 
 abbrev pub begun_works : ℕ → List (ℕ × Work) → List (ℕ × Work)
 begun_works = work_changed begun_work

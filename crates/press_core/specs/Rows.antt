@@ -155,24 +155,24 @@ devices_added world =
     ++ (if nat_lt 1 (length world.engines) then adding (codes "Engines") (listed_devices (devices world)) else [])
 
 -- The row of each type of message.
-abbrev pub answered : MessageType → Data → List Page → World → MessageAnswer
-answered types.SubmitQueueEntry message images world = submit_row message images world
-answered types.HoldQueueEntry message images world = entry_row message world rows.hold (λ number after. accepting after)
-answered types.SuspendQueueEntry message images world = entry_row message world rows.suspend (λ number after. accepting (off_engine number after))
-answered types.ResumeQueueEntry message images world = entry_row message world rows.resume (λ number after. accepting after)
-answered types.AbortQueueEntry message images world = entry_row message world rows.abort (λ number after. accepting (given_up number after))
-answered types.RemoveQueueEntry message images world =
+abbrev pub response_row : MessageType → Data → List Page → World → MessageAnswer
+response_row types.SubmitQueueEntry message images world = submit_row message images world
+response_row types.HoldQueueEntry message images world = entry_row message world rows.hold (λ number after. accepting after)
+response_row types.SuspendQueueEntry message images world = entry_row message world rows.suspend (λ number after. accepting (off_engine number after))
+response_row types.ResumeQueueEntry message images world = entry_row message world rows.resume (λ number after. accepting after)
+response_row types.AbortQueueEntry message images world = entry_row message world rows.abort (λ number after. accepting (given_up number after))
+response_row types.RemoveQueueEntry message images world =
     entry_row message world rows.remove (λ number after.
     telling (adding (codes "Status") (string (codes "Removed"))) (without_gone after))
-answered types.SetQueueEntryPriority message images world = entry_number_row (codes "Priority") message world rows.set_priority
-answered types.SetQueueEntryPosition message images world = entry_number_row (codes "Position") message world rows.set_position
-answered types.HoldQueue message images world = accepting (with_queue (flagged flags.Hold world.queue) world)
-answered types.ResumeQueue message images world = accepting (with_queue (flagged flags.Resume world.queue) world)
-answered types.OpenQueue message images world = accepting (with_queue (flagged flags.Open world.queue) world)
-answered types.CloseQueue message images world = accepting (with_queue (flagged flags.Close world.queue) world)
-answered types.FlushQueue message images world = accepting (without_gone (with_queue (rows.flush world.queue) world))
-answered types.QueueStatus message images world = telling (adding (codes "Queue") (listed_queue world.queue)) world
-answered types.Status message images world = telling (devices_added world) world
+response_row types.SetQueueEntryPriority message images world = entry_number_row (codes "Priority") message world rows.set_priority
+response_row types.SetQueueEntryPosition message images world = entry_number_row (codes "Position") message world rows.set_position
+response_row types.HoldQueue message images world = accepting (with_queue (flagged flags.Hold world.queue) world)
+response_row types.ResumeQueue message images world = accepting (with_queue (flagged flags.Resume world.queue) world)
+response_row types.OpenQueue message images world = accepting (with_queue (flagged flags.Open world.queue) world)
+response_row types.CloseQueue message images world = accepting (with_queue (flagged flags.Close world.queue) world)
+response_row types.FlushQueue message images world = accepting (without_gone (with_queue (rows.flush world.queue) world))
+response_row types.QueueStatus message images world = telling (adding (codes "Queue") (listed_queue world.queue)) world
+response_row types.Status message images world = telling (devices_added world) world
 
 -- The response to a message of this heading, and the world after it.
 abbrev pub responding : Heading → MessageAnswer → List ℕ × World
@@ -181,7 +181,7 @@ responding heading (Err refused, world) = (refused_text heading refused, world)
 
 abbrev pub responding_to : Headed → Data → List Page → World → List ℕ × World
 responding_to (Err stopped) message images world = (refused_text stopped.0 stopped.1, world)
-responding_to (Ok headed) message images world = responding headed.0 (answered headed.1 message images world)
+responding_to (Ok headed) message images world = responding headed.0 (response_row headed.1 message images world)
 
 abbrev pub responding_in : Option Data → List Page → World → List ℕ × World
 responding_in None images world = (refused_text no_heading no_message, world)

@@ -41,7 +41,7 @@ impl Press {
         images: &[Bitmap],
     ) -> Result<Vec<u8>, Stop>
         ensures answers { AnswersMessage
-            (table.answered message_type (view message.now) images.now self.old)
+            (table.response_row message_type (view message.now) images.now self.old)
             self.old (shown_heading heading.entry) result self.new }
         ensures printable { Accepts
             (table.ticket_of_type message_type (view message.now) images.now) images.now result }

@@ -25,7 +25,7 @@ pub fn jobs_are_short()
 
 /// In every run of events, whatever messages, turns, operators and faults it has: what was handed out under the number of an
 /// entry in flight are the sheets of the steps that were taken of its job; of a completed one all sheets that its ticket wants; and
-/// of every entry a front of those, and nothing where it never began, also of one that left the list. From then on nothing more is.
+/// of every entry a prefix of those, and nothing where it never began, also of one that left the list. From then on nothing more is.
 pub fn sheets_are_given()
     ensures { SheetsAreGiven }
 {

@@ -1,15 +1,15 @@
 //! What an entry of the queue is to print, and how far that has come.
 
 ghost use Rattle.std.specs.Prelude.{◌≡◌, ◌≤◌, ◌<◌, List, length, None, Some, IfOk, OnOk, OnErr, IsSome, nat_eq, false, true};
-ghost use Rattle.press_engine.specs.Machine.{Run};
+ghost use Rattle.press_engine.specs.Machine.{StepResult};
 ghost use Rattle.press_engine.specs.Outputs.{all_outputs};
 ghost use Rattle.press_sink.specs.Sending.{sheets_of};
-ghost use Rattle.press_sink.specs.Told.{most_faults};
+ghost use Rattle.press_sink.specs.SinkLog.{most_faults};
 ghost use Rattle.press_writer.specs.Fitting.{refusal};
 ghost use Rattle.press_core.specs.Handing.{TakesSteps};
 ghost use Rattle.press_core.specs.Inside.{begun_work};
 ghost use Rattle.press_core.specs.Jobs.{IsAt, IsSupplied, JobGoesOn, Advances};
-ghost use Rattle.press_core.specs.Turns.{IsJobOf, place_in_job};
+ghost use Rattle.press_core.specs.Turns.{IsJobOf, progress_in_job};
 ghost use Rattle.press_core.specs.Work.{IsPrintable, new_work, without_job};
 
 use crate::handing::hand_over;
@@ -69,7 +69,7 @@ impl RunningJob {
         requires { refusal ticket.now images.now ≡ None }
         ensures begins { IfOk result (λ running. running.steps ≡ 0) }
         ensures at { IfOk result (λ running.
-            (items : List Run) → IsJobOf (new_work ticket.now images.now) items
+            (items : List StepResult) → IsJobOf (new_work ticket.now images.now) items
             → IsAt items images.now running) }
     {
         what_is_left();
@@ -87,7 +87,7 @@ impl RunningJob {
 
     /// Hands the next piece of the job over, or, where none is left, its end.
     fn supply(&mut self, alloc: Global, images: &[Bitmap]) -> Result<(), AllocError>
-        requires at { (items : List Run) × IsAt items images.now self.old }
+        requires at { (items : List StepResult) × IsAt items images.now self.old }
         requires going { self.old.job.held.ended ≡ false }
         ensures { OnOk result (IsSupplied images.now self.old self.new) }
     {
@@ -106,10 +106,10 @@ impl RunningJob {
 
     /// Carries out the next step, and gives what goes out in it.
     fn step(&mut self, alloc: Global, images: &[Bitmap]) -> Result<Vec<Sent>, AllocError>
-        requires at { (items : List Run) × IsAt items images.now self.old
+        requires at { (items : List StepResult) × IsAt items images.now self.old
             × (self.old.steps < length items) }
         ensures { IfOk result (λ sent.
-            (items : List Run) → IsAt items images.now self.old
+            (items : List StepResult) → IsAt items images.now self.old
             → JobGoesOn items images.now self.old self.new (sheets_of (all_outputs sent.items))) }
     {
         what_is_left();
@@ -181,10 +181,10 @@ impl Work {
 
     /// Whether no step of its job is left.
     pub fn is_over(&self) -> bool
-        ensures over { IsSome self.now.place → (items : List Run) → IsJobOf self.now items
-            → result ≡ nat_eq (place_in_job self.now) (length items) }
-        ensures within { IsSome self.now.place → (items : List Run) → IsJobOf self.now items
-            → place_in_job self.now ≤ length items }
+        ensures over { IsSome self.now.progress → (items : List StepResult) → IsJobOf self.now items
+            → result ≡ nat_eq (progress_in_job self.now) (length items) }
+        ensures within { IsSome self.now.progress → (items : List StepResult) → IsJobOf self.now items
+            → progress_in_job self.now ≤ length items }
     {
         match &self.running {
             Some(running) => running.job.ended(),
@@ -195,9 +195,9 @@ impl Work {
     /// Carries out the next step of its job, and gives what goes out in it. Where memory ran out, the job is given up, and its
     /// images go.
     pub fn advance(&mut self, alloc: Global) -> Result<Vec<Sent>, AllocError>
-        requires begun { IsSome self.old.place }
-        requires going { (items : List Run) → IsJobOf self.old items
-            → place_in_job self.old < length items }
+        requires begun { IsSome self.old.progress }
+        requires going { (items : List StepResult) → IsJobOf self.old items
+            → progress_in_job self.old < length items }
         ensures ok { IfOk result (λ sent.
             Advances self.old self.new (sheets_of (all_outputs sent.items))) }
         ensures err { OnErr result (self.new ≡ without_job self.old) }
@@ -222,8 +222,8 @@ impl Work {
         most: u64,
         sink: &mut S,
     ) -> Result<u64, TurnError>
-        requires begun { IsSome self.old.place }
-        requires can_count { (S.told sink.old).faults < most_faults }
+        requires begun { IsSome self.old.progress }
+        requires has_fault_room { (S.told sink.old).faults < most_faults }
         ensures { TakesSteps number most self.old result self.new
             (S.told sink.old) (S.told sink.new) }
     {

@@ -6,7 +6,7 @@ use Rattle.press_cmd.specs.declared.variant.Kind.{Kind}
 use Rattle.press_engine.specs.declared.machine.Last.{Last}
 use Rattle.press_engine.specs.declared.machine.Last.TheVariants as lasts
 use Rattle.press_engine.specs.declared.machine.Machine.{Machine}
-use Rattle.press_engine.specs.Machine.{Run}
+use Rattle.press_engine.specs.Machine.{StepResult}
 use Rattle.press_engine.specs.Trace.{last_machine}
 use Rattle.press_stream.specs.Answers.{WantsMemory}
 use Rattle.press_stream.specs.Left.{LeftOf}
@@ -15,12 +15,12 @@ use Rattle.press_debug.specs.declared.stepper.Taken.{Taken}
 use Rattle.press_debug.specs.declared.stepper.Taken.TheVariants as answers
 
 -- a job, and the kinds of the last commands that it took, oldest first
-pub record Standing : Type 0 where
+pub record DebuggerState : Type 0 where
   pub job : JobState
   pub recent : List Kind
 
 -- a stream of these bytes with its end given, of which no step was taken
-abbrev pub at_start : List ℕ → Standing
+abbrev pub at_start : List ℕ → DebuggerState
 at_start bytes = record { job = input_ended (with_piece bytes opened); recent = [] }
 
 -- how many of the last kinds are kept
@@ -34,21 +34,21 @@ kind_taken (lasts.Recorded kind) = kind ∷ []
 kind_taken lasts.Nothing = []
 
 -- the kinds of the commands that these items took, one after another
-abbrev pub kinds_of : List Run → List Kind
+abbrev pub kinds_of : List StepResult → List Kind
 kinds_of [] = []
 kinds_of (item ∷ items) = kind_taken item.machine.last ++ kinds_of items
 
 -- the last kinds, with those of these items behind them
-abbrev pub with_kinds : List Kind → List Run → List Kind
+abbrev pub with_kinds : List Kind → List StepResult → List Kind
 with_kinds recent items = keep_last most_recent (recent ++ kinds_of items)
 
 -- These items were taken: they are the first of whatever was left of the job, and the others are left now; the machine is that
 -- of the last of them, and the last kinds have theirs behind them.
-pub record Advances (old : Standing) (items : List Run) (new : Standing) : Type 0 where
+pub record Advances (old : DebuggerState) (items : List StepResult) (new : DebuggerState) : Type 0 where
   pub from : Machine
   pub starts : old.job.machine ≡ Some from
   pub ends : new.job.machine ≡ Some (last_machine from items)
-  pub left : (all : List Run) → LeftOf old.job all → (others : List Run) × (all ≡ items ++ others) × LeftOf new.job others
+  pub left : (all : List StepResult) → LeftOf old.job all → (others : List StepResult) × (all ≡ items ++ others) × LeftOf new.job others
   pub recent : new.recent ≡ with_kinds old.recent items
 
 -- What comes next may take memory; or the job had failed before.
@@ -56,32 +56,32 @@ abbrev pub MayFail : JobState → Type 0
 MayFail job = WantsMemory job ⊎ (job.machine ≡ None)
 
 -- Memory ran out, behind some items that were taken: what came next may take some.
-abbrev pub RanOut : Standing → Standing → Type 0
+abbrev pub RanOut : DebuggerState → DebuggerState → Type 0
 RanOut old new =
-    (new.job.machine ≡ None) × (MayFail old.job ⊎ ((items : List Run) × (last : Standing) × Advances old items last × MayFail last.job))
+    (new.job.machine ≡ None) × (MayFail old.job ⊎ ((items : List StepResult) × (last : DebuggerState) × Advances old items last × MayFail last.job))
 
 -- One step was taken; or none is left, and nothing changed; or memory ran out.
-abbrev pub TakesOne : Standing → Taken → Standing → Type 0
-TakesOne old answers.Steps new = (item : Run) × Advances old (item ∷ []) new
+abbrev pub TakesOne : DebuggerState → Taken → DebuggerState → Type 0
+TakesOne old answers.Steps new = (item : StepResult) × Advances old (item ∷ []) new
 TakesOne old answers.Nothing new = IsOver old.job × (new ≡ old)
 TakesOne old answers.Fault new = (new.job.machine ≡ None) × MayFail old.job
 
 -- Steps were taken to the first state of no greater depth.
-pub record PassesDeeper (old : Standing) (new : Standing) : Type 0 where
-  pub passed : List Run
-  pub here : Run
+pub record PassesDeeper (old : DebuggerState) (new : DebuggerState) : Type 0 where
+  pub passed : List StepResult
+  pub here : StepResult
   pub advances : Advances old (passed ++ here ∷ []) new
   pub deeper : All (λ item. advances.from.depth < item.machine.depth) passed
   pub back : here.machine.depth ≤ advances.from.depth
 
-abbrev pub TakesOver : Standing → Taken → Standing → Type 0
+abbrev pub TakesOver : DebuggerState → Taken → DebuggerState → Type 0
 TakesOver old answers.Steps new = PassesDeeper old new
 TakesOver old answers.Nothing new = IsOver old.job × (new ≡ old)
 TakesOver old answers.Fault new = RanOut old new
 
 -- the last of what is left of a job has no running body
 abbrev pub EndsOutside : JobState → Type 0
-EndsOutside job = (items : List Run) (left : LeftOf job items) → (last_machine left.from items).depth ≡ 0
+EndsOutside job = (items : List StepResult) (left : LeftOf job items) → (last_machine left.from items).depth ≡ 0
 
 -- no body runs
 abbrev pub IsOutside : JobState → Type 0
@@ -96,7 +96,7 @@ IsBack job depth = IfSome job.machine (λ machine. machine.depth ≤ depth)
 
 -- Something is left of a job.
 abbrev pub Remains : JobState → Type 0
-Remains job = (items : List Run) → LeftOf job items → items ≢ []
+Remains job = (items : List StepResult) → LeftOf job items → items ≢ []
 
 -- what is true of a job that is carried out step by step, of the ring of the last kinds, and of whether there was a fault
 pub record IsSound (job : JobState) (recent : Buffer Kind) (failed : Bool) : Type 0 where

@@ -44,7 +44,7 @@ impl<F: Fn(&View<'_>) -> bool + Drop> Debugger<F> {
     ghost use Rattle.std.specs.Fn.{FnReturnsAt};
     ghost use Rattle.press_debug.specs.Breaks.{most_breaks, no_breaks, Sets, Clears};
     ghost use Rattle.press_debug.specs.Steps.{at_start, most_recent};
-    ghost use Rattle.press_debug.specs.Stops.{Goes, StopsInto, StopsOver, StateMeets};
+    ghost use Rattle.press_debug.specs.Stops.{ContinuesTo, StopsInto, StopsOver, StateMeets};
 
     /// A debugger of the stream of these bytes, before its first step.
     ///
@@ -100,7 +100,7 @@ impl<F: Fn(&View<'_>) -> bool + Drop> Debugger<F> {
     /// Takes at most so many steps, to the first state that one of them gives and that meets a breakpoint or the watch.
     pub fn go(&mut self, max: u64) -> Stop
         requires { F.IsAlwaysCallable self.old.watch.test }
-        ensures goes { Goes (FnReturnsAt F.Fn self.old.watch.test) self.old.breaks
+        ensures goes { ContinuesTo (FnReturnsAt F.Fn self.old.watch.test) self.old.breaks
             self.old.stepper max result self.new.stepper }
         ensures breaks { self.new.breaks ≡ self.old.breaks }
         ensures watch { self.new.watch ≡ self.old.watch }

@@ -41,9 +41,9 @@ impl Model for Stepper {
     ghost use Rattle.std.specs.Coded.{codes};
     ghost use Rattle.press_cmd.specs.contracts.variant.Kind as kinds;
     ghost use Rattle.press_stream.specs.contracts.job.Job as jobs;
-    ghost use Rattle.press_debug.specs.Steps.{Standing, IsSound};
+    ghost use Rattle.press_debug.specs.Steps.{DebuggerState, IsSound};
 
-    ghost Value = { Standing };
+    ghost Value = { DebuggerState };
 
     ghost coded = { Prim.hlevel (codes, jobs.the_row.coded, kinds.the_row.coded) };
 

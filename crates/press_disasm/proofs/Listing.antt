@@ -9,7 +9,7 @@ use Rattle.std.proofs.lemmas.Str.{IsAscii-append, IsUtf8-from_ascii}
 use Rattle.std.proofs.lemmas.Str.Ascii.{IsAscii-nil, IsAscii-cons}
 use Rattle.press_units.specs.Ascii.{is_printable}
 use Rattle.press_cmd.specs.Token.{Token}
-use Rattle.press_cmd.specs.Mode.{Exit}
+use Rattle.press_cmd.specs.ParserState.{Exit}
 use Rattle.press_cmd.specs.Split.{Closed}
 use Rattle.press_cmd.specs.View.{token}
 use Rattle.press_cmd.specs.declared.command.Command.{Command}

@@ -5,15 +5,15 @@ use Rattle.std.specs.Prelude.{option_map}
 use Rattle.press_page.specs.Environment.{changed_by, closes_page, with_page_size}
 use Rattle.press_page.specs.declared.environment.PageEnv.{PageEnv}
 use Rattle.press_page.specs.declared.media.PageSize.{PageSize}
-use Rattle.press_engine.specs.declared.effect.Closer.{Closer}
+use Rattle.press_engine.specs.declared.effect.EjectCause.{EjectCause}
 use Rattle.press_engine.specs.declared.state.State.{State}
 use Rattle.press_engine.specs.Closing.{close_if_marked, close_if_asked}
 
 -- a size that a value asks for is that of the environment that it sets
-pub size_asked : (asked : Option PageSize) (env : PageEnv) → closes_page asked ≡ true → asked ≡ Some (changed_by asked with_page_size env).media.size
+pub size_asked : (asked : Option PageSize) (env : PageEnv) → closes_page asked ≡ true → asked ≡ Some (changed_by asked with_page_size env).page_setup.size
 size_asked (Some size) env closes = refl
 size_asked None env closes = absurd (true≢false (sym closes))
 
 -- what is asked for is what changes
-pub changes_asked : {Asked : Type 0} (closer : Asked → Closer) (asked : Option Asked) (named : Asked) (state : State) → asked ≡ Some named → close_if_marked (closer named) state ≡ close_if_asked (option_map closer asked) state
-changes_asked closer asked named state is = sym (ap (λ asked. close_if_asked (option_map closer asked) state) is)
+pub changes_asked : {Asked : Type 0} (cause : Asked → EjectCause) (asked : Option Asked) (named : Asked) (state : State) → asked ≡ Some named → close_if_marked (cause named) state ≡ close_if_asked (option_map cause asked) state
+changes_asked cause asked named state is = sym (ap (λ asked. close_if_asked (option_map cause asked) state) is)

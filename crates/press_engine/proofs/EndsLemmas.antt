@@ -9,113 +9,113 @@ use Rattle.press_engine.specs.declared.effect.Effect.{Effect}
 use Rattle.press_engine.specs.declared.effect.Effect.TheVariants as effects
 use Rattle.press_engine.specs.declared.effect.BodyEnd.{BodyEnd}
 use Rattle.press_engine.specs.declared.effect.BodyStart.{BodyStart}
-use Rattle.press_engine.specs.declared.effect.Closer.{Closer}
+use Rattle.press_engine.specs.declared.effect.EjectCause.{EjectCause}
 use Rattle.press_engine.specs.declared.effect.Sent.{Sent}
 use Rattle.press_engine.specs.declared.effect.Sent.TheVariants as sents
 use Rattle.press_engine.specs.declared.state.State.{State}
 use Rattle.press_engine.specs.Table.{effect_on}
-use Rattle.press_engine.specs.declared.frame.Frame.{Frame}
+use Rattle.press_engine.specs.declared.activation.Activation.{Activation}
 use Rattle.press_engine.specs.declared.machine.Machine.{Machine}
 use Rattle.press_engine.specs.Effects.{effect_of, is_done}
-use Rattle.press_engine.specs.Machine.{Run, quiet, then_run, with_state, taken, levels as LEVELS}
+use Rattle.press_engine.specs.Machine.{StepResult, silent, then_run, with_state, taken, macro_levels as MACRO_LEVELS}
 use Rattle.press_engine.specs.Stack as stack
-use Rattle.press_engine.specs.Stack.{source_in, begun_in_overlay, begun_finished, begun_outside, begins, step_outer, step_inner, begun_body, begun_only, begun_close_with, Stepped, ended_by, end_of, pops}
+use Rattle.press_engine.specs.Stack.{source_in, begun_in_overlay, begun_finished, begun_outside, begins, step_outer, step_inner, begun_body, begun_only, begun_close_with, Stepped, ended_by, end_of, unwind}
 use Rattle.press_engine.specs.declared.stepping.Begun.{Begun}
 use Rattle.press_engine.specs.Calls.{overlay_body}
 use Rattle.press_engine.specs.Calls as calls
 use Rattle.press_engine.specs.Outcome as rows
 use Rattle.press_engine.specs.Stepping.{begun_of, used_up, is_top_used_up, finished, stepped_of}
 
-closes-is : (levels : ℕ) (old : Machine) (closer : Closer) → begun_close_with (overlay_body old.state) closer old ≡ stack.begun false levels old (rows.Closes closer old.state)
-closes-is zero old closer = refl
-closes-is (suc more) old closer = refl
+closes-is : (macro_levels : ℕ) (old : Machine) (cause : EjectCause) → begun_close_with (overlay_body old.state) cause old ≡ stack.begun false macro_levels old (rows.Closes cause old.state)
+closes-is zero old cause = refl
+closes-is (suc more) old cause = refl
 
 -- what a row begins that closes the page
-pub begun-closes : {E : Type 0} (result : Result Begun E) (new old : Machine) (in_overlay : Bool) (levels : ℕ) (effect : Effect) (closer : Closer) → effect ≡ effects.Closes closer → in_overlay ≡ false → IfOk result (λ it. begun_of new it ≡ begun_close_with (overlay_body old.state) closer old) → IfOk result (λ it. begun_of new it ≡ stack.begun in_overlay levels old (effect_of old.state effect))
-begun-closes (Ok it) new old in_overlay levels effect closer is outside begins =
-    begins ∙ closes-is levels old closer ∙ (λ i. stack.begun (sym outside i) levels old (effect_of old.state (sym is i)))
-begun-closes (Err error) new old in_overlay levels effect closer is outside begins = tt
+pub begun-closes : {E : Type 0} (result : Result Begun E) (new old : Machine) (in_overlay : Bool) (macro_levels : ℕ) (effect : Effect) (cause : EjectCause) → effect ≡ effects.Closes cause → in_overlay ≡ false → IfOk result (λ it. begun_of new it ≡ begun_close_with (overlay_body old.state) cause old) → IfOk result (λ it. begun_of new it ≡ stack.begun in_overlay macro_levels old (effect_of old.state effect))
+begun-closes (Ok it) new old in_overlay macro_levels effect cause is outside begins =
+    begins ∙ closes-is macro_levels old cause ∙ (λ i. stack.begun (sym outside i) macro_levels old (effect_of old.state (sym is i)))
+begun-closes (Err error) new old in_overlay macro_levels effect cause is outside begins = tt
 
 -- what a row begins that starts a body, where one more may run
 starts-is : (in_overlay : Bool) (more : ℕ) (old : Machine) (body : List Token) (end : BodyEnd) → begun_body in_overlay more body end old.state old ≡ stack.begun in_overlay (suc more) old (rows.Starts body end old.state)
 starts-is true more old body end = refl
 starts-is false more old body end = refl
 
-starts-at : (in_overlay : Bool) (levels : ℕ) (old : Machine) (body : List Token) (end : BodyEnd) → (levels ≡ 0 → ⊥) → begun_body in_overlay (levels - 1) body end old.state old ≡ stack.begun in_overlay levels old (rows.Starts body end old.state)
+starts-at : (in_overlay : Bool) (macro_levels : ℕ) (old : Machine) (body : List Token) (end : BodyEnd) → (macro_levels ≡ 0 → ⊥) → begun_body in_overlay (macro_levels - 1) body end old.state old ≡ stack.begun in_overlay macro_levels old (rows.Starts body end old.state)
 starts-at in_overlay zero old body end some = absurd (some refl)
 starts-at in_overlay (suc more) old body end some =
     let one : suc more - 1 ≡ more = omega arith in
     ap (λ (n : ℕ). begun_body in_overlay n body end old.state old) one ∙ starts-is in_overlay more old body end
 
-pub begun-starts : (new old : Machine) (in_overlay : Bool) (levels : ℕ) (started : Frame) (effect : Effect) (body : List Token) (start : BodyStart) → effect ≡ effects.Starts body start → (levels ≡ 0 → ⊥) → record { item = quiet new; started = started ∷ [] } ≡ begun_body in_overlay (levels - 1) body (calls.end_of start old.state) old.state old → begun_of new (record { sent = sents.Nothing; started = Some started }) ≡ stack.begun in_overlay levels old (effect_of old.state effect)
-begun-starts new old in_overlay levels started effect body start is some begins =
-    begins ∙ starts-at in_overlay levels old body (calls.end_of start old.state) some ∙ ap (λ (one : Effect). stack.begun in_overlay levels old (effect_of old.state one)) (sym is)
+pub begun-starts : (new old : Machine) (in_overlay : Bool) (macro_levels : ℕ) (started : Activation) (effect : Effect) (body : List Token) (start : BodyStart) → effect ≡ effects.Starts body start → (macro_levels ≡ 0 → ⊥) → record { item = silent new; started = started ∷ [] } ≡ begun_body in_overlay (macro_levels - 1) body (calls.end_of start old.state) old.state old → begun_of new (record { sent = sents.Nothing; started = Some started }) ≡ stack.begun in_overlay macro_levels old (effect_of old.state effect)
+begun-starts new old in_overlay macro_levels started effect body start is some begins =
+    begins ∙ starts-at in_overlay macro_levels old body (calls.end_of start old.state) some ∙ ap (λ (one : Effect). stack.begun in_overlay macro_levels old (effect_of old.state one)) (sym is)
 
-ended-used : (body : List Token) (rest : List Frame) (frame : Frame) (run : Run) → used_up body ≡ true → ended_by body rest frame (pops rest) run ≡ pops rest (then_run run.outputs (end_of frame run.machine))
-ended-used [] rest frame run is = refl
-ended-used (command ∷ more) rest frame run is = absurd cc
+ended-used : (body : List Token) (rest : List Activation) (activation : Activation) (run : StepResult) → used_up body ≡ true → ended_by body rest activation (unwind rest) run ≡ unwind rest (then_run run.outputs (end_of activation run.machine))
+ended-used [] rest activation run is = refl
+ended-used (command ∷ more) rest activation run is = absurd cc
 
-ended-not : (body : List Token) (rest : List Frame) (frame : Frame) (run : Run) → used_up body ≡ false → ended_by body rest frame (pops rest) run ≡ record { item = run; frames = frame ∷ rest }
-ended-not [] rest frame run is = absurd cc
-ended-not (command ∷ more) rest frame run is = refl
+ended-not : (body : List Token) (rest : List Activation) (activation : Activation) (run : StepResult) → used_up body ≡ false → ended_by body rest activation (unwind rest) run ≡ record { item = run; activations = activation ∷ rest }
+ended-not [] rest activation run is = absurd cc
+ended-not (command ∷ more) rest activation run is = refl
 
 -- where the innermost body is used up, its end comes first, and then the ends round it
-pub pops-next : (frames rest : List Frame) (frame : Frame) (run : Run) → frames ≡ frame ∷ rest → used_up frame.body ≡ true → pops rest (then_run run.outputs (end_of frame run.machine)) ≡ pops frames run
-pops-next frames rest frame run is used = sym (ap (λ (all : List Frame). pops all run) is ∙ ended-used frame.body rest frame run used)
+pub unwind-next : (activations rest : List Activation) (activation : Activation) (run : StepResult) → activations ≡ activation ∷ rest → used_up activation.body ≡ true → unwind rest (then_run run.outputs (end_of activation run.machine)) ≡ unwind activations run
+unwind-next activations rest activation run is used = sym (ap (λ (all : List Activation). unwind all run) is ∙ ended-used activation.body rest activation run used)
 
 -- and where it is not, no body ends
-pub pops-none : (frames : List Frame) (run : Run) → is_top_used_up frames ≡ false → record { item = run; frames = frames } ≡ pops frames run
-pops-none [] run is = refl
-pops-none (frame ∷ frames) run is = sym (ended-not frame.body frames frame run is)
+pub unwind-none : (activations : List Activation) (run : StepResult) → is_top_used_up activations ≡ false → record { item = run; activations = activations } ≡ unwind activations run
+unwind-none [] run is = refl
+unwind-none (activation ∷ activations) run is = sym (ended-not activation.body activations activation run is)
 
--- the first of the frames, and the others
-pub first-and-rest : (frames next : List Frame) (frame : Frame) → is_top_used_up frames ≡ true → frame ≡ slice_index_or frames 0 frame → next ≡ remove frames 0 → frames ≡ frame ∷ next
-first-and-rest [] next frame is first others = absurd cc
-first-and-rest (one ∷ rest) next frame is first others = (λ i. sym first i ∷ sym others i)
+-- the first of the activations, and the others
+pub first-and-rest : (activations next : List Activation) (activation : Activation) → is_top_used_up activations ≡ true → activation ≡ slice_index_or activations 0 activation → next ≡ remove activations 0 → activations ≡ activation ∷ next
+first-and-rest [] next activation is first others = absurd cc
+first-and-rest (one ∷ rest) next activation is first others = (λ i. sym first i ∷ sym others i)
 
-pub first-used : (frames next : List Frame) (frame : Frame) → is_top_used_up frames ≡ true → frames ≡ frame ∷ next → used_up frame.body ≡ true
-first-used frames next frame is all = ap is_top_used_up (sym all) ∙ is
+pub first-used : (activations next : List Activation) (activation : Activation) → is_top_used_up activations ≡ true → activations ≡ activation ∷ next → used_up activation.body ≡ true
+first-used activations next activation is all = ap is_top_used_up (sym all) ∙ is
 
 over-state : (more : ℕ) (state : State) (machine : Machine) (effect : rows.Effect) → begun_in_overlay more (with_state state machine) effect ≡ begun_in_overlay more machine effect
 over-state more state machine (rows.Changes inside) = refl
-over-state more state machine (rows.Makes inside) = refl
+over-state more state machine (rows.MayAllocate inside) = refl
 over-state more state machine (rows.GivesReply reply inside) = refl
-over-state more state machine (rows.Stays closer inside) = refl
-over-state more state machine (rows.Closes closer inside) = refl
+over-state more state machine (rows.Stays cause inside) = refl
+over-state more state machine (rows.Closes cause inside) = refl
 over-state more state machine (rows.Starts commands end inside) = refl
 
 out-state : (more : ℕ) (state : State) (machine : Machine) (effect : rows.Effect) → begun_outside more (with_state state machine) effect ≡ begun_outside more machine effect
 out-state more state machine (rows.Changes inside) = refl
-out-state more state machine (rows.Makes inside) = refl
+out-state more state machine (rows.MayAllocate inside) = refl
 out-state more state machine (rows.GivesReply reply inside) = refl
-out-state more state machine (rows.Stays closer inside) = refl
-out-state more state machine (rows.Closes closer inside) = refl
+out-state more state machine (rows.Stays cause inside) = refl
+out-state more state machine (rows.Closes cause inside) = refl
 out-state more state machine (rows.Starts commands end inside) = refl
 
 last-state : (state : State) (machine : Machine) (effect : rows.Effect) → begun_finished (with_state state machine) effect ≡ begun_finished machine effect
 last-state state machine (rows.Changes inside) = refl
-last-state state machine (rows.Makes inside) = refl
+last-state state machine (rows.MayAllocate inside) = refl
 last-state state machine (rows.GivesReply reply inside) = refl
-last-state state machine (rows.Stays closer inside) = refl
-last-state state machine (rows.Closes closer inside) = refl
+last-state state machine (rows.Stays cause inside) = refl
+last-state state machine (rows.Closes cause inside) = refl
 last-state state machine (rows.Starts commands end inside) = refl
 
 -- what an effect begins is asked of its own state alone
-begun-state : (in_overlay : Bool) (levels : ℕ) (state : State) (machine : Machine) (effect : rows.Effect) → stack.begun in_overlay levels (with_state state machine) effect ≡ stack.begun in_overlay levels machine effect
+begun-state : (in_overlay : Bool) (macro_levels : ℕ) (state : State) (machine : Machine) (effect : rows.Effect) → stack.begun in_overlay macro_levels (with_state state machine) effect ≡ stack.begun in_overlay macro_levels machine effect
 begun-state true zero state machine effect = refl
 begun-state true (suc more) state machine effect = over-state more state machine effect
 begun-state false zero state machine effect = last-state state machine effect
 begun-state false (suc more) state machine effect = out-state more state machine effect
 
-pub begins-from : (in_overlay : Bool) (levels : ℕ) (command : Token) (old now : Machine) (effect : Effect) → now ≡ with_state now.state (taken command old) → effect_of now.state effect ≡ effect_on (source_in in_overlay levels) command old.state → stack.begun in_overlay levels now (effect_of now.state effect) ≡ begins in_overlay levels command old
-begins-from in_overlay levels command old now effect is_taken gives =
-    ap (λ (machine : Machine). stack.begun in_overlay levels machine (effect_of now.state effect)) is_taken
-    ∙ begun-state in_overlay levels now.state (taken command old) (effect_of now.state effect)
-    ∙ ap (stack.begun in_overlay levels (taken command old)) gives
+pub begins-from : (in_overlay : Bool) (macro_levels : ℕ) (command : Token) (old now : Machine) (effect : Effect) → now ≡ with_state now.state (taken command old) → effect_of now.state effect ≡ effect_on (source_in in_overlay macro_levels) command old.state → stack.begun in_overlay macro_levels now (effect_of now.state effect) ≡ begins in_overlay macro_levels command old
+begins-from in_overlay macro_levels command old now effect is_taken gives =
+    ap (λ (machine : Machine). stack.begun in_overlay macro_levels machine (effect_of now.state effect)) is_taken
+    ∙ begun-state in_overlay macro_levels now.state (taken command old) (effect_of now.state effect)
+    ∙ ap (stack.begun in_overlay macro_levels (taken command old)) gives
 
 -- an effect with which all is done begins nothing
 pub done-begins : (in_overlay : Bool) (more : ℕ) (machine : Machine) (effect : Effect) → is_done effect ≡ true →
-    begun_only (quiet machine) ≡ stack.begun in_overlay more machine (effect_of machine.state effect)
+    begun_only (silent machine) ≡ stack.begun in_overlay more machine (effect_of machine.state effect)
 done-begins true zero machine effects.Changes e = refl
 done-begins true (suc more) machine effects.Changes e = refl
 done-begins false zero machine effects.Changes e = refl
@@ -125,25 +125,25 @@ done-begins true (suc more) machine effects.Makes e = refl
 done-begins false zero machine effects.Makes e = refl
 done-begins false (suc more) machine effects.Makes e = refl
 done-begins in_overlay more machine (effects.GivesReply reply) e = absurd (false≢true e)
-done-begins in_overlay more machine (effects.Stays closer) e = absurd (false≢true e)
-done-begins in_overlay more machine (effects.Closes closer) e = absurd (false≢true e)
+done-begins in_overlay more machine (effects.Stays cause) e = absurd (false≢true e)
+done-begins in_overlay more machine (effects.Closes cause) e = absurd (false≢true e)
 done-begins in_overlay more machine (effects.Starts body end) e = absurd (false≢true e)
 
 -- the step that takes a command of the stream
-pub takes-outer : (command : Token) (old : Machine) (one : stack.Begun) (frames : List Frame) → one ≡ begins false LEVELS command old → frames ≡ [] → finished one frames ≡ step_outer command old
-takes-outer command old one frames is none =
-    let begin = begins false LEVELS command old in
-    (λ i. finished (is i) (none i)) ∙ ap (λ (started : List Frame). pops started begin.item) (append-nil begin.started)
+pub takes-outer : (command : Token) (old : Machine) (one : stack.Begun) (activations : List Activation) → one ≡ begins false MACRO_LEVELS command old → activations ≡ [] → finished one activations ≡ step_outer command old
+takes-outer command old one activations is none =
+    let begin = begins false MACRO_LEVELS command old in
+    (λ i. finished (is i) (none i)) ∙ ap (λ (started : List Activation). unwind started begin.item) (append-nil begin.started)
 
 -- and that which takes the first command of the innermost body
-pub takes-inner : (frame : Frame) (command : Token) (rest : List Token) (outer frames : List Frame) (old : Machine) (one : stack.Begun) → one ≡ begins frame.in_overlay frame.levels command old → frames ≡ record frame { body = rest } ∷ outer → finished one frames ≡ step_inner frame command rest outer old
-takes-inner frame command rest outer frames old one is all = (λ i. finished (is i) (all i))
+pub takes-inner : (activation : Activation) (command : Token) (rest : List Token) (outer activations : List Activation) (old : Machine) (one : stack.Begun) → one ≡ begins activation.in_overlay activation.macro_levels command old → activations ≡ record activation { body = rest } ∷ outer → finished one activations ≡ step_inner activation command rest outer old
+takes-inner activation command rest outer activations old one is all = (λ i. finished (is i) (all i))
 
 -- an answer that gives a step gives an equal one
-module _ {E : Type 0} (result : Result (Vec Sent Global) E) (new : Machine) (still : List Frame) (one : Stepped) where
+module _ {E : Type 0} (result : Result (Vec Sent Global) E) (new : Machine) (still : List Activation) (one : Stepped) where
   pub steps-by : (other : Stepped) → one ≡ other → IfOk result (λ out. stepped_of new out.items still ≡ one) → IfOk result (λ out. stepped_of new out.items still ≡ other)
   steps-by other is steps = let P : Stepped → Type 0 = λ this. IfOk result (λ out. stepped_of new out.items still ≡ this) in subst P is steps
 
-pub steps-inner : {E : Type 0} (result : Result (Vec Sent Global) E) (new old : Machine) (still frames : List Frame) (one : Stepped) → ((frame : Frame) (command : Token) (rest : List Token) (outer : List Frame) → frames ≡ record frame { body = command ∷ rest } ∷ outer → one ≡ step_inner frame command rest outer old) → IfOk result (λ out. stepped_of new out.items still ≡ one) → IfOk result (λ out. (frame : Frame) (command : Token) (rest : List Token) (outer : List Frame) → frames ≡ record frame { body = command ∷ rest } ∷ outer → stepped_of new out.items still ≡ step_inner frame command rest outer old)
-steps-inner (Ok out) new old still frames one is steps = λ frame command rest outer all. steps ∙ is frame command rest outer all
-steps-inner (Err error) new old still frames one is steps = tt
+pub steps-inner : {E : Type 0} (result : Result (Vec Sent Global) E) (new old : Machine) (still activations : List Activation) (one : Stepped) → ((activation : Activation) (command : Token) (rest : List Token) (outer : List Activation) → activations ≡ record activation { body = command ∷ rest } ∷ outer → one ≡ step_inner activation command rest outer old) → IfOk result (λ out. stepped_of new out.items still ≡ one) → IfOk result (λ out. (activation : Activation) (command : Token) (rest : List Token) (outer : List Activation) → activations ≡ record activation { body = command ∷ rest } ∷ outer → stepped_of new out.items still ≡ step_inner activation command rest outer old)
+steps-inner (Ok out) new old still activations one is steps = λ activation command rest outer all. steps ∙ is activation command rest outer all
+steps-inner (Err error) new old still activations one is steps = tt

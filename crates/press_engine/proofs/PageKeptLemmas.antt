@@ -9,13 +9,13 @@ use Rattle.press_cursor.specs.Stack.{has_room, newest}
 use Rattle.press_page.specs.Environment.{asked_left, asked_right, set_left_margin, set_right_margin}
 use Rattle.press_engine.specs.Motion.{change_left_margin, change_right_margin, push_or_pop}
 use Rattle.press_cmd.specs.Kinds.{kind_of}
-use Rattle.press_pattern.specs.declared.pattern.Kind.{Kind}
+use Rattle.press_pattern.specs.declared.pattern.PatternKind.{PatternKind}
 use Rattle.press_engine.specs.declared.effect.Source.{Source}
 use Rattle.press_engine.specs.declared.operation.Operation.{Operation}
 use Rattle.press_engine.specs.declared.operation.Operation.TheVariants as operations
 use Rattle.press_engine.specs.declared.pattern_control.PatternControl.{PatternControl}
 use Rattle.press_engine.specs.declared.state.State.{State}
-use Rattle.press_engine.specs.Outcome.{Effect, Changes, Makes, bounds, ended_raster_if, with_environment}
+use Rattle.press_engine.specs.Outcome.{Effect, Changes, MayAllocate, bounds, ended_raster_if, with_environment}
 use Rattle.press_engine.specs.Macros.{with_macro_id}
 use Rattle.press_engine.specs.Operation.{operation_of}
 use Rattle.press_engine.specs.Patterns.{define_pattern, pattern_control_with, select_kind}
@@ -38,7 +38,7 @@ control_page : (control : Option PatternControl) (state : State) → (pattern_co
 control_page None state = refl
 control_page (Some control) state = refl
 
-kind_page : (kind : Option Kind) (state : State) → (select_kind kind state).page ≡ state.page
+kind_page : (kind : Option PatternKind) (state : State) → (select_kind kind state).page ≡ state.page
 kind_page None state = refl
 kind_page (Some kind) state = either _ state _ _ refl refl
 
@@ -93,7 +93,7 @@ stack_moves number state =
 defined : (bytes : List ℕ) (state : State) → PageStays state (define_pattern bytes state)
 defined bytes state =
     effect_either (has_header bytes && has_rows bytes) state
-    (Makes (record state { patterns = with_definition state.patterns state.drawing.pattern_id bytes })) (Changes state) refl refl
+    (MayAllocate (record state { patterns = with_definition state.patterns state.drawing.pattern_id bytes })) (Changes state) refl refl
 
 row_stays : (source : Source) (operation : Operation) (command : Token) (state : State) → may_change_page operation ≡ false → PageStays state (table_row source operation command state)
 row_stays source operations.Nothing command state keeps = refl
@@ -110,7 +110,7 @@ row_stays source operations.MoveColumns command state keeps = refl
 row_stays source operations.MoveRows command state keeps = refl
 row_stays source operations.MoveHorizontally command state keeps = refl
 row_stays source operations.MoveVertically command state keeps = refl
-row_stays source operations.SelectSide command state keeps = absurd (true≢false keeps)
+row_stays source operations.SelectPageSide command state keeps = absurd (true≢false keeps)
 row_stays source operations.LeftMargin command state keeps = left_margin (value_of command) state
 row_stays source operations.RightMargin command state keeps = right_margin (value_of command) state
 row_stays source operations.PushOrPop command state keeps = stack_moves (whole_part_of command) state
@@ -124,7 +124,7 @@ row_stays source operations.TextLength command state keeps = refl
 row_stays source operations.EjectPage command state keeps = absurd (true≢false keeps)
 row_stays source operations.PerforationSkip command state keeps = either _ state _ _ refl refl
 row_stays source operations.SelectOrientation command state keeps = absurd (true≢false keeps)
-row_stays source operations.SelectSides command state keeps = absurd (true≢false keeps)
+row_stays source operations.SelectDuplex command state keeps = absurd (true≢false keeps)
 row_stays source operations.Copies command state keeps = refl
 row_stays source operations.RectangleWidth command state keeps = refl
 row_stays source operations.RectangleHeight command state keeps = refl

@@ -8,13 +8,13 @@ use Rattle.press_engine.specs.declared.machine.Last.TheVariants as lasts
 use Rattle.press_engine.specs.declared.machine.Machine.{Machine}
 use Rattle.press_engine.specs.declared.state.State.{State}
 use Rattle.press_engine.specs.Counts.{counted}
-use Rattle.press_engine.specs.Machine.{Run, quiet, taken, levels}
-use Rattle.press_engine.specs.Outcome.{Effect, Changes, Makes}
+use Rattle.press_engine.specs.Machine.{StepResult, silent, taken, macro_levels}
+use Rattle.press_engine.specs.Outcome.{Effect, Changes, MayAllocate}
 use Rattle.press_engine.specs.Passing.{HasNoEffect, passed, PassingIsCounted}
 use Rattle.press_engine.specs.Table.{is_recorded}
 use Rattle.press_engine.specs.Trace.{last_machine, trace_each, trace_carry_out, trace_at, trace, told_by, run_all}
 
-not_recorded : (recorded : Bool) (state : State) (other : State) (row : Effect) → (if recorded then Makes other else row) ≡ Changes state → recorded ≡ false
+not_recorded : (recorded : Bool) (state : State) (other : State) (row : Effect) → (if recorded then MayAllocate other else row) ≡ Changes state → recorded ≡ false
 not_recorded true state other row is = absurd (cc)
 not_recorded false state other row is = refl
 
@@ -23,17 +23,17 @@ taken-passed command machine none =
     let closed : is_recorded command machine.state ≡ false = not_recorded (is_recorded command machine.state) machine.state _ _ none in
     rw closed refl
 
-one-passed : (command : Token) (machine : Machine) → HasNoEffect machine.state command → trace_at levels command machine ≡ quiet (passed 1 (kind_of command) machine) ∷ []
+one-passed : (command : Token) (machine : Machine) → HasNoEffect machine.state command → trace_at macro_levels command machine ≡ silent (passed 1 (kind_of command) machine) ∷ []
 unfolding trace_at
 one-passed command machine none =
-    ap (trace_carry_out (trace_at 1) (taken command machine)) none ∙ ap (λ (next : Machine). quiet next ∷ []) (taken-passed command machine none)
+    ap (trace_carry_out (trace_at 1) (taken command machine)) none ∙ ap (λ (next : Machine). silent next ∷ []) (taken-passed command machine none)
 
-run-cons : (command : Token) (commands : List Token) (machine next : Machine) → trace_at levels command machine ≡ quiet next ∷ [] → run_all (command ∷ commands) machine ≡ run_all commands next
+run-cons : (command : Token) (commands : List Token) (machine next : Machine) → trace_at macro_levels command machine ≡ silent next ∷ [] → run_all (command ∷ commands) machine ≡ run_all commands next
 unfolding trace_each
 run-cons command commands machine next is =
-    ap (λ (items : List Run). told_by (items ++ trace commands (last_machine machine items)) machine) is
+    ap (λ (items : List StepResult). told_by (items ++ trace commands (last_machine machine items)) machine) is
 
-run-none : (machine : Machine) → run_all [] machine ≡ quiet machine
+run-none : (machine : Machine) → run_all [] machine ≡ silent machine
 unfolding trace_each
 run-none machine = refl
 
@@ -45,8 +45,8 @@ passed-more count first last machine =
 pub passing_is_counted : PassingIsCounted
 passing_is_counted [] last machine all =
     run-cons last [] machine (passed 1 (kind_of last) machine) (one-passed last machine all.0) ∙ run-none _
-passing_is_counted (command ∷ front) last machine all =
+passing_is_counted (command ∷ prefix) last machine all =
     let next = passed 1 (kind_of command) machine in
-    run-cons command (front ++ last ∷ []) machine next (one-passed command machine all.0)
-    ∙ passing_is_counted front last next all.1
-    ∙ ap quiet (passed-more (length (front ++ last ∷ [])) command last machine)
+    run-cons command (prefix ++ last ∷ []) machine next (one-passed command machine all.0)
+    ∙ passing_is_counted prefix last next all.1
+    ∙ ap silent (passed-more (length (prefix ++ last ∷ [])) command last machine)

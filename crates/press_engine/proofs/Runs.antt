@@ -3,7 +3,7 @@ use Rattle.std.proofs.Common.{◌≡◌, ◌∙◌, List, [], ◌∷◌, ◌++�
 use Rattle.std.proofs.lemmas.List.{append-nil}
 use Rattle.press_cmd.specs.Token.{Token}
 use Rattle.press_engine.specs.declared.machine.Machine.{Machine}
-use Rattle.press_engine.specs.Machine.{Run, levels, then_run}
+use Rattle.press_engine.specs.Machine.{StepResult, macro_levels, then_run}
 use Rattle.press_engine.specs.Trace.{trace_each, trace_at, trace, told_by, run, run_all}
 use Rattle.press_engine.proofs.TraceLaws.{last_machine-append, joined-append, trace-append}
 
@@ -17,9 +17,9 @@ run_all-append commands others machine =
     let between = (run_all commands machine).machine in
     let first = trace commands machine in
     let second = trace others between in
-    ap (λ (items : List Run). told_by items machine) (trace-append commands others machine)
+    ap (λ (items : List StepResult). told_by items machine) (trace-append commands others machine)
     ∙ (λ i. record { machine = last_machine-append first second machine i; outputs = joined-append first second i })
 
 pub run_all-one : (command : Token) (machine : Machine) → run_all (command ∷ []) machine ≡ run command machine
 unfolding trace_each
-run_all-one command machine = ap (λ (items : List Run). told_by items machine) (append-nil (trace_at levels command machine))
+run_all-one command machine = ap (λ (items : List StepResult). told_by items machine) (append-nil (trace_at macro_levels command machine))

@@ -6,54 +6,54 @@ use Rattle.press_cmd.specs.Token.{Token}
 use Rattle.press_sink.specs.Sending.{Output}
 use Rattle.press_cmd.specs.Kinds.{kind_of}
 use Rattle.press_cmd.specs.declared.variant.Kind.{Kind}
-use Rattle.press_engine.specs.declared.effect.Closer.{Closer}
+use Rattle.press_engine.specs.declared.effect.EjectCause.{EjectCause}
 use Rattle.press_engine.specs.declared.effect.Sent.{Sent}
 use Rattle.press_engine.specs.declared.effect.Source.TheVariants.{Stream}
 use Rattle.press_engine.specs.declared.fault.EngineError.{EngineError}
-use Rattle.press_engine.specs.declared.frame.Frame.{Frame}
-use Rattle.press_engine.specs.declared.frame.FrameEnd.{FrameEnd}
-use Rattle.press_engine.specs.declared.frame.FrameEnd.TheVariants as ends_by
+use Rattle.press_engine.specs.declared.activation.Activation.{Activation}
+use Rattle.press_engine.specs.declared.activation.ActivationEnd.{ActivationEnd}
+use Rattle.press_engine.specs.declared.activation.ActivationEnd.TheVariants as ends_by
 use Rattle.press_engine.specs.declared.machine.Last.{Last}
 use Rattle.press_engine.specs.declared.machine.Last.TheVariants as lasts
 use Rattle.press_engine.specs.declared.machine.Machine.{Machine}
 use Rattle.press_engine.specs.Calls.{overlay_body}
 use Rattle.press_engine.specs.Engine.{IsOfKind, StepsTo, TakesMemory}
-use Rattle.press_engine.specs.Machine.{Run, then_run, with_state, taken, last_of, levels as LEVELS}
-use Rattle.press_engine.specs.Outcome.{Effect, Changes, Makes, GivesReply, Stays, Closes, Starts}
+use Rattle.press_engine.specs.Machine.{StepResult, then_run, with_state, taken, last_of, macro_levels as MACRO_LEVELS}
+use Rattle.press_engine.specs.Outcome.{Effect, Changes, MayAllocate, GivesReply, Stays, Closes, Starts}
 use Rattle.press_engine.specs.Stack as stack
-use Rattle.press_engine.specs.Stack.{source_in, end_by, end_of, begun_in_overlay, begun_outside, begun_finished, begun_close_with, begins, ended_by, pops, Stepped, step_outer, step_inner, owed, Gives, IsNested, IsSound, IsOverlayEnd, EndsOverlay}
+use Rattle.press_engine.specs.Stack.{source_in, end_by, end_of, begun_in_overlay, begun_outside, begun_finished, begun_close_with, begins, ended_by, unwind, Stepped, step_outer, step_inner, continuation, Gives, IsNested, IsSound, IsOverlayEnd, EndsOverlay}
 use Rattle.press_engine.specs.Stepping.{stepped_of, used_up}
 use Rattle.press_engine.specs.Table.{effect_on, is_recorded}
 use Rattle.press_engine.proofs.ItemsLemmas.{ready-of, step-ready}
-use Rattle.press_engine.proofs.StackLemmas.{pops-nested, begins-nested, outer-wants, inner-wants}
+use Rattle.press_engine.proofs.StackLemmas.{unwind-nested, begins-nested, outer-wants, inner-wants}
 
 -- What a step took is not changed by what it begins, nor by ends.
-close_with-last : (body : Option (List Token)) (closer : Closer) (machine : Machine) → (begun_close_with body closer machine).item.machine.last ≡ machine.last
-close_with-last None closer machine = refl
-close_with-last (Some commands) closer machine = refl
+close_with-last : (body : Option (List Token)) (cause : EjectCause) (machine : Machine) → (begun_close_with body cause machine).item.machine.last ≡ machine.last
+close_with-last None cause machine = refl
+close_with-last (Some commands) cause machine = refl
 
 finished-last : (machine : Machine) (effect : Effect) → (begun_finished machine effect).item.machine.last ≡ machine.last
 finished-last machine (Changes state) = refl
-finished-last machine (Makes state) = refl
+finished-last machine (MayAllocate state) = refl
 finished-last machine (GivesReply reply state) = refl
-finished-last machine (Stays closer state) = refl
-finished-last machine (Closes closer state) = close_with-last (overlay_body state) closer (with_state state machine)
+finished-last machine (Stays cause state) = refl
+finished-last machine (Closes cause state) = close_with-last (overlay_body state) cause (with_state state machine)
 finished-last machine (Starts commands end state) = refl
 
 in_overlay-last : (more : ℕ) (machine : Machine) (effect : Effect) → (begun_in_overlay more machine effect).item.machine.last ≡ machine.last
 in_overlay-last more machine (Changes state) = refl
-in_overlay-last more machine (Makes state) = refl
+in_overlay-last more machine (MayAllocate state) = refl
 in_overlay-last more machine (GivesReply reply state) = refl
-in_overlay-last more machine (Stays closer state) = refl
-in_overlay-last more machine (Closes closer state) = refl
+in_overlay-last more machine (Stays cause state) = refl
+in_overlay-last more machine (Closes cause state) = refl
 in_overlay-last more machine (Starts commands end state) = refl
 
 outside-last : (more : ℕ) (machine : Machine) (effect : Effect) → (begun_outside more machine effect).item.machine.last ≡ machine.last
 outside-last more machine (Changes state) = refl
-outside-last more machine (Makes state) = refl
+outside-last more machine (MayAllocate state) = refl
 outside-last more machine (GivesReply reply state) = refl
-outside-last more machine (Stays closer state) = refl
-outside-last more machine (Closes closer state) = finished-last machine (Closes closer state)
+outside-last more machine (Stays cause state) = refl
+outside-last more machine (Closes cause state) = finished-last machine (Closes cause state)
 outside-last more machine (Starts commands end state) = refl
 
 begun-last : (in_overlay : Bool) (more : ℕ) (machine : Machine) (effect : Effect) → (stack.begun in_overlay more machine effect).item.machine.last ≡ machine.last
@@ -62,18 +62,18 @@ begun-last true (suc more) machine effect = in_overlay-last more machine effect
 begun-last false zero machine effect = finished-last machine effect
 begun-last false (suc more) machine effect = outside-last more machine effect
 
-end-last : (end : FrameEnd) (depth : ℕ) (machine : Machine) → (end_by end depth machine).machine.last ≡ machine.last
+end-last : (end : ActivationEnd) (depth : ℕ) (machine : Machine) → (end_by end depth machine).machine.last ≡ machine.last
 end-last (ends_by.Macro end) depth machine = refl
-end-last (ends_by.Close closer kept place) depth machine = refl
+end-last (ends_by.Close cause kept place) depth machine = refl
 
-ended-last : (body : List Token) (frames : List Frame) (frame : Frame) → ((item : Run) → (pops frames item).item.machine.last ≡ item.machine.last) → (item : Run) → (ended_by body frames frame (pops frames) item).item.machine.last ≡ item.machine.last
-ended-last [] frames frame outer item =
-    outer (then_run item.outputs (end_of frame item.machine)) ∙ end-last frame.end frame.depth item.machine
-ended-last (command ∷ rest) frames frame outer item = refl
+ended-last : (body : List Token) (activations : List Activation) (activation : Activation) → ((item : StepResult) → (unwind activations item).item.machine.last ≡ item.machine.last) → (item : StepResult) → (ended_by body activations activation (unwind activations) item).item.machine.last ≡ item.machine.last
+ended-last [] activations activation outer item =
+    outer (then_run item.outputs (end_of activation item.machine)) ∙ end-last activation.end activation.depth item.machine
+ended-last (command ∷ rest) activations activation outer item = refl
 
-pops-last : (frames : List Frame) (item : Run) → (pops frames item).item.machine.last ≡ item.machine.last
-pops-last [] item = refl
-pops-last (frame ∷ frames) item = ended-last frame.body frames frame (pops-last frames) item
+unwind-last : (activations : List Activation) (item : StepResult) → (unwind activations item).item.machine.last ≡ item.machine.last
+unwind-last [] item = refl
+unwind-last (activation ∷ activations) item = ended-last activation.body activations activation (unwind-last activations) item
 
 begins-last : (in_overlay : Bool) (more : ℕ) (command : Token) (machine : Machine) → (begins in_overlay more command machine).item.machine.last ≡ last_of command machine.state
 begins-last in_overlay more command machine =
@@ -81,13 +81,13 @@ begins-last in_overlay more command machine =
 
 pub outer-last : (command : Token) (machine : Machine) → (step_outer command machine).item.machine.last ≡ last_of command machine.state
 outer-last command machine =
-    let begin = begins false LEVELS command machine in
-    pops-last begin.started begin.item ∙ begins-last false LEVELS command machine
+    let begin = begins false MACRO_LEVELS command machine in
+    unwind-last begin.started begin.item ∙ begins-last false MACRO_LEVELS command machine
 
-pub inner-last : (frame : Frame) (command : Token) (rest : List Token) (frames : List Frame) (machine : Machine) → (step_inner frame command rest frames machine).item.machine.last ≡ last_of command machine.state
-inner-last frame command rest frames machine =
-    let begin = begins frame.in_overlay frame.levels command machine in
-    pops-last (begin.started ++ (record frame { body = rest } ∷ frames)) begin.item ∙ begins-last frame.in_overlay frame.levels command machine
+pub inner-last : (activation : Activation) (command : Token) (rest : List Token) (activations : List Activation) (machine : Machine) → (step_inner activation command rest activations machine).item.machine.last ≡ last_of command machine.state
+inner-last activation command rest activations machine =
+    let begin = begins activation.in_overlay activation.macro_levels command machine in
+    unwind-last (begin.started ++ (record activation { body = rest } ∷ activations)) begin.item ∙ begins-last activation.in_overlay activation.macro_levels command machine
 
 -- it is of the command's kind
 kind-if : (recorded : Bool) (kind : Kind) → IsOfKind (if recorded then lasts.Recorded kind else lasts.Ran kind) kind
@@ -108,30 +108,30 @@ pub taken-last : (command : Token) (machine : Machine) (last : Last) → last �
 taken-last command machine last is = some-last last (kind_of command) (last-kind command machine last is)
 
 -- a step of the code gives the first of the items that were owed
-pub steps-to : (owing : List Run) (stepped : Stepped) (kind : Kind) (sent : Vec Sent Global) (new : Machine) (still : List Frame) → Gives stepped owing → stepped_of new sent.items still ≡ stepped → IsOfKind new.last kind → StepsTo owing (record { kind = kind; sent = sent }) new still
+pub steps-to : (owing : List StepResult) (stepped : Stepped) (kind : Kind) (sent : Vec Sent Global) (new : Machine) (still : List Activation) → Gives stepped owing → stepped_of new sent.items still ≡ stepped → IsOfKind new.last kind → StepsTo owing (record { kind = kind; sent = sent }) new still
 steps-to owing stepped kind sent new still gives is of_kind = record {
   kind = of_kind;
-  owes = gives ∙ (λ i. (sym is i).item ∷ owed (sym is i).frames (sym is i).item.machine);
+  owes = gives ∙ (λ i. (sym is i).item ∷ continuation (sym is i).activations (sym is i).item.machine);
 }
 
 -- the bodies between two steps
-pub sound-outer : (command : Token) (machine : Machine) (still : List Frame) → still ≡ (step_outer command machine).frames → IsSound still
+pub sound-outer : (command : Token) (machine : Machine) (still : List Activation) → still ≡ (step_outer command machine).activations → IsSound still
 sound-outer command machine still is =
-    let begin = begins false LEVELS command machine in
-    let started : IsNested begin.started = subst IsNested (append-nil begin.started) (begins-nested [] tt false LEVELS command machine (omega arith)) in
+    let begin = begins false MACRO_LEVELS command machine in
+    let started : IsNested begin.started = subst IsNested (append-nil begin.started) (begins-nested [] tt false MACRO_LEVELS command machine (omega arith)) in
     record {
       ready = ready-of begin.started still begin.item is;
-      nested = subst IsNested (sym is) (pops-nested begin.started begin.item started);
+      nested = subst IsNested (sym is) (unwind-nested begin.started begin.item started);
     }
 
-pub sound-inner : (frame : Frame) (command : Token) (rest : List Token) (outer frames still : List Frame) (machine : Machine) → frames ≡ record frame { body = command ∷ rest } ∷ outer → IsNested frames → still ≡ (step_inner frame command rest outer machine).frames → IsSound still
-sound-inner frame command rest outer frames still machine all nested is =
-    let begin = begins frame.in_overlay frame.levels command machine in
-    let within : IsNested (record frame { body = rest } ∷ outer) = subst IsNested all nested in
-    let started = begins-nested (record frame { body = rest } ∷ outer) within frame.in_overlay frame.levels command machine (omega arith) in
+pub sound-inner : (activation : Activation) (command : Token) (rest : List Token) (outer activations still : List Activation) (machine : Machine) → activations ≡ record activation { body = command ∷ rest } ∷ outer → IsNested activations → still ≡ (step_inner activation command rest outer machine).activations → IsSound still
+sound-inner activation command rest outer activations still machine all nested is =
+    let begin = begins activation.in_overlay activation.macro_levels command machine in
+    let within : IsNested (record activation { body = rest } ∷ outer) = subst IsNested all nested in
+    let started = begins-nested (record activation { body = rest } ∷ outer) within activation.in_overlay activation.macro_levels command machine (omega arith) in
     record {
-      ready = step-ready frame command rest outer still machine is;
-      nested = subst IsNested (sym is) (pops-nested (begin.started ++ (record frame { body = rest } ∷ outer)) begin.item started);
+      ready = step-ready activation command rest outer still machine is;
+      nested = subst IsNested (sym is) (unwind-nested (begin.started ++ (record activation { body = rest } ∷ outer)) begin.item started);
     }
 
 -- an answer tells one error
@@ -148,81 +148,81 @@ used-none : (body : List Token) → used_up body ≡ true → body ≡ []
 used-none [] is = refl
 used-none (command ∷ rest) is = absurd cc
 
-pub ends-overlay : (frames rest : List Frame) (frame : Frame) → frames ≡ frame ∷ rest → used_up frame.body ≡ true → IsOverlayEnd frame.end ⊎ EndsOverlay rest → EndsOverlay frames
-ends-overlay frames rest frame is used ends = subst EndsOverlay (sym is) (used-none frame.body used, ends)
+pub ends-overlay : (activations rest : List Activation) (activation : Activation) → activations ≡ activation ∷ rest → used_up activation.body ≡ true → IsOverlayEnd activation.end ⊎ EndsOverlay rest → EndsOverlay activations
+ends-overlay activations rest activation is used ends = subst EndsOverlay (sym is) (used-none activation.body used, ends)
 
 -- where the rest of a step of the stream may take memory, so may the command
-pub outer-memory : (command : Token) (machine : Machine) (one : stack.Begun) (frames : List Frame) → one ≡ begins false LEVELS command machine → frames ≡ [] → (one.item.outputs ≢ []) ⊎ (one.started ≢ []) ⊎ EndsOverlay frames → TakesMemory (effect_on Stream command machine.state)
-outer-memory command machine one frames is none (inl some) =
+pub outer-memory : (command : Token) (machine : Machine) (one : stack.Begun) (activations : List Activation) → one ≡ begins false MACRO_LEVELS command machine → activations ≡ [] → (one.item.outputs ≢ []) ⊎ (one.started ≢ []) ⊎ EndsOverlay activations → TakesMemory (effect_on Stream command machine.state)
+outer-memory command machine one activations is none (inl some) =
     let P : stack.Begun → Type 0 = λ this. this.item.outputs ≢ [] in
     outer-wants command machine (inl (subst P is some))
-outer-memory command machine one frames is none (inr (inl some)) =
+outer-memory command machine one activations is none (inr (inl some)) =
     let P : stack.Begun → Type 0 = λ this. this.started ≢ [] in
     outer-wants command machine (inr (subst P is some))
-outer-memory command machine one frames is none (inr (inr ends)) = absurd (subst EndsOverlay none ends)
+outer-memory command machine one activations is none (inr (inr ends)) = absurd (subst EndsOverlay none ends)
 
 -- the same inside a body
-pub inner-memory : (frame : Frame) (command : Token) (rest : List Token) (outer frames : List Frame) (machine : Machine) (one : stack.Begun) → one ≡ begins frame.in_overlay frame.levels command machine → frames ≡ record frame { body = rest } ∷ outer → (one.item.outputs ≢ []) ⊎ (one.started ≢ []) ⊎ EndsOverlay frames → TakesMemory (effect_on (source_in frame.in_overlay frame.levels) command machine.state) ⊎ EndsOverlay (record frame { body = rest } ∷ outer)
-inner-memory frame command rest outer frames machine one is all (inl some) =
+pub inner-memory : (activation : Activation) (command : Token) (rest : List Token) (outer activations : List Activation) (machine : Machine) (one : stack.Begun) → one ≡ begins activation.in_overlay activation.macro_levels command machine → activations ≡ record activation { body = rest } ∷ outer → (one.item.outputs ≢ []) ⊎ (one.started ≢ []) ⊎ EndsOverlay activations → TakesMemory (effect_on (source_in activation.in_overlay activation.macro_levels) command machine.state) ⊎ EndsOverlay (record activation { body = rest } ∷ outer)
+inner-memory activation command rest outer activations machine one is all (inl some) =
     let P : stack.Begun → Type 0 = λ this. this.item.outputs ≢ [] in
-    inl (inner-wants frame.in_overlay frame.levels command machine (inl (subst P is some)))
-inner-memory frame command rest outer frames machine one is all (inr (inl some)) =
+    inl (inner-wants activation.in_overlay activation.macro_levels command machine (inl (subst P is some)))
+inner-memory activation command rest outer activations machine one is all (inr (inl some)) =
     let P : stack.Begun → Type 0 = λ this. this.started ≢ [] in
-    inl (inner-wants frame.in_overlay frame.levels command machine (inr (subst P is some)))
-inner-memory frame command rest outer frames machine one is all (inr (inr ends)) = inr (subst EndsOverlay all ends)
+    inl (inner-wants activation.in_overlay activation.macro_levels command machine (inr (subst P is some)))
+inner-memory activation command rest outer activations machine one is all (inr (inr ends)) = inr (subst EndsOverlay all ends)
 
 -- Where something goes out in a step, its beginning lets it out, or an overlay ends.
 append-some : (one other : List Output) → one ++ other ≢ [] → (one ≢ []) ⊎ (other ≢ [])
 append-some [] other some = inr some
 append-some (output ∷ one) other some = inl (λ (none : output ∷ one ≡ []). cc)
 
-end-sends : (end : FrameEnd) (depth : ℕ) (machine : Machine) → (end_by end depth machine).outputs ≢ [] → IsOverlayEnd end
+end-sends : (end : ActivationEnd) (depth : ℕ) (machine : Machine) → (end_by end depth machine).outputs ≢ [] → IsOverlayEnd end
 end-sends (ends_by.Macro end) depth machine some = absurd (some refl)
-end-sends (ends_by.Close closer kept place) depth machine some = tt
+end-sends (ends_by.Close cause kept place) depth machine some = tt
 
-over-end : (frame : Frame) (frames : List Frame) (item : Run) → frame.body ≡ [] → (item.outputs ≢ []) ⊎ ((end_of frame item.machine).outputs ≢ []) → (item.outputs ≢ []) ⊎ EndsOverlay (frame ∷ frames)
-over-end frame frames item used (inl some) = inl some
-over-end frame frames item used (inr some) = inr (used, inl (end-sends frame.end frame.depth item.machine some))
+over-end : (activation : Activation) (activations : List Activation) (item : StepResult) → activation.body ≡ [] → (item.outputs ≢ []) ⊎ ((end_of activation item.machine).outputs ≢ []) → (item.outputs ≢ []) ⊎ EndsOverlay (activation ∷ activations)
+over-end activation activations item used (inl some) = inl some
+over-end activation activations item used (inr some) = inr (used, inl (end-sends activation.end activation.depth item.machine some))
 
-over-rest : (frame : Frame) (frames : List Frame) (item : Run) → frame.body ≡ [] → (item.outputs ++ (end_of frame item.machine).outputs ≢ []) ⊎ EndsOverlay frames → (item.outputs ≢ []) ⊎ EndsOverlay (frame ∷ frames)
-over-rest frame frames item used (inl some) = over-end frame frames item used (append-some item.outputs (end_of frame item.machine).outputs some)
-over-rest frame frames item used (inr ends) = inr (used, inr ends)
+over-rest : (activation : Activation) (activations : List Activation) (item : StepResult) → activation.body ≡ [] → (item.outputs ++ (end_of activation item.machine).outputs ≢ []) ⊎ EndsOverlay activations → (item.outputs ≢ []) ⊎ EndsOverlay (activation ∷ activations)
+over-rest activation activations item used (inl some) = over-end activation activations item used (append-some item.outputs (end_of activation item.machine).outputs some)
+over-rest activation activations item used (inr ends) = inr (used, inr ends)
 
-ended-sends : (body : List Token) (frames : List Frame) (frame : Frame) → frame.body ≡ body → ((item : Run) → (pops frames item).item.outputs ≢ [] → (item.outputs ≢ []) ⊎ EndsOverlay frames) → (item : Run) → (ended_by body frames frame (pops frames) item).item.outputs ≢ [] → (item.outputs ≢ []) ⊎ EndsOverlay (frame ∷ frames)
-ended-sends [] frames frame used outer item some = over-rest frame frames item used (outer (then_run item.outputs (end_of frame item.machine)) some)
-ended-sends (command ∷ rest) frames frame used outer item some = inl some
+ended-sends : (body : List Token) (activations : List Activation) (activation : Activation) → activation.body ≡ body → ((item : StepResult) → (unwind activations item).item.outputs ≢ [] → (item.outputs ≢ []) ⊎ EndsOverlay activations) → (item : StepResult) → (ended_by body activations activation (unwind activations) item).item.outputs ≢ [] → (item.outputs ≢ []) ⊎ EndsOverlay (activation ∷ activations)
+ended-sends [] activations activation used outer item some = over-rest activation activations item used (outer (then_run item.outputs (end_of activation item.machine)) some)
+ended-sends (command ∷ rest) activations activation used outer item some = inl some
 
-pub pops-sends : (frames : List Frame) (item : Run) → (pops frames item).item.outputs ≢ [] → (item.outputs ≢ []) ⊎ EndsOverlay frames
-pops-sends [] item some = inl some
-pops-sends (frame ∷ frames) item some = ended-sends frame.body frames frame refl (pops-sends frames) item some
+pub unwind-sends : (activations : List Activation) (item : StepResult) → (unwind activations item).item.outputs ≢ [] → (item.outputs ≢ []) ⊎ EndsOverlay activations
+unwind-sends [] item some = inl some
+unwind-sends (activation ∷ activations) item some = ended-sends activation.body activations activation refl (unwind-sends activations) item some
 
 -- of a command of the stream, and inside a body
-started-ends : (started : List Frame) → EndsOverlay started → started ≢ []
+started-ends : (started : List Activation) → EndsOverlay started → started ≢ []
 started-ends [] ends = absurd ends
-started-ends (frame ∷ started) ends = λ (none : frame ∷ started ≡ []). cc
+started-ends (activation ∷ started) ends = λ (none : activation ∷ started ≡ []). cc
 
-of-outer : (command : Token) (machine : Machine) → ((begins false LEVELS command machine).item.outputs ≢ []) ⊎ EndsOverlay (begins false LEVELS command machine).started → TakesMemory (effect_on Stream command machine.state)
+of-outer : (command : Token) (machine : Machine) → ((begins false MACRO_LEVELS command machine).item.outputs ≢ []) ⊎ EndsOverlay (begins false MACRO_LEVELS command machine).started → TakesMemory (effect_on Stream command machine.state)
 of-outer command machine (inl some) = outer-wants command machine (inl some)
-of-outer command machine (inr ends) = outer-wants command machine (inr (started-ends (begins false LEVELS command machine).started ends))
+of-outer command machine (inr ends) = outer-wants command machine (inr (started-ends (begins false MACRO_LEVELS command machine).started ends))
 
 pub outer-sends : (command : Token) (machine : Machine) → (step_outer command machine).item.outputs ≢ [] → TakesMemory (effect_on Stream command machine.state)
 outer-sends command machine some =
-    let begin = begins false LEVELS command machine in
-    of-outer command machine (pops-sends begin.started begin.item some)
+    let begin = begins false MACRO_LEVELS command machine in
+    of-outer command machine (unwind-sends begin.started begin.item some)
 
-ends-append : (started frames : List Frame) → EndsOverlay (started ++ frames) → (started ≢ []) ⊎ EndsOverlay frames
-ends-append [] frames ends = inr ends
-ends-append (frame ∷ started) frames ends = inl (λ (none : frame ∷ started ≡ []). cc)
+ends-append : (started activations : List Activation) → EndsOverlay (started ++ activations) → (started ≢ []) ⊎ EndsOverlay activations
+ends-append [] activations ends = inr ends
+ends-append (activation ∷ started) activations ends = inl (λ (none : activation ∷ started ≡ []). cc)
 
-started-too : (frame : Frame) (command : Token) (frames : List Frame) (machine : Machine) → ((begins frame.in_overlay frame.levels command machine).started ≢ []) ⊎ EndsOverlay frames → TakesMemory (effect_on (source_in frame.in_overlay frame.levels) command machine.state) ⊎ EndsOverlay frames
-started-too frame command frames machine (inl some) = inl (inner-wants frame.in_overlay frame.levels command machine (inr some))
-started-too frame command frames machine (inr ends) = inr ends
+started-too : (activation : Activation) (command : Token) (activations : List Activation) (machine : Machine) → ((begins activation.in_overlay activation.macro_levels command machine).started ≢ []) ⊎ EndsOverlay activations → TakesMemory (effect_on (source_in activation.in_overlay activation.macro_levels) command machine.state) ⊎ EndsOverlay activations
+started-too activation command activations machine (inl some) = inl (inner-wants activation.in_overlay activation.macro_levels command machine (inr some))
+started-too activation command activations machine (inr ends) = inr ends
 
-of-inner : (frame : Frame) (command : Token) (frames : List Frame) (machine : Machine) → ((begins frame.in_overlay frame.levels command machine).item.outputs ≢ []) ⊎ EndsOverlay ((begins frame.in_overlay frame.levels command machine).started ++ frames) → TakesMemory (effect_on (source_in frame.in_overlay frame.levels) command machine.state) ⊎ EndsOverlay frames
-of-inner frame command frames machine (inl some) = inl (inner-wants frame.in_overlay frame.levels command machine (inl some))
-of-inner frame command frames machine (inr ends) = started-too frame command frames machine (ends-append (begins frame.in_overlay frame.levels command machine).started frames ends)
+of-inner : (activation : Activation) (command : Token) (activations : List Activation) (machine : Machine) → ((begins activation.in_overlay activation.macro_levels command machine).item.outputs ≢ []) ⊎ EndsOverlay ((begins activation.in_overlay activation.macro_levels command machine).started ++ activations) → TakesMemory (effect_on (source_in activation.in_overlay activation.macro_levels) command machine.state) ⊎ EndsOverlay activations
+of-inner activation command activations machine (inl some) = inl (inner-wants activation.in_overlay activation.macro_levels command machine (inl some))
+of-inner activation command activations machine (inr ends) = started-too activation command activations machine (ends-append (begins activation.in_overlay activation.macro_levels command machine).started activations ends)
 
-pub inner-sends : (frame : Frame) (command : Token) (rest : List Token) (outer : List Frame) (machine : Machine) → (step_inner frame command rest outer machine).item.outputs ≢ [] → TakesMemory (effect_on (source_in frame.in_overlay frame.levels) command machine.state) ⊎ EndsOverlay (record frame { body = rest } ∷ outer)
-inner-sends frame command rest outer machine some =
-    let begin = begins frame.in_overlay frame.levels command machine in
-    of-inner frame command (record frame { body = rest } ∷ outer) machine (pops-sends (begin.started ++ (record frame { body = rest } ∷ outer)) begin.item some)
+pub inner-sends : (activation : Activation) (command : Token) (rest : List Token) (outer : List Activation) (machine : Machine) → (step_inner activation command rest outer machine).item.outputs ≢ [] → TakesMemory (effect_on (source_in activation.in_overlay activation.macro_levels) command machine.state) ⊎ EndsOverlay (record activation { body = rest } ∷ outer)
+inner-sends activation command rest outer machine some =
+    let begin = begins activation.in_overlay activation.macro_levels command machine in
+    of-inner activation command (record activation { body = rest } ∷ outer) machine (unwind-sends (begin.started ++ (record activation { body = rest } ∷ outer)) begin.item some)

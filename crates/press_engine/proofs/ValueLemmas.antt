@@ -3,60 +3,60 @@ use Rattle.std.proofs.Common.{◌≡◌, ◌≢◌, ◌⊎◌, ◌∙◌, ℕ, L
 use Rattle.press_cmd.specs.Token.{Token}
 use Rattle.press_cmd.specs.declared.variant.Kind.{Kind}
 use Rattle.press_sink.specs.Sending.{Output}
-use Rattle.press_sink.specs.Told.{Told}
+use Rattle.press_sink.specs.SinkLog.{SinkLog}
 use Rattle.press_sink.proofs.SendingLemmas.{TookAll-none}
 use Rattle.press_engine.specs.declared.effect.StepOutput.{StepOutput}
 use Rattle.press_engine.specs.declared.fault.EngineError.{EngineError}
 use Rattle.press_engine.specs.declared.fault.EngineError.TheVariants as engine_errors
-use Rattle.press_engine.specs.declared.frame.Frame.{Frame}
+use Rattle.press_engine.specs.declared.activation.Activation.{Activation}
 use Rattle.press_engine.specs.declared.machine.Machine.{Machine}
 use Rattle.press_engine.specs.declared.effect.Source.TheVariants.{Stream}
 use Rattle.press_engine.specs.Engine.{Sends, Steps, TakesItem, TakesNext, TakesMemory, NeedsMemory, InnerNeedsMemory, InnerTakesMemory}
-use Rattle.press_engine.specs.Machine.{Run, levels}
+use Rattle.press_engine.specs.Machine.{StepResult, macro_levels}
 use Rattle.press_engine.specs.Outputs.{all_outputs}
-use Rattle.press_engine.specs.Stack.{owed, step_outer, step_inner, HasNext}
+use Rattle.press_engine.specs.Stack.{continuation, step_outer, step_inner, HasNext}
 use Rattle.press_engine.specs.Table.{effect_on}
 use Rattle.press_engine.specs.Trace.{trace_at}
 use Rattle.press_engine.proofs.ItemsLemmas.{inner-gives}
-use Rattle.press_engine.proofs.StackLaws.{outer-owed}
+use Rattle.press_engine.proofs.StackLaws.{outer-continuation}
 use Rattle.press_engine.proofs.StepLemmas.{outer-sends, inner-sends}
 
 -- what goes out in the first of the items
-abbrev first_outputs : List Run → List Output
+abbrev first_outputs : List StepResult → List Output
 first_outputs [] = []
 first_outputs (item ∷ items) = item.outputs
 
 -- the engine's step, whose outputs all went out
-pub takes-ok : (old : Option Machine) (owing : Machine → List Run) (step : StepOutput) (new : Option Machine) (still : List Frame) (tag : ℕ) (before after : Told) → Steps old owing step new still → Sends tag (all_outputs step.sent.items) (Ok tt) before after → TakesNext old owing tag (Ok step.kind) new still before after
+pub takes-ok : (old : Option Machine) (owing : Machine → List StepResult) (step : StepOutput) (new : Option Machine) (still : List Activation) (tag : ℕ) (before after : SinkLog) → Steps old owing step new still → Sends tag (all_outputs step.sent.items) (Ok tt) before after → TakesNext old owing tag (Ok step.kind) new still before after
 takes-ok old owing step new still tag before after s sends =
     let P : Option Machine → Type 0 = λ from. TakesNext from owing tag (Ok step.kind) new still before after in
     subst P (sym s.was) (record {
       item = record { machine = s.after; outputs = all_outputs step.sent.items };
-      others = owed still s.after;
+      others = continuation still s.after;
       due = s.steps.owes;
       left = (s.steps.kind, s.is, refl);
       sends = sends;
     })
 
 -- and one at whose outputs a sink had a fault
-pub takes-stopped : (old : Option Machine) (owing : Machine → List Run) (step : StepOutput) (between new : Option Machine) (held still : List Frame) (tag : ℕ) (sent : Result (Unit {0}) EngineError) (result : Result Kind EngineError) (error : EngineError) (before after : Told) → Steps old owing step between held → Sends tag (all_outputs step.sent.items) sent before after → sent ≡ Err error → result ≡ Err error → new ≡ None → still ≡ [] → TakesNext old owing tag result new still before after
+pub takes-stopped : (old : Option Machine) (owing : Machine → List StepResult) (step : StepOutput) (between new : Option Machine) (held still : List Activation) (tag : ℕ) (sent : Result (Unit {0}) EngineError) (result : Result Kind EngineError) (error : EngineError) (before after : SinkLog) → Steps old owing step between held → Sends tag (all_outputs step.sent.items) sent before after → sent ≡ Err error → result ≡ Err error → new ≡ None → still ≡ [] → TakesNext old owing tag result new still before after
 takes-stopped old owing step between new held still tag sent result error before after s sends stops exits fails none =
     let P : Option Machine → Type 0 = λ from. TakesNext from owing tag (Err error) new still before after in
     let Q : Result Kind EngineError → Type 0 = λ answer. TakesNext old owing tag answer new still before after in
     let R : Result (Unit {0}) EngineError → Type 0 = λ answer. Sends tag (all_outputs step.sent.items) answer before after in
     subst Q (sym exits) (subst P (sym s.was) (record {
       item = record { machine = s.after; outputs = all_outputs step.sent.items };
-      others = owed held s.after;
+      others = continuation held s.after;
       due = s.steps.owes;
       left = (fails, none);
       sends = subst R stops sends;
     }))
 
-pub some-items : (owing : List Run) → owing ≢ [] → (item : Run) × (others : List Run) × (owing ≡ item ∷ others)
+pub some-items : (owing : List StepResult) → owing ≢ [] → (item : StepResult) × (others : List StepResult) × (owing ≡ item ∷ others)
 some-items [] some = absurd (some refl)
 some-items (item ∷ others) some = (item, others, refl)
 
-stopped-at : (owing : List Run) (tag : ℕ) (new : Option Machine) (still : List Frame) (told : Told) → owing ≢ [] → new ≡ None → still ≡ [] → TakesItem owing tag (Err engine_errors.NoMemory) new still told told
+stopped-at : (owing : List StepResult) (tag : ℕ) (new : Option Machine) (still : List Activation) (told : SinkLog) → owing ≢ [] → new ≡ None → still ≡ [] → TakesItem owing tag (Err engine_errors.NoMemory) new still told told
 stopped-at owing tag new still told some fails none =
     let (item, others, is) = some-items owing some in
     record {
@@ -67,7 +67,7 @@ stopped-at owing tag new still told some fails none =
       sends = record { taken = []; others = item.outputs; outputs_are = refl; took = TookAll-none tag told };
     }
 
-takes-failed : (old : Option Machine) (owing : Machine → List Run) (tag : ℕ) (error : EngineError) (new : Option Machine) (still : List Frame) (told : Told) → ((machine : Machine) → owing machine ≢ []) → (error ≡ engine_errors.Failed) ⊎ (error ≡ engine_errors.NoMemory) → (error ≡ engine_errors.Failed → old ≡ None) → new ≡ None → still ≡ [] → TakesNext old owing tag (Err error) new still told told
+takes-failed : (old : Option Machine) (owing : Machine → List StepResult) (tag : ℕ) (error : EngineError) (new : Option Machine) (still : List Activation) (told : SinkLog) → ((machine : Machine) → owing machine ≢ []) → (error ≡ engine_errors.Failed) ⊎ (error ≡ engine_errors.NoMemory) → (error ≡ engine_errors.Failed → old ≡ None) → new ≡ None → still ≡ [] → TakesNext old owing tag (Err error) new still told told
 takes-failed None owing tag error new still told some refused failed fails none = (fails, refl)
 takes-failed (Some machine) owing tag error new still told some (inl is) failed fails none = absurd (let no : Some machine ≡ None = failed is in cc)
 takes-failed (Some machine) owing tag error new still told some (inr is) failed fails none =
@@ -75,43 +75,43 @@ takes-failed (Some machine) owing tag error new still told some (inr is) failed 
     subst P (sym is) (stopped-at (owing machine) tag new still told (some machine) fails none)
 
 -- and one for which memory ran out, or which an engine refused that had failed before
-pub takes-none : (old : Option Machine) (owing : Machine → List Run) (tag : ℕ) (result : Result Kind EngineError) (error : EngineError) (new : Option Machine) (still : List Frame) (told : Told) → ((machine : Machine) → owing machine ≢ []) → (error ≡ engine_errors.Failed) ⊎ (error ≡ engine_errors.NoMemory) → (error ≡ engine_errors.Failed → old ≡ None) → result ≡ Err error → new ≡ None → still ≡ [] → TakesNext old owing tag result new still told told
+pub takes-none : (old : Option Machine) (owing : Machine → List StepResult) (tag : ℕ) (result : Result Kind EngineError) (error : EngineError) (new : Option Machine) (still : List Activation) (told : SinkLog) → ((machine : Machine) → owing machine ≢ []) → (error ≡ engine_errors.Failed) ⊎ (error ≡ engine_errors.NoMemory) → (error ≡ engine_errors.Failed → old ≡ None) → result ≡ Err error → new ≡ None → still ≡ [] → TakesNext old owing tag result new still told told
 takes-none old owing tag result error new still told some refused failed exits fails none =
     let Q : Result Kind EngineError → Type 0 = λ answer. TakesNext old owing tag answer new still told told in
     subst Q (sym exits) (takes-failed old owing tag error new still told some refused failed fails none)
 
 -- a step is owed
-pub outer-some : (command : Token) (machine : Machine) → trace_at levels command machine ≢ []
+pub outer-some : (command : Token) (machine : Machine) → trace_at macro_levels command machine ≢ []
 outer-some command machine =
-    let P : List Run → Type 0 = λ items. items ≢ [] in
+    let P : List StepResult → Type 0 = λ items. items ≢ [] in
     let stepped = step_outer command machine in
-    subst P (sym (outer-owed command machine)) (λ (none : stepped.item ∷ owed stepped.frames stepped.item.machine ≡ []). cc)
+    subst P (sym (outer-continuation command machine)) (λ (none : stepped.item ∷ continuation stepped.activations stepped.item.machine ≡ []). cc)
 
-pub inner-some : (frames : List Frame) (machine : Machine) → HasNext frames → owed frames machine ≢ []
-inner-some frames machine (frame, command, rest, outer, is) =
-    let P : List Run → Type 0 = λ items. items ≢ [] in
-    let stepped = step_inner frame command rest outer machine in
-    subst P (sym (inner-gives frame command rest outer frames machine is)) (λ (none : stepped.item ∷ owed stepped.frames stepped.item.machine ≡ []). cc)
+pub inner-some : (activations : List Activation) (machine : Machine) → HasNext activations → continuation activations machine ≢ []
+inner-some activations machine (activation, command, rest, outer, is) =
+    let P : List StepResult → Type 0 = λ items. items ≢ [] in
+    let stepped = step_inner activation command rest outer machine in
+    subst P (sym (inner-gives activation command rest outer activations machine is)) (λ (none : stepped.item ∷ continuation stepped.activations stepped.item.machine ≡ []). cc)
 
 -- where something goes out in the first item that is owed, its command may take memory
-pub wants-outer : (command : Token) (machine : Machine) (item : Run) (others : List Run) → trace_at levels command machine ≡ item ∷ others → item.outputs ≢ [] → TakesMemory (effect_on Stream command machine.state)
+pub wants-outer : (command : Token) (machine : Machine) (item : StepResult) (others : List StepResult) → trace_at macro_levels command machine ≡ item ∷ others → item.outputs ≢ [] → TakesMemory (effect_on Stream command machine.state)
 wants-outer command machine item others is some =
     let P : List Output → Type 0 = λ outputs. outputs ≢ [] in
-    outer-sends command machine (subst P (ap first_outputs (sym is ∙ outer-owed command machine)) some)
+    outer-sends command machine (subst P (ap first_outputs (sym is ∙ outer-continuation command machine)) some)
 
-pub wants-inner : (frames : List Frame) (machine : Machine) (item : Run) (others : List Run) → HasNext frames → owed frames machine ≡ item ∷ others → item.outputs ≢ [] → InnerTakesMemory frames machine
-wants-inner frames machine item others (frame, command, rest, outer, is) owes some =
+pub wants-inner : (activations : List Activation) (machine : Machine) (item : StepResult) (others : List StepResult) → HasNext activations → continuation activations machine ≡ item ∷ others → item.outputs ≢ [] → InnerTakesMemory activations machine
+wants-inner activations machine item others (activation, command, rest, outer, is) owes some =
     let P : List Output → Type 0 = λ outputs. outputs ≢ [] in
-    let same = ap first_outputs (sym owes ∙ inner-gives frame command rest outer frames machine is) in
-    (frame, command, rest, outer, is, inner-sends frame command rest outer machine (subst P same some))
+    let same = ap first_outputs (sym owes ∙ inner-gives activation command rest outer activations machine is) in
+    (activation, command, rest, outer, is, inner-sends activation command rest outer machine (subst P same some))
 
 -- so may a step
-pub needs-outer : (command : Token) (step : StepOutput) (old new : Option Machine) (still : List Frame) → Steps old (trace_at levels command) step new still → all_outputs step.sent.items ≢ [] → NeedsMemory old command
+pub needs-outer : (command : Token) (step : StepOutput) (old new : Option Machine) (still : List Activation) → Steps old (trace_at macro_levels command) step new still → all_outputs step.sent.items ≢ [] → NeedsMemory old command
 needs-outer command step old new still s some =
     let P : Option Machine → Type 0 = λ from. NeedsMemory from command in
-    subst P (sym s.was) (wants-outer command s.before (record { machine = s.after; outputs = all_outputs step.sent.items }) (owed still s.after) s.steps.owes some)
+    subst P (sym s.was) (wants-outer command s.before (record { machine = s.after; outputs = all_outputs step.sent.items }) (continuation still s.after) s.steps.owes some)
 
-pub needs-inner : (frames : List Frame) (step : StepOutput) (old new : Option Machine) (still : List Frame) → HasNext frames → Steps old (owed frames) step new still → all_outputs step.sent.items ≢ [] → InnerNeedsMemory old frames
-needs-inner frames step old new still next s some =
-    let P : Option Machine → Type 0 = λ from. InnerNeedsMemory from frames in
-    subst P (sym s.was) (wants-inner frames s.before (record { machine = s.after; outputs = all_outputs step.sent.items }) (owed still s.after) next s.steps.owes some)
+pub needs-inner : (activations : List Activation) (step : StepOutput) (old new : Option Machine) (still : List Activation) → HasNext activations → Steps old (continuation activations) step new still → all_outputs step.sent.items ≢ [] → InnerNeedsMemory old activations
+needs-inner activations step old new still next s some =
+    let P : Option Machine → Type 0 = λ from. InnerNeedsMemory from activations in
+    subst P (sym s.was) (wants-inner activations s.before (record { machine = s.after; outputs = all_outputs step.sent.items }) (continuation still s.after) next s.steps.owes some)

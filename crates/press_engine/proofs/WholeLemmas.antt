@@ -2,55 +2,55 @@
 use Rattle.std.proofs.Common.{◌≡◌, ◌≢◌, ◌∙◌, ◌<◌, arith, ℕ, List, [], ◌∷◌, length, Option, Some, None, Bool, true, false, if◌then◌else◌, Result, Ok, Err, MatchResult, inr, refl, sym, ap, subst}
 use Rattle.press_cmd.specs.Token.{Token}
 use Rattle.press_cmd.specs.declared.variant.Kind.{Kind}
-use Rattle.press_sink.specs.Told.{Told, CanCount}
+use Rattle.press_sink.specs.SinkLog.{SinkLog, HasFaultRoom}
 use Rattle.press_sink.proofs.SendingLemmas.{TookAll-none}
 use Rattle.press_engine.specs.declared.fault.EngineError.{EngineError}
-use Rattle.press_engine.specs.declared.frame.Frame.{Frame}
+use Rattle.press_engine.specs.declared.activation.Activation.{Activation}
 use Rattle.press_engine.specs.declared.machine.Machine.{Machine}
 use Rattle.press_engine.specs.declared.engine.Engine.{Engine}
-use Rattle.press_engine.specs.Engine.{live, bodies, Sends, Runs, TakesItem, TakesNext, NeedsMemory}
-use Rattle.press_engine.specs.Machine.{Run, levels}
-use Rattle.press_engine.specs.Stack.{owed, begins, pops, step_outer, HasNext}
+use Rattle.press_engine.specs.Engine.{machine_of, bodies, Sends, Runs, TakesItem, TakesNext, NeedsMemory}
+use Rattle.press_engine.specs.Machine.{StepResult, macro_levels}
+use Rattle.press_engine.specs.Stack.{continuation, begins, unwind, step_outer, HasNext}
 use Rattle.press_engine.specs.Trace.{joined, trace_at, told_by}
-use Rattle.press_engine.proofs.SendsLemmas.{Sends-then, Sends-exit, can_count-then}
-use Rattle.press_engine.proofs.StackLaws.{outer-owed}
+use Rattle.press_engine.proofs.SendsLemmas.{Sends-then, Sends-exit, has_fault_room-then}
+use Rattle.press_engine.proofs.StackLaws.{outer-continuation}
 use Rattle.press_engine.proofs.StackLemmas.{outer-wants}
 use Rattle.press_engine.proofs.ValueLemmas.{inner-some}
 
 -- a run was carried out, after which an engine has this machine
-pub record Leaves (run : Run) (tag : ℕ) (result : Result (Unit {0}) EngineError) (new : Option Machine) (before after : Told) : Type 0 where
+pub record Leaves (run : StepResult) (tag : ℕ) (result : Result (Unit {0}) EngineError) (new : Option Machine) (before after : SinkLog) : Type 0 where
   pub left : MatchResult result (λ _. new ≡ Some run.machine) (λ _. new ≡ None)
   pub sends : Sends tag run.outputs result before after
 
 -- so were the items that an engine owes
-abbrev pub LeavesAll : Option Machine → (Machine → List Run) → ℕ → Result (Unit {0}) EngineError → Option Machine → Told → Told → Type 0
+abbrev pub LeavesAll : Option Machine → (Machine → List StepResult) → ℕ → Result (Unit {0}) EngineError → Option Machine → SinkLog → SinkLog → Type 0
 LeavesAll None owing tag result new before after = ⊥
 LeavesAll (Some machine) owing tag result new before after = Leaves (told_by (owing machine) machine) tag result new before after
 
-module _ (owing : Machine → List Run) (tag : ℕ) where
+module _ (owing : Machine → List StepResult) (tag : ℕ) where
   -- a step, and then the others
-  next-item : (machine : Machine) (mid : Option Machine) (kind : Kind) (still : List Frame) (result : Result (Unit {0}) EngineError) (new : Option Machine) (before between after : Told) → TakesItem (owing machine) tag (Ok kind) mid still before between → LeavesAll mid (owed still) tag result new between after → Leaves (told_by (owing machine) machine) tag result new before after
+  next-item : (machine : Machine) (mid : Option Machine) (kind : Kind) (still : List Activation) (result : Result (Unit {0}) EngineError) (new : Option Machine) (before between after : SinkLog) → TakesItem (owing machine) tag (Ok kind) mid still before between → LeavesAll mid (continuation still) tag result new between after → Leaves (told_by (owing machine) machine) tag result new before after
   next-item machine mid kind still result new before between after t rest =
-      let P : Option Machine → Type 0 = λ at. LeavesAll at (owed still) tag result new between after in
-      let Q : List Run → Type 0 = λ items. Leaves (told_by items machine) tag result new before after in
-      let others = owed still t.item.machine in
+      let P : Option Machine → Type 0 = λ at. LeavesAll at (continuation still) tag result new between after in
+      let Q : List StepResult → Type 0 = λ items. Leaves (told_by items machine) tag result new before after in
+      let others = continuation still t.item.machine in
       let there : Leaves (told_by others t.item.machine) tag result new between after = subst P t.left.1 rest in
-      subst Q (ap (λ (items : List Run). t.item ∷ items) (sym t.left.2) ∙ sym t.due)
+      subst Q (ap (λ (items : List StepResult). t.item ∷ items) (sym t.left.2) ∙ sym t.due)
       (record { left = there.left; sends = Sends-then tag t.item.outputs (joined others) result before between after t.sends there.sends })
 
-  pub next-leaves : (old mid : Option Machine) (kind : Kind) (still : List Frame) (result : Result (Unit {0}) EngineError) (new : Option Machine) (before between after : Told) → TakesNext old owing tag (Ok kind) mid still before between → LeavesAll mid (owed still) tag result new between after → LeavesAll old owing tag result new before after
+  pub next-leaves : (old mid : Option Machine) (kind : Kind) (still : List Activation) (result : Result (Unit {0}) EngineError) (new : Option Machine) (before between after : SinkLog) → TakesNext old owing tag (Ok kind) mid still before between → LeavesAll mid (continuation still) tag result new between after → LeavesAll old owing tag result new before after
   next-leaves None mid kind still result new before between after takes rest =
-      let P : Option Machine → Type 0 = λ at. LeavesAll at (owed still) tag result new between after in
+      let P : Option Machine → Type 0 = λ at. LeavesAll at (continuation still) tag result new between after in
       subst P takes.0 rest
   next-leaves (Some machine) mid kind still result new before between after takes rest = next-item machine mid kind still result new before between after takes rest
 
   -- a step at which it stopped
-  stop-item : (machine : Machine) (error : EngineError) (new : Option Machine) (still : List Frame) (before after : Told) → TakesItem (owing machine) tag (Err error) new still before after → Leaves (told_by (owing machine) machine) tag (Err error) new before after
+  stop-item : (machine : Machine) (error : EngineError) (new : Option Machine) (still : List Activation) (before after : SinkLog) → TakesItem (owing machine) tag (Err error) new still before after → Leaves (told_by (owing machine) machine) tag (Err error) new before after
   stop-item machine error new still before after t =
-      let Q : List Run → Type 0 = λ items. Leaves (told_by items machine) tag (Err error) new before after in
+      let Q : List StepResult → Type 0 = λ items. Leaves (told_by items machine) tag (Err error) new before after in
       subst Q (sym t.due) (record { left = t.left.0; sends = Sends-exit tag t.item.outputs (joined t.others) (Err error) (Err error) error before after t.sends refl refl })
 
-  pub stop-leaves : (old : Option Machine) (result : Result Kind EngineError) (exit : Result (Unit {0}) EngineError) (error : EngineError) (new : Option Machine) (still : List Frame) (before after : Told) → old ≢ None → TakesNext old owing tag result new still before after → result ≡ Err error → exit ≡ Err error → LeavesAll old owing tag exit new before after
+  pub stop-leaves : (old : Option Machine) (result : Result Kind EngineError) (exit : Result (Unit {0}) EngineError) (error : EngineError) (new : Option Machine) (still : List Activation) (before after : SinkLog) → old ≢ None → TakesNext old owing tag result new still before after → result ≡ Err error → exit ≡ Err error → LeavesAll old owing tag exit new before after
   stop-leaves None result exit error new still before after alive takes is exits = absurd (alive refl)
   stop-leaves (Some machine) result exit error new still before after alive takes is exits =
       let P : Result Kind EngineError → Type 0 = λ answer. TakesItem (owing machine) tag answer new still before after in
@@ -58,68 +58,68 @@ module _ (owing : Machine → List Run) (tag : ℕ) where
       subst Q (sym exits) (stop-item machine error new still before after (subst P is takes))
 
 -- no body runs any more
-pub none-leaves : (old : Option Machine) (still : List Frame) (tag : ℕ) (told : Told) → old ≢ None → still ≡ [] → LeavesAll old (owed still) tag (Ok tt) old told told
+pub none-leaves : (old : Option Machine) (still : List Activation) (tag : ℕ) (told : SinkLog) → old ≢ None → still ≡ [] → LeavesAll old (continuation still) tag (Ok tt) old told told
 none-leaves None still tag told alive none = absurd (alive refl)
 none-leaves (Some machine) still tag told alive none =
-    let P : List Frame → Type 0 = λ frames. Leaves (told_by (owed frames machine) machine) tag (Ok tt) (Some machine) told told in
+    let P : List Activation → Type 0 = λ activations. Leaves (told_by (continuation activations machine) machine) tag (Ok tt) (Some machine) told told in
     subst P (sym none) (record { left = refl; sends = TookAll-none tag told })
 
 -- the items of a whole command
-pub runs-of : (old : Option Machine) (command : Token) (tag : ℕ) (result : Result (Unit {0}) EngineError) (new : Option Machine) (before after : Told) → LeavesAll old (trace_at levels command) tag result new before after → Runs old command tag result new before after
+pub runs-of : (old : Option Machine) (command : Token) (tag : ℕ) (result : Result (Unit {0}) EngineError) (new : Option Machine) (before after : SinkLog) → LeavesAll old (trace_at macro_levels command) tag result new before after → Runs old command tag result new before after
 runs-of None command tag result new before after leaves = absurd leaves
 runs-of (Some machine) command tag result new before after leaves =
     record { left = leaves.left; sends = leaves.sends }
 
 -- the first step stopped
-pub runs-stopped : (old : Option Machine) (command : Token) (tag : ℕ) (result : Result Kind EngineError) (exit : Result (Unit {0}) EngineError) (error : EngineError) (new : Option Machine) (still : List Frame) (before after : Told) → TakesNext old (trace_at levels command) tag result new still before after → result ≡ Err error → exit ≡ Err error → Runs old command tag exit new before after
+pub runs-stopped : (old : Option Machine) (command : Token) (tag : ℕ) (result : Result Kind EngineError) (exit : Result (Unit {0}) EngineError) (error : EngineError) (new : Option Machine) (still : List Activation) (before after : SinkLog) → TakesNext old (trace_at macro_levels command) tag result new still before after → result ≡ Err error → exit ≡ Err error → Runs old command tag exit new before after
 runs-stopped None command tag result exit error new still before after takes is exits = takes
 runs-stopped (Some machine) command tag result exit error new still before after takes is exits =
-    runs-of (Some machine) command tag exit new before after (stop-leaves (trace_at levels command) tag (Some machine) result exit error new still before after (λ (none : Some machine ≡ None). cc) takes is exits)
+    runs-of (Some machine) command tag exit new before after (stop-leaves (trace_at macro_levels command) tag (Some machine) result exit error new still before after (λ (none : Some machine ≡ None). cc) takes is exits)
 
 -- how many steps are owed
-abbrev pub steps_owed : Option Machine → (Machine → List Run) → ℕ
+abbrev pub steps_owed : Option Machine → (Machine → List StepResult) → ℕ
 steps_owed None owing = 0
 steps_owed (Some machine) owing = length (owing machine)
 
 -- after a step that was taken
-module _ (owing : Machine → List Run) (tag : ℕ) (mid : Option Machine) (kind : Kind) (still : List Frame) (before after : Told) where
+module _ (owing : Machine → List StepResult) (tag : ℕ) (mid : Option Machine) (kind : Kind) (still : List Activation) (before after : SinkLog) where
   pub alive-then : (old : Option Machine) → old ≢ None → TakesNext old owing tag (Ok kind) mid still before after → mid ≢ None
   alive-then None alive takes none = alive refl
   alive-then (Some machine) alive takes none = let no : Some takes.item.machine ≡ None = sym takes.left.1 ∙ none in cc
 
-  pub counts-then : (old : Option Machine) → old ≢ None → TakesNext old owing tag (Ok kind) mid still before after → CanCount before → CanCount after
+  pub counts-then : (old : Option Machine) → old ≢ None → TakesNext old owing tag (Ok kind) mid still before after → HasFaultRoom before → HasFaultRoom after
   counts-then None alive takes can = absurd (alive refl)
-  counts-then (Some machine) alive takes can = can_count-then tag takes.item.outputs before after takes.sends can
+  counts-then (Some machine) alive takes can = has_fault_room-then tag takes.item.outputs before after takes.sends can
 
-  pub fewer-steps : (old : Option Machine) → old ≢ None → TakesNext old owing tag (Ok kind) mid still before after → steps_owed mid (owed still) < steps_owed old owing
+  pub fewer-steps : (old : Option Machine) → old ≢ None → TakesNext old owing tag (Ok kind) mid still before after → steps_owed mid (continuation still) < steps_owed old owing
   fewer-steps None alive takes = absurd (alive refl)
   fewer-steps (Some machine) alive takes =
-      let now : steps_owed mid (owed still) ≡ length takes.others = ap (λ (at : Option Machine). steps_owed at (owed still)) takes.left.1 ∙ ap length (sym takes.left.2) in
+      let now : steps_owed mid (continuation still) ≡ length takes.others = ap (λ (at : Option Machine). steps_owed at (continuation still)) takes.left.1 ∙ ap length (sym takes.left.2) in
       let all : length (owing machine) ≡ length (takes.item ∷ takes.others) = ap length takes.due in
       omega (arith, now, all)
 
-abbrev other_items : List Run → List Run
+abbrev other_items : List StepResult → List StepResult
 other_items [] = []
 other_items (item ∷ items) = items
 
 -- where a body was started, the command takes memory
-pub wants-more : (old : Option Machine) (command : Token) (tag : ℕ) (mid : Option Machine) (kind : Kind) (still : List Frame) (before after : Told) → old ≢ None → TakesNext old (trace_at levels command) tag (Ok kind) mid still before after → HasNext still → NeedsMemory old command
+pub wants-more : (old : Option Machine) (command : Token) (tag : ℕ) (mid : Option Machine) (kind : Kind) (still : List Activation) (before after : SinkLog) → old ≢ None → TakesNext old (trace_at macro_levels command) tag (Ok kind) mid still before after → HasNext still → NeedsMemory old command
 wants-more None command tag mid kind still before after alive takes next = absurd (alive refl)
 wants-more (Some machine) command tag mid kind still before after alive takes next =
-    let begin = begins false levels command machine in
-    let rest : owed still takes.item.machine ≡ owed (step_outer command machine).frames (step_outer command machine).item.machine = sym takes.left.2 ∙ ap other_items (sym takes.due ∙ outer-owed command machine) in
-    outer-wants command machine (inr (λ none. inner-some still takes.item.machine next (rest ∙ ap (λ (started : List Frame). owed (pops started begin.item).frames (pops started begin.item).item.machine) none)))
+    let begin = begins false macro_levels command machine in
+    let rest : continuation still takes.item.machine ≡ continuation (step_outer command machine).activations (step_outer command machine).item.machine = sym takes.left.2 ∙ ap other_items (sym takes.due ∙ outer-continuation command machine) in
+    outer-wants command machine (inr (λ none. inner-some still takes.item.machine next (rest ∙ ap (λ (started : List Activation). continuation (unwind started begin.item).activations (unwind started begin.item).item.machine) none)))
 
 -- an engine that has failed runs no body
-none-if : (failed : Bool) (machine : Machine) (frames : List Frame) → (if failed then None else Some machine) ≡ None → (if failed then [] else frames) ≡ []
-none-if true machine frames is = refl
-none-if false machine frames is = absurd cc
+none-if : (failed : Bool) (machine : Machine) (activations : List Activation) → (if failed then None else Some machine) ≡ None → (if failed then [] else activations) ≡ []
+none-if true machine activations is = refl
+none-if false machine activations is = absurd cc
 
-pub failed-none : (engine : Engine) → live engine ≡ None → bodies engine ≡ []
+pub failed-none : (engine : Engine) → machine_of engine ≡ None → bodies engine ≡ []
 failed-none engine is = none-if engine.failed engine.machine.value engine.bodies is
 
 -- an engine whose step stopped has failed
-pub stopped-none : (old : Option Machine) (owing : Machine → List Run) (tag : ℕ) (result : Result Kind EngineError) (error : EngineError) (new : Option Machine) (still : List Frame) (before after : Told) → TakesNext old owing tag result new still before after → result ≡ Err error → new ≡ None
+pub stopped-none : (old : Option Machine) (owing : Machine → List StepResult) (tag : ℕ) (result : Result Kind EngineError) (error : EngineError) (new : Option Machine) (still : List Activation) (before after : SinkLog) → TakesNext old owing tag result new still before after → result ≡ Err error → new ≡ None
 stopped-none None owing tag result error new still before after takes is = takes.0
 stopped-none (Some machine) owing tag result error new still before after takes is =
     let P : Result Kind EngineError → Type 0 = λ answer. TakesItem (owing machine) tag answer new still before after in

@@ -11,7 +11,7 @@ use Rattle.press_cmd.specs.Token.{Token, Escape, Grouped, Ungrouped, Control, Pj
 use Rattle.press_fill.specs.Fill.{fill_mark}
 use Rattle.press_page.specs.declared.media.Orientation.TheVariants.{Portrait}
 use Rattle.press_page.specs.declared.place.Dot.{Dot}
-use Rattle.press_pattern.specs.Ink.{black_ink}
+use Rattle.press_pattern.specs.Brush.{black_brush}
 use Rattle.press_pattern.specs.Solid.{solid_black}
 use Rattle.press_raster.specs.Mark.{raster_mark}
 use Rattle.press_rows.specs.Blocks.{items}
@@ -149,7 +149,7 @@ row_of_a_dot =
 abbrev with_row : Page → (corner : Dot) (size bytes : ℕ) → Page
 with_row page corner size bytes =
     painted page
-    (raster_mark Portrait page corner size (record { bits = 0x80 ∷ replicate (bytes - 1) 0; dots = 8 * bytes }) (black_ink both_transparent))
+    (raster_mark Portrait page corner size (record { bits = 0x80 ∷ replicate (bytes - 1) 0; dots = 8 * bytes }) (black_brush both_transparent))
 
 a_row_at_200 : told (line "@PJL SET RESOLUTION=600" ∷ row_of_a_dot) ≡ front (with_row fine_letter (record { x = 150; y = 375 }) 3 200) ∷ []
 unfolding trace_each trace_at raster_row
@@ -169,7 +169,7 @@ five_rows =
 abbrev row_at : (line byte : ℕ) → Page → Page
 row_at line byte page =
     painted page
-    (raster_mark Portrait page (record { x = 75; y = line }) 1 (record { bits = byte ∷ replicate 299 0; dots = 2400 }) (black_ink both_transparent))
+    (raster_mark Portrait page (record { x = 75; y = line }) 1 (record { bits = byte ∷ replicate 299 0; dots = 2400 }) (black_brush both_transparent))
 
 rows_of_blocks :
     told (Grouped (code "*") (code "t") (codes "300") (code "R") [] ∷ Grouped (code "*") (code "r") (codes "0") (code "A") []

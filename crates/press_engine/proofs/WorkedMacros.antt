@@ -19,8 +19,8 @@ use Rattle.press_page.specs.declared.media.Orientation.TheVariants.{Portrait}
 use Rattle.press_pattern.specs.Solid.{solid_black}
 use Rattle.press_sink.specs.Sending.{Output, Deliver}
 use Rattle.press_engine.specs.declared.effect.BodyEnd.TheVariants as ends
-use Rattle.press_engine.specs.declared.effect.Closer.{Closer}
-use Rattle.press_engine.specs.declared.effect.Closer.TheVariants as closers
+use Rattle.press_engine.specs.declared.effect.EjectCause.{EjectCause}
+use Rattle.press_engine.specs.declared.effect.EjectCause.TheVariants as causes
 use Rattle.press_engine.specs.declared.effect.PageChange.TheVariants as page_changes
 use Rattle.press_engine.specs.declared.effect.Source.TheVariants as sources
 use Rattle.press_engine.specs.declared.machine.Last.{Last}
@@ -30,8 +30,8 @@ use Rattle.press_engine.specs.declared.operation.Operation.TheVariants.{FormFeed
 use Rattle.press_engine.specs.declared.state.State.{State}
 use Rattle.press_engine.specs.Calls.{kept_of, overlay_body}
 use Rattle.press_engine.specs.Macros.{start_body, record_command}
-use Rattle.press_engine.specs.Outcome.{Effect, Changes, Makes, Stays, Closes, Starts, is_marked, with_macros}
-use Rattle.press_engine.specs.Machine.{Run, quiet, with_state, taken, enter_body, leave_body, power_on, source_at}
+use Rattle.press_engine.specs.Outcome.{Effect, Changes, MayAllocate, Stays, Closes, Starts, is_marked, with_macros}
+use Rattle.press_engine.specs.Machine.{StepResult, silent, with_state, taken, enter_body, leave_body, power_on, source_at}
 use Rattle.press_engine.specs.Motion.{to_left_margin}
 use Rattle.press_engine.specs.Table.{effect_on, is_recorded, is_skipped, table_row, row_unless_skipped}
 use Rattle.press_engine.specs.Trace.{last_machine, joined, with_end, body_items, close_items_with, trace_finished, trace_carry_out, trace, trace_each, trace_at, trace_in_overlay, run_all}
@@ -68,8 +68,8 @@ macro_is_found commands =
     (get-insert nat_cmp_total maps.empty 1 (record { commands = commands; permanent = false }) 1)
 
 -- A call of a macro that is found gives the items of its body.
-abbrev call_end : (before : Machine) → Machine → Run
-call_end before after = quiet (leave_body (ends.Call (kept_of before.state)) before.depth after)
+abbrev call_end : (before : Machine) → Machine → StepResult
+call_end before after = silent (leave_body (ends.Call (kept_of before.state)) before.depth after)
 
 abbrev inside_call : Machine → Machine
 inside_call before = enter_body (ends.Call (kept_of before.state)) before.state (taken call before)
@@ -78,11 +78,11 @@ abbrev call_effect : List Token → Machine → Effect
 call_effect commands before = Starts commands (ends.Call (kept_of before.state)) before.state
 
 call_items :
-    (levels : ℕ) (commands : List Token) (before : Machine)
-    → effect_on (source_at (suc levels)) call before.state ≡ call_effect commands before
-    → trace_at (suc levels) call before ≡ body_items (trace_at levels) (call_end before) commands (inside_call before)
+    (macro_levels : ℕ) (commands : List Token) (before : Machine)
+    → effect_on (source_at (suc macro_levels)) call before.state ≡ call_effect commands before
+    → trace_at (suc macro_levels) call before ≡ body_items (trace_at macro_levels) (call_end before) commands (inside_call before)
 unfolding trace_at
-call_items levels commands before starts = ap (trace_carry_out (trace_at levels) (taken call before)) starts
+call_items macro_levels commands before starts = ap (trace_carry_out (trace_at macro_levels) (taken call before)) starts
 
 -- ESC*p0x0Y, ESC&f1y0X, ESC*c1a1b0P, ESC*p+2X, ESC&f3X, ESC&f1X, ESC&f3X: a macro that paints a dot, moves two units and
 -- calls itself, is called; a third one does not run
@@ -119,57 +119,57 @@ third_starts : effect_on (source_at 0) call third.state ≡ call_effect body thi
 unfolding trace_each trace_at
 third_starts = ap (λ found. start_body found (ends.Call (kept_of third.state)) third.state) (macro_is_found body)
 
-third_item : trace_at 0 call third ≡ quiet (taken call third) ∷ []
+third_item : trace_at 0 call third ≡ silent (taken call third) ∷ []
 unfolding trace_at
 third_item = ap (trace_finished (taken call third)) third_starts
 
 -- The items of commands: those of the first, and then those of the others; and those of a body that ends in a call, by those of
 -- the call.
 trace_each-cons :
-    (tracing : Token → Machine → List Run) (command : Token) (commands : List Token) (machine : Machine)
+    (tracing : Token → Machine → List StepResult) (command : Token) (commands : List Token) (machine : Machine)
     → trace_each tracing (command ∷ commands) machine
     ≡ tracing command machine ++ trace_each tracing commands (last_machine machine (tracing command machine))
 unfolding trace_each
 trace_each-cons tracing command commands machine = refl
 
 trace_each-one :
-    (tracing : Token → Machine → List Run) (command : Token) (machine : Machine)
+    (tracing : Token → Machine → List StepResult) (command : Token) (machine : Machine)
     → trace_each tracing (command ∷ []) machine ≡ tracing command machine
 unfolding trace_each
 trace_each-one tracing command machine = append-nil (tracing command machine)
 
-abbrev body_with : (levels : ℕ) → (front : List Token) → (before : Machine) → (inner : List Run) → List Run
-body_with levels front before inner =
-    with_end (call_end before) (quiet (inside_call before)) (trace_each (trace_at levels) front (inside_call before) ++ inner)
+abbrev body_with : (macro_levels : ℕ) → (prefix : List Token) → (before : Machine) → (inner : List StepResult) → List StepResult
+body_with macro_levels prefix before inner =
+    with_end (call_end before) (silent (inside_call before)) (trace_each (trace_at macro_levels) prefix (inside_call before) ++ inner)
 
-abbrev after_front : (levels : ℕ) → (front : List Token) → (before : Machine) → Machine
-after_front levels front before = last_machine (inside_call before) (trace_each (trace_at levels) front (inside_call before))
+abbrev after_prefix : (macro_levels : ℕ) → (prefix : List Token) → (before : Machine) → Machine
+after_prefix macro_levels prefix before = last_machine (inside_call before) (trace_each (trace_at macro_levels) prefix (inside_call before))
 
 call_after :
-    (levels : ℕ) (front : List Token) (before : Machine) (inner : List Run)
-    → trace_at levels call (after_front levels front before) ≡ inner
-    → body_items (trace_at levels) (call_end before) (front ++ (call ∷ [])) (inside_call before) ≡ body_with levels front before inner
-call_after levels front before inner same =
-    ap (λ items. with_end (call_end before) (quiet (inside_call before)) items)
-    (trace_each-append (trace_at levels) front (call ∷ []) (inside_call before)
-    ∙ ap (λ more. trace_each (trace_at levels) front (inside_call before) ++ more)
-    (trace_each-one (trace_at levels) call (after_front levels front before) ∙ same))
+    (macro_levels : ℕ) (prefix : List Token) (before : Machine) (inner : List StepResult)
+    → trace_at macro_levels call (after_prefix macro_levels prefix before) ≡ inner
+    → body_items (trace_at macro_levels) (call_end before) (prefix ++ (call ∷ [])) (inside_call before) ≡ body_with macro_levels prefix before inner
+call_after macro_levels prefix before inner same =
+    ap (λ items. with_end (call_end before) (silent (inside_call before)) items)
+    (trace_each-append (trace_at macro_levels) prefix (call ∷ []) (inside_call before)
+    ∙ ap (λ more. trace_each (trace_at macro_levels) prefix (inside_call before) ++ more)
+    (trace_each-one (trace_at macro_levels) call (after_prefix macro_levels prefix before) ∙ same))
 
-second_items : trace_at 1 call second ≡ body_with 0 dot_and_move second (quiet (taken call third) ∷ [])
+second_items : trace_at 1 call second ≡ body_with 0 dot_and_move second (silent (taken call third) ∷ [])
 second_items =
     call_items 0 body second second_starts
-    ∙ call_after 0 dot_and_move second (quiet (taken call third) ∷ []) third_item
+    ∙ call_after 0 dot_and_move second (silent (taken call third) ∷ []) third_item
 
-abbrev pub called : List Run
-called = body_with 1 dot_and_move first (body_with 0 dot_and_move second (quiet (taken call third) ∷ []))
+abbrev pub called : List StepResult
+called = body_with 1 dot_and_move first (body_with 0 dot_and_move second (silent (taken call third) ∷ []))
 
 pub first_items : trace_at 2 call first ≡ called
 first_items =
     call_items 1 body first first_starts
-    ∙ call_after 1 dot_and_move first (body_with 0 dot_and_move second (quiet (taken call third) ∷ [])) second_items
+    ∙ call_after 1 dot_and_move first (body_with 0 dot_and_move second (silent (taken call third) ∷ [])) second_items
 
 -- The items of the definition, the call and what comes then.
-abbrev stream_with : (others : List Token) → (inner : List Run) → List Run
+abbrev stream_with : (others : List Token) → (inner : List StepResult) → List StepResult
 stream_with others inner =
     trace definition power_on ++ (inner ++ trace_each (trace_at 2) others (last_machine first inner))
 
@@ -186,8 +186,8 @@ items_of others =
 abbrev Seen : Type 0
 Seen = ℕ × Last × List Output
 
-abbrev seen_of : List Run → List Seen
-seen_of items = map (λ (item : Run). (item.machine.depth, item.machine.last, item.outputs)) items
+abbrev seen_of : List StepResult → List Seen
+seen_of items = map (λ (item : StepResult). (item.machine.depth, item.machine.last, item.outputs)) items
 
 -- a command that ran, or was recorded, where so many bodies run, and nothing went out
 abbrev ran : ℕ → Token → Seen
@@ -206,7 +206,7 @@ abbrev letter : Page
 letter = blank 2550 3300
 
 abbrev sheet_of : Page → Output
-sheet_of page = Deliver (record { front = page; back = None })
+sheet_of page = Deliver (record { prefix = page; back = None })
 
 -- The trace with FF and the universal exit: ten steps of the stream, the call and four of the macro's, the call in it and four
 -- more, the call that has no effect and ends both, and two of the stream.
@@ -252,13 +252,13 @@ the_items_of_the_calls = ap seen_of (items_of page_and_exit) ∙ computed_calls
 
 -- A stream leaves the machine of its last item, and its outputs are those of its items.
 machine_of_items :
-    (commands : List Token) (items : List Run) → trace commands power_on ≡ items
+    (commands : List Token) (items : List StepResult) → trace commands power_on ≡ items
     → (run_all commands power_on).machine ≡ last_machine power_on items
 machine_of_items commands items same =
     ap (λ all. last_machine power_on all) same
 
 outputs_of_items :
-    (commands : List Token) (items : List Run) → trace commands power_on ≡ items
+    (commands : List Token) (items : List StepResult) → trace commands power_on ≡ items
     → (run_all commands power_on).outputs ≡ joined items
 outputs_of_items commands items same = ap joined same
 
@@ -279,14 +279,14 @@ two_dots = outputs_of_items (dot_twice page_and_exit) (stream_with page_and_exit
 
 -- A command of the stream that closes the page, where the overlay's macro is found, gives the items of the overlay's body.
 close_with_overlay :
-    (command : Token) (commands : List Token) (closer : Closer) (before : Machine) (state : State)
-    → effect_on (source_at 2) command before.state ≡ Closes closer state
+    (command : Token) (commands : List Token) (cause : EjectCause) (before : Machine) (state : State)
+    → effect_on (source_at 2) command before.state ≡ Closes cause state
     → overlay_body state ≡ Some commands
-    → trace_at 2 command before ≡ close_items_with (Some commands) closer (with_state state (taken command before))
+    → trace_at 2 command before ≡ close_items_with (Some commands) cause (with_state state (taken command before))
 unfolding trace_at
-close_with_overlay command commands closer before state closes found =
+close_with_overlay command commands cause before state closes found =
     ap (trace_carry_out (trace_at 1) (taken command before)) closes
-    ∙ ap (λ body. close_items_with body closer (with_state state (taken command before))) found
+    ∙ ap (λ body. close_items_with body cause (with_state state (taken command before))) found
 
 second_macro_is_found : (commands : List Token) → body_of (one_macro 2 commands) 2 ≡ Some commands
 second_macro_is_found commands =
@@ -304,8 +304,8 @@ abbrev pub with_overlay : Machine
 with_overlay = last_machine power_on (trace overlaid power_on)
 
 -- a form feed, with the overlay's items, and what it leaves
-abbrev pub fed_items : (before : Machine) → List Run
-fed_items before = close_items_with (Some four_dots) closers.Feed (with_state before.state (taken form_feed before))
+abbrev pub fed_items : (before : Machine) → List StepResult
+fed_items before = close_items_with (Some four_dots) causes.Feed (with_state before.state (taken form_feed before))
 
 abbrev fed : Machine → Machine
 fed before = last_machine before (fed_items before)
@@ -316,14 +316,14 @@ feed_closes :
     → is_recorded form_feed state ≡ false
     → is_skipped sources.Stream FormFeed state ≡ false
     → state.environment.settings.line_termination.return_before_feed ≡ false
-    → effect_on sources.Stream form_feed state ≡ Closes closers.Feed state
+    → effect_on sources.Stream form_feed state ≡ Closes causes.Feed state
 feed_closes state carried_out has_effect stays =
-    ap (λ recorded. if recorded then Makes (record_command form_feed state) else row_unless_skipped sources.Stream FormFeed form_feed state)
+    ap (λ recorded. if recorded then MayAllocate (record_command form_feed state) else row_unless_skipped sources.Stream FormFeed form_feed state)
     carried_out
     ∙ ap (λ skipped. if skipped then Changes state else table_row sources.Stream FormFeed form_feed state) has_effect
-    ∙ ap (λ returns. Closes closers.Feed (if returns then to_left_margin state else state)) stays
+    ∙ ap (λ returns. Closes causes.Feed (if returns then to_left_margin state else state)) stays
 
-first_feed_closes : effect_on (source_at 2) form_feed with_overlay.state ≡ Closes closers.Feed with_overlay.state
+first_feed_closes : effect_on (source_at 2) form_feed with_overlay.state ≡ Closes causes.Feed with_overlay.state
 unfolding trace_each trace_at
 first_feed_closes = refl
 
@@ -332,7 +332,7 @@ unfolding trace_each trace_at
 first_overlay = second_macro_is_found four_dots
 
 pub first_feed : trace_at 2 form_feed with_overlay ≡ fed_items with_overlay
-first_feed = close_with_overlay form_feed four_dots closers.Feed with_overlay with_overlay.state first_feed_closes first_overlay
+first_feed = close_with_overlay form_feed four_dots causes.Feed with_overlay with_overlay.state first_feed_closes first_overlay
 
 abbrev second_page : Machine
 second_page = fed with_overlay
@@ -349,7 +349,7 @@ second_stays_in_place : second_page.state.environment.settings.line_termination.
 unfolding trace_each trace_at trace_in_overlay
 second_stays_in_place = refl
 
-second_feed_closes : effect_on (source_at 2) form_feed second_page.state ≡ Closes closers.Feed second_page.state
+second_feed_closes : effect_on (source_at 2) form_feed second_page.state ≡ Closes causes.Feed second_page.state
 second_feed_closes = feed_closes second_page.state second_is_carried_out second_has_effect second_stays_in_place
 
 second_overlay : overlay_body second_page.state ≡ Some four_dots
@@ -357,12 +357,12 @@ unfolding trace_each trace_at trace_in_overlay
 second_overlay = second_macro_is_found four_dots
 
 second_feed : trace_at 2 form_feed second_page ≡ fed_items second_page
-second_feed = close_with_overlay form_feed four_dots closers.Feed second_page second_page.state second_feed_closes second_overlay
+second_feed = close_with_overlay form_feed four_dots causes.Feed second_page second_page.state second_feed_closes second_overlay
 
 abbrev exit : List Token
 exit = Uel ∷ []
 
-abbrev two_pages : List Run
+abbrev two_pages : List StepResult
 two_pages = fed_items with_overlay ++ (fed_items second_page ++ trace_each (trace_at 2) exit (fed second_page))
 
 items_of_two_pages : trace (overlaid ++ (form_feed ∷ form_feed ∷ exit)) power_on ≡ trace overlaid power_on ++ two_pages
@@ -435,8 +435,8 @@ in_definition = last_machine power_on (trace open_definition power_on)
 abbrev dropped : State
 dropped = with_macros abandoned (record in_definition.state { hp_gl = false })
 
-abbrev exit_closes : Closer
-exit_closes = closers.Change page_changes.Reset
+abbrev exit_closes : EjectCause
+exit_closes = causes.Change page_changes.Reset
 
 -- An exit that is not recorded and not skipped, on a page with a mark, closes it.
 reset_closes :
@@ -447,7 +447,7 @@ reset_closes :
     → effect_on sources.Stream Uel state ≡ Closes exit_closes (with_macros abandoned (record state { hp_gl = false }))
 reset_closes state carried_out has_effect marked =
     let after = with_macros abandoned (record state { hp_gl = false }) in
-    ap (λ recorded. if recorded then Makes (record_command Uel state) else row_unless_skipped sources.Stream Reset Uel state)
+    ap (λ recorded. if recorded then MayAllocate (record_command Uel state) else row_unless_skipped sources.Stream Reset Uel state)
     carried_out
     ∙ ap (λ skipped. if skipped then Changes state else table_row sources.Stream Reset Uel state) has_effect
     ∙ ap (λ marked. if marked then Closes exit_closes after else Stays exit_closes after) marked
@@ -468,7 +468,7 @@ overlay_under_the_exit : overlay_body dropped ≡ Some four_dots
 unfolding trace_each trace_at
 overlay_under_the_exit = second_macro_is_found four_dots
 
-abbrev exit_items : List Run
+abbrev exit_items : List StepResult
 exit_items = close_items_with (Some four_dots) exit_closes (with_state dropped (taken Uel in_definition))
 
 exit_gives : trace_at 2 Uel in_definition ≡ exit_items

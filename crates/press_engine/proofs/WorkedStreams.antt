@@ -18,7 +18,7 @@ use Rattle.press_engine.specs.declared.machine.Last.TheVariants as lasts
 use Rattle.press_page.specs.declared.media.Orientation.{Orientation}
 use Rattle.press_page.specs.declared.media.Orientation.TheVariants.{Portrait, Landscape}
 use Rattle.press_engine.specs.Outcome.{power_on_state}
-use Rattle.press_engine.specs.Machine.{Run, power_on}
+use Rattle.press_engine.specs.Machine.{StepResult, power_on}
 use Rattle.press_engine.specs.Trace.{run_all, trace_each, trace_at}
 
 -- ESC, a parameterized character, a group character, a field and a termination character
@@ -63,7 +63,7 @@ no_macro_after (suc resets) = permanent_macros (abandoned (no_macro_after resets
 
 -- After so many steps with so many resets, of which the last step was a universal exit, the state is that of power on, but for
 -- the sheets that went out.
-abbrev ends_after : (steps resets sheets : ℕ) → List Output → Run
+abbrev ends_after : (steps resets sheets : ℕ) → List Output → StepResult
 ends_after steps resets sheets outputs = record {
   machine = record {
     state = record power_on_state { sheets = sheets; since_job = sheets; patterns = no_pattern_after resets; macros = no_macro_after resets };

@@ -4,11 +4,11 @@ use Rattle.press_cmd.specs.Token.{Token}
 use Rattle.press_cursor.specs.Cursor.{at, clamped, position}
 use Rattle.press_macros.specs.Macros.{body_of}
 use Rattle.press_page.specs.Environment.{reset_environment, logical_page_of}
-use Rattle.press_page.specs.Media.{size_number, orientation_number}
+use Rattle.press_page.specs.PageSetup.{size_number, orientation_number}
 use Rattle.press_page.specs.declared.environment.PageEnv.{PageEnv}
 use Rattle.press_page.specs.declared.margins.Margins.{Margins}
-use Rattle.press_page.specs.declared.media.Media.{Media}
-use Rattle.press_engine.specs.declared.calls.Kept.{Kept}
+use Rattle.press_page.specs.declared.media.PageSetup.{PageSetup}
+use Rattle.press_engine.specs.declared.calls.SavedEnvironment.{SavedEnvironment}
 use Rattle.press_engine.specs.declared.effect.BodyEnd.{BodyEnd}
 use Rattle.press_engine.specs.declared.effect.BodyEnd.TheVariants as ends
 use Rattle.press_engine.specs.declared.effect.BodyStart.{BodyStart}
@@ -19,26 +19,26 @@ use Rattle.press_engine.specs.Motion.{to_home}
 use Rattle.press_engine.specs.Outcome.{bounds, ended_raster}
 
 -- What a call keeps at its start.
-abbrev pub kept_of : State → Kept
+abbrev pub kept_of : State → SavedEnvironment
 kept_of state = record { environment = state.environment; drawing = state.drawing; macro_id = state.macro_id }
 
 -- whether media have the same size and orientation
-abbrev pub lies_as : Media → Media → Bool
-lies_as media other =
-    size_number media.size == size_number other.size
-    && orientation_number media.orientation == orientation_number other.orientation
+abbrev pub lies_as : PageSetup → PageSetup → Bool
+lies_as page_setup other =
+    size_number page_setup.size == size_number other.size
+    && orientation_number page_setup.orientation == orientation_number other.orientation
 
 -- Margins and text length are restored where page size and orientation are those that were kept.
 abbrev pub restored_margins : (kept now : PageEnv) → Margins
-restored_margins kept now = if lies_as kept.media now.media then kept.margins else now.margins
+restored_margins kept now = if lies_as kept.page_setup now.page_setup then kept.margins else now.margins
 
 -- The settings are restored; the media stays.
 abbrev pub restored_environment : (kept now : PageEnv) → PageEnv
 restored_environment kept now =
-    record { settings = kept.settings; margins = restored_margins kept now; media = now.media }
+    record { settings = kept.settings; margins = restored_margins kept now; page_setup = now.page_setup }
 
 -- What was kept is restored; the cursor stays where it is, on the logical page, and raster graphics ends.
-abbrev pub restored : Kept → State → State
+abbrev pub restored : SavedEnvironment → State → State
 restored kept state =
     let environment = restored_environment kept.environment state.environment in
     record state {
@@ -69,11 +69,11 @@ abbrev pub overlay_environment : PageEnv → PageEnv
 overlay_environment environment =
     reset_environment (record {
       copies = environment.settings.copies;
-      size = environment.media.size;
-      orientation = environment.media.orientation;
-      duplex = environment.media.duplex;
-      binding = environment.media.binding;
-      resolution = environment.media.resolution;
+      size = environment.page_setup.size;
+      orientation = environment.page_setup.orientation;
+      duplex = environment.page_setup.duplex;
+      binding = environment.page_setup.binding;
+      resolution = environment.page_setup.resolution;
     })
 
 -- The body of the overlay, where it is on and its macro exists.

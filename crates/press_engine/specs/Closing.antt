@@ -3,13 +3,13 @@
 -- waits. A finished sheet goes out in the copies of now.
 use Rattle.std.specs.Prelude.{ℕ, ℤ, ◌&&◌, not, false, is_some, unwrap_or, if◌then◌else◌, [], ◌∷◌, Option, Some, None, option_map, Bool, true}
 use Rattle.press_bits.specs.Page.{Page}
-use Rattle.press_page.specs.Environment.{asked_page_size, with_page_size, asked_orientation, with_orientation, asked_sides, with_printed_sides}
+use Rattle.press_page.specs.Environment.{asked_page_size, with_page_size, asked_orientation, with_orientation, asked_duplex, with_duplex_mode}
 use Rattle.press_page.specs.Numbers.{named}
 use Rattle.press_pjl.specs.declared.environment.PjlEnv.{PjlEnv}
 use Rattle.press_sink.specs.Sending.{Reply}
-use Rattle.press_sink.specs.Sides as sheets
-use Rattle.press_engine.specs.declared.effect.Closer.{Closer}
-use Rattle.press_engine.specs.declared.effect.Closer.TheVariants as closers
+use Rattle.press_sink.specs.PrintedSheet as sheets
+use Rattle.press_engine.specs.declared.effect.EjectCause.{EjectCause}
+use Rattle.press_engine.specs.declared.effect.EjectCause.TheVariants as causes
 use Rattle.press_engine.specs.declared.effect.PageChange.{PageChange}
 use Rattle.press_engine.specs.declared.effect.PageChange.TheVariants as page_changes
 use Rattle.press_engine.specs.declared.effect.Selection.{Selection}
@@ -18,14 +18,14 @@ use Rattle.press_engine.specs.declared.state.State.{State}
 use Rattle.press_engine.specs.Motion.{to_first_line, to_home}
 use Rattle.press_macros.specs.Macros.{abandoned}
 use Rattle.press_engine.specs.Counts.{counted}
-use Rattle.press_engine.specs.Outcome.{Outcome, done, after_outputs, Effect, Changes, Makes, GivesReply, Stays, Closes, Starts}
+use Rattle.press_engine.specs.Outcome.{Outcome, done, after_outputs, Effect, Changes, MayAllocate, GivesReply, Stays, Closes, Starts}
 use Rattle.press_engine.specs.Outcome.{reset_fields, ended_raster, is_marked, with_environment, with_macros}
 use Rattle.press_engine.specs.Outputs.{copies_out}
 use Rattle.press_engine.specs.Place.{blank_page}
 
 -- the page as it is: blank where no mark was made
 abbrev pub page_now : State → Page
-page_now state = unwrap_or state.page (blank_page state.environment.media)
+page_now state = unwrap_or state.page (blank_page state.environment.page_setup)
 
 -- the count from which the replies after sheets go on, while the status switch is on
 abbrev pub status_count : State → Option ℕ
@@ -39,7 +39,7 @@ with_sheets copies state = record state {
 }
 
 -- A finished sheet goes out in the copies of now, each followed by its reply, and is counted in each.
-abbrev pub finish_sheet : sheets.Sides → State → Outcome
+abbrev pub finish_sheet : sheets.PrintedSheet → State → Outcome
 finish_sheet sheet state =
     let copies = state.environment.settings.copies in
     record { state = with_sheets copies state; outputs = copies_out sheet copies (status_count state) }
@@ -54,7 +54,7 @@ close_duplex (Some front) page state =
 abbrev pub close_page : State → Outcome
 close_page state =
     let next = record (ended_raster state) { page = None } in
-    if state.environment.media.duplex then close_duplex state.pending (page_now state) next
+    if state.environment.page_setup.duplex then close_duplex state.pending (page_now state) next
     else finish_sheet (record { front = page_now state; back = None }) next
 
 -- A front that waits for its back goes out alone.
@@ -76,8 +76,8 @@ selection_of = named ((0, NextSide) ∷ (1, Front) ∷ (2, Back) ∷ [])
 -- the front of the next sheet is blank, where one can wait and none does
 abbrev pub blank_front : State → State
 blank_front state =
-    if state.environment.media.duplex && not (is_some state.pending)
-    then record state { pending = Some (blank_page state.environment.media) } else state
+    if state.environment.page_setup.duplex && not (is_some state.pending)
+    then record state { pending = Some (blank_page state.environment.page_setup) } else state
 
 -- The side that is selected comes next: a front that waits goes out alone, or a blank front waits for the back.
 abbrev pub turn_to : Selection → State → Outcome
@@ -104,65 +104,65 @@ change_page (page_changes.Size size) state =
     then_change (λ after. to_home (overlay_off (with_environment (with_page_size size) after))) (front_alone state)
 change_page (page_changes.Orientation orientation) state =
     done (to_home (overlay_off (with_environment (with_orientation orientation) state)))
-change_page (page_changes.Sides sides) state =
-    then_change (λ after. to_home (with_environment (with_printed_sides sides) after)) (front_alone state)
+change_page (page_changes.Duplex sides) state =
+    then_change (λ after. to_home (with_environment (with_duplex_mode sides) after)) (front_alone state)
 
 -- the cursor on the first line after a close
 abbrev pub fed : (closed : Bool) → State → State
 fed closed state = if closed then to_first_line state else state
 
 -- What a command that closes the page does after the close, or in its place where the page has no mark.
-abbrev pub after_close : (closed : Bool) → Closer → State → Outcome
-after_close closed closers.Feed state = done (fed closed state)
-after_close closed (closers.Side selection) state = turn_to selection (fed closed state)
-after_close closed (closers.Change change) state = change_page change state
+abbrev pub after_close : (closed : Bool) → EjectCause → State → Outcome
+after_close closed causes.Feed state = done (fed closed state)
+after_close closed (causes.Side selection) state = turn_to selection (fed closed state)
+after_close closed (causes.Change change) state = change_page change state
 
 -- What a row leaves where no body runs: where it closes the page, the close and then what the closing command does after it.
 abbrev pub finish_effect : Effect → Outcome
 finish_effect (Changes state) = done state
-finish_effect (Makes state) = done state
+finish_effect (MayAllocate state) = done state
 finish_effect (GivesReply reply state) = record { state = state; outputs = Reply reply ∷ [] }
-finish_effect (Stays closer state) = after_close false closer state
-finish_effect (Closes closer state) = after_outputs (close_page state).outputs (after_close true closer (close_page state).state)
+finish_effect (Stays cause state) = after_close false cause state
+finish_effect (Closes cause state) = after_outputs (close_page state).outputs (after_close true cause (close_page state).state)
 finish_effect (Starts commands end state) = done state
 
 -- A page with a mark closes.
-abbrev pub close_if_marked : Closer → State → Effect
-close_if_marked closer state = if is_marked state then Closes closer state else Stays closer state
+abbrev pub close_if_marked : EjectCause → State → Effect
+close_if_marked cause state = if is_marked state then Closes cause state else Stays cause state
 
 -- A reset, with what comes of it: HP-GL/2 is off first, and an open macro definition is dropped.
 abbrev pub reset_by : PageChange → State → Effect
 reset_by change state =
-    close_if_marked (closers.Change change) (with_macros abandoned (record state { hp_gl = false }))
+    close_if_marked (causes.Change change) (with_macros abandoned (record state { hp_gl = false }))
 
 -- ESC E, printer reset, and the universal exit
 abbrev pub reset : State → Effect
 reset = reset_by page_changes.Reset
 
 -- where a command is asked for by its value, a page with a mark closes
-abbrev pub close_if_asked : Option Closer → State → Effect
+abbrev pub close_if_asked : Option EjectCause → State → Effect
 close_if_asked None state = Changes state
-close_if_asked (Some closer) state = close_if_marked closer state
+close_if_asked (Some cause) state = close_if_marked cause state
 
 -- ESC&l#A, page size; ESC&l#O, logical page orientation; ESC&l#S, simplex/duplex print: a change where a value asks for one,
 -- which is where the page environment says that the page closes
 abbrev pub select_page_size : (value : ℤ) → State → Effect
 select_page_size value =
-    close_if_asked (option_map (λ size. closers.Change (page_changes.Size size)) (asked_page_size value))
+    close_if_asked (option_map (λ size. causes.Change (page_changes.Size size)) (asked_page_size value))
 
 abbrev pub select_orientation : (value : ℤ) → State → Effect
 select_orientation value =
     close_if_asked
-    (option_map (λ orientation. closers.Change (page_changes.Orientation orientation)) (asked_orientation value))
+    (option_map (λ orientation. causes.Change (page_changes.Orientation orientation)) (asked_orientation value))
 
-abbrev pub select_sides : (value : ℤ) → State → Effect
-select_sides value =
-    close_if_asked (option_map (λ sides. closers.Change (page_changes.Sides sides)) (asked_sides value))
+abbrev pub select_duplex : (value : ℤ) → State → Effect
+select_duplex value =
+    close_if_asked (option_map (λ sides. causes.Change (page_changes.Duplex sides)) (asked_duplex value))
 
 -- ESC&l#H, paper source (this profile: for every value, a page with a mark is ejected)
 abbrev pub eject_page : State → Effect
-eject_page = close_if_marked closers.Feed
+eject_page = close_if_marked causes.Feed
 
 -- ESC&a#G: a page without a mark stays, and so does the cursor
-abbrev pub select_side : (number : ℤ) → State → Effect
-select_side number = close_if_asked (option_map closers.Side (selection_of number))
+abbrev pub select_page_side : (number : ℤ) → State → Effect
+select_page_side number = close_if_asked (option_map causes.Side (selection_of number))

@@ -3,7 +3,7 @@
 use Rattle.std.specs.Prelude.{ℕ, ℤ, Bool, true, false, [], ◌∷◌, Option, Some, None}
 use Rattle.press_bits.specs.DotRule.{both_transparent}
 use Rattle.press_page.specs.Numbers.{named, within}
-use Rattle.press_pattern.specs.declared.pattern.Kind.TheVariants as kinds
+use Rattle.press_pattern.specs.declared.pattern.PatternKind.TheVariants as kinds
 use Rattle.press_pattern.specs.declared.pattern.Pattern.{Pattern}
 use Rattle.press_raster.specs.Settings.{initial}
 use Rattle.press_engine.specs.Rectangle.{no_rectangle, size_of}

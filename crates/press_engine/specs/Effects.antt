@@ -8,10 +8,10 @@ use Rattle.press_engine.specs.Outcome as rows
 
 abbrev pub effect_of : State → Effect → rows.Effect
 effect_of state effects.Changes = rows.Changes state
-effect_of state effects.Makes = rows.Makes state
+effect_of state effects.Makes = rows.MayAllocate state
 effect_of state (effects.GivesReply reply) = rows.GivesReply reply state
-effect_of state (effects.Stays closer) = rows.Stays closer state
-effect_of state (effects.Closes closer) = rows.Closes closer state
+effect_of state (effects.Stays cause) = rows.Stays cause state
+effect_of state (effects.Closes cause) = rows.Closes cause state
 effect_of state (effects.Starts body start) = rows.Starts body (end_of start state) state
 
 -- whether all is done: nothing goes out, no page closes, and no body starts
@@ -19,6 +19,6 @@ abbrev pub is_done : Effect → Bool
 is_done effects.Changes = true
 is_done effects.Makes = true
 is_done (effects.GivesReply reply) = false
-is_done (effects.Stays closer) = false
-is_done (effects.Closes closer) = false
+is_done (effects.Stays cause) = false
+is_done (effects.Closes cause) = false
 is_done (effects.Starts body start) = false

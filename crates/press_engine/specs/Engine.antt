@@ -6,37 +6,37 @@ use Rattle.press_cmd.specs.declared.variant.Kind.{Kind}
 use Rattle.press_cursor.specs.declared.stack.CursorPosition.{CursorPosition}
 use Rattle.press_macros.specs.Macros.{defining}
 use Rattle.press_raster.specs.Graphics.{raster_position}
-use Rattle.press_sink.specs.Told.{Told}
+use Rattle.press_sink.specs.SinkLog.{SinkLog}
 use Rattle.press_sink.specs.Sending.{Output, Complete, AtSheet, AtReply, ForMemory, WentOut}
 use Rattle.press_engine.specs.declared.effect.StepOutput.{StepOutput}
 use Rattle.press_engine.specs.declared.engine.Engine.{Engine}
 use Rattle.press_engine.specs.declared.fault.EngineError.{EngineError}
 use Rattle.press_engine.specs.declared.fault.EngineError.TheVariants as engine_errors
-use Rattle.press_engine.specs.declared.frame.Frame.{Frame}
+use Rattle.press_engine.specs.declared.activation.Activation.{Activation}
 use Rattle.press_engine.specs.declared.machine.Last.{Last}
 use Rattle.press_engine.specs.declared.machine.Last.TheVariants as lasts
 use Rattle.press_engine.specs.declared.machine.Machine.{Machine}
 use Rattle.press_engine.specs.declared.view.View.{View}
 use Rattle.press_engine.specs.declared.state.State.{State}
-use Rattle.press_engine.specs.Outcome.{Outcome, Effect, Changes, Makes, GivesReply, Stays, Closes, Starts, is_marked}
+use Rattle.press_engine.specs.Outcome.{Outcome, Effect, Changes, MayAllocate, GivesReply, Stays, Closes, Starts, is_marked}
 use Rattle.press_engine.specs.Closing.{after_close}
 use Rattle.press_engine.specs.Outputs.{all_outputs}
 use Rattle.press_engine.specs.Table.{effect_on}
-use Rattle.press_engine.specs.Machine.{Run}
+use Rattle.press_engine.specs.Machine.{StepResult}
 use Rattle.press_engine.specs.Trace.{run}
-use Rattle.press_engine.specs.Stack.{owed, source_in, EndsOverlay}
+use Rattle.press_engine.specs.Stack.{continuation, source_in, EndsOverlay}
 use Rattle.press_engine.specs.declared.effect.Source.TheVariants.{Stream}
 
 -- the engine's machine, and none where an earlier command had a fault
-abbrev pub live : Engine → Option Machine
-live engine = if engine.failed then None else Some engine.machine.value
+abbrev pub machine_of : Engine → Option Machine
+machine_of engine = if engine.failed then None else Some engine.machine.value
 
 -- the bodies that run in it, the innermost first
-abbrev pub bodies : Engine → List Frame
+abbrev pub bodies : Engine → List Activation
 bodies engine = if engine.failed then [] else engine.bodies
 
 -- How far outputs went out, by what was answered.
-abbrev pub Sends : ℕ → List Output → Result (Unit {0}) EngineError → Told → Told → Type 0
+abbrev pub Sends : ℕ → List Output → Result (Unit {0}) EngineError → SinkLog → SinkLog → Type 0
 Sends tag outputs (Ok _) before after = WentOut tag outputs Complete before after
 Sends tag outputs (Err engine_errors.SinkFault) before after = WentOut tag outputs AtSheet before after
 Sends tag outputs (Err engine_errors.ReplyFault) before after = WentOut tag outputs AtReply before after
@@ -45,12 +45,12 @@ Sends tag outputs (Err engine_errors.Failed) before after = ⊥
 
 -- A command was handed to an engine with this machine. Where all went well, the new machine is the command's, and its
 -- outputs went out; else the engine has failed, and the outputs went out as far as the answer says.
-pub record Carries (machine : Machine) (command : Token) (tag : ℕ) (result : Result (Unit {0}) EngineError) (new : Option Machine) (before after : Told) : Type 0 where
+pub record Carries (machine : Machine) (command : Token) (tag : ℕ) (result : Result (Unit {0}) EngineError) (new : Option Machine) (before after : SinkLog) : Type 0 where
   pub left : MatchResult result (λ _. new ≡ Some (run command machine).machine) (λ _. new ≡ None)
   pub sends : Sends tag (run command machine).outputs result before after
 
 -- the same for any engine: one that has failed changes nothing, and nothing goes out
-abbrev pub Runs : Option Machine → Token → ℕ → Result (Unit {0}) EngineError → Option Machine → Told → Told → Type 0
+abbrev pub Runs : Option Machine → Token → ℕ → Result (Unit {0}) EngineError → Option Machine → SinkLog → SinkLog → Type 0
 Runs (Some machine) command tag result new before after = Carries machine command tag result new before after
 Runs None command tag result new before after = (new ≡ None) × (after ≡ before)
 
@@ -68,17 +68,17 @@ whether (Err error) = Err error
 -- An engine that owed these items took a step. Where all went well, its machine is that of the first of them, what it still
 -- owes are the others, and the answer is the command's kind; else the engine has failed, and no body runs. The outputs of
 -- that item went out as far as the answer says.
-pub record TakesItem (owing : List Run) (tag : ℕ) (result : Result Kind EngineError) (new : Option Machine) (still : List Frame) (before after : Told) : Type 0 where
-  pub item : Run
-  pub others : List Run
+pub record TakesItem (owing : List StepResult) (tag : ℕ) (result : Result Kind EngineError) (new : Option Machine) (still : List Activation) (before after : SinkLog) : Type 0 where
+  pub item : StepResult
+  pub others : List StepResult
   pub due : owing ≡ item ∷ others
   pub left : MatchResult result
-      (λ kind. IsOfKind item.machine.last kind × (new ≡ Some item.machine) × (others ≡ owed still item.machine))
+      (λ kind. IsOfKind item.machine.last kind × (new ≡ Some item.machine) × (others ≡ continuation still item.machine))
       (λ _. (new ≡ None) × (still ≡ []))
   pub sends : Sends tag item.outputs (whether result) before after
 
 -- the same for any engine: one that has failed changes nothing, and nothing goes out
-abbrev pub TakesNext : Option Machine → (Machine → List Run) → ℕ → Result Kind EngineError → Option Machine → List Frame → Told → Told → Type 0
+abbrev pub TakesNext : Option Machine → (Machine → List StepResult) → ℕ → Result Kind EngineError → Option Machine → List Activation → SinkLog → SinkLog → Type 0
 TakesNext (Some machine) owing tag result new still before after = TakesItem (owing machine) tag result new still before after
 TakesNext None owing tag result new still before after = (new ≡ None) × (after ≡ before)
 
@@ -91,10 +91,10 @@ Shows before outcome = (outcome.outputs ≢ []) ⊎ (outcome.state.pending ≢ b
 -- else.
 abbrev pub TakesMemory : Effect → Type 0
 TakesMemory (Changes state) = ⊥
-TakesMemory (Makes state) = Unit {0}
+TakesMemory (MayAllocate state) = Unit {0}
 TakesMemory (GivesReply reply state) = Unit {0}
-TakesMemory (Stays closer state) = Shows state (after_close false closer state)
-TakesMemory (Closes closer state) = Unit {0}
+TakesMemory (Stays cause state) = Shows state (after_close false cause state)
+TakesMemory (Closes cause state) = Unit {0}
 TakesMemory (Starts commands end state) = Unit {0}
 
 -- the same for the command of an engine with this machine
@@ -104,22 +104,22 @@ NeedsMemory (Some machine) command = TakesMemory (effect_on Stream command machi
 
 -- The next command of the innermost body that runs may take memory: it takes some itself, or an overlay ends with it, after
 -- which its page closes.
-abbrev pub InnerTakesMemory : List Frame → Machine → Type 0
+abbrev pub InnerTakesMemory : List Activation → Machine → Type 0
 InnerTakesMemory bodies machine =
-    (frame : Frame) × (command : Token) × (rest : List Token) × (outer : List Frame) × (bodies ≡ record frame { body = command ∷ rest } ∷ outer)
-    × (TakesMemory (effect_on (source_in frame.in_overlay frame.levels) command machine.state) ⊎ EndsOverlay (record frame { body = rest } ∷ outer))
+    (activation : Activation) × (command : Token) × (rest : List Token) × (outer : List Activation) × (bodies ≡ record activation { body = command ∷ rest } ∷ outer)
+    × (TakesMemory (effect_on (source_in activation.in_overlay activation.macro_levels) command machine.state) ⊎ EndsOverlay (record activation { body = rest } ∷ outer))
 
-abbrev pub InnerNeedsMemory : Option Machine → List Frame → Type 0
+abbrev pub InnerNeedsMemory : Option Machine → List Activation → Type 0
 InnerNeedsMemory None bodies = ⊥
 InnerNeedsMemory (Some machine) bodies = InnerTakesMemory bodies machine
 
 -- What was owed is the new machine with what went out in the step, and then what is still owed.
-pub record StepsTo (owing : List Run) (step : StepOutput) (new : Machine) (still : List Frame) : Type 0 where
+pub record StepsTo (owing : List StepResult) (step : StepOutput) (new : Machine) (still : List Activation) : Type 0 where
   pub kind : IsOfKind new.last step.kind
-  pub owes : owing ≡ record { machine = new; outputs = all_outputs step.sent.items } ∷ owed still new
+  pub owes : owing ≡ record { machine = new; outputs = all_outputs step.sent.items } ∷ continuation still new
 
 -- the same of an engine, which has not failed
-pub record Steps (old : Option Machine) (owing : Machine → List Run) (step : StepOutput) (new : Option Machine) (still : List Frame) : Type 0 where
+pub record Steps (old : Option Machine) (owing : Machine → List StepResult) (step : StepOutput) (new : Option Machine) (still : List Activation) : Type 0 where
   pub before : Machine
   pub after : Machine
   pub was : old ≡ Some before
@@ -128,7 +128,7 @@ pub record Steps (old : Option Machine) (owing : Machine → List Run) (step : S
 
 -- an engine that has failed, in which no body runs
 abbrev pub HasFailed : Engine → Type 0
-HasFailed engine = (live engine ≡ None) × (bodies engine ≡ [])
+HasFailed engine = (machine_of engine ≡ None) × (bodies engine ≡ [])
 
 -- What can be seen of a machine, with its cursor's stack lent.
 abbrev pub view_of : Bor (List CursorPosition) → Machine → View

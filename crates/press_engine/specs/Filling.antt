@@ -6,23 +6,23 @@ use Rattle.press_fill.specs.Fill.{filled}
 use Rattle.press_fill.specs.declared.rect.Rect.{Rect}
 use Rattle.press_page.specs.Place.{cursor_dot}
 use Rattle.press_page.specs.declared.place.Dot.{Dot}
-use Rattle.press_pattern.specs.Ink.{ink_of}
+use Rattle.press_pattern.specs.Brush.{brush_of}
 use Rattle.press_pattern.specs.declared.pattern.Pattern.{Pattern}
 use Rattle.press_engine.specs.declared.state.State.{State}
 use Rattle.press_engine.specs.Closing.{page_now}
-use Rattle.press_engine.specs.Outcome.{Effect, Changes, Makes}
+use Rattle.press_engine.specs.Outcome.{Effect, Changes, MayAllocate}
 use Rattle.press_engine.specs.Patterns.{exists, kind_of_number, pattern_of_kind, pattern_now}
 use Rattle.press_engine.specs.Rectangle.{dots_up}
 
 -- the dot of the frame on which the cursor lies
 abbrev pub corner : State → Dot
-corner state = cursor_dot state.environment.media state.environment.margins.top (position state.cursor)
+corner state = cursor_dot state.environment.page_setup state.environment.margins.top (position state.cursor)
 
 -- the rectangle at the cursor, in dots of the frame
 abbrev pub rect_now : State → Rect
 rect_now state =
     let corner = corner state in
-    let dots = dots_up state.environment.media.resolution in
+    let dots = dots_up state.environment.page_setup.resolution in
     let rectangle = state.drawing.rectangle in
     record { x = corner.x; y = corner.y; width = dots rectangle.width; height = dots rectangle.height }
 
@@ -30,8 +30,8 @@ rect_now state =
 abbrev pub fill_rectangle : Pattern → State → State
 fill_rectangle pattern state =
     record state {
-      page = Some (filled state.environment.media.orientation (rect_now state)
-          (ink_of state.patterns pattern state.drawing.mode) (page_now state));
+      page = Some (filled state.environment.page_setup.orientation (rect_now state)
+          (brush_of state.patterns pattern state.drawing.mode) (page_now state));
     }
 
 -- It is filled if the pattern exists, and it has a width and a height.
@@ -39,7 +39,7 @@ abbrev pub fill_with : Pattern → State → Effect
 fill_with pattern state =
     let rect = rect_now state in
     if exists pattern state && nat_lt 0 rect.width && nat_lt 0 rect.height
-    then Makes (fill_rectangle pattern state) else Changes state
+    then MayAllocate (fill_rectangle pattern state) else Changes state
 
 -- the pattern that a number names: 5 the current one, others a kind under the pattern ID
 abbrev pub fill_pattern : (number : ℤ) → State → Option Pattern

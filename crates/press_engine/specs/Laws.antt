@@ -5,13 +5,13 @@ use Rattle.press_cmd.specs.Token.{Token}
 use Rattle.press_engine.specs.declared.machine.Machine.{Machine}
 use Rattle.press_engine.specs.declared.effect.Source.TheVariants.{Stream}
 use Rattle.press_engine.specs.Calls.{overlay_body}
-use Rattle.press_engine.specs.Machine.{Run}
-use Rattle.press_engine.specs.Outcome.{Effect, Changes, Makes, GivesReply, Stays, Closes, Starts}
+use Rattle.press_engine.specs.Machine.{StepResult}
+use Rattle.press_engine.specs.Outcome.{Effect, Changes, MayAllocate, GivesReply, Stays, Closes, Starts}
 use Rattle.press_engine.specs.Table.{effect_on}
 use Rattle.press_engine.specs.Trace.{last_machine, joined, trace, run, run_all}
 
 -- The items stand for a run: they end in its machine, and their outputs joined are its outputs.
-pub record Tells (items : List Run) (before : Machine) (run : Run) : Type 0 where
+pub record Tells (items : List StepResult) (before : Machine) (run : StepResult) : Type 0 where
   pub machine : last_machine before items ≡ run.machine
   pub outputs : joined items ≡ run.outputs
 
@@ -28,10 +28,10 @@ TraceGoesOn =
 -- What a row gives is one step alone: no body starts, and no page closes where an overlay runs.
 abbrev pub IsOneStep : Effect → Type 0
 IsOneStep (Changes state) = ⊤
-IsOneStep (Makes state) = ⊤
+IsOneStep (MayAllocate state) = ⊤
 IsOneStep (GivesReply reply state) = ⊤
-IsOneStep (Stays closer state) = ⊤
-IsOneStep (Closes closer state) = overlay_body state ≡ None
+IsOneStep (Stays cause state) = ⊤
+IsOneStep (Closes cause state) = overlay_body state ≡ None
 IsOneStep (Starts commands end state) = ⊥
 
 -- The trace of such a command of the stream has one item, and that is the run of the command.

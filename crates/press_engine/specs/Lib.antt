@@ -35,7 +35,7 @@ pub use Rattle.press_page.specs.Environment
 pub use Rattle.press_pjl.specs.Lines
 pub use Rattle.press_pjl.specs.Replies
 pub use Rattle.press_sink.specs.Sending
-pub use Rattle.press_sink.specs.Told
+pub use Rattle.press_sink.specs.SinkLog
 pub use Rattle.press_units.specs.Measure
 pub use Rattle.press_units.specs.Position
 pub use Rattle.press_units.specs.Value

@@ -12,21 +12,21 @@ use Rattle.press_engine.specs.declared.machine.Machine.{Machine}
 use Rattle.press_engine.specs.declared.state.State.{State}
 use Rattle.press_engine.specs.Calls as calls
 use Rattle.press_engine.specs.Closing.{finish_effect}
-use Rattle.press_engine.specs.Outcome.{Effect, Changes, Makes, GivesReply, Stays, Closes, Starts, power_on_state}
+use Rattle.press_engine.specs.Outcome.{Effect, Changes, MayAllocate, GivesReply, Stays, Closes, Starts, power_on_state}
 use Rattle.press_engine.specs.Counts.{counted}
 use Rattle.press_engine.specs.Table.{is_recorded}
 
 -- What commands leave, or a step of them: the machine, and the outputs in order.
-pub record Run : Type 0 where
+pub record StepResult : Type 0 where
   pub machine : Machine
   pub outputs : List Output
 
 -- the machine, and nothing goes out
-abbrev pub quiet : Machine → Run
-quiet machine = record { machine = machine; outputs = [] }
+abbrev pub silent : Machine → StepResult
+silent machine = record { machine = machine; outputs = [] }
 
 -- a run after earlier outputs
-abbrev pub then_run : List Output → Run → Run
+abbrev pub then_run : List Output → StepResult → StepResult
 then_run outputs run = record { machine = run.machine; outputs = outputs ++ run.outputs }
 
 -- after power on: no step was taken, and no body runs
@@ -60,10 +60,10 @@ leave_body end depth machine = record machine { state = calls.at_end end machine
 -- the state that an effect leaves where no page closes and no body starts
 abbrev pub state_of : Effect → State
 state_of (Changes state) = state
-state_of (Makes state) = state
+state_of (MayAllocate state) = state
 state_of (GivesReply reply state) = state
-state_of (Stays closer state) = state
-state_of (Closes closer state) = state
+state_of (Stays cause state) = state
+state_of (Closes cause state) = state
 state_of (Starts commands end state) = state
 
 -- in an overlay one macro may run
@@ -80,13 +80,13 @@ leave_overlay before after =
     record after { state = calls.put_back before.state after.state; depth = before.depth }
 
 -- what an effect leaves where no overlay runs and no body starts
-abbrev pub finish_without_overlay : Machine → Effect → Run
+abbrev pub finish_without_overlay : Machine → Effect → StepResult
 finish_without_overlay machine effect =
     record { machine = with_state (finish_effect effect).state machine; outputs = (finish_effect effect).outputs }
 
 -- two macros may run, one in the other; where all may still start, the stream gives the commands
-abbrev pub levels : ℕ
-levels = 2
+abbrev pub macro_levels : ℕ
+macro_levels = 2
 
-abbrev pub source_at : (levels : ℕ) → Source
-source_at left = if left == levels then sources.Stream else sources.Macro
+abbrev pub source_at : (macro_levels : ℕ) → Source
+source_at left = if left == macro_levels then sources.Stream else sources.Macro

@@ -1,7 +1,7 @@
 -- Rows of macros (PCL 5 Printer Language Technical Reference Manual, "Macros": Macro ID and Macro Control commands).
 use Rattle.std.specs.Prelude.{ℕ, ℤ, Bool, true, false, is_some, if◌then◌else◌, List, [], ◌∷◌, Option, Some, None}
 use Rattle.press_cmd.specs.Token.{Token}
-use Rattle.press_macros.specs.Macros.{begun, recorded, definition_ended, body_of, all_deleted, permanent_macros, without, macro_made}
+use Rattle.press_macros.specs.Macros.{definition_begun, recorded, definition_ended, body_of, all_deleted, permanent_macros, without, macro_made}
 use Rattle.press_page.specs.Numbers.{named, within}
 use Rattle.press_engine.specs.declared.effect.BodyEnd.{BodyEnd}
 use Rattle.press_engine.specs.declared.effect.BodyEnd.TheVariants as ends
@@ -11,7 +11,7 @@ use Rattle.press_engine.specs.declared.macro_control.MacroControl.{MacroControl}
 use Rattle.press_engine.specs.declared.macro_control.MacroControl.TheVariants as controls
 use Rattle.press_engine.specs.declared.state.State.{State}
 use Rattle.press_engine.specs.Calls.{kept_of}
-use Rattle.press_engine.specs.Outcome.{Effect, Changes, Makes, Starts, with_macros}
+use Rattle.press_engine.specs.Outcome.{Effect, Changes, MayAllocate, Starts, with_macros}
 
 -- ESC&f#Y, macro ID, at most 32,767
 abbrev pub greatest_macro_id : ℕ
@@ -50,12 +50,12 @@ record_command command = with_macros (λ macros. recorded macros command)
 -- A definition starts where none is open, and not in a running body.
 abbrev pub start_from : Source → State → State
 start_from sources.Stream state =
-    if recording state then state else with_macros (λ macros. begun macros state.macro_id) state
+    if recording state then state else with_macros (λ macros. definition_begun macros state.macro_id) state
 start_from other state = state
 
 -- It ends: the macro replaces an older one.
 abbrev pub stop : State → Effect
-stop state = if recording state then Makes (with_macros definition_ended state) else Changes state
+stop state = if recording state then MayAllocate (with_macros definition_ended state) else Changes state
 
 -- The body of the macro with the macro ID starts, if there is such a macro.
 abbrev pub start_body : Option (List Token) → BodyEnd → State → Effect

@@ -10,7 +10,7 @@ use Rattle.press_cursor.specs.Stack.{has_room, newest}
 use Rattle.press_page.specs.Environment.{asked_top, asked_left, asked_right, set_top_margin, set_perforation_skip}
 use Rattle.press_page.specs.Environment.{set_left_margin, set_right_margin, passes_text}
 use Rattle.press_page.specs.Settings.{half_line}
-use Rattle.press_engine.specs.declared.effect.Closer.TheVariants as closers
+use Rattle.press_engine.specs.declared.effect.EjectCause.TheVariants as causes
 use Rattle.press_engine.specs.declared.effect.Source.{Source}
 use Rattle.press_engine.specs.declared.effect.Source.TheVariants as sources
 use Rattle.press_engine.specs.declared.state.State.{State}
@@ -61,7 +61,7 @@ in_overlay other = false
 -- A feed goes down by a distance; where it would pass the end of the text, the page closes instead, but not in an overlay.
 abbrev pub feed : Source → (distance : ℕ) → State → Effect
 feed source distance state =
-    if passes_text state.cursor.y distance state.environment && not (in_overlay source) then Closes closers.Feed state
+    if passes_text state.cursor.y distance state.environment && not (in_overlay source) then Closes causes.Feed state
     else Changes (moved (moved_y (pos distance) true (bounds state) state.cursor) state)
 
 -- a carriage return before a line feed or a form feed, where line termination says so
@@ -83,7 +83,7 @@ carriage_return source state =
 
 -- FF
 abbrev pub form_feed : State → Effect
-form_feed state = Closes closers.Feed (returned state)
+form_feed state = Closes causes.Feed (returned state)
 
 -- ESC =, half-line feed
 abbrev pub half_line_feed : Source → State → Effect

@@ -39,7 +39,7 @@ percent_rows =
 abbrev pub and_a_rows : List (ℕ × Operation)
 and_a_rows =
     (code "C", operations.MoveColumns)
-    ∷ (code "G", operations.SelectSide)
+    ∷ (code "G", operations.SelectPageSide)
     ∷ (code "H", operations.MoveHorizontally)
     ∷ (code "L", operations.LeftMargin)
     ∷ (code "M", operations.RightMargin)
@@ -73,7 +73,7 @@ and_l_rows =
     ∷ (code "H", operations.EjectPage)
     ∷ (code "L", operations.PerforationSkip)
     ∷ (code "O", operations.SelectOrientation)
-    ∷ (code "S", operations.SelectSides)
+    ∷ (code "S", operations.SelectDuplex)
     ∷ (code "X", operations.Copies)
     ∷ []
 

@@ -13,7 +13,7 @@ use Rattle.press_pjl.specs.Lines as lines
 use Rattle.press_pjl.specs.declared.environment.PjlEnv.{PjlEnv}
 use Rattle.press_sink.specs.Sending.{Output}
 use Rattle.press_engine.specs.declared.effect.BodyEnd.{BodyEnd}
-use Rattle.press_engine.specs.declared.effect.Closer.{Closer}
+use Rattle.press_engine.specs.declared.effect.EjectCause.{EjectCause}
 use Rattle.press_engine.specs.declared.drawing.Drawing.{Drawing}
 use Rattle.press_engine.specs.declared.state.State.{State}
 use Rattle.press_engine.specs.Drawing.{initial_drawing}
@@ -36,10 +36,10 @@ after_outputs outputs outcome = record { state = outcome.state; outputs = output
 -- close; that the page closes; or that the body of a macro starts, with what comes at its end.
 pub data Effect : Type 0 where
   Changes : State → Effect
-  Makes : State → Effect
+  MayAllocate : State → Effect
   GivesReply : (reply : List ℕ) → State → Effect
-  Stays : Closer → State → Effect
-  Closes : Closer → State → Effect
+  Stays : EjectCause → State → Effect
+  Closes : EjectCause → State → Effect
   Starts : List Token → BodyEnd → State → Effect
 
 -- the page environment after a reset: by the current values of the job language's variables

@@ -2,7 +2,7 @@
 use Rattle.std.specs.Prelude.{ℕ, zero, suc, List, [], ◌∷◌, ◌++◌, Option, Some, None, option_map}
 use Rattle.std.specs.List.{flat_map}
 use Rattle.press_pjl.specs.Replies.{page_reply}
-use Rattle.press_sink.specs.Sides.{Sides}
+use Rattle.press_sink.specs.PrintedSheet.{PrintedSheet}
 use Rattle.press_sink.specs.Sending.{Output, Deliver, Reply}
 use Rattle.press_engine.specs.declared.effect.FinishedSheet.{FinishedSheet}
 use Rattle.press_engine.specs.declared.effect.Sent.{Sent}
@@ -15,7 +15,7 @@ status_out None = []
 status_out (Some since_job) = Reply (page_reply since_job) ∷ []
 
 -- a sheet, and its reply
-abbrev pub copy_out : Sides → (count : Option ℕ) → List Output
+abbrev pub copy_out : PrintedSheet → (count : Option ℕ) → List Output
 copy_out sheet count = Deliver sheet ∷ status_out count
 
 -- the count with one sheet more
@@ -24,7 +24,7 @@ next_count count = option_map (λ since_job. counted since_job 1) count
 
 -- So many copies of a sheet, one after another; where replies follow, by the count of sheets since the job began before the
 -- first of them.
-abbrev pub copies_out : Sides → (copies : ℕ) → (count : Option ℕ) → List Output
+abbrev pub copies_out : PrintedSheet → (copies : ℕ) → (count : Option ℕ) → List Output
 copies_out sheet zero count = []
 copies_out sheet (suc copies) count =
     copy_out sheet (next_count count) ++ copies_out sheet copies (next_count count)

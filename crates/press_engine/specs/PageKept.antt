@@ -8,8 +8,8 @@ use Rattle.press_engine.specs.declared.operation.Operation.TheVariants as operat
 use Rattle.press_engine.specs.declared.machine.Last.{Last}
 use Rattle.press_engine.specs.declared.machine.Machine.{Machine}
 use Rattle.press_engine.specs.declared.state.State.{State}
-use Rattle.press_engine.specs.Machine.{Run, last_of, levels}
-use Rattle.press_engine.specs.Outcome.{Effect, Changes, Makes, GivesReply, Stays, Closes, Starts}
+use Rattle.press_engine.specs.Machine.{StepResult, last_of, macro_levels}
+use Rattle.press_engine.specs.Outcome.{Effect, Changes, MayAllocate, GivesReply, Stays, Closes, Starts}
 use Rattle.press_engine.specs.Operation.{operation_of}
 use Rattle.press_engine.specs.Trace.{trace_at}
 
@@ -20,11 +20,11 @@ may_change_page operations.LineFeed = true
 may_change_page operations.FormFeed = true
 may_change_page operations.HalfLineFeed = true
 may_change_page operations.Reset = true
-may_change_page operations.SelectSide = true
+may_change_page operations.SelectPageSide = true
 may_change_page operations.SelectPageSize = true
 may_change_page operations.EjectPage = true
 may_change_page operations.SelectOrientation = true
-may_change_page operations.SelectSides = true
+may_change_page operations.SelectDuplex = true
 may_change_page operations.Fill = true
 may_change_page operations.TransferRow = true
 may_change_page operations.ControlMacro = true
@@ -34,10 +34,10 @@ may_change_page other = false
 -- nothing goes out, no body starts, and the page is the one before
 abbrev pub PageStays : State → Effect → Type 0
 PageStays before (Changes state) = state.page ≡ before.page
-PageStays before (Makes state) = state.page ≡ before.page
+PageStays before (MayAllocate state) = state.page ≡ before.page
 PageStays before (GivesReply reply state) = ⊥
-PageStays before (Stays closer state) = ⊥
-PageStays before (Closes closer state) = ⊥
+PageStays before (Stays cause state) = ⊥
+PageStays before (Closes cause state) = ⊥
 PageStays before (Starts commands end state) = ⊥
 
 -- whether the commands of a kind can
@@ -45,7 +45,7 @@ abbrev pub kind_may_change_page : Kind → Bool
 kind_may_change_page kind = may_change_page (operation_of kind)
 
 -- the command that the first of the items took, whether it was carried out or recorded
-abbrev pub TakesFirst : Last → List Run → Type 0
+abbrev pub TakesFirst : Last → List StepResult → Type 0
 TakesFirst last [] = ⊥
 TakesFirst last (item ∷ items) = item.machine.last ≡ last
 
@@ -53,6 +53,6 @@ TakesFirst last (item ∷ items) = item.machine.last ≡ last
 -- and the open page is the one before.
 pub record OthersKeepThePage : Type 0 where
   pub takes : (command : Token) (machine : Machine)
-      → TakesFirst (last_of command machine.state) (trace_at levels command machine)
+      → TakesFirst (last_of command machine.state) (trace_at macro_levels command machine)
   pub keeps : (command : Token) (machine : Machine) → kind_may_change_page (kind_of command) ≡ false
-      → (item : Run) × (trace_at levels command machine ≡ item ∷ []) × (item.machine.state.page ≡ machine.state.page)
+      → (item : StepResult) × (trace_at macro_levels command machine ≡ item ∷ []) × (item.machine.state.page ≡ machine.state.page)

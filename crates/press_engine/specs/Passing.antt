@@ -9,7 +9,7 @@ use Rattle.press_engine.specs.declared.machine.Last.TheVariants as lasts
 use Rattle.press_engine.specs.declared.machine.Machine.{Machine}
 use Rattle.press_engine.specs.declared.state.State.{State}
 use Rattle.press_engine.specs.Counts.{counted}
-use Rattle.press_engine.specs.Machine.{quiet}
+use Rattle.press_engine.specs.Machine.{silent}
 use Rattle.press_engine.specs.Outcome.{Changes}
 use Rattle.press_engine.specs.Table.{effect_on}
 use Rattle.press_engine.specs.Trace.{run_all}
@@ -34,5 +34,5 @@ passed count kind machine = record machine { step = counted machine.step count; 
 -- Commands that have no effect leave so many steps more, and the kind of the last; nothing goes out.
 abbrev pub PassingIsCounted : Type 0
 PassingIsCounted =
-    (front : List Token) (last : Token) (machine : Machine) → AllByRecursion (HasNoEffect machine.state) (front ++ last ∷ [])
-    → run_all (front ++ last ∷ []) machine ≡ quiet (passed (length (front ++ last ∷ [])) (kind_of last) machine)
+    (prefix : List Token) (last : Token) (machine : Machine) → AllByRecursion (HasNoEffect machine.state) (prefix ++ last ∷ [])
+    → run_all (prefix ++ last ∷ []) machine ≡ silent (passed (length (prefix ++ last ∷ [])) (kind_of last) machine)

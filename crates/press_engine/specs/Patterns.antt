@@ -5,17 +5,17 @@ use Rattle.std.specs.FinMap as maps
 use Rattle.press_page.specs.Numbers.{named}
 use Rattle.press_pattern.specs.Store.{UserPatterns, tile_of, with_definition, made, permanent_only}
 use Rattle.press_pattern.specs.UserData.{has_header, has_rows}
-use Rattle.press_pattern.specs.declared.pattern.Kind.{Kind}
-use Rattle.press_pattern.specs.declared.pattern.Kind.TheVariants as kinds
+use Rattle.press_pattern.specs.declared.pattern.PatternKind.{PatternKind}
+use Rattle.press_pattern.specs.declared.pattern.PatternKind.TheVariants as kinds
 use Rattle.press_pattern.specs.declared.pattern.Pattern.{Pattern}
 use Rattle.press_engine.specs.declared.pattern_control.PatternControl.{PatternControl}
 use Rattle.press_engine.specs.declared.pattern_control.PatternControl.TheVariants as controls
 use Rattle.press_engine.specs.declared.state.State.{State}
 use Rattle.press_engine.specs.Drawing.{solid_black_pattern}
-use Rattle.press_engine.specs.Outcome.{Effect, Changes, Makes}
+use Rattle.press_engine.specs.Outcome.{Effect, Changes, MayAllocate}
 
 -- the kind of pattern that a number names, of ESC*v#T and ESC*c#P
-abbrev pub kind_of_number : ℤ → Option Kind
+abbrev pub kind_of_number : ℤ → Option PatternKind
 kind_of_number =
     named ((0, kinds.Black) ∷ (1, kinds.White) ∷ (2, kinds.Shading) ∷ (3, kinds.CrossHatch) ∷ (4, kinds.User) ∷ [])
 
@@ -24,7 +24,7 @@ abbrev pub exists : Pattern → State → Bool
 exists pattern state = is_some (tile_of state.patterns pattern.kind pattern.id)
 
 -- the pattern of a kind under the pattern ID of now; the solid ones have none
-abbrev pub pattern_of_kind : Kind → State → Pattern
+abbrev pub pattern_of_kind : PatternKind → State → Pattern
 pattern_of_kind kinds.Black state = solid_black_pattern
 pattern_of_kind kinds.White state = record { kind = kinds.White; id = 0 }
 pattern_of_kind kinds.Shading state = record { kind = kinds.Shading; id = state.drawing.pattern_id }
@@ -40,7 +40,7 @@ abbrev pub select : Pattern → State → State
 select pattern state =
     if exists pattern state then record state { drawing = record state.drawing { pattern = pattern } } else state
 
-abbrev pub select_kind : Option Kind → State → State
+abbrev pub select_kind : Option PatternKind → State → State
 select_kind None state = state
 select_kind (Some kind) state = select (pattern_of_kind kind state) state
 
@@ -51,7 +51,7 @@ select_pattern number state = select_kind (kind_of_number number) state
 abbrev pub define_pattern : List ℕ → State → Effect
 define_pattern bytes state =
     if has_header bytes && has_rows bytes
-    then Makes (record state { patterns = with_definition state.patterns state.drawing.pattern_id bytes })
+    then MayAllocate (record state { patterns = with_definition state.patterns state.drawing.pattern_id bytes })
     else Changes state
 
 -- ESC*c#Q, pattern control

@@ -2,8 +2,8 @@
 use Rattle.std.specs.Prelude.{ℕ, ◌*◌, ℤ, pos, negsuc, true, false, is_some, if◌then◌else◌, List, [], ◌∷◌, Option, Some, None, unwrap_or}
 use Rattle.press_cursor.specs.Cursor.{moved_x, moved_y}
 use Rattle.press_page.specs.Numbers.{named, above}
-use Rattle.press_pattern.specs.Ink.{ink_of, black_ink}
-use Rattle.press_pattern.specs.declared.ink.Ink.{Ink}
+use Rattle.press_pattern.specs.Brush.{brush_of, black_brush}
+use Rattle.press_pattern.specs.declared.brush.Brush.{Brush}
 use Rattle.press_raster.specs.Graphics.{started, moved_down, takes_rows, passed}
 use Rattle.press_raster.specs.Rows.{Drawn, drawn, drawn_rows}
 use Rattle.press_raster.specs.Settings.{row_height, set_resolution}
@@ -12,7 +12,7 @@ use Rattle.press_raster.specs.declared.settings.RowCoding.TheVariants.{By}
 use Rattle.press_rows.specs.declared.compression.Method.TheVariants.{Unencoded}
 use Rattle.press_engine.specs.declared.state.State.{State}
 use Rattle.press_engine.specs.Closing.{page_now}
-use Rattle.press_engine.specs.Outcome.{Effect, Changes, Makes, bounds, ended_raster, with_drawing}
+use Rattle.press_engine.specs.Outcome.{Effect, Changes, MayAllocate, bounds, ended_raster, with_drawing}
 use Rattle.press_engine.specs.Patterns.{pattern_now}
 
 -- a change of what raster graphics is set to
@@ -25,7 +25,7 @@ while_off change state = if is_some state.graphics then state else with_raster c
 
 -- ESC*t#R, raster graphics resolution, on the page of now
 abbrev pub set_raster_resolution : ℤ → State → State
-set_raster_resolution value state = while_off (set_resolution state.environment.media.resolution value) state
+set_raster_resolution value state = while_off (set_resolution state.environment.page_setup.resolution value) state
 
 -- ESC*r#A, start raster graphics: rows begin at the left edge of the logical page by 0 and 2, and at the cursor by 1 and 3
 abbrev pub start_of : ℤ → (x : ℕ) → Option ℕ
@@ -69,9 +69,9 @@ abbrev pub offset_raster : (number : ℤ) → State → State
 offset_raster number state = if is_some state.graphics then offset_by (asked_offset number) state else state
 
 -- what rows are painted with: the pattern of now is always there
-abbrev pub ink_now : State → Ink
-ink_now state =
-    unwrap_or (ink_of state.patterns (pattern_now state) state.drawing.mode) (black_ink state.drawing.mode)
+abbrev pub brush_now : State → Brush
+brush_now state =
+    unwrap_or (brush_of state.patterns (pattern_now state) state.drawing.mode) (black_brush state.drawing.mode)
 
 -- what rows are drawn on: raster graphics, the page of now, and the cursor
 abbrev pub drawn_now : State → Drawn
@@ -84,12 +84,12 @@ with_drawn drawn state =
 
 abbrev pub with_rows : List ℕ → State → State
 with_rows bytes state =
-    with_drawn (drawn_rows state.environment state.drawing.raster (ink_now state) bytes (drawn_now state)) state
+    with_drawn (drawn_rows state.environment state.drawing.raster (brush_now state) bytes (drawn_now state)) state
 
 -- the rows that have effect; without one, the data can only make the seed row white
 abbrev pub transfer_rows : List ℕ → State → Effect
 transfer_rows bytes state =
-    if takes_rows state.drawing.raster bytes state.graphics then Makes (with_rows bytes state)
+    if takes_rows state.drawing.raster bytes state.graphics then MayAllocate (with_rows bytes state)
     else Changes (record state { graphics = passed state.drawing.raster bytes state.graphics })
 
 -- ESC*b#W, transfer raster data: where raster graphics is off, it starts at the left edge

@@ -4,20 +4,20 @@ use Rattle.std.specs.Prelude.{◌≡◌, ◌⊎◌, ◌<◌, ◌+◌, ⊤, ℕ, 
 use Rattle.press_cmd.specs.Token.{Token}
 use Rattle.press_cursor.specs.Cursor.{at, position}
 use Rattle.press_cursor.specs.declared.stack.CursorPosition.{CursorPosition}
-use Rattle.press_engine.specs.declared.calls.Kept.{Kept}
+use Rattle.press_engine.specs.declared.calls.SavedEnvironment.{SavedEnvironment}
 use Rattle.press_engine.specs.declared.effect.BodyEnd.{BodyEnd}
-use Rattle.press_engine.specs.declared.effect.Closer.{Closer}
+use Rattle.press_engine.specs.declared.effect.EjectCause.{EjectCause}
 use Rattle.press_engine.specs.declared.effect.Source.{Source}
 use Rattle.press_engine.specs.declared.effect.Source.TheVariants as sources
-use Rattle.press_engine.specs.declared.frame.Frame.{Frame}
-use Rattle.press_engine.specs.declared.frame.FrameEnd.{FrameEnd}
-use Rattle.press_engine.specs.declared.frame.FrameEnd.TheVariants as ends_by
+use Rattle.press_engine.specs.declared.activation.Activation.{Activation}
+use Rattle.press_engine.specs.declared.activation.ActivationEnd.{ActivationEnd}
+use Rattle.press_engine.specs.declared.activation.ActivationEnd.TheVariants as ends_by
 use Rattle.press_engine.specs.declared.machine.Machine.{Machine}
 use Rattle.press_engine.specs.declared.state.State.{State}
 use Rattle.press_engine.specs.Calls.{kept_of, restored, overlay_body}
 use Rattle.press_engine.specs.Outcome.{Effect, Closes, Starts, bounds}
-use Rattle.press_engine.specs.Machine.{Run, quiet, then_run, with_state, taken, enter_body, leave_body, state_of}
-use Rattle.press_engine.specs.Machine.{overlay_levels, enter_overlay, finish_without_overlay, levels, source_at}
+use Rattle.press_engine.specs.Machine.{StepResult, silent, then_run, with_state, taken, enter_body, leave_body, state_of}
+use Rattle.press_engine.specs.Machine.{overlay_levels, enter_overlay, finish_without_overlay, macro_levels, source_at}
 use Rattle.press_engine.specs.Table.{effect_on}
 use Rattle.press_engine.specs.Trace.{last_machine, with_end, trace_each, trace_in_overlay, trace_at}
 
@@ -27,83 +27,83 @@ source_in true more = sources.Overlay
 source_in false more = source_at more
 
 -- the items of a command, in an overlay or outside
-abbrev pub items_at : Bool → (more : ℕ) → Token → Machine → List Run
+abbrev pub items_at : Bool → (more : ℕ) → Token → Machine → List StepResult
 items_at true more = trace_in_overlay more
 items_at false more = trace_at more
 
-abbrev pub items_in : Frame → Token → Machine → List Run
-items_in frame = items_at frame.in_overlay frame.levels
+abbrev pub items_in : Activation → Token → Machine → List StepResult
+items_in activation = items_at activation.in_overlay activation.macro_levels
 
 -- at the end of an overlay: what was kept is restored, and the cursor is put back
-abbrev pub put_back_to : Kept → CursorPosition → State → State
+abbrev pub put_back_to : SavedEnvironment → CursorPosition → State → State
 put_back_to kept place after =
     let state = restored kept after in
     record state { cursor = at place (bounds state) state.cursor }
 
-abbrev pub leave_overlay_with : Kept → CursorPosition → (depth : ℕ) → Machine → Machine
+abbrev pub leave_overlay_with : SavedEnvironment → CursorPosition → (depth : ℕ) → Machine → Machine
 leave_overlay_with kept place depth after = record after { state = put_back_to kept place after.state; depth = depth }
 
 -- the page close that waited for an overlay
-abbrev pub finish_close : Closer → Machine → Run
-finish_close closer machine = finish_without_overlay machine (Closes closer machine.state)
+abbrev pub finish_close : EjectCause → Machine → StepResult
+finish_close cause machine = finish_without_overlay machine (Closes cause machine.state)
 
 -- what the end of a body does
-abbrev pub end_by : FrameEnd → (depth : ℕ) → Machine → Run
-end_by (ends_by.Macro end) depth after = quiet (leave_body end depth after)
-end_by (ends_by.Close closer kept place) depth after = finish_close closer (leave_overlay_with kept place depth after)
+abbrev pub end_by : ActivationEnd → (depth : ℕ) → Machine → StepResult
+end_by (ends_by.Macro end) depth after = silent (leave_body end depth after)
+end_by (ends_by.Close cause kept place) depth after = finish_close cause (leave_overlay_with kept place depth after)
 
-abbrev pub end_of : Frame → Machine → Run
-end_of frame = end_by frame.end frame.depth
+abbrev pub end_of : Activation → Machine → StepResult
+end_of activation = end_by activation.end activation.depth
 
 -- an end falls into the last of the items
-abbrev pub ends_in : (Machine → Run) → List Run → List Run
+abbrev pub ends_in : (Machine → StepResult) → List StepResult → List StepResult
 ends_in end [] = []
 ends_in end (item ∷ items) = with_end end item items
 
 -- Items, and what the bodies round them add: each body's rest, and its end in the last of them.
-abbrev pub outwards : List Frame → List Run → Machine → List Run
+abbrev pub outwards : List Activation → List StepResult → Machine → List StepResult
 outwards [] items machine = items
-outwards (frame ∷ frames) items machine =
-    outwards frames (ends_in (end_of frame) (items ++ trace_each (items_in frame) frame.body (last_machine machine items))) machine
+outwards (activation ∷ activations) items machine =
+    outwards activations (ends_in (end_of activation) (items ++ trace_each (items_in activation) activation.body (last_machine machine items))) machine
 
 -- What a stack of running bodies, the innermost first, still owes from a machine on.
-abbrev pub owed : List Frame → Machine → List Run
-owed [] machine = []
-owed (frame ∷ frames) machine = outwards frames (ends_in (end_of frame) (trace_each (items_in frame) frame.body machine)) machine
+abbrev pub continuation : List Activation → Machine → List StepResult
+continuation [] machine = []
+continuation (activation ∷ activations) machine = outwards activations (ends_in (end_of activation) (trace_each (items_in activation) activation.body machine)) machine
 
 -- The beginning of a step: its item as yet without ends, and the body that it starts.
 pub record Begun : Type 0 where
-  pub item : Run
-  pub started : List Frame
+  pub item : StepResult
+  pub started : List Activation
 
-abbrev pub begun_only : Run → Begun
+abbrev pub begun_only : StepResult → Begun
 begun_only item = record { item = item; started = [] }
 
 abbrev pub begun_body : Bool → (more : ℕ) → List Token → BodyEnd → State → Machine → Begun
 begun_body in_overlay more commands end state machine = record {
-  item = quiet (enter_body end state machine);
-  started = record { body = commands; in_overlay = in_overlay; levels = more; depth = machine.depth; end = ends_by.Macro end } ∷ [];
+  item = silent (enter_body end state machine);
+  started = record { body = commands; in_overlay = in_overlay; macro_levels = more; depth = machine.depth; end = ends_by.Macro end } ∷ [];
 }
 
 abbrev pub begun_in_overlay : (more : ℕ) → Machine → Effect → Begun
 begun_in_overlay more machine (Starts commands end state) = begun_body true more commands end state machine
-begun_in_overlay more machine effect = begun_only (quiet (with_state (state_of effect) machine))
+begun_in_overlay more machine effect = begun_only (silent (with_state (state_of effect) machine))
 
-abbrev pub begun_close_with : Option (List Token) → Closer → Machine → Begun
-begun_close_with None closer machine = begun_only (finish_close closer machine)
-begun_close_with (Some commands) closer machine = record {
-  item = quiet (enter_overlay machine);
+abbrev pub begun_close_with : Option (List Token) → EjectCause → Machine → Begun
+begun_close_with None cause machine = begun_only (finish_close cause machine)
+begun_close_with (Some commands) cause machine = record {
+  item = silent (enter_overlay machine);
   started = record {
     body = commands;
     in_overlay = true;
-    levels = overlay_levels;
+    macro_levels = overlay_levels;
     depth = machine.depth;
-    end = ends_by.Close closer (kept_of machine.state) (position machine.state.cursor);
+    end = ends_by.Close cause (kept_of machine.state) (position machine.state.cursor);
   } ∷ [];
 }
 
 abbrev pub begun_finished : Machine → Effect → Begun
-begun_finished machine (Closes closer state) = begun_close_with (overlay_body state) closer (with_state state machine)
+begun_finished machine (Closes cause state) = begun_close_with (overlay_body state) cause (with_state state machine)
 begun_finished machine effect = begun_only (finish_without_overlay machine effect)
 
 abbrev pub begun_outside : (more : ℕ) → Machine → Effect → Begun
@@ -112,7 +112,7 @@ begun_outside more machine effect = begun_finished machine effect
 
 -- What an effect begins, in an overlay or outside, where so many macros may start.
 abbrev pub begun : Bool → (more : ℕ) → Machine → Effect → Begun
-begun true zero machine effect = begun_only (quiet (with_state (state_of effect) machine))
+begun true zero machine effect = begun_only (silent (with_state (state_of effect) machine))
 begun true (suc more) machine effect = begun_in_overlay more machine effect
 begun false zero machine effect = begun_finished machine effect
 begun false (suc more) machine effect = begun_outside more machine effect
@@ -123,38 +123,38 @@ begins in_overlay more command machine =
 
 -- A step done: its item, and the bodies that still run, of which the innermost is not used up.
 pub record Stepped : Type 0 where
-  pub item : Run
-  pub frames : List Frame
+  pub item : StepResult
+  pub activations : List Activation
 
 -- the ends of the bodies that are used up
-abbrev pub ended_by : List Token → List Frame → Frame → (Run → Stepped) → Run → Stepped
-ended_by [] frames frame outer item = outer (then_run item.outputs (end_of frame item.machine))
-ended_by (command ∷ rest) frames frame outer item = record { item = item; frames = frame ∷ frames }
+abbrev pub ended_by : List Token → List Activation → Activation → (StepResult → Stepped) → StepResult → Stepped
+ended_by [] activations activation outer item = outer (then_run item.outputs (end_of activation item.machine))
+ended_by (command ∷ rest) activations activation outer item = record { item = item; activations = activation ∷ activations }
 
-abbrev pub pops : List Frame → Run → Stepped
-pops [] item = record { item = item; frames = [] }
-pops (frame ∷ frames) item = ended_by frame.body frames frame (pops frames) item
+abbrev pub unwind : List Activation → StepResult → Stepped
+unwind [] item = record { item = item; activations = [] }
+unwind (activation ∷ activations) item = ended_by activation.body activations activation (unwind activations) item
 
 -- A step that takes a command of the stream, and one that takes the first command of the innermost body.
 abbrev pub step_outer : Token → Machine → Stepped
-step_outer command machine = let begin = begins false levels command machine in pops begin.started begin.item
+step_outer command machine = let begin = begins false macro_levels command machine in unwind begin.started begin.item
 
-abbrev pub step_inner : Frame → Token → List Token → List Frame → Machine → Stepped
-step_inner frame command rest frames machine =
-    let begin = begins frame.in_overlay frame.levels command machine in
-    pops (begin.started ++ (record frame { body = rest } ∷ frames)) begin.item
+abbrev pub step_inner : Activation → Token → List Token → List Activation → Machine → Stepped
+step_inner activation command rest activations machine =
+    let begin = begins activation.in_overlay activation.macro_levels command machine in
+    unwind (begin.started ++ (record activation { body = rest } ∷ activations)) begin.item
 
 -- a step gives the first of these items, and leaves a stack that owes the others
-abbrev pub Gives : Stepped → List Run → Type 0
-Gives stepped items = items ≡ stepped.item ∷ owed stepped.frames stepped.item.machine
+abbrev pub Gives : Stepped → List StepResult → Type 0
+Gives stepped items = items ≡ stepped.item ∷ continuation stepped.activations stepped.item.machine
 
 abbrev pub InnerStepIsOwed : Type 0
 InnerStepIsOwed =
-    (frame : Frame) (command : Token) (rest : List Token) (frames : List Frame) (machine : Machine)
-    → Gives (step_inner frame command rest frames machine) (owed (record frame { body = command ∷ rest } ∷ frames) machine)
+    (activation : Activation) (command : Token) (rest : List Token) (activations : List Activation) (machine : Machine)
+    → Gives (step_inner activation command rest activations machine) (continuation (record activation { body = command ∷ rest } ∷ activations) machine)
 
 abbrev pub OuterStepIsOwed : Type 0
-OuterStepIsOwed = (command : Token) (machine : Machine) → Gives (step_outer command machine) (trace_at levels command machine)
+OuterStepIsOwed = (command : Token) (machine : Machine) → Gives (step_outer command machine) (trace_at macro_levels command machine)
 
 -- How many bodies may still start inside a body, one in the other: in an overlay so many macros; outside, an overlay and one
 -- macro more.
@@ -162,34 +162,34 @@ abbrev pub room_where : Bool → (more : ℕ) → ℕ
 room_where true more = more
 room_where false more = more + 2
 
-abbrev pub room_in : List Frame → ℕ
+abbrev pub room_in : List Activation → ℕ
 room_in [] = 4
-room_in (frame ∷ frames) = room_where frame.in_overlay frame.levels
+room_in (activation ∷ activations) = room_where activation.in_overlay activation.macro_levels
 
 -- each body has less room than the one round it
-abbrev pub IsNested : List Frame → Type 0
+abbrev pub IsNested : List Activation → Type 0
 IsNested [] = ⊤
-IsNested (frame ∷ frames) = (room_where frame.in_overlay frame.levels < room_in frames) × IsNested frames
+IsNested (activation ∷ activations) = (room_where activation.in_overlay activation.macro_levels < room_in activations) × IsNested activations
 
 -- a body runs, and its innermost one has a command
-abbrev pub HasNext : List Frame → Type 0
-HasNext frames =
-    (frame : Frame) × (command : Token) × (rest : List Token) × (outer : List Frame) × (frames ≡ record frame { body = command ∷ rest } ∷ outer)
+abbrev pub HasNext : List Activation → Type 0
+HasNext activations =
+    (activation : Activation) × (command : Token) × (rest : List Token) × (outer : List Activation) × (activations ≡ record activation { body = command ∷ rest } ∷ outer)
 
 -- the innermost of the bodies that run has a command, if one runs
-abbrev pub IsReady : List Frame → Type 0
-IsReady frames = (frames ≡ []) ⊎ HasNext frames
+abbrev pub IsReady : List Activation → Type 0
+IsReady activations = (activations ≡ []) ⊎ HasNext activations
 
 -- An overlay is among the bodies that are used up, the innermost first.
-abbrev pub IsOverlayEnd : FrameEnd → Type 0
+abbrev pub IsOverlayEnd : ActivationEnd → Type 0
 IsOverlayEnd (ends_by.Macro end) = ⊥
-IsOverlayEnd (ends_by.Close closer kept place) = ⊤
+IsOverlayEnd (ends_by.Close cause kept place) = ⊤
 
-abbrev pub EndsOverlay : List Frame → Type 0
+abbrev pub EndsOverlay : List Activation → Type 0
 EndsOverlay [] = ⊥
-EndsOverlay (frame ∷ frames) = (frame.body ≡ []) × (IsOverlayEnd frame.end ⊎ EndsOverlay frames)
+EndsOverlay (activation ∷ activations) = (activation.body ≡ []) × (IsOverlayEnd activation.end ⊎ EndsOverlay activations)
 
 -- bodies between two steps
-pub record IsSound (frames : List Frame) : Type 0 where
-  pub ready : IsReady frames
-  pub nested : IsNested frames
+pub record IsSound (activations : List Activation) : Type 0 where
+  pub ready : IsReady activations
+  pub nested : IsNested activations

@@ -3,11 +3,11 @@ use Rattle.std.specs.Prelude.{◌≡◌, ℕ, List, [], ◌∷◌, ⊤}
 use Rattle.press_cmd.specs.Token.{Token}
 use Rattle.press_engine.specs.declared.machine.Machine.{Machine}
 use Rattle.press_engine.specs.Counts.{counted}
-use Rattle.press_engine.specs.Machine.{Run}
+use Rattle.press_engine.specs.Machine.{StepResult}
 use Rattle.press_engine.specs.Trace.{trace}
 
 -- Each item is one step more than the one before it, and the first one more than the machine.
-abbrev pub CountFrom : Machine → List Run → Type 0
+abbrev pub CountFrom : Machine → List StepResult → Type 0
 CountFrom machine [] = ⊤
 CountFrom machine (item ∷ items) = (item.machine.step ≡ counted machine.step 1) × CountFrom item.machine items
 

@@ -12,7 +12,7 @@ use Rattle.press_engine.specs.declared.operation.Operation.{Operation}
 use Rattle.press_engine.specs.declared.operation.Operation.TheVariants as operations
 use Rattle.press_engine.specs.declared.effect.Source.{Source}
 use Rattle.press_engine.specs.declared.state.State.{State}
-use Rattle.press_engine.specs.Closing.{reset, select_page_size, select_orientation, select_sides, eject_page, select_side}
+use Rattle.press_engine.specs.Closing.{reset, select_page_size, select_orientation, select_duplex, eject_page, select_page_side}
 use Rattle.press_engine.specs.Drawing.{set_rectangle_width, set_rectangle_height, set_pattern_id, set_source_transparency, set_pattern_transparency}
 use Rattle.press_engine.specs.Filling.{fill}
 use Rattle.press_engine.specs.JobLanguage.{job_language}
@@ -22,7 +22,7 @@ use Rattle.press_engine.specs.Motion.{carriage_return, form_feed, half_line_feed
 use Rattle.press_engine.specs.Motion.{change_perforation_skip, change_left_margin, change_right_margin}
 use Rattle.press_engine.specs.Operation.{operation_of}
 use Rattle.press_engine.specs.Patterns.{select_pattern, define_pattern, control_patterns}
-use Rattle.press_engine.specs.Outcome.{Effect, Changes, Makes, ended_raster, with_drawing, with_environment}
+use Rattle.press_engine.specs.Outcome.{Effect, Changes, MayAllocate, ended_raster, with_drawing, with_environment}
 use Rattle.press_engine.specs.Raster.{with_raster, set_raster_resolution, while_off, start_raster, end_raster_and_method, offset_raster, transfer}
 
 -- the value of a command, in ten-thousandths; its whole part; and whether a sign stood, which makes a move relative
@@ -55,7 +55,7 @@ table_row source operations.MoveColumns command = λ state. Changes (move_along 
 table_row source operations.MoveRows command = λ state. Changes (move_rows (value_of command) (is_relative command) state)
 table_row source operations.MoveHorizontally command = λ state. Changes (move_along decipoint (value_of command) (is_relative command) state)
 table_row source operations.MoveVertically command = λ state. Changes (move_down decipoint (value_of command) (is_relative command) state)
-table_row source operations.SelectSide command = select_side (whole_part_of command)
+table_row source operations.SelectPageSide command = select_page_side (whole_part_of command)
 table_row source operations.LeftMargin command = λ state. Changes (change_left_margin (value_of command) state)
 table_row source operations.RightMargin command = λ state. Changes (change_right_margin (value_of command) state)
 table_row source operations.PushOrPop command = λ state. Changes (push_or_pop (whole_part_of command) state)
@@ -69,7 +69,7 @@ table_row source operations.TextLength command = λ state. Changes (with_environ
 table_row source operations.EjectPage command = eject_page
 table_row source operations.PerforationSkip command = λ state. Changes (change_perforation_skip (value_of command) state)
 table_row source operations.SelectOrientation command = select_orientation (value_of command)
-table_row source operations.SelectSides command = select_sides (value_of command)
+table_row source operations.SelectDuplex command = select_duplex (value_of command)
 table_row source operations.Copies command = λ state. Changes (with_environment (set_copies (value_of command)) state)
 table_row source operations.RectangleWidth command = λ state. Changes (with_drawing (set_rectangle_width (value_of command) (pcl_unit_of state)) state)
 table_row source operations.RectangleHeight command = λ state. Changes (with_drawing (set_rectangle_height (value_of command) (pcl_unit_of state)) state)
@@ -109,9 +109,9 @@ abbrev pub works_in_overlay : Operation → Bool
 works_in_overlay operations.FormFeed = false
 works_in_overlay operations.SelectPageSize = false
 works_in_overlay operations.SelectOrientation = false
-works_in_overlay operations.SelectSides = false
+works_in_overlay operations.SelectDuplex = false
 works_in_overlay operations.EjectPage = false
-works_in_overlay operations.SelectSide = false
+works_in_overlay operations.SelectPageSide = false
 works_in_overlay other = true
 
 -- what is not recorded while a macro definition is open: the end of the definition, a reset, the universal exit and PJL lines
@@ -139,5 +139,5 @@ row_unless_skipped source operation command state =
 -- What a command does: it is recorded and does nothing else, or its kind's row gives what it does.
 abbrev pub effect_on : Source → Token → State → Effect
 effect_on source command state =
-    if is_recorded command state then Makes (record_command command state)
+    if is_recorded command state then MayAllocate (record_command command state)
     else row_unless_skipped source (operation_of (kind_of command)) command state

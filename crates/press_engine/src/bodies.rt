@@ -1,7 +1,7 @@
 //! The bodies that run, between two steps (PCL 5 Printer Language Technical Reference Manual, Macros).
 
+use crate::activation::Activation;
 use crate::effect::StepOutput;
-use crate::frame::Frame;
 use crate::machine::{Last, Machine};
 use press_cmd::{Command, Kind, kind};
 use std::alloc::{AllocError, Global};
@@ -10,23 +10,23 @@ use std::marker::Model;
 /// The bodies that run, the innermost first, of which that one has a command. Contracts see the list of them.
 #[derive(Drop)]
 pub struct Bodies {
-    frames: Vec<Frame>,
+    activations: Vec<Activation>,
 }
 
 impl Model for Bodies {
     ghost use Rattle.std.specs.Prelude.{List};
     ghost use Rattle.std.specs.Coded.{codes};
     ghost use Rattle.press_engine.specs.Stack.{IsSound};
-    ghost use Rattle.press_engine.specs.declared.frame.Frame.{Frame};
-    ghost use Rattle.press_engine.specs.contracts.frame.Frame as frame;
+    ghost use Rattle.press_engine.specs.declared.activation.Activation.{Activation};
+    ghost use Rattle.press_engine.specs.contracts.activation.Activation as activation;
 
-    ghost Value = { List Frame };
+    ghost Value = { List Activation };
 
-    ghost coded = { Prim.hlevel (codes, frame.the_row.coded) };
+    ghost coded = { Prim.hlevel (codes, activation.the_row.coded) };
 
-    ghost view = { λ bodies. bodies.frames.items };
+    ghost view = { λ bodies. bodies.activations.items };
 
-    ghost invariant = { λ bodies. IsSound bodies.frames.items };
+    ghost invariant = { λ bodies. IsSound bodies.activations.items };
 }
 
 impl Last {
@@ -52,8 +52,8 @@ impl Bodies {
     ghost use Rattle.press_engine.specs.declared.effect.Source.TheVariants.{Stream};
     ghost use Rattle.press_engine.specs.Engine.{StepsTo, TakesMemory, InnerTakesMemory};
     ghost use Rattle.press_engine.specs.Laws.{most_bodies};
-    ghost use Rattle.press_engine.specs.Machine.{levels};
-    ghost use Rattle.press_engine.specs.Stack.{HasNext, IsReady, owed};
+    ghost use Rattle.press_engine.specs.Machine.{macro_levels};
+    ghost use Rattle.press_engine.specs.Stack.{HasNext, IsReady, continuation};
     ghost use Rattle.press_engine.specs.Table.{effect_on};
     ghost use Rattle.press_engine.specs.Trace.{trace_at};
 
@@ -62,7 +62,7 @@ impl Bodies {
         ensures { result ≡ [] }
     {
         Bodies {
-            frames: Vec::new(alloc),
+            activations: Vec::new(alloc),
         }
     }
 
@@ -71,7 +71,7 @@ impl Bodies {
         ensures { IfOk result (λ bodies. bodies ≡ self.now) }
     {
         Ok(Bodies {
-            frames: self.frames.clone()?,
+            activations: self.activations.clone()?,
         })
     }
 
@@ -81,7 +81,7 @@ impl Bodies {
         ensures few { length self.now ≤ most_bodies }
         ensures ready { IsReady self.now }
     {
-        self.frames.is_empty()
+        self.activations.is_empty()
     }
 
     /// Takes a command of the stream, where no body runs, and answers what goes out. Where memory ran out no body runs.
@@ -94,7 +94,7 @@ impl Bodies {
     ) -> Result<StepOutput, AllocError>
         requires none { self.old ≡ [] }
         ensures steps { MatchResult result
-            (λ step. StepsTo (trace_at levels (token command.entry) machine.old) step
+            (λ step. StepsTo (trace_at macro_levels (token command.entry) machine.old) step
             machine.new self.new)
             (λ _. self.new ≡ []) }
         ensures kind { IfOk result (λ step. step.kind ≡ kind_of (token command.entry)) }
@@ -102,10 +102,10 @@ impl Bodies {
             → TakesMemory (effect_on Stream (token command.entry) machine.old.state) }
     {
         let kind = kind(&command);
-        match machine.step_outer(alloc, command, &mut self.frames) {
+        match machine.step_outer(alloc, command, &mut self.activations) {
             Ok(sent) => Ok(StepOutput { kind, sent }),
             Err(error) => {
-                self.frames.clear();
+                self.activations.clear();
                 Err(error)
             }
         }
@@ -120,18 +120,18 @@ impl Bodies {
     ) -> Result<StepOutput, AllocError>
         requires running { self.old ≢ [] }
         ensures steps { MatchResult result
-            (λ step. StepsTo (owed self.old machine.old) step machine.new self.new)
+            (λ step. StepsTo (continuation self.old machine.old) step machine.new self.new)
             (λ _. self.new ≡ []) }
         ensures next { HasNext self.old }
         ensures memory { IsErr result → InnerTakesMemory self.old machine.old }
     {
-        match machine.step_inner(alloc, &mut self.frames) {
+        match machine.step_inner(alloc, &mut self.activations) {
             Ok(sent) => Ok(StepOutput {
                 kind: machine.last.kind(),
                 sent,
             }),
             Err(error) => {
-                self.frames.clear();
+                self.activations.clear();
                 Err(error)
             }
         }

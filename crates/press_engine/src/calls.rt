@@ -8,12 +8,12 @@ use crate::effect::{BodyEnd, BodyStart};
 use crate::state::State;
 use press_cursor::CursorPosition;
 use press_macros::Body;
-use press_page::{Defaults, Media, PageEnv};
+use press_page::{Defaults, PageEnv, PageSetup};
 use std::alloc::AllocError;
 
 /// What a macro call keeps at its start, and restores at its end.
 #[derive(Clone, Copy)]
-pub struct Kept {
+pub struct SavedEnvironment {
     /// Its settings, and its margins where page size and orientation are the same at the end.
     pub environment: PageEnv,
     pub drawing: Drawing,
@@ -21,10 +21,10 @@ pub struct Kept {
 }
 
 /// Whether media have the same size and orientation.
-fn lies_as(media: Media, other: Media) -> bool
-    ensures { result ≡ lies_as media other }
+fn lies_as(page_setup: PageSetup, other: PageSetup) -> bool
+    ensures { result ≡ lies_as page_setup other }
 {
-    media.size == other.size && media.orientation == other.orientation
+    page_setup.size == other.size && page_setup.orientation == other.orientation
 }
 
 /// The environment at the end of a call: the settings that were kept, the margins too where the media lies as it did, and the
@@ -32,7 +32,7 @@ fn lies_as(media: Media, other: Media) -> bool
 fn restored_environment(kept: PageEnv, now: PageEnv) -> PageEnv
     ensures { result ≡ restored_environment kept now }
 {
-    let margins = if lies_as(kept.media, now.media) {
+    let margins = if lies_as(kept.page_setup, now.page_setup) {
         kept.margins
     } else {
         now.margins
@@ -40,7 +40,7 @@ fn restored_environment(kept: PageEnv, now: PageEnv) -> PageEnv
     PageEnv {
         settings: kept.settings,
         margins,
-        media: now.media,
+        page_setup: now.page_setup,
     }
 }
 
@@ -48,14 +48,14 @@ fn restored_environment(kept: PageEnv, now: PageEnv) -> PageEnv
 fn overlay_environment(environment: PageEnv) -> PageEnv
     ensures { result ≡ overlay_environment environment }
 {
-    let media = environment.media;
+    let page_setup = environment.page_setup;
     PageEnv::reset_from(&Defaults {
         copies: environment.settings.copies,
-        size: media.size,
-        orientation: media.orientation,
-        duplex: media.duplex,
-        binding: media.binding,
-        resolution: media.resolution,
+        size: page_setup.size,
+        orientation: page_setup.orientation,
+        duplex: page_setup.duplex,
+        binding: page_setup.binding,
+        resolution: page_setup.resolution,
     })
 }
 
@@ -66,10 +66,10 @@ impl State {
     ghost use Rattle.press_engine.specs.Outcome.{bounds};
 
     /// What a call keeps.
-    pub fn kept(&self) -> Kept
+    pub fn kept(&self) -> SavedEnvironment
         ensures { result ≡ kept_of self.now }
     {
-        Kept {
+        SavedEnvironment {
             environment: self.environment,
             drawing: self.drawing,
             macro_id: self.macro_id,
@@ -87,7 +87,7 @@ impl State {
     }
 
     /// Restores what was kept; the cursor stays where it is, on the logical page.
-    pub fn restore(&mut self, kept: Kept)
+    pub fn restore(&mut self, kept: SavedEnvironment)
         ensures { self.new ≡ restored kept self.old }
     {
         self.environment = restored_environment(kept.environment, self.environment);
@@ -138,7 +138,7 @@ impl State {
     }
 
     /// What was kept before the overlay is restored, and the cursor is put back.
-    pub fn end_overlay(&mut self, kept: Kept, position: CursorPosition)
+    pub fn end_overlay(&mut self, kept: SavedEnvironment, position: CursorPosition)
         ensures { self.new ≡ record (restored kept self.old) {
           cursor = at position (bounds (restored kept self.old)) (restored kept self.old).cursor;
         } }

@@ -3,7 +3,7 @@
 
 use press_bits::Bitmap;
 use press_canvas::Canvas;
-use press_page::Media;
+use press_page::PageSetup;
 use press_sink::Sheet;
 use std::alloc::{AllocError, Global};
 use std::marker::Model;
@@ -113,11 +113,11 @@ impl Current {
 
     /// The blank page of the media, which is not put in. Its marks take the memory that is kept.
     #[tactic(auto, using(crate::proofs::PlaceLemmas::media_fits))]
-    pub fn blank(&mut self, alloc: Global, media: Media) -> Result<Canvas, AllocError>
-        ensures page { IfOk result (λ page. page ≡ blank_page media) }
+    pub fn blank(&mut self, alloc: Global, page_setup: PageSetup) -> Result<Canvas, AllocError>
+        ensures page { IfOk result (λ page. page ≡ blank_page page_setup) }
         ensures same { self.new ≡ self.old }
     {
-        let mut page = Canvas::blank(alloc, media.orientation, media.physical_page())?;
+        let mut page = Canvas::blank(alloc, page_setup.orientation, page_setup.physical_page())?;
         if let Some(spare) = self.take_frame() {
             page.reuse(spare);
         }

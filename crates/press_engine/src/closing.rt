@@ -1,10 +1,10 @@
 //! The rows that close the page, and what a page close does.
 
-use crate::effect::{Closer, Effect, FinishedSheet, PageChange, Selection, Sent};
+use crate::effect::{Effect, EjectCause, FinishedSheet, PageChange, Selection, Sent};
 use crate::state::State;
 use press_bits::Bitmap;
 use press_canvas::Canvas;
-use press_page::{Orientation, PageSize, Sides};
+use press_page::{DuplexMode, Orientation, PageSize};
 use press_pjl::PjlEnv;
 use press_sink::Sheet;
 use press_units::Value;
@@ -13,7 +13,7 @@ use std::alloc::{AllocError, Global};
 impl State {
     ghost use Rattle.std.specs.Prelude.{◌≡◌, ◌≢◌, IfOk, IsErr, None};
     ghost use Rattle.press_units.specs.Value.{whole_part};
-    ghost use Rattle.press_page.specs.Environment.{with_page_size, with_orientation, with_printed_sides};
+    ghost use Rattle.press_page.specs.Environment.{with_page_size, with_orientation, with_duplex_mode};
     ghost use Rattle.press_engine.specs.Effects.{effect_of};
     ghost use Rattle.press_engine.specs.Engine.{TakesMemory};
     ghost use Rattle.press_engine.specs.Motion.{to_home};
@@ -22,7 +22,7 @@ impl State {
     ghost use Rattle.press_engine.specs.Closing.{page_now, status_count, with_sheets, with_language, reset_by, close_page};
     ghost use Rattle.press_engine.specs.Closing.{front_alone, overlay_off, blank_front, turn_to, change_page, after_close};
     ghost use Rattle.press_engine.specs.Closing.{finish_effect, close_if_marked, reset, select_page_size, select_orientation};
-    ghost use Rattle.press_engine.specs.Closing.{select_sides, eject_page, select_side};
+    ghost use Rattle.press_engine.specs.Closing.{select_duplex, eject_page, select_page_side};
 
     /// Whether a mark was made on the page.
     pub fn is_marked(&self) -> bool
@@ -39,7 +39,7 @@ impl State {
     {
         match self.page.take() {
             Some(page) => Ok(page),
-            None => self.page.blank(alloc, self.environment.media),
+            None => self.page.blank(alloc, self.environment.page_setup),
         }
     }
 
@@ -108,7 +108,7 @@ impl State {
     {
         let page = self.take_turned(alloc)?;
         self.graphics.end();
-        if !self.environment.media.duplex {
+        if !self.environment.page_setup.duplex {
             return Ok(Some(self.finish(page, None)));
         }
         match self.pending.take() {
@@ -133,8 +133,8 @@ impl State {
         ensures front { IfOk result (λ _. self.new ≡ blank_front self.old) }
         ensures memory { IsErr result → (blank_front self.old).pending ≢ self.old.pending }
     {
-        if self.environment.media.duplex && self.pending.is_none() {
-            let front = self.page.blank(alloc, self.environment.media)?;
+        if self.environment.page_setup.duplex && self.pending.is_none() {
+            let front = self.page.blank(alloc, self.environment.page_setup)?;
             self.pending = Some(self.page.turn(alloc, front)?);
         }
         Ok(())
@@ -182,10 +182,10 @@ impl State {
     }
 
     /// Other sides to print; the cursor goes home.
-    fn change_sides(&mut self, sides: Sides)
-        ensures { self.new ≡ to_home (with_environment (with_printed_sides sides) self.old) }
+    fn change_duplex(&mut self, sides: DuplexMode)
+        ensures { self.new ≡ to_home (with_environment (with_duplex_mode sides) self.old) }
     {
-        self.environment.change_sides(sides);
+        self.environment.change_duplex(sides);
         self.move_home();
     }
 
@@ -228,9 +228,9 @@ impl State {
                 self.change_orientation(orientation);
                 None
             }
-            PageChange::Sides(sides) => {
+            PageChange::Duplex(sides) => {
                 let alone = self.front_alone();
-                self.change_sides(sides);
+                self.change_duplex(sides);
                 alone
             }
         }
@@ -240,22 +240,22 @@ impl State {
     fn end(
         &mut self,
         alloc: Global,
-        closer: Closer,
+        cause: EjectCause,
         closed: bool,
     ) -> Result<Option<FinishedSheet>, AllocError>
         ensures ended { IfOk result (λ alone.
             record { state = self.new; outputs = finished_of alone }
-            ≡ after_close closed closer self.old) }
+            ≡ after_close closed cause self.old) }
         ensures memory { IsErr result
-            → (after_close closed closer self.old).state.pending ≢ self.old.pending }
+            → (after_close closed cause self.old).state.pending ≢ self.old.pending }
     {
-        if closed && !matches!(closer, Closer::Change(_)) {
+        if closed && !matches!(cause, EjectCause::Change(_)) {
             self.move_to_first_line();
         }
-        match closer {
-            Closer::Feed => Ok(None),
-            Closer::Side(selection) => self.turn_to(alloc, selection),
-            Closer::Change(change) => Ok(self.change_page(change)),
+        match cause {
+            EjectCause::Feed => Ok(None),
+            EjectCause::Side(selection) => self.turn_to(alloc, selection),
+            EjectCause::Change(change) => Ok(self.change_page(change)),
         }
     }
 
@@ -269,29 +269,29 @@ impl State {
         match effect {
             Effect::Changes | Effect::Makes | Effect::Starts(_, _) => Ok(Sent::Nothing),
             Effect::GivesReply(reply) => Ok(Sent::Reply(reply)),
-            Effect::Stays(closer) => {
-                let alone = self.end(alloc, closer, false)?;
+            Effect::Stays(cause) => {
+                let alone = self.end(alloc, cause, false)?;
                 Ok(Sent::Sheets {
                     closed: None,
                     alone,
                 })
             }
-            Effect::Closes(closer) => {
+            Effect::Closes(cause) => {
                 let closed = self.close_page(alloc)?;
-                let alone = self.end(alloc, closer, true)?;
+                let alone = self.end(alloc, cause, true)?;
                 Ok(Sent::Sheets { closed, alone })
             }
         }
     }
 
     /// A page with a mark closes; where it has none, the command goes on at once.
-    fn close_if_marked(&self, closer: Closer) -> Effect
-        ensures { effect_of self.now result ≡ close_if_marked closer self.now }
+    fn close_if_marked(&self, cause: EjectCause) -> Effect
+        ensures { effect_of self.now result ≡ close_if_marked cause self.now }
     {
         if self.is_marked() {
-            Effect::Closes(closer)
+            Effect::Closes(cause)
         } else {
-            Effect::Stays(closer)
+            Effect::Stays(cause)
         }
     }
 
@@ -301,7 +301,7 @@ impl State {
     {
         self.hp_gl = false;
         self.macros.abandon();
-        self.close_if_marked(Closer::Change(change))
+        self.close_if_marked(EjectCause::Change(change))
     }
 
     /// `ESC E` and the universal exit.
@@ -319,8 +319,8 @@ impl State {
         if !next.set_page_size(value) {
             return Effect::Changes;
         }
-        let size = PageChange::Size(next.media.size);
-        self.close_if_marked(Closer::Change(size))
+        let size = PageChange::Size(next.page_setup.size);
+        self.close_if_marked(EjectCause::Change(size))
     }
 
     /// `&l#O`: the orientation.
@@ -331,36 +331,36 @@ impl State {
         if !next.set_orientation(value) {
             return Effect::Changes;
         }
-        let orientation = PageChange::Orientation(next.media.orientation);
-        self.close_if_marked(Closer::Change(orientation))
+        let orientation = PageChange::Orientation(next.page_setup.orientation);
+        self.close_if_marked(EjectCause::Change(orientation))
     }
 
     /// `&l#S`: the sides that are printed.
-    pub fn select_sides(&self, value: Value) -> Effect
-        ensures { effect_of self.now result ≡ select_sides value.tenthousandths self.now }
+    pub fn select_duplex(&self, value: Value) -> Effect
+        ensures { effect_of self.now result ≡ select_duplex value.tenthousandths self.now }
     {
         let mut next = self.environment;
-        if !next.set_sides(value) {
+        if !next.set_duplex(value) {
             return Effect::Changes;
         }
-        let sides = PageChange::Sides(next.media.printed_sides());
-        self.close_if_marked(Closer::Change(sides))
+        let sides = PageChange::Duplex(next.page_setup.duplex_mode());
+        self.close_if_marked(EjectCause::Change(sides))
     }
 
     /// `&l#H`: ejects a page with a mark.
     pub fn eject_page(&self) -> Effect
         ensures { effect_of self.now result ≡ eject_page self.now }
     {
-        self.close_if_marked(Closer::Feed)
+        self.close_if_marked(EjectCause::Feed)
     }
 
     /// `&a#G`: selects a side.
-    pub fn select_side(&self, value: Value) -> Effect
+    pub fn select_page_side(&self, value: Value) -> Effect
         ensures { effect_of self.now result
-            ≡ select_side (whole_part value.tenthousandths) self.now }
+            ≡ select_page_side (whole_part value.tenthousandths) self.now }
     {
         match Selection::of_number(value.whole()) {
-            Some(selection) => self.close_if_marked(Closer::Side(selection)),
+            Some(selection) => self.close_if_marked(EjectCause::Side(selection)),
             None => Effect::Changes,
         }
     }

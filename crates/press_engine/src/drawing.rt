@@ -8,7 +8,7 @@ ghost use Rattle.press_engine.specs.Drawing.{is_opaque, set_source_transparency,
 
 use crate::rectangle::{Rectangle, size_of};
 use press_bits::Mode;
-use press_pattern::{Kind, Pattern};
+use press_pattern::{Pattern, PatternKind};
 use press_raster::RasterSettings;
 use press_units::{Unit, Value};
 
@@ -53,7 +53,7 @@ impl Drawing {
             rectangle: Rectangle::none(),
             pattern_id: 0,
             pattern: Pattern {
-                kind: Kind::Black,
+                kind: PatternKind::Black,
                 id: 0,
             },
             mode: Mode {

@@ -4,10 +4,10 @@ ghost use Rattle.std.specs.Prelude.{◌≡◌, ◌↔◌, [], IsTrue};
 ghost use Rattle.press_engine.specs.Closing.{selection_of};
 ghost use Rattle.press_engine.specs.Outputs.{finished_of};
 
-use crate::calls::Kept;
+use crate::calls::SavedEnvironment;
 use press_cmd::Kind;
 use press_macros::Body;
-use press_page::{Orientation, PageSize, Sides};
+use press_page::{DuplexMode, Orientation, PageSize};
 use press_pjl::{PjlEnv, ReplyBytes};
 use press_sink::Sheet;
 
@@ -95,12 +95,12 @@ pub enum PageChange {
     Language { language: PjlEnv, begins_job: bool },
     Size(PageSize),
     Orientation(Orientation),
-    Sides(Sides),
+    Duplex(DuplexMode),
 }
 
 /// Which command closes the page, and so what it does after the close, or in its place where the page has no mark.
 #[derive(Clone, Copy, PartialEq, Eq)]
-pub enum Closer {
+pub enum EjectCause {
     /// A form feed, a line feed past the end of the text, an ejected page.
     Feed,
     /// The selection of a side.
@@ -131,7 +131,7 @@ pub enum BodyEnd {
     /// The macro was executed: what it changed stays.
     Execute,
     /// It was called: what was kept at its start is restored.
-    Call(Kept),
+    Call(SavedEnvironment),
 }
 
 /// What a row of the command table gives.
@@ -144,9 +144,9 @@ pub enum Effect {
     /// The row is carried out, and a reply goes out.
     GivesReply(ReplyBytes),
     /// A page without a mark stays, and the command does what it does after a close.
-    Stays(Closer),
+    Stays(EjectCause),
     /// The page closes.
-    Closes(Closer),
+    Closes(EjectCause),
     /// The body of a macro starts, where one more may run.
     Starts(Body, BodyStart),
 }

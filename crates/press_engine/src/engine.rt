@@ -29,16 +29,16 @@ pub struct Engine {
 
 impl Engine {
     ghost use Rattle.std.specs.Prelude.{◌≡◌, ◌≢◌, ◌≤◌, ◌⊎◌, ◌↔◌, [], length, IsTrue, IfOk, IfErr, IfSome, IsErrOf, MatchResult, Some, None, option_map};
-    ghost use Rattle.press_sink.specs.Told.{both, CanCount};
+    ghost use Rattle.press_sink.specs.SinkLog.{logs, HasFaultRoom};
     ghost use Rattle.press_cmd.specs.View.{token};
-    ghost use Rattle.press_engine.specs.Machine.{power_on, levels};
+    ghost use Rattle.press_engine.specs.Machine.{power_on, macro_levels};
     ghost use Rattle.press_cmd.specs.Kinds.{kind_of};
     ghost use Rattle.press_engine.specs.Laws.{most_bodies};
-    ghost use Rattle.press_engine.specs.Stack.{HasNext, IsReady, owed};
+    ghost use Rattle.press_engine.specs.Stack.{HasNext, IsReady, continuation};
     ghost use Rattle.press_engine.specs.Trace.{trace_at};
     ghost use Rattle.press_engine.specs.Outputs.{all_outputs};
     ghost use Rattle.press_engine.specs.Passing.{SkipsBytes, SkipsControls, passed};
-    ghost use Rattle.press_engine.specs.Engine.{live, bodies, HasFailed, Sends, Steps, Runs, TakesNext, NeedsMemory, InnerNeedsMemory, view_of};
+    ghost use Rattle.press_engine.specs.Engine.{machine_of, bodies, HasFailed, Sends, Steps, Runs, TakesNext, NeedsMemory, InnerNeedsMemory, view_of};
 
     /// An engine after power on.
     ///
@@ -46,7 +46,7 @@ impl Engine {
     ///
     /// Where memory ran out.
     pub fn power_on(alloc: Global) -> Result<Self, AllocError>
-        ensures on { IfOk result (λ engine. live engine ≡ Some power_on) }
+        ensures on { IfOk result (λ engine. machine_of engine ≡ Some power_on) }
         ensures none { IfOk result (λ engine. bodies engine ≡ []) }
     {
         Ok(Engine {
@@ -81,15 +81,15 @@ impl Engine {
     pub fn take_step(&mut self, command: Command<'_>) -> Result<StepOutput, EngineError>
         requires none { bodies self.old ≡ [] }
         ensures steps { MatchResult result
-            (λ step. Steps (live self.old) (trace_at levels (token command.entry)) step
-            (live self.new) (bodies self.new))
+            (λ step. Steps (machine_of self.old) (trace_at macro_levels (token command.entry)) step
+            (machine_of self.new) (bodies self.new))
             (λ _. HasFailed self.new) }
         ensures kind { IfOk result (λ step. step.kind ≡ kind_of (token command.entry)) }
-        ensures failed { IsErrOf result EngineError.Failed ↔ (live self.old ≡ None) }
+        ensures failed { IsErrOf result EngineError.Failed ↔ (machine_of self.old ≡ None) }
         ensures refused { IfErr result
             (λ error. (error ≡ EngineError.Failed) ⊎ (error ≡ EngineError.NoMemory)) }
         ensures memory { IsErrOf result EngineError.NoMemory →
-            NeedsMemory (live self.old) (token command.entry) }
+            NeedsMemory (machine_of self.old) (token command.entry) }
     {
         if self.failed {
             return Err(EngineError::Failed);
@@ -113,15 +113,15 @@ impl Engine {
     pub fn take_inner(&mut self) -> Result<StepOutput, EngineError>
         requires running { bodies self.old ≢ [] }
         ensures steps { MatchResult result
-            (λ step. Steps (live self.old) (owed (bodies self.old)) step
-            (live self.new) (bodies self.new))
+            (λ step. Steps (machine_of self.old) (continuation (bodies self.old)) step
+            (machine_of self.new) (bodies self.new))
             (λ _. HasFailed self.new) }
         ensures next { HasNext (bodies self.old) }
-        ensures failed { IsErrOf result EngineError.Failed ↔ (live self.old ≡ None) }
+        ensures failed { IsErrOf result EngineError.Failed ↔ (machine_of self.old ≡ None) }
         ensures refused { IfErr result
             (λ error. (error ≡ EngineError.Failed) ⊎ (error ≡ EngineError.NoMemory)) }
         ensures memory { IsErrOf result EngineError.NoMemory →
-            InnerNeedsMemory (live self.old) (bodies self.old) }
+            InnerNeedsMemory (machine_of self.old) (bodies self.old) }
     {
         if self.failed {
             return Err(EngineError::Failed);
@@ -136,7 +136,7 @@ impl Engine {
     /// Whether text bytes of the stream, and bytes of another language, have no effect now.
     #[inline(always)]
     pub fn skips_bytes(&self) -> bool
-        ensures { IsTrue result → IfSome (live self.now) (λ machine. SkipsBytes machine.state) }
+        ensures { IsTrue result → IfSome (machine_of self.now) (λ machine. SkipsBytes machine.state) }
     {
         self.machine.state.skips_bytes()
     }
@@ -144,7 +144,7 @@ impl Engine {
     /// Whether control bytes of the stream have no effect now.
     #[inline(always)]
     pub fn skips_controls(&self) -> bool
-        ensures { IsTrue result → IfSome (live self.now) (λ machine. SkipsControls machine.state) }
+        ensures { IsTrue result → IfSome (machine_of self.now) (λ machine. SkipsControls machine.state) }
     {
         self.machine.state.skips_controls()
     }
@@ -153,7 +153,7 @@ impl Engine {
     /// have no effect.
     #[inline(always)]
     pub fn pass(&mut self, count: usize, kind: Kind)
-        ensures passed { live self.new ≡ option_map (passed count kind) (live self.old) }
+        ensures passed { machine_of self.new ≡ option_map (passed count kind) (machine_of self.old) }
         ensures bodies { bodies self.new ≡ bodies self.old }
     {
         self.machine.pass(count, kind);
@@ -173,10 +173,10 @@ impl Engine {
         sheets: &mut S,
         replies: &mut R,
     ) -> Result<(), EngineError>
-        requires can_count { CanCount (both (S.told sheets.old) (R.told replies.old)) }
+        requires has_fault_room { HasFaultRoom (logs (S.told sheets.old) (R.told replies.old)) }
         ensures sends { Sends tag (all_outputs sent.now) result
-            (both (S.told sheets.old) (R.told replies.old))
-            (both (S.told sheets.new) (R.told replies.new)) }
+            (logs (S.told sheets.old) (R.told replies.old))
+            (logs (S.told sheets.new) (R.told replies.new)) }
         ensures left { MatchResult result (λ _. self.new ≡ self.old) (λ _. HasFailed self.new) }
         ensures memory { IsErrOf result EngineError.NoMemory → all_outputs sent.now ≢ [] }
     {
@@ -213,15 +213,15 @@ impl Engine {
         replies: &mut R,
     ) -> Result<Kind, EngineError>
         requires none { bodies self.old ≡ [] }
-        requires can_count { CanCount (both (S.told sheets.old) (R.told replies.old)) }
-        ensures takes { TakesNext (live self.old) (trace_at levels (token command.entry))
-            tag result (live self.new) (bodies self.new)
-            (both (S.told sheets.old) (R.told replies.old))
-            (both (S.told sheets.new) (R.told replies.new)) }
+        requires has_fault_room { HasFaultRoom (logs (S.told sheets.old) (R.told replies.old)) }
+        ensures takes { TakesNext (machine_of self.old) (trace_at macro_levels (token command.entry))
+            tag result (machine_of self.new) (bodies self.new)
+            (logs (S.told sheets.old) (R.told replies.old))
+            (logs (S.told sheets.new) (R.told replies.new)) }
         ensures kind { IfOk result (λ kind. kind ≡ kind_of (token command.entry)) }
-        ensures failed { IsErrOf result EngineError.Failed ↔ (live self.old ≡ None) }
+        ensures failed { IsErrOf result EngineError.Failed ↔ (machine_of self.old ≡ None) }
         ensures memory { IsErrOf result EngineError.NoMemory →
-            NeedsMemory (live self.old) (token command.entry) }
+            NeedsMemory (machine_of self.old) (token command.entry) }
     {
         let step = self.take_step(command)?;
         self.hand_over(&step.sent, tag, sheets, replies)?;
@@ -244,14 +244,14 @@ impl Engine {
         replies: &mut R,
     ) -> Result<Kind, EngineError>
         requires running { bodies self.old ≢ [] }
-        requires can_count { CanCount (both (S.told sheets.old) (R.told replies.old)) }
-        ensures takes { TakesNext (live self.old) (owed (bodies self.old))
-            tag result (live self.new) (bodies self.new)
-            (both (S.told sheets.old) (R.told replies.old))
-            (both (S.told sheets.new) (R.told replies.new)) }
-        ensures failed { IsErrOf result EngineError.Failed ↔ (live self.old ≡ None) }
+        requires has_fault_room { HasFaultRoom (logs (S.told sheets.old) (R.told replies.old)) }
+        ensures takes { TakesNext (machine_of self.old) (continuation (bodies self.old))
+            tag result (machine_of self.new) (bodies self.new)
+            (logs (S.told sheets.old) (R.told replies.old))
+            (logs (S.told sheets.new) (R.told replies.new)) }
+        ensures failed { IsErrOf result EngineError.Failed ↔ (machine_of self.old ≡ None) }
         ensures memory { IsErrOf result EngineError.NoMemory →
-            InnerNeedsMemory (live self.old) (bodies self.old) }
+            InnerNeedsMemory (machine_of self.old) (bodies self.old) }
     {
         let step = self.take_inner()?;
         self.hand_over(&step.sent, tag, sheets, replies)?;
@@ -276,13 +276,13 @@ impl Engine {
         replies: &mut R,
     ) -> Result<(), EngineError>
         requires none { bodies self.old ≡ [] }
-        requires can_count { CanCount (both (S.told sheets.old) (R.told replies.old)) }
-        ensures runs { Runs (live self.old) (token command.entry) tag result (live self.new)
-            (both (S.told sheets.old) (R.told replies.old))
-            (both (S.told sheets.new) (R.told replies.new)) }
-        ensures failed { IsErrOf result EngineError.Failed ↔ (live self.old ≡ None) }
+        requires has_fault_room { HasFaultRoom (logs (S.told sheets.old) (R.told replies.old)) }
+        ensures runs { Runs (machine_of self.old) (token command.entry) tag result (machine_of self.new)
+            (logs (S.told sheets.old) (R.told replies.old))
+            (logs (S.told sheets.new) (R.told replies.new)) }
+        ensures failed { IsErrOf result EngineError.Failed ↔ (machine_of self.old ≡ None) }
         ensures memory { IsErrOf result EngineError.NoMemory →
-            NeedsMemory (live self.old) (token command.entry) }
+            NeedsMemory (machine_of self.old) (token command.entry) }
         ensures none { bodies self.new ≡ [] }
     {
         self.step(command, tag, sheets, replies)?;
@@ -298,9 +298,9 @@ impl Engine {
     ///
     /// `Failed` (303) where this engine has failed, and else `NoMemory` where memory ran out.
     pub fn copy(&self) -> Result<Self, EngineError>
-        ensures copy { IfOk result (λ engine. live engine ≡ live self.now) }
+        ensures copy { IfOk result (λ engine. machine_of engine ≡ machine_of self.now) }
         ensures bodies { IfOk result (λ engine. bodies engine ≡ bodies self.now) }
-        ensures failed { IsErrOf result EngineError.Failed ↔ (live self.now ≡ None) }
+        ensures failed { IsErrOf result EngineError.Failed ↔ (machine_of self.now ≡ None) }
         ensures refused { IfErr result
             (λ error. (error ≡ EngineError.Failed) ⊎ (error ≡ EngineError.NoMemory)) }
     {
@@ -330,7 +330,7 @@ impl Engine {
 
     /// The page that is being printed; none is a blank page without a mark. After a fault nothing is said of it.
     pub fn page(&self) -> Option<&Canvas>
-        ensures { IfSome (live self.now) (λ machine.
+        ensures { IfSome (machine_of self.now) (λ machine.
             option_map (λ page. page.now) result ≡ machine.state.page) }
     {
         self.machine.state.page.drawn()
@@ -338,9 +338,9 @@ impl Engine {
 
     /// What can be seen of the engine. After a fault nothing is said of it.
     pub fn view(&self) -> View<'_>
-        ensures view { IfSome (live self.now) (λ machine.
+        ensures view { IfSome (machine_of self.now) (λ machine.
             result ≡ view_of result.stack machine) }
-        ensures stack { IfSome (live self.now)
+        ensures stack { IfSome (machine_of self.now)
             (λ machine. result.stack.now ≡ machine.state.cursor.stack) }
     {
         let machine = &self.machine;

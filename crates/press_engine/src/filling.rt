@@ -21,7 +21,7 @@ impl State {
         ensures { result ≡ rect_now self.now }
     {
         let corner = self.environment.cursor_dot(self.cursor.position());
-        let resolution = self.environment.media.resolution;
+        let resolution = self.environment.page_setup.resolution;
         let rectangle = self.drawing.rectangle;
         Rect {
             x: corner.x,

@@ -1,6 +1,7 @@
 //! The engine: the command table of PCL 5 at work, on every page size and orientation.
 #![tactic(auto)]
 
+mod activation;
 mod bodies;
 mod calls;
 mod canvas;
@@ -10,7 +11,6 @@ mod effect;
 mod engine;
 mod fault;
 mod filling;
-mod frame;
 mod job_language;
 pub mod laws;
 mod machine;

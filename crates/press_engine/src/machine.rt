@@ -7,7 +7,7 @@ use press_cmd::{Command, Kind, kind};
 use std::alloc::{AllocError, Global};
 
 /// How many macros may run at a time outside an overlay.
-pub const LEVELS: u8 = 2;
+pub const MACRO_LEVELS: u8 = 2;
 
 /// How many macros an overlay may run at a time.
 pub const OVERLAY_LEVELS: u8 = 1;
@@ -39,10 +39,10 @@ impl Source {
     ghost use Rattle.press_engine.specs.Machine.{source_at};
 
     /// Where commands come from outside an overlay, where so many macros may start.
-    pub fn at(levels: u8) -> Self
-        ensures { result ≡ source_at levels }
+    pub fn at(macro_levels: u8) -> Self
+        ensures { result ≡ source_at macro_levels }
     {
-        if levels == LEVELS {
+        if macro_levels == MACRO_LEVELS {
             Source::Stream
         } else {
             Source::Macro

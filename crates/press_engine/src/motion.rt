@@ -1,6 +1,6 @@
 //! The rows that move the cursor.
 
-use crate::effect::{Closer, Effect, Source};
+use crate::effect::{Effect, EjectCause, Source};
 use crate::state::State;
 use press_units::{Pos, Unit, Value, to_pos};
 
@@ -92,7 +92,7 @@ impl State {
     {
         let passes = self.environment.passes_text(self.cursor.y(), distance);
         if passes && !source.in_overlay() {
-            return Effect::Closes(Closer::Feed);
+            return Effect::Closes(EjectCause::Feed);
         }
         let page = self.bounds();
         self.cursor.move_down(distance, page);
@@ -141,7 +141,7 @@ impl State {
         ensures { effect_of self.new result ≡ form_feed self.old }
     {
         self.return_before_feed();
-        Effect::Closes(Closer::Feed)
+        Effect::Closes(EjectCause::Feed)
     }
 
     /// `ESC =`.

@@ -40,7 +40,7 @@ pub enum Operation {
     /// `ESC & a # V`, in decipoints.
     MoveVertically,
     /// `ESC & a # G`.
-    SelectSide,
+    SelectPageSide,
     /// `ESC & a # L`.
     LeftMargin,
     /// `ESC & a # M`.
@@ -68,7 +68,7 @@ pub enum Operation {
     /// `ESC & l # O`.
     SelectOrientation,
     /// `ESC & l # S`.
-    SelectSides,
+    SelectDuplex,
     /// `ESC & l # X`.
     Copies,
     /// `ESC * c # A`.
@@ -213,7 +213,7 @@ fn and_a_operation(end: u8) -> Operation
 {
     match end {
         b'C' => Operation::MoveColumns,
-        b'G' => Operation::SelectSide,
+        b'G' => Operation::SelectPageSide,
         b'H' => Operation::MoveHorizontally,
         b'L' => Operation::LeftMargin,
         b'M' => Operation::RightMargin,
@@ -259,7 +259,7 @@ fn and_l_operation(end: u8) -> Operation
         b'H' => Operation::EjectPage,
         b'L' => Operation::PerforationSkip,
         b'O' => Operation::SelectOrientation,
-        b'S' => Operation::SelectSides,
+        b'S' => Operation::SelectDuplex,
         b'X' => Operation::Copies,
         _ => Operation::Nothing,
     }

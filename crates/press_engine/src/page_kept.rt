@@ -18,11 +18,11 @@ pub fn may_change_page(kind: Kind) -> bool
             | Operation::FormFeed
             | Operation::HalfLineFeed
             | Operation::Reset
-            | Operation::SelectSide
+            | Operation::SelectPageSide
             | Operation::SelectPageSize
             | Operation::EjectPage
             | Operation::SelectOrientation
-            | Operation::SelectSides
+            | Operation::SelectDuplex
             | Operation::Fill
             | Operation::TransferRow
             | Operation::ControlMacro

@@ -6,20 +6,20 @@ ghost use Rattle.press_engine.specs.Patterns.{kind_of_number};
 use crate::effect::Effect;
 use crate::pattern_control::PatternControl;
 use crate::state::State;
-use press_pattern::{DefineError, Kind, Pattern};
+use press_pattern::{DefineError, Pattern, PatternKind};
 use press_units::Value;
 use std::alloc::AllocError;
 
 /// The kind of pattern that a number names, of `ESC * v # T` and `ESC * c # P`.
-pub fn kind_of_number(number: i64) -> Option<Kind>
+pub fn kind_of_number(number: i64) -> Option<PatternKind>
     ensures { result ≡ kind_of_number number }
 {
     match number {
-        0 => Some(Kind::Black),
-        1 => Some(Kind::White),
-        2 => Some(Kind::Shading),
-        3 => Some(Kind::CrossHatch),
-        4 => Some(Kind::User),
+        0 => Some(PatternKind::Black),
+        1 => Some(PatternKind::White),
+        2 => Some(PatternKind::Shading),
+        3 => Some(PatternKind::CrossHatch),
+        4 => Some(PatternKind::User),
         _ => None,
     }
 }
@@ -39,12 +39,14 @@ impl State {
     }
 
     /// The pattern of a kind under the pattern ID; the solid ones have none.
-    pub fn pattern_of_kind(&self, kind: Kind) -> Pattern
+    pub fn pattern_of_kind(&self, kind: PatternKind) -> Pattern
         ensures { result ≡ pattern_of_kind kind self.now }
     {
         let id = match kind {
-            Kind::Black | Kind::White => 0,
-            Kind::Shading | Kind::CrossHatch | Kind::User => self.drawing.pattern_id,
+            PatternKind::Black | PatternKind::White => 0,
+            PatternKind::Shading | PatternKind::CrossHatch | PatternKind::User => self
+                .drawing
+                .pattern_id,
         };
         Pattern { kind, id }
     }
@@ -58,7 +60,7 @@ impl State {
             return pattern;
         }
         Pattern {
-            kind: Kind::Black,
+            kind: PatternKind::Black,
             id: 0,
         }
     }

@@ -6,7 +6,7 @@ ghost use Rattle.press_engine.specs.Raster.{start_of, asked_offset};
 
 use crate::effect::Effect;
 use crate::state::State;
-use press_pattern::Ink;
+use press_pattern::Brush;
 use press_raster::RowCoding;
 use press_rows::Method;
 use press_units::{Pos, Value};
@@ -44,7 +44,7 @@ impl State {
         ensures { self.new ≡ set_raster_resolution value.tenthousandths self.old }
     {
         if !self.graphics.is_on() {
-            let page = self.environment.media.resolution;
+            let page = self.environment.page_setup.resolution;
             self.drawing.raster.set_resolution(page, value);
         }
     }
@@ -126,14 +126,17 @@ impl State {
         let mut page = self.take_page(alloc)?;
         let (pattern, settings) = (self.pattern_now(), self.drawing.raster);
         let mode = self.drawing.mode;
-        let ink = self.patterns.ink(pattern, mode).unwrap_or(Ink::black(mode));
+        let brush = self
+            .patterns
+            .brush(pattern, mode)
+            .unwrap_or(Brush::black(mode));
         let environment = self.environment;
         self.graphics.transfer(
             &mut page,
             &environment,
             &mut self.cursor,
             settings,
-            &ink,
+            &brush,
             bytes,
         )?;
         self.page.put(page);

@@ -30,9 +30,9 @@ impl Operation {
             Operation::FormFeed
                 | Operation::SelectPageSize
                 | Operation::SelectOrientation
-                | Operation::SelectSides
+                | Operation::SelectDuplex
                 | Operation::EjectPage
-                | Operation::SelectSide
+                | Operation::SelectPageSide
         )
     }
 }
@@ -73,7 +73,7 @@ impl State {
             Operation::MoveRows => self.move_rows(value),
             Operation::MoveHorizontally => self.move_along(Unit::decipoint(), value),
             Operation::MoveVertically => self.move_down(Unit::decipoint(), value),
-            Operation::SelectSide => return Ok(self.select_side(value)),
+            Operation::SelectPageSide => return Ok(self.select_page_side(value)),
             Operation::LeftMargin => self.change_left_margin(value),
             Operation::RightMargin => self.change_right_margin(value),
             Operation::PushOrPop => self.push_or_pop(value),
@@ -87,7 +87,7 @@ impl State {
             Operation::EjectPage => return Ok(self.eject_page()),
             Operation::PerforationSkip => self.change_perforation_skip(value),
             Operation::SelectOrientation => return Ok(self.select_orientation(value)),
-            Operation::SelectSides => return Ok(self.select_sides(value)),
+            Operation::SelectDuplex => return Ok(self.select_duplex(value)),
             Operation::Copies => self.environment.set_copies(value),
             Operation::RectangleWidth => {
                 let unit = self.pcl_unit();

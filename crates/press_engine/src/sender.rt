@@ -2,7 +2,7 @@
 
 ghost use Rattle.std.specs.Prelude.{◌≡◌, ◌≢◌, ◌<◌, [], ◌∷◌, Some, true, IsErrOf};
 ghost use Rattle.press_pjl.specs.Replies.{page_reply};
-ghost use Rattle.press_sink.specs.Told.{both, CanCount, Delivers, TookLast, most_faults};
+ghost use Rattle.press_sink.specs.SinkLog.{logs, HasFaultRoom, Delivers, TookLast, most_faults};
 ghost use Rattle.press_sink.specs.Sending.{Deliver, Reply};
 ghost use Rattle.press_engine.specs.Engine.{Sends};
 ghost use Rattle.press_engine.specs.Outputs.{outputs_of, all_outputs, finished_of, copy_out, next_count};
@@ -21,10 +21,10 @@ fn send<S: SheetSink, R: ReplySink>(
     sheets: &mut S,
     replies: &mut R,
 ) -> Result<(), EngineError>
-    requires { CanCount (both (S.told sheets.old) (R.told replies.old)) }
+    requires { HasFaultRoom (logs (S.told sheets.old) (R.told replies.old)) }
     ensures sends { Sends tag (outputs_of sent.now) result
-        (both (S.told sheets.old) (R.told replies.old))
-        (both (S.told sheets.new) (R.told replies.new)) }
+        (logs (S.told sheets.old) (R.told replies.old))
+        (logs (S.told sheets.new) (R.told replies.new)) }
     ensures memory { IsErrOf result EngineError.NoMemory → outputs_of sent.now ≢ [] }
 {
     match sent {
@@ -45,10 +45,10 @@ pub fn send_all<S: SheetSink, R: ReplySink>(
     sheets: &mut S,
     replies: &mut R,
 ) -> Result<(), EngineError>
-    requires { CanCount (both (S.told sheets.old) (R.told replies.old)) }
+    requires { HasFaultRoom (logs (S.told sheets.old) (R.told replies.old)) }
     ensures sends { Sends tag (all_outputs sent.now) result
-        (both (S.told sheets.old) (R.told replies.old))
-        (both (S.told sheets.new) (R.told replies.new)) }
+        (logs (S.told sheets.old) (R.told replies.old))
+        (logs (S.told sheets.new) (R.told replies.new)) }
     ensures memory { IsErrOf result EngineError.NoMemory → all_outputs sent.now ≢ [] }
 {
     for part in sent {
@@ -65,10 +65,10 @@ fn send_finished<S: SheetSink, R: ReplySink>(
     sheets: &mut S,
     replies: &mut R,
 ) -> Result<(), EngineError>
-    requires { CanCount (both (S.told sheets.old) (R.told replies.old)) }
+    requires { HasFaultRoom (logs (S.told sheets.old) (R.told replies.old)) }
     ensures sends { Sends tag (finished_of finished.now) result
-        (both (S.told sheets.old) (R.told replies.old))
-        (both (S.told sheets.new) (R.told replies.new)) }
+        (logs (S.told sheets.old) (R.told replies.old))
+        (logs (S.told sheets.new) (R.told replies.new)) }
     ensures memory { IsErrOf result EngineError.NoMemory → finished_of finished.now ≢ [] }
 {
     match finished {
@@ -92,10 +92,10 @@ fn send_copies<S: SheetSink, R: ReplySink>(
     sheets: &mut S,
     replies: &mut R,
 ) -> Result<(), EngineError>
-    requires { CanCount (both (S.told sheets.old) (R.told replies.old)) }
+    requires { HasFaultRoom (logs (S.told sheets.old) (R.told replies.old)) }
     ensures sends { Sends tag (finished_of (Some finished.now)) result
-        (both (S.told sheets.old) (R.told replies.old))
-        (both (S.told sheets.new) (R.told replies.new)) }
+        (logs (S.told sheets.old) (R.told replies.old))
+        (logs (S.told sheets.new) (R.told replies.new)) }
     ensures memory { IsErrOf result EngineError.NoMemory → finished_of (Some finished.now) ≢ [] }
 {
     let mut count = finished.since_job;
@@ -117,12 +117,12 @@ fn send_copy<S: SheetSink, R: ReplySink>(
     sheets: &mut S,
     replies: &mut R,
 ) -> Result<(), EngineError>
-    requires can_count { CanCount (both (S.told sheets.old) (R.told replies.old)) }
+    requires has_fault_room { HasFaultRoom (logs (S.told sheets.old) (R.told replies.old)) }
     requires last { again ≡ true
         → TookLast (S.told sheets.old) (record { tag = tag; sheet = sheet.now }) }
     ensures { Sends tag (copy_out sheet.now count) result
-        (both (S.told sheets.old) (R.told replies.old))
-        (both (S.told sheets.new) (R.told replies.new)) }
+        (logs (S.told sheets.old) (R.told replies.old))
+        (logs (S.told sheets.new) (R.told replies.new)) }
 {
     deliver(sheet, again, tag, sheets, replies)?;
     match count {
@@ -139,10 +139,10 @@ fn reply_status<S: SheetSink, R: ReplySink>(
     sheets: &mut S,
     replies: &mut R,
 ) -> Result<(), EngineError>
-    requires { CanCount (both (S.told sheets.old) (R.told replies.old)) }
+    requires { HasFaultRoom (logs (S.told sheets.old) (R.told replies.old)) }
     ensures { Sends tag (Reply (page_reply since_job) ∷ []) result
-        (both (S.told sheets.old) (R.told replies.old))
-        (both (S.told sheets.new) (R.told replies.new)) }
+        (logs (S.told sheets.old) (R.told replies.old))
+        (logs (S.told sheets.new) (R.told replies.new)) }
 {
     let mut bytes = Vec::new(alloc);
     if write_reply(since_job, &mut bytes).is_err() {
@@ -174,12 +174,12 @@ fn deliver<S: SheetSink, R: ReplySink>(
     sheets: &mut S,
     replies: &mut R,
 ) -> Result<(), EngineError>
-    requires can_count { CanCount (both (S.told sheets.old) (R.told replies.old)) }
+    requires has_fault_room { HasFaultRoom (logs (S.told sheets.old) (R.told replies.old)) }
     requires last { again ≡ true
         → TookLast (S.told sheets.old) (record { tag = tag; sheet = sheet.now }) }
     ensures { Sends tag (Deliver sheet.now ∷ []) result
-        (both (S.told sheets.old) (R.told replies.old))
-        (both (S.told sheets.new) (R.told replies.new)) }
+        (logs (S.told sheets.old) (R.told replies.old))
+        (logs (S.told sheets.new) (R.told replies.new)) }
 {
     match hand(sheet, again, tag, sheets) {
         Ok(()) => Ok(()),
@@ -195,10 +195,10 @@ fn reply<S: SheetSink, R: ReplySink>(
     sheets: &mut S,
     replies: &mut R,
 ) -> Result<(), EngineError>
-    requires { CanCount (both (S.told sheets.old) (R.told replies.old)) }
+    requires { HasFaultRoom (logs (S.told sheets.old) (R.told replies.old)) }
     ensures { Sends tag (Reply bytes.now ∷ []) result
-        (both (S.told sheets.old) (R.told replies.old))
-        (both (S.told sheets.new) (R.told replies.new)) }
+        (logs (S.told sheets.old) (R.told replies.old))
+        (logs (S.told sheets.new) (R.told replies.new)) }
 {
     match replies.reply(bytes) {
         Ok(()) => Ok(()),

@@ -5,10 +5,10 @@ ghost use Rattle.std.specs.Prelude.{◌≡◌, ◌≢◌, [], ◌++◌, option_t
 ghost use Rattle.press_engine.specs.Outputs.{outputs_of, all_outputs};
 ghost use Rattle.press_engine.specs.Stepping.{is_top_used_up};
 
-use crate::calls::Kept;
-use crate::effect::{BodyStart, Closer, Effect, Sent, Source};
-use crate::frame::{Frame, FrameEnd};
-use crate::machine::{LEVELS, Machine, OVERLAY_LEVELS};
+use crate::activation::{Activation, ActivationEnd};
+use crate::calls::SavedEnvironment;
+use crate::effect::{BodyStart, Effect, EjectCause, Sent, Source};
+use crate::machine::{MACRO_LEVELS, Machine, OVERLAY_LEVELS};
 use press_cmd::Command;
 use press_cursor::CursorPosition;
 use press_macros::Body;
@@ -18,7 +18,7 @@ use std::alloc::{AllocError, Global};
 #[derive(Drop)]
 pub struct Begun {
     pub sent: Sent,
-    pub started: Option<Frame>,
+    pub started: Option<Activation>,
 }
 
 impl Begun {
@@ -40,34 +40,37 @@ impl Source {
     ghost use Rattle.press_engine.specs.Stack.{source_in};
 
     /// Where the commands of a body come from.
-    fn within(in_overlay: bool, levels: u8) -> Self
-        ensures { result ≡ source_in in_overlay levels }
+    fn within(in_overlay: bool, macro_levels: u8) -> Self
+        ensures { result ≡ source_in in_overlay macro_levels }
     {
         if in_overlay {
             Source::Overlay
         } else {
-            Source::at(levels)
+            Source::at(macro_levels)
         }
     }
 }
 
 /// Whether the innermost body is used up.
-fn is_top_used_up(frames: &[Frame]) -> bool
-    ensures { result ≡ is_top_used_up frames.now }
+fn is_top_used_up(activations: &[Activation]) -> bool
+    ensures { result ≡ is_top_used_up activations.now }
 {
-    match frames.first() {
-        Some(frame) => frame.body.is_used_up(),
+    match activations.first() {
+        Some(activation) => activation.body.is_used_up(),
         None => false,
     }
 }
 
 /// The body that a step started, if it started one, is the innermost.
-fn push_started(frames: &mut Vec<Frame>, started: Option<Frame>) -> Result<(), AllocError>
-    ensures ok { OnOk result (frames.new.items ≡ option_to_list started ++ frames.old.items) }
+fn push_started(
+    activations: &mut Vec<Activation>,
+    started: Option<Activation>,
+) -> Result<(), AllocError>
+    ensures ok { OnOk result (activations.new.items ≡ option_to_list started ++ activations.old.items) }
     ensures some { IsErr result → IsSome started }
 {
-    if let Some(frame) = started {
-        frames.insert(0, frame)?;
+    if let Some(activation) = started {
+        activations.insert(0, activation)?;
     }
     Ok(())
 }
@@ -90,59 +93,69 @@ impl Machine {
     ghost use Rattle.press_engine.specs.Calls.{overlay_body, end_of};
     ghost use Rattle.press_engine.specs.Effects.{effect_of};
     ghost use Rattle.press_engine.specs.Engine.{TakesMemory, InnerTakesMemory};
-    ghost use Rattle.press_engine.specs.Machine.{quiet, then_run, with_state, taken};
-    ghost use Rattle.press_engine.specs.declared.frame.Frame.{Frame};
+    ghost use Rattle.press_engine.specs.Machine.{silent, then_run, with_state, taken};
+    ghost use Rattle.press_engine.specs.declared.activation.Activation.{Activation};
     ghost use Rattle.press_cmd.specs.View.{token};
     ghost use Rattle.press_engine.specs.Stack.{HasNext, IsOverlayEnd, EndsOverlay, step_outer, step_inner, source_in};
-    ghost use Rattle.press_engine.specs.Stack.{begun, begun_body, begun_only, begun_close_with, end_by, pops, leave_overlay_with};
+    ghost use Rattle.press_engine.specs.Stack.{begun, begun_body, begun_only, begun_close_with, end_by, unwind, leave_overlay_with};
     ghost use Rattle.press_engine.specs.Outputs.{outputs_of, all_outputs};
     ghost use Rattle.press_engine.specs.declared.effect.Source.TheVariants.{Stream};
     ghost use Rattle.press_engine.specs.Stepping.{begun_of, first_effect, TakesFirst, finished, GoesOn, run_of, stepped_of};
     ghost use Rattle.press_engine.specs.Table.{effect_on};
 
     /// Takes the first command that is left of a body.
-    fn take_first(&mut self, alloc: Global, frame: &mut Frame) -> Result<Effect, AllocError>
-        requires { frame.old.body ≢ [] }
+    fn take_first(
+        &mut self,
+        alloc: Global,
+        activation: &mut Activation,
+    ) -> Result<Effect, AllocError>
+        requires { activation.old.body ≢ [] }
         ensures takes { IfOk result (λ effect. (command : Token) (rest : List Token)
-            → frame.old.body ≡ command ∷ rest
-            → TakesFirst frame.old command self.old effect self.new
-            × (frame.new ≡ record frame.old { body = rest })) }
+            → activation.old.body ≡ command ∷ rest
+            → TakesFirst activation.old command self.old effect self.new
+            × (activation.new ≡ record activation.old { body = rest })) }
         ensures memory { IsErr result → (command : Token) (rest : List Token)
-            → frame.old.body ≡ command ∷ rest
-            → TakesMemory (first_effect frame.old command self.old.state) }
+            → activation.old.body ≡ command ∷ rest
+            → TakesMemory (first_effect activation.old command self.old.state) }
     {
-        let source = Source::within(frame.in_overlay, frame.levels);
-        match frame.body.next() {
+        let source = Source::within(activation.in_overlay, activation.macro_levels);
+        match activation.body.next() {
             Some(command) => self.take(alloc, source, &command),
             None => unreachable!(),
         }
     }
 
     /// The body of a macro starts.
-    fn begin_body(&mut self, in_overlay: bool, levels: u8, body: Body, start: BodyStart) -> Frame
-        ensures { record { item = quiet self.new; started = result ∷ [] }
-            ≡ begun_body in_overlay levels body (end_of start self.old.state) self.old.state
+    fn begin_body(
+        &mut self,
+        in_overlay: bool,
+        macro_levels: u8,
+        body: Body,
+        start: BodyStart,
+    ) -> Activation
+        ensures { record { item = silent self.new; started = result ∷ [] }
+            ≡ begun_body in_overlay macro_levels body (end_of start self.old.state) self.old.state
             self.old }
     {
         let depth = self.depth;
         let end = self.state.end_of(start);
         self.enter_body(&end);
-        Frame {
+        Activation {
             body,
             in_overlay,
-            levels,
+            macro_levels,
             depth,
-            end: FrameEnd::Macro(end),
+            end: ActivationEnd::Macro(end),
         }
     }
 
     /// A page closes, or the overlay starts before it.
-    fn begin_close(&mut self, alloc: Global, closer: Closer) -> Result<Begun, AllocError>
+    fn begin_close(&mut self, alloc: Global, cause: EjectCause) -> Result<Begun, AllocError>
         ensures { IfOk result (λ it. begun_of self.new it
-            ≡ begun_close_with (overlay_body self.old.state) closer self.old) }
+            ≡ begun_close_with (overlay_body self.old.state) cause self.old) }
     {
         let Some(body) = self.state.overlay_body()? else {
-            let sent = self.state.finish_effect(alloc, Effect::Closes(closer))?;
+            let sent = self.state.finish_effect(alloc, Effect::Closes(cause))?;
             return Ok(Begun::only(sent));
         };
         let depth = self.depth;
@@ -152,13 +165,13 @@ impl Machine {
         self.depth = depth.saturating_add(1);
         Ok(Begun {
             sent: Sent::Nothing,
-            started: Some(Frame {
+            started: Some(Activation {
                 body,
                 in_overlay: true,
-                levels: OVERLAY_LEVELS,
+                macro_levels: OVERLAY_LEVELS,
                 depth,
-                end: FrameEnd::Close {
-                    closer,
+                end: ActivationEnd::Close {
+                    cause,
                     kept,
                     position,
                 },
@@ -171,28 +184,28 @@ impl Machine {
         &mut self,
         alloc: Global,
         in_overlay: bool,
-        levels: u8,
+        macro_levels: u8,
         effect: Effect,
     ) -> Result<Begun, AllocError>
         ensures begins { IfOk result (λ it. begun_of self.new it
-            ≡ begun in_overlay levels self.old (effect_of self.old.state effect)) }
+            ≡ begun in_overlay macro_levels self.old (effect_of self.old.state effect)) }
         ensures memory { IsErr result → TakesMemory (effect_of self.old.state effect) }
     {
         match effect {
             Effect::Starts(body, start) => {
-                if levels == 0 {
+                if macro_levels == 0 {
                     return Ok(Begun::only(Sent::Nothing));
                 }
                 Ok(Begun {
                     sent: Sent::Nothing,
-                    started: Some(self.begin_body(in_overlay, levels - 1, body, start)),
+                    started: Some(self.begin_body(in_overlay, macro_levels - 1, body, start)),
                 })
             }
-            Effect::Closes(closer) => {
+            Effect::Closes(cause) => {
                 if in_overlay {
                     return Ok(Begun::only(Sent::Nothing));
                 }
-                self.begin_close(alloc, closer)
+                self.begin_close(alloc, cause)
             }
             other => {
                 if in_overlay {
@@ -204,7 +217,7 @@ impl Machine {
     }
 
     /// An overlay is used up.
-    fn end_overlay(&mut self, kept: Kept, position: CursorPosition, depth: u8)
+    fn end_overlay(&mut self, kept: SavedEnvironment, position: CursorPosition, depth: u8)
         ensures { self.new ≡ leave_overlay_with kept position depth self.old }
     {
         self.state.end_overlay(kept, position);
@@ -212,10 +225,10 @@ impl Machine {
     }
 
     /// A body is used up.
-    fn end_frame(
+    fn end_activation(
         &mut self,
         alloc: Global,
-        end: FrameEnd,
+        end: ActivationEnd,
         depth: u8,
         out: &mut Vec<Sent>,
     ) -> Result<(), AllocError>
@@ -224,17 +237,17 @@ impl Machine {
         ensures overlay { IsErr result → IsOverlayEnd end }
     {
         match end {
-            FrameEnd::Macro(end) => {
+            ActivationEnd::Macro(end) => {
                 self.leave_body(end, depth);
                 Ok(())
             }
-            FrameEnd::Close {
-                closer,
+            ActivationEnd::Close {
+                cause,
                 kept,
                 position,
             } => {
                 self.end_overlay(kept, position, depth);
-                let sent = self.state.finish_effect(alloc, Effect::Closes(closer))?;
+                let sent = self.state.finish_effect(alloc, Effect::Closes(cause))?;
                 push_sent(out, sent)
             }
         }
@@ -244,16 +257,16 @@ impl Machine {
     fn end_bodies(
         &mut self,
         alloc: Global,
-        frames: &mut Vec<Frame>,
+        activations: &mut Vec<Activation>,
         out: &mut Vec<Sent>,
     ) -> Result<(), AllocError>
-        ensures ends { OnOk result (stepped_of self.new out.new.items frames.new.items
-            ≡ pops frames.old.items (run_of self.old out.old.items)) }
-        ensures overlay { IsErr result → EndsOverlay frames.old.items }
+        ensures ends { OnOk result (stepped_of self.new out.new.items activations.new.items
+            ≡ unwind activations.old.items (run_of self.old out.old.items)) }
+        ensures overlay { IsErr result → EndsOverlay activations.old.items }
     {
-        while is_top_used_up(frames) {
-            let frame = frames.remove(0);
-            self.end_frame(alloc, frame.end, frame.depth, out)?;
+        while is_top_used_up(activations) {
+            let activation = activations.remove(0);
+            self.end_activation(alloc, activation.end, activation.depth, out)?;
         }
         Ok(())
     }
@@ -263,17 +276,17 @@ impl Machine {
         &mut self,
         alloc: Global,
         it: Begun,
-        frames: &mut Vec<Frame>,
+        activations: &mut Vec<Activation>,
     ) -> Result<Vec<Sent>, AllocError>
-        ensures steps { IfOk result (λ out. stepped_of self.new out.items frames.new.items
-            ≡ finished (begun_of self.old it) frames.old.items) }
+        ensures steps { IfOk result (λ out. stepped_of self.new out.items activations.new.items
+            ≡ finished (begun_of self.old it) activations.old.items) }
         ensures memory { IsErr result → (outputs_of it.sent ≢ [])
-            ⊎ (option_to_list it.started ≢ []) ⊎ EndsOverlay frames.old.items }
+            ⊎ (option_to_list it.started ≢ []) ⊎ EndsOverlay activations.old.items }
     {
         let mut out = Vec::new(alloc);
         push_sent(&mut out, it.sent)?;
-        push_started(frames, it.started)?;
-        self.end_bodies(alloc, frames, &mut out)?;
+        push_started(activations, it.started)?;
+        self.end_bodies(alloc, activations, &mut out)?;
         Ok(out)
     }
 
@@ -283,29 +296,33 @@ impl Machine {
         &mut self,
         alloc: Global,
         in_overlay: bool,
-        levels: u8,
+        macro_levels: u8,
         effect: Effect,
-        frames: &mut Vec<Frame>,
+        activations: &mut Vec<Activation>,
     ) -> Result<Vec<Sent>, AllocError>
-        ensures steps { IfOk result (λ out. stepped_of self.new out.items frames.new.items
-            ≡ finished (begun in_overlay levels self.old (effect_of self.old.state effect))
-            frames.old.items) }
+        ensures steps { IfOk result (λ out. stepped_of self.new out.items activations.new.items
+            ≡ finished (begun in_overlay macro_levels self.old (effect_of self.old.state effect))
+            activations.old.items) }
         ensures memory { IsErr result → TakesMemory (effect_of self.old.state effect)
-            ⊎ GoesOn (begun in_overlay levels self.old (effect_of self.old.state effect))
-            frames.old.items }
+            ⊎ GoesOn (begun in_overlay macro_levels self.old (effect_of self.old.state effect))
+            activations.old.items }
     {
-        let it = self.begin(alloc, in_overlay, levels, effect)?;
-        self.finish_step(alloc, it, frames)
+        let it = self.begin(alloc, in_overlay, macro_levels, effect)?;
+        self.finish_step(alloc, it, activations)
     }
 
     /// The rest of a step in which all is done: the bodies that are used up end.
-    fn end_step(&mut self, alloc: Global, frames: &mut Vec<Frame>) -> Result<Vec<Sent>, AllocError>
-        ensures steps { IfOk result (λ out. stepped_of self.new out.items frames.new.items
-            ≡ finished (begun_only (quiet self.old)) frames.old.items) }
-        ensures memory { IsErr result → EndsOverlay frames.old.items }
+    fn end_step(
+        &mut self,
+        alloc: Global,
+        activations: &mut Vec<Activation>,
+    ) -> Result<Vec<Sent>, AllocError>
+        ensures steps { IfOk result (λ out. stepped_of self.new out.items activations.new.items
+            ≡ finished (begun_only (silent self.old)) activations.old.items) }
+        ensures memory { IsErr result → EndsOverlay activations.old.items }
     {
         let mut out = Vec::new(alloc);
-        self.end_bodies(alloc, frames, &mut out)?;
+        self.end_bodies(alloc, activations, &mut out)?;
         Ok(out)
     }
 
@@ -314,41 +331,41 @@ impl Machine {
         &mut self,
         alloc: Global,
         command: Command<'_>,
-        frames: &mut Vec<Frame>,
+        activations: &mut Vec<Activation>,
     ) -> Result<Vec<Sent>, AllocError>
-        requires none { frames.old.items ≡ [] }
-        ensures steps { IfOk result (λ out. stepped_of self.new out.items frames.new.items
+        requires none { activations.old.items ≡ [] }
+        ensures steps { IfOk result (λ out. stepped_of self.new out.items activations.new.items
             ≡ step_outer (token command.entry) self.old) }
         ensures memory { IsErr result
             → TakesMemory (effect_on Stream (token command.entry) self.old.state) }
     {
-        let effect = self.take(alloc, Source::within(false, LEVELS), &command)?;
+        let effect = self.take(alloc, Source::within(false, MACRO_LEVELS), &command)?;
         if effect.is_done() {
             return Ok(Vec::new(alloc));
         }
-        self.go_on(alloc, false, LEVELS, effect, frames)
+        self.go_on(alloc, false, MACRO_LEVELS, effect, activations)
     }
 
     /// Takes the first command of the innermost body.
     pub fn step_inner(
         &mut self,
         alloc: Global,
-        frames: &mut Vec<Frame>,
+        activations: &mut Vec<Activation>,
     ) -> Result<Vec<Sent>, AllocError>
-        requires running { HasNext frames.old.items }
+        requires running { HasNext activations.old.items }
         ensures steps { IfOk result (λ out.
-            (frame : Frame) (command : Token) (rest : List Token) (outer : List Frame)
-            → frames.old.items ≡ record frame { body = command ∷ rest } ∷ outer
-            → stepped_of self.new out.items frames.new.items
-            ≡ step_inner frame command rest outer self.old) }
-        ensures memory { IsErr result → InnerTakesMemory frames.old.items self.old }
+            (activation : Activation) (command : Token) (rest : List Token) (outer : List Activation)
+            → activations.old.items ≡ record activation { body = command ∷ rest } ∷ outer
+            → stepped_of self.new out.items activations.new.items
+            ≡ step_inner activation command rest outer self.old) }
+        ensures memory { IsErr result → InnerTakesMemory activations.old.items self.old }
     {
-        let in_overlay = frames[0].in_overlay;
-        let levels = frames[0].levels;
-        let effect = self.take_first(alloc, &mut frames[0])?;
+        let in_overlay = activations[0].in_overlay;
+        let macro_levels = activations[0].macro_levels;
+        let effect = self.take_first(alloc, &mut activations[0])?;
         if effect.is_done() {
-            return self.end_step(alloc, frames);
+            return self.end_step(alloc, activations);
         }
-        self.go_on(alloc, in_overlay, levels, effect, frames)
+        self.go_on(alloc, in_overlay, macro_levels, effect, activations)
     }
 }

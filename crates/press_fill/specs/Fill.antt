@@ -6,7 +6,7 @@ use Rattle.press_bits.specs.declared.mode.Mode.{Mode}
 use Rattle.press_page.specs.Place.{placed_dot}
 use Rattle.press_page.specs.declared.media.Orientation.{Orientation}
 use Rattle.press_pattern.specs.Tiling.{Tiling, tile_dot}
-use Rattle.press_pattern.specs.declared.ink.Ink.{Ink}
+use Rattle.press_pattern.specs.declared.brush.Brush.{Brush}
 use Rattle.press_fill.specs.declared.rect.Rect.{Rect}
 
 -- The mark of a rectangle on a page: all source dots black, the pattern dot of each dot of the frame is the tile's, and each
@@ -24,6 +24,6 @@ abbrev pub rect_mark : Rect → Tiling → Mode → Mark
 rect_mark rect tile mode = box_mark rect.x rect.y rect.width rect.height (tile_dot tile) mode
 
 -- The page after a fill. A pattern that does not exist changes nothing.
-abbrev pub filled : Orientation → Rect → Option Ink → Page → Page
+abbrev pub filled : Orientation → Rect → Option Brush → Page → Page
 filled orientation rect None page = page
-filled orientation rect (Some ink) page = painted page (fill_mark orientation page rect ink.tile ink.mode)
+filled orientation rect (Some brush) page = painted page (fill_mark orientation page rect brush.tile brush.mode)

@@ -2,7 +2,7 @@
 
 ghost use Rattle.std.specs.Prelude.{◌≡◌, None, IsOk, OnOk, OnErr};
 ghost use Rattle.press_bits.specs.Mark.{painted};
-ghost use Rattle.press_pattern.specs.Ink.{ink_of};
+ghost use Rattle.press_pattern.specs.Brush.{brush_of};
 ghost use Rattle.press_fill.specs.Fill.{fill_mark, filled};
 
 use crate::paint::fill_rect;
@@ -10,10 +10,10 @@ use crate::rect::Rect;
 use press_bits::{Bitmap, Mode};
 use press_canvas::Canvas;
 use press_page::{Orientation, PageEnv};
-use press_pattern::{Ink, Pattern, Patterns};
+use press_pattern::{Brush, Pattern, Patterns};
 use std::alloc::{AllocError, Global};
 
-/// Fills a rectangle of the frame with an ink. Dots outside the page are dropped.
+/// Fills a rectangle of the frame with an brush. Dots outside the page are dropped.
 ///
 /// # Errors
 ///
@@ -26,15 +26,15 @@ fn fill_with(
     alloc: Global,
     orientation: Orientation,
     rect: Rect,
-    ink: &Ink<'_>,
+    brush: &Brush<'_>,
 ) -> Result<(), AllocError>
     ensures filled { OnOk result (page.new
-        ≡ painted page.old (fill_mark orientation page.old rect ink.now.tile ink.now.mode)) }
+        ≡ painted page.old (fill_mark orientation page.old rect brush.now.tile brush.now.mode)) }
     ensures unchanged { OnErr result (page.new ≡ page.old) }
 {
     let frame = page.frame();
     frame.lie_as(alloc, orientation)?;
-    fill_rect(&mut frame.bitmap, rect, &ink.tile, ink.mode)
+    fill_rect(&mut frame.bitmap, rect, &brush.tile, brush.mode)
 }
 
 /// Fills a rectangle of the frame with a pattern in a mode: all source dots are black, and the pattern's dots lie in the
@@ -53,17 +53,17 @@ pub fn fill_canvas(
     pattern: Pattern,
     mode: Mode,
 ) -> Result<(), AllocError>
-    ensures filled { OnOk result (page.new ≡ filled environment.now.media.orientation area
-        (ink_of patterns.now pattern mode) page.old) }
+    ensures filled { OnOk result (page.new ≡ filled environment.now.page_setup.orientation area
+        (brush_of patterns.now pattern mode) page.old) }
     // a pattern that does not exist takes no memory
-    ensures missing { ink_of patterns.now pattern mode ≡ None → IsOk result }
+    ensures missing { brush_of patterns.now pattern mode ≡ None → IsOk result }
     ensures unchanged { OnErr result (page.new ≡ page.old) }
 {
-    let Some(ink) = patterns.ink(pattern, mode) else {
+    let Some(brush) = patterns.brush(pattern, mode) else {
         return Ok(());
     };
-    let orientation = environment.media.orientation;
-    fill_with(page, patterns.allocator(), orientation, area, &ink)
+    let orientation = environment.page_setup.orientation;
+    fill_with(page, patterns.allocator(), orientation, area, &brush)
 }
 
 /// Fills a rectangle of the frame of a bitmap, as [`fill_canvas`] fills that of a canvas.
@@ -81,13 +81,13 @@ pub fn fill(
     pattern: Pattern,
     mode: Mode,
 ) -> Result<(), AllocError>
-    ensures filled { OnOk result (page.new ≡ filled environment.now.media.orientation area
-        (ink_of patterns.now pattern mode) page.old) }
+    ensures filled { OnOk result (page.new ≡ filled environment.now.page_setup.orientation area
+        (brush_of patterns.now pattern mode) page.old) }
     // a pattern that does not exist takes no memory
-    ensures missing { ink_of patterns.now pattern mode ≡ None → IsOk result }
+    ensures missing { brush_of patterns.now pattern mode ≡ None → IsOk result }
     ensures unchanged { OnErr result (page.new ≡ page.old) }
 {
-    if patterns.ink(pattern, mode).is_none() {
+    if patterns.brush(pattern, mode).is_none() {
         return Ok(());
     }
     let mut canvas = Canvas::of_page(page.copy()?);

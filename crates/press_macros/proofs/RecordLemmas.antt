@@ -83,7 +83,7 @@ pub pushed : (bytes : List ℕ) (command : Token) (new : List ℕ) → AreRecord
 pushed bytes command new is one appended =
     let all = sound-append (decoded bytes) command is.sound one in
     let spelled : new ≡ encoded (decoded bytes ++ (command ∷ [])) =
-    appended ∙ ap (λ front. front ++ record_of command) is.spelled ∙ sym (encoded-append (decoded bytes) command) in
+    appended ∙ ap (λ prefix. prefix ++ record_of command) is.spelled ∙ sym (encoded-append (decoded bytes) command) in
     record {
       records = subst AreRecords (sym spelled) (records-of (decoded bytes ++ (command ∷ [])) all);
       commands = ap decoded spelled ∙ decoded-encoded (decoded bytes ++ (command ∷ [])) all;
@@ -97,7 +97,7 @@ push-records (Err _) bytes command new is one appended same = subst AreRecords (
 pub push-commands : {T E : Type 0} (r : Result T E) (bytes : List ℕ) (command : Token) (new : List ℕ) (commands : List Token) → AreRecords bytes → IsSound command
     → decoded bytes ≡ commands → OnOk r (new ≡ bytes ++ record_of command) → OnOk r (decoded new ≡ commands ++ (command ∷ []))
 push-commands (Ok _) bytes command new commands is one before appended =
-    (pushed bytes command new is one appended).commands ∙ ap (λ front. front ++ (command ∷ [])) before
+    (pushed bytes command new is one appended).commands ∙ ap (λ prefix. prefix ++ (command ∷ [])) before
 push-commands (Err _) bytes command new commands is one before appended = tt
 
 -- ---- the first record

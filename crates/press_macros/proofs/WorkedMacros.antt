@@ -3,29 +3,29 @@ use Rattle.std.proofs.Common.{◌≡◌, ℕ, [], ◌∷◌, Some, None, true, f
 use Rattle.std.specs.FinMap as maps
 use Rattle.std.specs.FinMap.{gets}
 use Rattle.press_cmd.specs.Token.{Control, Text}
-use Rattle.press_macros.specs.Macros.{Macros, no_macros, defining, begun, recorded, definition_ended, abandoned, body_of, macro_made, without, permanent_macros, is_permanent_macro}
+use Rattle.press_macros.specs.Macros.{Macros, no_macros, defining, definition_begun, recorded, definition_ended, abandoned, body_of, macro_made, without, permanent_macros, is_permanent_macro}
 use Rattle.press_macros.proofs.StoreLemmas.{get-permanent_stored}
 
 -- a macro that was defined under an ID, with one control byte
 abbrev defined : Macros → ℕ → ℕ → Macros
-defined macros id byte = definition_ended (recorded (begun macros id) (Control byte))
+defined macros id byte = definition_ended (recorded (definition_begun macros id) (Control byte))
 
 -- macro 1 is permanent, macro 2 temporary
 abbrev two : Macros
 two = macro_made (defined (defined no_macros 1 10) 2 13) 1 true
 
 pub commands_stay_in_order :
-    body_of (definition_ended (recorded (recorded (begun no_macros 7) (Text 65)) (Control 12))) 7 ≡ Some (Text 65 ∷ Control 12 ∷ [])
+    body_of (definition_ended (recorded (recorded (definition_begun no_macros 7) (Text 65)) (Control 12))) 7 ≡ Some (Text 65 ∷ Control 12 ∷ [])
 commands_stay_in_order = grind (gets, rules)
 
 -- the older macro is there until the definition ends
-pub the_older_one_while_defining : body_of (recorded (begun two 1) (Control 12)) 1 ≡ Some (Control 10 ∷ [])
+pub the_older_one_while_defining : body_of (recorded (definition_begun two 1) (Control 12)) 1 ≡ Some (Control 10 ∷ [])
 the_older_one_while_defining = grind (gets, rules)
 
-pub a_dropped_definition : body_of (abandoned (recorded (begun two 1) (Control 12))) 1 ≡ Some (Control 10 ∷ [])
+pub a_dropped_definition : body_of (abandoned (recorded (definition_begun two 1) (Control 12))) 1 ≡ Some (Control 10 ∷ [])
 a_dropped_definition = grind (gets, rules)
 
-pub the_open_definition : defining (recorded (begun two 1) (Control 12)) ≡ Some 1
+pub the_open_definition : defining (recorded (definition_begun two 1) (Control 12)) ≡ Some 1
 the_open_definition = refl
 
 pub permanent_one : is_permanent_macro (maps.get two.stored 1) ≡ true

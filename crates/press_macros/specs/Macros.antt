@@ -28,8 +28,8 @@ abbrev pub defining : Macros → Option ℕ
 defining macros = option_map (λ d. d.id) macros.definition
 
 -- Value 0 of the Macro Control command begins a definition. An older macro stays until the definition ends.
-abbrev pub begun : Macros → (id : ℕ) → Macros
-begun macros id = record { stored = macros.stored; definition = Some (record { id = id; commands = [] }) }
+abbrev pub definition_begun : Macros → (id : ℕ) → Macros
+definition_begun macros id = record { stored = macros.stored; definition = Some (record { id = id; commands = [] }) }
 
 -- A definition with one more command, the last.
 abbrev pub with_command : Definition → Token → Definition

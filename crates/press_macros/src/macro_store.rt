@@ -2,7 +2,7 @@
 
 ghost use Rattle.std.specs.Prelude.{◌≡◌, IfOk, IsErr, OnOk, OnErr, IsSome, IsNone};
 ghost use Rattle.press_cmd.specs.View.{token};
-ghost use Rattle.press_macros.specs.Macros.{no_macros, defining, begun, recorded, definition_ended, abandoned, body_of, without};
+ghost use Rattle.press_macros.specs.Macros.{no_macros, defining, definition_begun, recorded, definition_ended, abandoned, body_of, without};
 ghost use Rattle.press_macros.specs.Macros.{all_deleted, permanent_macros, macro_made};
 
 use crate::body::Body;
@@ -88,7 +88,7 @@ impl MacroStore {
     /// Source: PCL 5 Printer Language Technical Reference Manual, Macros, Macro Control command, value 0.
     pub fn begin(&mut self, id: u16)
         requires { IsNone (defining self.old) }
-        ensures { self.new ≡ begun self.old id }
+        ensures { self.new ≡ definition_begun self.old id }
     {
         self.definition = Some(OpenDefinition::new(*self.stored.allocator(), id));
     }

@@ -121,7 +121,7 @@ fn append_record(command: &Command, out: &mut Vec<u8>) -> Result<(), AllocError>
 /// Appends the command's record. An error leaves the vector longer, with its old front.
 fn append(command: &Command, out: &mut Vec<u8>) -> Result<(), AllocError>
     ensures ok { OnOk result (out.new.items ≡ out.old.items ++ record_of (token command.now)) }
-    ensures front { take (length out.old.items) out.new.items ≡ out.old.items }
+    ensures prefix { take (length out.old.items) out.new.items ≡ out.old.items }
 {
     out.extend_from_slice(&header(command))?;
     write_command(command, out)

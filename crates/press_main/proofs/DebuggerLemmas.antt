@@ -6,7 +6,7 @@ use Rattle.std.proofs.lemmas.List.{append_assoc, append-nil}
 use Rattle.press_asm.specs.Text.{lines_of}
 use Rattle.press_debug.specs.declared.breakpoints.Break.{Break}
 use Rattle.press_debug.specs.Breaks.{no_breaks}
-use Rattle.press_debug.specs.Steps.{Standing, at_start}
+use Rattle.press_debug.specs.Steps.{DebuggerState, at_start}
 use Rattle.press_main.specs.declared.debugging.DebugError.{DebugError}
 use Rattle.press_main.specs.declared.debugging.DebugError.TheVariants.{Input}
 use Rattle.press_main.specs.declared.inputs.InputError.{InputError}
@@ -146,12 +146,12 @@ module _ (bytes : List ℕ) (at : Seat) (had old : Option (List ℕ)) where
 
 -- ---- a debugger that was opened
 
-module _ (stream rest had left old new : Option (List ℕ)) (bytes : List ℕ) (steps : Standing) (breaks : List (Option Break)) (read : ReadWhole stream rest bytes) (starts : steps ≡ at_start bytes) (none : breaks ≡ no_breaks) where
+module _ (stream rest had left old new : Option (List ℕ)) (bytes : List ℕ) (steps : DebuggerState) (breaks : List (Option Break)) (read : ReadWhole stream rest bytes) (starts : steps ≡ at_start bytes) (none : breaks ≡ no_breaks) where
   stands : StandsIn bytes steps
   stands = subst (StandsIn bytes) (sym starts) (stands_at_start bytes)
 
   same_seat : seat steps breaks ≡ opened bytes
-  same_seat = ap (λ (these : Standing). seat these breaks) starts ∙ ap (λ (these : List (Option Break)). seat (at_start bytes) these) none
+  same_seat = ap (λ (these : DebuggerState). seat these breaks) starts ∙ ap (λ (these : List (Option Break)). seat (at_start bytes) these) none
 
   pub Debugs-all : ((all : List ℕ) → StandsIn all steps → AnswersAll all (seat steps breaks) had left old new) → Debugs stream rest had left old new
   Debugs-all answers = (bytes, read, subst (λ (at : Seat). AnswersAll bytes at had left old new) same_seat (answers bytes stands))

@@ -8,13 +8,13 @@ use Rattle.press_cmd.specs.declared.variant.Kind.{Kind}
 use Rattle.press_asm.specs.Kinds.{kind_line}
 use Rattle.press_engine.specs.declared.machine.Machine.{Machine}
 use Rattle.press_engine.specs.declared.view.View.{View}
-use Rattle.press_engine.specs.Machine.{Run}
+use Rattle.press_engine.specs.Machine.{StepResult}
 use Rattle.press_stream.specs.State.{JobState}
 use Rattle.press_debug.specs.declared.breakpoints.Break.{Break}
 use Rattle.press_debug.specs.declared.debugger.Stop.{Stop}
 use Rattle.press_debug.specs.declared.debugger.Stop.TheVariants.{AtBreak, Stepped, Ended, LimitReached, Failed}
-use Rattle.press_debug.specs.Steps.{Standing, Advances, at_start}
-use Rattle.press_debug.specs.Stops.{MetBy, StateMeets, StopsAt, Goes, StopsInto, StopsOver}
+use Rattle.press_debug.specs.Steps.{DebuggerState, Advances, at_start}
+use Rattle.press_debug.specs.Stops.{MetBy, StateMeets, StopsAt, ContinuesTo, StopsInto, StopsOver}
 use Rattle.press_debug.proofs.PlaceLaws.{places_go_on}
 use Rattle.press_main.specs.declared.debugger_lines.DebuggerLine.{DebuggerLine}
 use Rattle.press_main.specs.declared.debugger_lines.DebuggerLine.TheVariants as line
@@ -24,31 +24,31 @@ use Rattle.press_main.specs.Debugging.{Seat, NeverMet, IsQuiet, DoesAsked, DoesL
 -- ---- a watch that nothing meets
 
 module _ (watches : View → Bool → Type 0) (quiet : IsQuiet watches) (table : List (Option Break)) where
-  MetBy-quiet : (number : Option ℕ) (view : View) → MetBy watches table number view → MetBy NeverMet table number view
-  MetBy-quiet (Some number) view (inl met) = inl met
-  MetBy-quiet (Some number) view (inr watch) = inr (watch.0, watch.1, quiet view true watch.2)
-  MetBy-quiet None view meets = (meets.0, quiet view false meets.1)
+  MetBy-silent : (number : Option ℕ) (view : View) → MetBy watches table number view → MetBy NeverMet table number view
+  MetBy-silent (Some number) view (inl met) = inl met
+  MetBy-silent (Some number) view (inr watch) = inr (watch.0, watch.1, quiet view true watch.2)
+  MetBy-silent None view meets = (meets.0, quiet view false meets.1)
 
-  StateMeets-quiet : (number : Option ℕ) (machine : Machine) → StateMeets watches table number machine → StateMeets NeverMet table number machine
-  StateMeets-quiet number machine state =
-      record { view = state.view; shows = state.shows; stack = state.stack; meets = MetBy-quiet number state.view state.meets }
+  StateMeets-silent : (number : Option ℕ) (machine : Machine) → StateMeets watches table number machine → StateMeets NeverMet table number machine
+  StateMeets-silent number machine state =
+      record { view = state.view; shows = state.shows; stack = state.stack; meets = MetBy-silent number state.view state.meets }
 
-  StopsAt-quiet : (items : List Run) (max : ℕ) (stop : Stop) (new : JobState) → StopsAt watches table items max stop new → StopsAt NeverMet table items max stop new
-  StopsAt-quiet items max (AtBreak number) new (passed, here, is, few, all, meets) =
-      (passed, here, is, few, All-weaker (λ item. StateMeets watches table None item.machine) (λ item. StateMeets NeverMet table None item.machine) (λ item. StateMeets-quiet None item.machine) passed all, StateMeets-quiet (Some number) here.machine meets)
-  StopsAt-quiet items max Ended new (few, all, over) =
-      (few, All-weaker (λ item. StateMeets watches table None item.machine) (λ item. StateMeets NeverMet table None item.machine) (λ item. StateMeets-quiet None item.machine) items all, over)
-  StopsAt-quiet items max LimitReached new (many, all, some) =
-      (many, All-weaker (λ item. StateMeets watches table None item.machine) (λ item. StateMeets NeverMet table None item.machine) (λ item. StateMeets-quiet None item.machine) items all, some)
-  StopsAt-quiet items max Stepped new stops = stops
-  StopsAt-quiet items max Failed new stops = stops
+  StopsAt-silent : (items : List StepResult) (max : ℕ) (stop : Stop) (new : JobState) → StopsAt watches table items max stop new → StopsAt NeverMet table items max stop new
+  StopsAt-silent items max (AtBreak number) new (passed, here, is, few, all, meets) =
+      (passed, here, is, few, All-weaker (λ item. StateMeets watches table None item.machine) (λ item. StateMeets NeverMet table None item.machine) (λ item. StateMeets-silent None item.machine) passed all, StateMeets-silent (Some number) here.machine meets)
+  StopsAt-silent items max Ended new (few, all, over) =
+      (few, All-weaker (λ item. StateMeets watches table None item.machine) (λ item. StateMeets NeverMet table None item.machine) (λ item. StateMeets-silent None item.machine) items all, over)
+  StopsAt-silent items max LimitReached new (many, all, some) =
+      (many, All-weaker (λ item. StateMeets watches table None item.machine) (λ item. StateMeets NeverMet table None item.machine) (λ item. StateMeets-silent None item.machine) items all, some)
+  StopsAt-silent items max Stepped new stops = stops
+  StopsAt-silent items max Failed new stops = stops
 
-  pub Goes-quiet : (old new : Standing) (max : ℕ) (stop : Stop) → Goes watches table old max stop new → Goes NeverMet table old max stop new
-  Goes-quiet old new max (AtBreak number) (items, advances, stops) = (items, advances, StopsAt-quiet items max (AtBreak number) new.job stops)
-  Goes-quiet old new max Ended (items, advances, stops) = (items, advances, StopsAt-quiet items max Ended new.job stops)
-  Goes-quiet old new max LimitReached (items, advances, stops) = (items, advances, StopsAt-quiet items max LimitReached new.job stops)
-  Goes-quiet old new max Stepped (items, advances, stops) = (items, advances, StopsAt-quiet items max Stepped new.job stops)
-  Goes-quiet old new max Failed goes = goes
+  pub CarriesOut-silent : (old new : DebuggerState) (max : ℕ) (stop : Stop) → ContinuesTo watches table old max stop new → ContinuesTo NeverMet table old max stop new
+  CarriesOut-silent old new max (AtBreak number) (items, advances, stops) = (items, advances, StopsAt-silent items max (AtBreak number) new.job stops)
+  CarriesOut-silent old new max Ended (items, advances, stops) = (items, advances, StopsAt-silent items max Ended new.job stops)
+  CarriesOut-silent old new max LimitReached (items, advances, stops) = (items, advances, StopsAt-silent items max LimitReached new.job stops)
+  CarriesOut-silent old new max Stepped (items, advances, stops) = (items, advances, StopsAt-silent items max Stepped new.job stops)
+  CarriesOut-silent old new max Failed goes = goes
 
 -- ---- places in the trace of a stream
 
@@ -56,30 +56,30 @@ module _ (bytes : List ℕ) where
   pub stands_at_start : StandsIn bytes (at_start bytes)
   stands_at_start = inl ([], places_go_on.begins bytes)
 
-  stands_on : (old new : Standing) (taken : List Run) → StandsIn bytes old → Advances old taken new → StandsIn bytes new
+  stands_on : (old new : DebuggerState) (taken : List StepResult) → StandsIn bytes old → Advances old taken new → StandsIn bytes new
   stands_on old new taken (inl (items, behind)) advances = inl (items ++ taken, places_go_on.goes_on bytes items taken old new behind advances)
   stands_on old new taken (inr none) advances =
       let lost : None ≡ Some advances.from = sym none ∙ advances.starts in
       absurd cc
 
-  stands_still : (old new : Standing) → new ≡ old → StandsIn bytes old → StandsIn bytes new
+  stands_still : (old new : DebuggerState) → new ≡ old → StandsIn bytes old → StandsIn bytes new
   stands_still old new same stands = subst (StandsIn bytes) (sym same) stands
 
-  stands_into : (old new : Standing) (stop : Stop) → StopsInto old stop new → StandsIn bytes old → StandsIn bytes new
+  stands_into : (old new : DebuggerState) (stop : Stop) → StopsInto old stop new → StandsIn bytes old → StandsIn bytes new
   stands_into old new Stepped (item, advances) stands = stands_on old new (item ∷ []) stands advances
   stands_into old new Ended (over, same) stands = stands_still old new same stands
   stands_into old new Failed (none, _) stands = inr none
   stands_into old new (AtBreak number) stops stands = absurd stops
   stands_into old new LimitReached stops stands = absurd stops
 
-  stands_over : (old new : Standing) (stop : Stop) → StopsOver old stop new → StandsIn bytes old → StandsIn bytes new
+  stands_over : (old new : DebuggerState) (stop : Stop) → StopsOver old stop new → StandsIn bytes old → StandsIn bytes new
   stands_over old new Stepped passes stands = stands_on old new (passes.passed ++ passes.here ∷ []) stands passes.advances
   stands_over old new Ended (over, same) stands = stands_still old new same stands
   stands_over old new Failed (none, _) stands = inr none
   stands_over old new (AtBreak number) stops stands = absurd stops
   stands_over old new LimitReached stops stands = absurd stops
 
-  stands_gone : (table : List (Option Break)) (old new : Standing) (max : ℕ) (stop : Stop) → Goes NeverMet table old max stop new → StandsIn bytes old → StandsIn bytes new
+  stands_gone : (table : List (Option Break)) (old new : DebuggerState) (max : ℕ) (stop : Stop) → ContinuesTo NeverMet table old max stop new → StandsIn bytes old → StandsIn bytes new
   stands_gone table old new max (AtBreak number) (items, advances, _) stands = stands_on old new items stands advances
   stands_gone table old new max Ended (items, advances, _) stands = stands_on old new items stands advances
   stands_gone table old new max LimitReached (items, advances, _) stands = stands_on old new items stands advances

@@ -6,7 +6,7 @@ use Rattle.std.proofs.lemmas.Bool.{eqb-true, true≢false}
 use Rattle.std.proofs.lemmas.List.{flat_map_more, map-append, take_more}
 use Rattle.std.proofs.lemmas.List.Folds.{list_all-map, list_all_at, list_all_more}
 use Rattle.press_pjl.specs.Variables.{is_assignment}
-use Rattle.press_main.specs.Defaults.{HoldsBehind, default_line, front_of, with_front}
+use Rattle.press_main.specs.Defaults.{HoldsBehind, default_line, prefix_of, with_prefix}
 
 -- the texts of words
 abbrev texts_of : List (Bor (List ℕ)) → List (List ℕ)
@@ -45,21 +45,21 @@ default_lines-more words i other before after inside lines more =
     ∙ ap (flat_map default_line) (sym one)
 
 -- all lines, and the reset behind them
-pub front_of-some : (words : List (Bor (List ℕ))) (lines front : List ℕ) → (length words == 0) ≡ false → lines ≡ flat_map default_line (map (λ word. word.now) words)
-    → front ≡ lines ++ (codes "@PJL RESET" ++ 10 ∷ []) → front ≡ front_of (map (λ word. word.now) words)
-front_of-some [] lines front some are is = absurd (true≢false some)
-front_of-some (word ∷ words) lines front some are is = is ∙ ap (λ (bytes : List ℕ). bytes ++ (codes "@PJL RESET" ++ 10 ∷ [])) are
+pub prefix_of-some : (words : List (Bor (List ℕ))) (lines prefix : List ℕ) → (length words == 0) ≡ false → lines ≡ flat_map default_line (map (λ word. word.now) words)
+    → prefix ≡ lines ++ (codes "@PJL RESET" ++ 10 ∷ []) → prefix ≡ prefix_of (map (λ word. word.now) words)
+prefix_of-some [] lines prefix some are is = absurd (true≢false some)
+prefix_of-some (word ∷ words) lines prefix some are is = is ∙ ap (λ (bytes : List ℕ). bytes ++ (codes "@PJL RESET" ++ 10 ∷ [])) are
 
 -- no bytes in front, or some
-pub with_front-none : (front : List ℕ) (had : Option (List ℕ)) → (length front == 0) ≡ true → with_front front had ≡ had
-with_front-none [] had none = refl
-with_front-none (byte ∷ bytes) had none = let zero = eqb-true (length (byte ∷ bytes)) 0 none in absurd (omega (arith, zero))
+pub with_prefix-none : (prefix : List ℕ) (had : Option (List ℕ)) → (length prefix == 0) ≡ true → with_prefix prefix had ≡ had
+with_prefix-none [] had none = refl
+with_prefix-none (byte ∷ bytes) had none = let zero = eqb-true (length (byte ∷ bytes)) 0 none in absurd (omega (arith, zero))
 
-pub with_front-some : (front : List ℕ) (had : Option (List ℕ)) → (length front == 0) ≡ false → with_front front had ≡ option_append (Some front) had
-with_front-some [] had some = absurd (true≢false some)
-with_front-some (byte ∷ bytes) had some = refl
+pub with_prefix-some : (prefix : List ℕ) (had : Option (List ℕ)) → (length prefix == 0) ≡ false → with_prefix prefix had ≡ option_append (Some prefix) had
+with_prefix-some [] had some = absurd (true≢false some)
+with_prefix-some (byte ∷ bytes) had some = refl
 
 -- what holds of the bytes in front and what a reader has behind them
-pub holds-behind : (front : List ℕ) (had left rest : Option (List ℕ)) (Holds : Option (List ℕ) → Option (List ℕ) → Type 0) → (length front == 0) ≡ false → Holds (option_append (Some front) had) rest → HoldsBehind front had left Holds
+pub holds-behind : (prefix : List ℕ) (had left rest : Option (List ℕ)) (Holds : Option (List ℕ) → Option (List ℕ) → Type 0) → (length prefix == 0) ≡ false → Holds (option_append (Some prefix) had) rest → HoldsBehind prefix had left Holds
 holds-behind [] had left rest Holds some holds = absurd (true≢false some)
 holds-behind (byte ∷ bytes) had left rest Holds some holds = (rest, holds)

@@ -5,12 +5,12 @@ use Rattle.std.proofs.lemmas.Option.{same_Some}
 use Rattle.std.specs.Coded.{Coded, Coded-set, code_by, coded×, coded_list, coded_option, coded_ℕ}
 use mathlib.Core.Logic.{∥∥₁_elim}
 use Rattle.press_cmd.specs.Split.{Closed}
-use Rattle.press_sink.specs.Sides.{Sides}
+use Rattle.press_sink.specs.PrintedSheet.{PrintedSheet}
 use Rattle.press_sink.specs.declared.fault.SinkError.{SinkError}
 use Rattle.press_sink.specs.declared.fault.SinkError.TheVariants.{SinkFault}
 use Rattle.press_sink.specs.declared.sheet.Delivery.{Delivery}
 use Rattle.press_sink.specs.Sending.{sheets_of, sheets_in, under_tag}
-use Rattle.press_sink.specs.Outputs.{MadeOutput, MakesFront, MakesOutputs, IsFront, with_outputs, sheet_outputs}
+use Rattle.press_sink.specs.Outputs.{MadeOutput, MakesPrefix, MakesOutputs, IsPrefix, with_outputs, sheet_outputs}
 use Rattle.press_sink.specs.Template.{NameParts, IsTemplate, IsNoTemplate, number_after, side_count}
 use Rattle.press_sink.specs.Faults.{template_number}
 use Rattle.press_sink.specs.declared.fault.TemplateError.{TemplateError}
@@ -19,7 +19,7 @@ use Rattle.press_sink.specs.declared.fault.TemplateError.TheVariants.{BadTemplat
 use Rattle.press_sink.proofs.SendingLemmas.{sheets_in-tagged, told-twice}
 use Rattle.press_stream.specs.declared.fault.JobError.{JobError}
 use Rattle.press_stream.specs.Meaning.{meaning_of, with_exit}
-use Rattle.press_sink.specs.Told.{both}
+use Rattle.press_sink.specs.SinkLog.{logs}
 use Rattle.press_stream.specs.Printed.{Printed}
 use Rattle.press_main.specs.Files.{PrintsBy, MakesFiles, files_told, replies_written, DoesNothing, MakesSheets, ComesBehind, PrintsNoFiles, sheets_outputs, number_behind}
 use Rattle.press_main.specs.Folders.{KeepsFolder}
@@ -33,14 +33,14 @@ made_code =
     (λ output. (output.name, output.holds)) (λ parts. record { name = parts.0; holds = parts.1 }) (λ _. refl)))
 
 -- the outputs of one sheet more
-sheets_outputs-push : (parts : NameParts) (number : ℕ) (sheets : List Sides) (sheet : Sides) → sheets_outputs parts number (sheets ++ sheet ∷ []) ≡ sheets_outputs parts number sheets ++ sheet_outputs parts (number_behind number sheets) sheet
+sheets_outputs-push : (parts : NameParts) (number : ℕ) (sheets : List PrintedSheet) (sheet : PrintedSheet) → sheets_outputs parts number (sheets ++ sheet ∷ []) ≡ sheets_outputs parts number sheets ++ sheet_outputs parts (number_behind number sheets) sheet
 sheets_outputs-push parts number [] sheet = append-nil (sheet_outputs parts number sheet)
 sheets_outputs-push parts number (first ∷ sheets) sheet =
     let next = number_after (side_count first) number in
     ap (λ (more : List MadeOutput). sheet_outputs parts number first ++ more) (sheets_outputs-push parts next sheets sheet)
     ∙ sym (append_assoc (sheet_outputs parts number first) (sheets_outputs parts next sheets) (sheet_outputs parts (number_behind next sheets) sheet))
 
-number_behind-push : (number : ℕ) (sheets : List Sides) (sheet : Sides) → number_behind number (sheets ++ sheet ∷ []) ≡ number_after (side_count sheet) (number_behind number sheets)
+number_behind-push : (number : ℕ) (sheets : List PrintedSheet) (sheet : PrintedSheet) → number_behind number (sheets ++ sheet ∷ []) ≡ number_after (side_count sheet) (number_behind number sheets)
 number_behind-push number [] sheet = refl
 number_behind-push number (first ∷ sheets) sheet = number_behind-push (number_after (side_count first) number) sheets sheet
 
@@ -65,11 +65,11 @@ KeepsFolder-more parts begun deliveries one names names' number number' own own'
       numbered = λ none. next ∙ ap (number_after (side_count one.sheet)) numbered ∙ sym (number_behind-push 1 sheets one.sheet);
       sound = λ none. faults ∙ keeps.sound refl;
     } in
-    subst (λ (all : List Sides). KeepsFolder parts begun all 0 names' number' own' now') (sym more) result
+    subst (λ (all : List PrintedSheet). KeepsFolder parts begun all 0 names' number' own' now') (sym more) result
 
 -- a sheet had a fault, the first one
-pub KeepsFolder-fault : (parts : NameParts) (begun : Option (List MadeOutput)) (sheets : List Sides) (sheet : Sides) (names names' : NameParts) (number number' own own' : ℕ) (now now' : Option (List MadeOutput))
-    → KeepsFolder parts begun sheets 0 names number own now → names' ≡ names → MakesFront (sheet_outputs names number sheet) now now'
+pub KeepsFolder-fault : (parts : NameParts) (begun : Option (List MadeOutput)) (sheets : List PrintedSheet) (sheet : PrintedSheet) (names names' : NameParts) (number number' own own' : ℕ) (now now' : Option (List MadeOutput))
+    → KeepsFolder parts begun sheets 0 names number own now → names' ≡ names → MakesPrefix (sheet_outputs names number sheet) now now'
     → KeepsFolder parts begun sheets 1 names' number' own' now'
 KeepsFolder-fault parts begun sheets sheet names names' number number' own own' now now' keeps same front =
     let numbered : number ≡ number_behind 1 sheets = keeps.numbered refl in
@@ -80,7 +80,7 @@ KeepsFolder-fault parts begun sheets sheet names names' number number' own own' 
       named = same ∙ keeps.named;
       makes = record {
         behind = front.0;
-        comes = (sheet, subst (λ (outputs : List MadeOutput). IsFront front.0 outputs) is front.1);
+        comes = (sheet, subst (λ (outputs : List MadeOutput). IsPrefix front.0 outputs) is front.1);
         made = front.2 ∙ ap (with_outputs front.0) before ∙ told-twice begun (sheets_outputs parts 1 sheets) front.0;
       };
       numbered = λ none. absurd (omega (arith, none));
@@ -94,7 +94,7 @@ comes-again (suc faults) behind parts number some comes =
     subst (λ n. ComesBehind n behind parts number) is comes
 
 -- nothing more was made after a fault
-pub KeepsFolder-again : (parts : NameParts) (begun : Option (List MadeOutput)) (sheets : List Sides) (faults : ℕ) (names : NameParts) (number own : ℕ) (now : Option (List MadeOutput)) → (faults ≡ 0 → ⊥) → KeepsFolder parts begun sheets faults names number own now → KeepsFolder parts begun sheets (faults + 1) names number own now
+pub KeepsFolder-again : (parts : NameParts) (begun : Option (List MadeOutput)) (sheets : List PrintedSheet) (faults : ℕ) (names : NameParts) (number own : ℕ) (now : Option (List MadeOutput)) → (faults ≡ 0 → ⊥) → KeepsFolder parts begun sheets faults names number own now → KeepsFolder parts begun sheets (faults + 1) names number own now
 KeepsFolder-again parts begun sheets faults names number own now some keeps = record {
   named = keeps.named;
   makes = record { behind = keeps.makes.behind; comes = comes-again faults _ parts _ some keeps.makes.comes; made = keeps.makes.made };
@@ -114,8 +114,8 @@ KeepsFolder-next parts begun faults taken taken' one names names' number number'
     (subst (λ n. KeepsFolder parts begun (sheets_in (taken ++ one ∷ [])) n names' number' own' now') (sym none) after)
 
 -- the same after a fault
-pub KeepsFolder-failed : (parts : NameParts) (begun : Option (List MadeOutput)) (sheets : List Sides) (faults : ℕ) (sheet : Sides) (names names' : NameParts) (number number' own own' : ℕ) (now now' : Option (List MadeOutput))
-    → faults ≡ 0 → KeepsFolder parts begun sheets faults names number own now → names' ≡ names → MakesFront (sheet_outputs names number sheet) now now'
+pub KeepsFolder-failed : (parts : NameParts) (begun : Option (List MadeOutput)) (sheets : List PrintedSheet) (faults : ℕ) (sheet : PrintedSheet) (names names' : NameParts) (number number' own own' : ℕ) (now now' : Option (List MadeOutput))
+    → faults ≡ 0 → KeepsFolder parts begun sheets faults names number own now → names' ≡ names → MakesPrefix (sheet_outputs names number sheet) now now'
     → KeepsFolder parts begun sheets (faults + 1) names' number' own' now'
 KeepsFolder-failed parts begun sheets faults sheet names names' number number' own own' now now' none keeps same front =
     let before : KeepsFolder parts begun sheets 0 names number own now = subst (λ n. KeepsFolder parts begun sheets n names number own now) none keeps in
@@ -124,11 +124,11 @@ KeepsFolder-failed parts begun sheets faults sheet names names' number number' o
     (KeepsFolder-fault parts begun sheets sheet names names' number number' own own' now now' before same front)
 
 -- what a fault leaves
-pub fault_made : (error : SinkError) (outputs : List MadeOutput) (old new : Option (List MadeOutput)) → error ≡ SinkFault → MakesOutputs (Err error) outputs old new → MakesFront outputs old new
+pub fault_made : (error : SinkError) (outputs : List MadeOutput) (old new : Option (List MadeOutput)) → error ≡ SinkFault → MakesOutputs (Err error) outputs old new → MakesPrefix outputs old new
 fault_made error outputs old new fault made = subst (λ (one : SinkError). MakesOutputs (Err one) outputs old new) fault made
 
 -- without a fault the outputs are those of the sheets
-made_of : (parts : NameParts) (sheets : List Sides) (faults : ℕ) (before after : Option (List MadeOutput)) → faults ≡ 0 → ∥ MakesSheets parts sheets faults before after ∥₁ → after ≡ with_outputs (sheets_outputs parts 1 sheets) before
+made_of : (parts : NameParts) (sheets : List PrintedSheet) (faults : ℕ) (before after : Option (List MadeOutput)) → faults ≡ 0 → ∥ MakesSheets parts sheets faults before after ∥₁ → after ≡ with_outputs (sheets_outputs parts 1 sheets) before
 made_of parts sheets faults before after none makes =
     ∥∥₁_elim makes (Coded-set made_code after (with_outputs (sheets_outputs parts 1 sheets) before)) (λ one. made_here one)
   where
@@ -146,7 +146,7 @@ makes_files template parts status said says (Some bytes) left old new before aft
     of_error : (error : Option JobError) → prints.prints.error ≡ error → MakesFiles template bytes before after
     of_error (Some error) is = absurd (omega (arith, zero_, prints.prints.answers, ap status_of_fault is))
     of_error None is =
-        let P : Option JobError → Type 0 = λ error. Printed (Some bytes) left 0 error prints.prints.machine (both (files_told [] 0) (replies_written old 0)) (both (files_told prints.deliveries prints.faults) (replies_written new prints.prints.faults)) in
+        let P : Option JobError → Type 0 = λ error. Printed (Some bytes) left 0 error prints.prints.machine (logs (files_told [] 0) (replies_written old 0)) (logs (files_told prints.deliveries prints.faults) (replies_written new prints.prints.faults)) in
         let printed : P None = subst P is prints.prints.printed in
         let commands = printed.printed.commands in
         let sheets = sheets_of (meaning_of (with_exit commands)).outputs in
@@ -159,7 +159,7 @@ makes_files template parts status said says (Some bytes) left old new before aft
           closed = subst (λ all. Closed all commands) (read_all bytes left printed.bytes printed.read) printed.printed.closed;
           made =
               made_of parts (sheets_in prints.deliveries) prints.faults before after printed.printed.went.sheet_faults prints.makes
-              ∙ ap (λ (all : List Sides). with_outputs (sheets_outputs parts 1 all) before) all_sheets;
+              ∙ ap (λ (all : List PrintedSheet). with_outputs (sheets_outputs parts 1 all) before) all_sheets;
         }
 
 -- why nothing was begun of a text

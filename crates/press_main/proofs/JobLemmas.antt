@@ -34,7 +34,7 @@ lacks-an-image bytes names i other images why inside so_far refused = record {
   had = bytes (get_or names i other);
   in_order =
       ap (map bytes) (sym (take-append-drop (i + 1) names)) ∙ map-append bytes (take (i + 1) names) (drop (i + 1) names)
-      ∙ ap (λ (front : List Bytes). front ++ map bytes (drop (i + 1) names)) (ap (map bytes) (take_more names i other inside) ∙ map-append bytes (take i names) (get_or names i other ∷ []))
+      ∙ ap (λ (prefix : List Bytes). prefix ++ map bytes (drop (i + 1) names)) (ap (map bytes) (take_more names i other inside) ∙ map-append bytes (take i names) (get_or names i other ∷ []))
       ∙ append_assoc (map bytes (take i names)) (bytes (get_or names i other) ∷ []) (map bytes (drop (i + 1) names));
   images = images;
   images_read = so_far;

@@ -49,7 +49,7 @@ takes-line held ahead old new left place is first adds leaves =
     let feed : get_or ahead place 0 ≡ 10 = eqb-true _ _ there.1 in (
       take place ahead,
       HasNoFeed-take ahead place there.2,
-      sym is ∙ sym (take-append-drop (place + 1) ahead) ∙ ap (λ (front : List ℕ). front ++ drop (place + 1) ahead) (take_more ahead place 0 there.0)
+      sym is ∙ sym (take-append-drop (place + 1) ahead) ∙ ap (λ (prefix : List ℕ). prefix ++ drop (place + 1) ahead) (take_more ahead place 0 there.0)
           ∙ append_assoc (take place ahead) (get_or ahead place 0 ∷ []) (drop (place + 1) ahead)
           ∙ ap (λ (byte : ℕ). take place ahead ++ byte ∷ drop (place + 1) ahead) feed
           ∙ ap (λ (bytes : List ℕ). take place ahead ++ 10 ∷ bytes) (ap (drop (place + 1)) is ∙ sym leaves),
@@ -78,7 +78,7 @@ pub record IsGathered (old : List ℕ) (had left : Option (List ℕ)) (line held
   pub is : old ++ read ≡ line ++ held
 
 pub gathers-begun : (old : List ℕ) (had : Option (List ℕ)) (line : List ℕ) → line ≡ [] → IsGathered old had had line old
-gathers-begun old had line none = record { read = []; lost = Consumes-nil had; none = subst HasNoFeed (sym none) tt; is = append-nil old ∙ ap (λ (front : List ℕ). front ++ old) (sym none) }
+gathers-begun old had line none = record { read = []; lost = Consumes-nil had; none = subst HasNoFeed (sym none) tt; is = append-nil old ∙ ap (λ (prefix : List ℕ). prefix ++ old) (sym none) }
 
 -- all that was held is part of the line
 gathered : (old held left line new : List ℕ) (read : List ℕ) → HasNoFeed line → old ++ read ≡ line ++ held → TakesLine false held left line new → HasNoFeed new × (old ++ read ≡ new)
@@ -128,7 +128,7 @@ gives-line old had rest line held left new false goes so_far taken = absurd cc
 -- a piece is no longer than what it was read into
 pub no-longer : (none items piece : List ℕ) (n most : ℕ) → none ≡ [] → items ≡ none ++ take n piece → length piece ≡ most → length items ≤ most
 no-longer none items piece n most is are size =
-    let all : length items ≡ length (take n piece) = ap length (are ∙ ap (λ (front : List ℕ). front ++ take n piece) is) in
+    let all : length items ≡ length (take n piece) = ap length (are ∙ ap (λ (prefix : List ℕ). prefix ++ take n piece) is) in
     let short = length-take n piece in
     omega (arith, all, short, size)
 

@@ -4,9 +4,9 @@ use Rattle.std.specs.Io.KnownBytes.{Appends}
 use Rattle.std.proofs.lemmas.List.{append_assoc, append-nil, take_more, length-take}
 use Rattle.std.proofs.lemmas.Option.{same_Some}
 use Rattle.press_cmd.specs.Split.{Closed}
-use Rattle.press_sink.specs.Sides.{Sides}
+use Rattle.press_sink.specs.PrintedSheet.{PrintedSheet}
 use Rattle.press_sink.specs.declared.sheet.Delivery.{Delivery}
-use Rattle.press_sink.specs.Told.{Told}
+use Rattle.press_sink.specs.SinkLog.{SinkLog}
 use Rattle.press_sink.specs.Sending.{sheets_of, sheets_in, under_tag, reply_bytes_of}
 use Rattle.press_sink.proofs.SendingLemmas.{sheets_in-tagged}
 use Rattle.press_stream.specs.declared.fault.JobError.{JobError}
@@ -26,7 +26,7 @@ at_ok {X} {E} P result value h p =
     subst Q p h
 
 -- one sheet more
-lines_from-push : (number : ℕ) (sheets : List Sides) (sheet : Sides) → lines_from number (sheets ++ sheet ∷ []) ≡ lines_from number sheets ++ sheet_lines (number + length sheets) sheet
+lines_from-push : (number : ℕ) (sheets : List PrintedSheet) (sheet : PrintedSheet) → lines_from number (sheets ++ sheet ∷ []) ≡ lines_from number sheets ++ sheet_lines (number + length sheets) sheet
 lines_from-push number [] sheet =
     let same : number ≡ number + 0 = omega arith in
     append-nil (sheet_lines number sheet) ∙ ap (λ (n : ℕ). sheet_lines n sheet) same
@@ -38,7 +38,7 @@ lines_from-push number (first ∷ sheets) sheet =
 -- the sheets of which the listing keeps what it tells, one more
 sheets_in-listed-push : (listed : List ListedSheet) (one : ListedSheet) → sheets_in (deliveries_of (listed ++ one ∷ [])) ≡ sheets_in (deliveries_of listed) ++ one.sheet.value ∷ []
 sheets_in-listed-push [] one = refl
-sheets_in-listed-push (first ∷ listed) one = ap (λ (all : List Sides). first.sheet.value ∷ all) (sheets_in-listed-push listed one)
+sheets_in-listed-push (first ∷ listed) one = ap (λ (all : List PrintedSheet). first.sheet.value ∷ all) (sheets_in-listed-push listed one)
 
 length-sheets_in : (listed : List ListedSheet) → length (sheets_in (deliveries_of listed)) ≡ length listed
 length-sheets_in [] = refl
@@ -75,15 +75,15 @@ lists-printed (Ok job) true (Some bytes) left old new stream zero =
     let all_replies : stream.replies ≡ reply_bytes_of outputs = went.replied in
     let R : List ℕ → Type 0 = λ lines. Appends old new lines in
     let S : List ℕ → Type 0 = λ all. Closed all commands in
-    (commands, subst S (read_all bytes left stream.prints.bytes stream.prints.read) stream.prints.printed.closed, subst R (ap (λ (all : List Sides). lines_from 1 all ++ stream.replies) all_sheets ∙ ap (λ (all : List ℕ). lines_from 1 sheets ++ all) all_replies) (stream.lists refl))
+    (commands, subst S (read_all bytes left stream.prints.bytes stream.prints.read) stream.prints.printed.closed, subst R (ap (λ (all : List PrintedSheet). lines_from 1 all ++ stream.replies) all_sheets ∙ ap (λ (all : List ℕ). lines_from 1 sheets ++ all) all_replies) (stream.lists refl))
 
 -- what the sinks tell, and what is listed of it
 pub lists-stream : (printed : Result JobState JobError) (written : Bool) (had left old new : Option (List ℕ)) (first last deliveries : List Delivery) (nothing all replies : List ℕ) → first ≡ [] → nothing ≡ [] → last ≡ deliveries → all ≡ replies → Printed had left 0 (fault_of printed) (machine_of printed) (took first nothing) (took last all) → (written ≡ true → Appends old new (lines_from 1 (sheets_in deliveries) ++ replies)) → ListsPrinted printed written had left old new
 lists-stream printed written had left old new first last deliveries nothing all replies p q r s prints lists =
-    let P : Told → Told → Type 0 = λ before after. Printed had left 0 (fault_of printed) (machine_of printed) before after in
+    let P : SinkLog → SinkLog → Type 0 = λ before after. Printed had left 0 (fault_of printed) (machine_of printed) before after in
     let begun : took first nothing ≡ took [] [] = cc (p, q) in
     let ended : took last all ≡ took deliveries replies = cc (r, s) in
-    record { deliveries = deliveries; replies = replies; prints = subst (λ (told : Told). P told (took deliveries replies)) begun (subst (P (took first nothing)) ended prints); lists = lists }
+    record { deliveries = deliveries; replies = replies; prints = subst (λ (told : SinkLog). P told (took deliveries replies)) begun (subst (P (took first nothing)) ended prints); lists = lists }
 
 -- a listing that had no fault
 pub at_is_ok : {X E : Type 0} (P : Type 0) (result : Result X E) → OnOk result P → is_ok result ≡ true → P

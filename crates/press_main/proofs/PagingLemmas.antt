@@ -4,14 +4,14 @@ use Rattle.std.proofs.lemmas.Result.{err_from_is_err_and}
 use Rattle.std.proofs.lemmas.List.{take_all}
 use Rattle.std.proofs.Math.Seq.{take-append_seam}
 use Rattle.press_pbm.specs.Spelling.{file_of}
-use Rattle.press_sink.specs.Outputs.{MadeOutput, MakesFront, holding, with_outputs}
+use Rattle.press_sink.specs.Outputs.{MadeOutput, MakesPrefix, holding, with_outputs}
 use Rattle.press_engine.specs.declared.machine.Machine.{Machine}
 use Rattle.press_engine.specs.Closing.{page_now}
-use Rattle.press_engine.specs.Machine.{Run, power_on}
+use Rattle.press_engine.specs.Machine.{StepResult, power_on}
 use Rattle.press_engine.specs.Trace.{last_machine}
 use Rattle.press_stream.specs.State.{IsOver}
 use Rattle.press_debug.specs.Places.{StandsBehind, PlacesGoOn}
-use Rattle.press_debug.specs.Steps.{Standing, Advances, at_start}
+use Rattle.press_debug.specs.Steps.{DebuggerState, Advances, at_start}
 use Rattle.press_debug.proofs.Taking.{at_machine}
 use Rattle.press_stream.specs.Traced.{IsTraceOf}
 use Rattle.press_main.specs.Assembly.{ReadWhole}
@@ -20,15 +20,15 @@ use Rattle.press_main.specs.declared.paging.PagingError.TheVariants.{Input, Writ
 use Rattle.press_main.specs.Paging.{HasPage, MakesPage, PagedInto, StandsAt, StopsPaging, page_behind}
 
 -- It stands behind so many items.
-pub record StandsBehindSo (bytes : List ℕ) (count : ℕ) (now : Standing) : Type 0 where
-  pub items : List Run
+pub record StandsBehindSo (bytes : List ℕ) (count : ℕ) (now : DebuggerState) : Type 0 where
+  pub items : List StepResult
   pub many : length items ≡ count
   pub behind : StandsBehind bytes items now
 
-pub begins_so : PlacesGoOn → (bytes : List ℕ) (now : Standing) → now ≡ at_start bytes → StandsBehindSo bytes 0 now
+pub begins_so : PlacesGoOn → (bytes : List ℕ) (now : DebuggerState) → now ≡ at_start bytes → StandsBehindSo bytes 0 now
 begins_so law bytes now is = record { items = []; many = refl; behind = subst (StandsBehind bytes []) (sym is) (law.begins bytes) }
 
-pub goes_so : PlacesGoOn → (bytes : List ℕ) (count : ℕ) (item : Run) (old new : Standing) → StandsBehindSo bytes count old → Advances old (item ∷ []) new → StandsBehindSo bytes (count + 1) new
+pub goes_so : PlacesGoOn → (bytes : List ℕ) (count : ℕ) (item : StepResult) (old new : DebuggerState) → StandsBehindSo bytes count old → Advances old (item ∷ []) new → StandsBehindSo bytes (count + 1) new
 goes_so law bytes count item old new so advances = record {
   items = so.items ++ item ∷ [];
   many = length-append so.items (item ∷ []) ∙ ap (λ (n : ℕ). n + 1) so.many;
@@ -36,27 +36,27 @@ goes_so law bytes count item old new so advances = record {
 }
 
 -- as many steps were taken as were asked for
-pub stands_at : (bytes : List ℕ) (steps : ℕ) (now : Standing) → StandsBehindSo bytes steps now → StandsAt bytes steps now
+pub stands_at : (bytes : List ℕ) (steps : ℕ) (now : DebuggerState) → StandsBehindSo bytes steps now → StandsAt bytes steps now
 stands_at bytes steps now so =
-    let front : take steps (so.items ++ so.behind.others) ≡ so.items =
+    let prefix : take steps (so.items ++ so.behind.others) ≡ so.items =
     ap (λ (n : ℕ). take n (so.items ++ so.behind.others)) (sym so.many) ∙ take-append_seam so.items so.behind.others in
     record {
       items = so.items ++ so.behind.others;
       trace = so.behind.are;
-      state = so.behind.state ∙ ap (λ (items : List Run). Some (last_machine power_on items)) (sym front);
+      state = so.behind.state ∙ ap (λ (items : List StepResult). Some (last_machine power_on items)) (sym prefix);
     }
 
 -- no step was left, before as many were taken
-pub stands_at_end : PlacesGoOn → (bytes : List ℕ) (count steps : ℕ) (now : Standing) → count ≤ steps → StandsBehindSo bytes count now → IsOver now.job → StandsAt bytes steps now
+pub stands_at_end : PlacesGoOn → (bytes : List ℕ) (count steps : ℕ) (now : DebuggerState) → count ≤ steps → StandsBehindSo bytes count now → IsOver now.job → StandsAt bytes steps now
 stands_at_end law bytes count steps now few so over = record {
   items = so.items;
   trace = law.at_end bytes so.items now so.behind over;
-  state = so.behind.state ∙ ap (λ (items : List Run). Some (last_machine power_on items)) (sym (take_all steps so.items (omega (arith, few, so.many))));
+  state = so.behind.state ∙ ap (λ (items : List StepResult). Some (last_machine power_on items)) (sym (take_all steps so.items (omega (arith, few, so.many))));
 }
 
 -- ---- its page, made an output
 
-module _ (had left : Option (List ℕ)) (bytes : List ℕ) (read : ReadWhole had left bytes) (steps : ℕ) (now : Standing) where
+module _ (had left : Option (List ℕ)) (bytes : List ℕ) (read : ReadWhole had left bytes) (steps : ℕ) (now : DebuggerState) where
   has_page : (at : StandsAt bytes steps now) → HasPage steps had left (page_behind steps at.items)
   has_page at = record { bytes = bytes; read = read; items = at.items; trace = at.trace; open_page = refl }
 
@@ -75,7 +75,7 @@ module _ (had left : Option (List ℕ)) (bytes : List ℕ) (read : ReadWhole had
 
   no_page : (name : List ℕ) (before after : Option (List MadeOutput)) (why : PagingError) → (at : StandsAt bytes steps now)
       → MakesPage (page_now (machine_of at).state) name (Err why) before after → StopsPaging steps name had left before after why
-  no_page name before after WriteFault at front = (page_behind steps at.items, has_page at, front)
+  no_page name before after WriteFault at prefix = (page_behind steps at.items, has_page at, prefix)
   no_page name before after NoMemory at same = same
   no_page name before after (Input why) at makes = absurd makes
 

@@ -10,7 +10,7 @@ use Rattle.press_sink.specs.declared.sheet.Delivery.{Delivery}
 use Rattle.press_core.specs.declared.turn.Turn.{Turn}
 use Rattle.press_core.specs.declared.engines.BadEngines.{BadEngines}
 use Rattle.press_core.specs.Engines.{are_engines}
-use Rattle.press_core.specs.Events.{TurnOn, Turned, Happening, Happens, IsAnswered, Leads}
+use Rattle.press_core.specs.Events.{TurnOn, Turned, Transition, Happens, IsAnswered, IsExecution}
 use Rattle.press_core.specs.Laws.{SheetsAreGiven}
 use Rattle.press_core.specs.World.{World, new_world}
 use Rattle.press_main.specs.declared.inputs.InputError.{InputError}
@@ -24,32 +24,32 @@ use Rattle.press_main.specs.Sessions.{Inputs, answer_text, answer_to, answers_to
 use Rattle.press_main.proofs.LineLemmas.{next-line, reads-no-more}
 
 -- the event of this happening has its answer
-abbrev has_answer : Happening → Type 0
+abbrev has_answer : Transition → Type 0
 has_answer happening = IsAnswered happening.answer
 
-Leads-join : (world middle last : World) (happenings others : List Happening) → Leads world happenings middle → Leads middle others last → Leads world (happenings ++ others) last
-Leads-join world middle last [] others first second = subst (λ (w : World). Leads w others last) first second
+Leads-join : (world middle last : World) (happenings others : List Transition) → IsExecution world happenings middle → IsExecution middle others last → IsExecution world (happenings ++ others) last
+Leads-join world middle last [] others first second = subst (λ (w : World). IsExecution w others last) first second
 Leads-join world middle last (happening ∷ happenings) others first second =
     (first.0, Leads-join happening.next middle last happenings others first.1 second)
 
-happenings-join : (lines others : List (Option Happening)) → happenings_in (lines ++ others) ≡ happenings_in lines ++ happenings_in others
+happenings-join : (lines others : List (Option Transition)) → happenings_in (lines ++ others) ≡ happenings_in lines ++ happenings_in others
 happenings-join [] others = refl
 happenings-join (None ∷ lines) others = happenings-join lines others
-happenings-join (Some happening ∷ lines) others = ap (λ (all : List Happening). happening ∷ all) (happenings-join lines others)
+happenings-join (Some happening ∷ lines) others = ap (λ (all : List Transition). happening ∷ all) (happenings-join lines others)
 
-handed-join : (happenings others : List Happening) → handed_in (happenings ++ others) ≡ handed_in happenings ++ handed_in others
+handed-join : (happenings others : List Transition) → handed_in (happenings ++ others) ≡ handed_in happenings ++ handed_in others
 handed-join [] others = refl
 handed-join (happening ∷ happenings) others =
     ap (λ (all : List Delivery). happening.handed ++ all) (handed-join happenings others) ∙ sym (append_assoc happening.handed (handed_in happenings) (handed_in others))
 
-answers-join : (lines others : List (Option Happening)) → answers_to (lines ++ others) ≡ answers_to lines ++ answers_to others
+answers-join : (lines others : List (Option Transition)) → answers_to (lines ++ others) ≡ answers_to lines ++ answers_to others
 answers-join [] others = refl
 answers-join (None ∷ lines) others =
     ap (λ (all : List ℕ). answers_to (None ∷ []) ++ all) (answers-join lines others)
 answers-join (Some happening ∷ lines) others =
     ap (λ (all : List ℕ). answer_text happening.answer ++ all) (answers-join lines others) ∙ sym (append_assoc (answer_text happening.answer) (answers_to lines) (answers_to others))
 
-AreLinesOf-append : (inputs : Inputs) (lines others : List (List ℕ)) (happenings more : List (Option Happening)) → AreLinesOf inputs lines happenings → AreLinesOf inputs others more → AreLinesOf inputs (lines ++ others) (happenings ++ more)
+AreLinesOf-append : (inputs : Inputs) (lines others : List (List ℕ)) (happenings more : List (Option Transition)) → AreLinesOf inputs lines happenings → AreLinesOf inputs others more → AreLinesOf inputs (lines ++ others) (happenings ++ more)
 AreLinesOf-append inputs [] others [] more first second = second
 AreLinesOf-append inputs (line ∷ lines) others (happening ∷ happenings) more first second =
     (first.0, AreLinesOf-append inputs lines others happenings more first.1 second)
@@ -66,11 +66,11 @@ pub TakesLines-then : (inputs : Inputs) (lines others : List (List ℕ)) (world 
 TakesLines-then inputs lines others world middle last had between has answers more first second = record {
   happenings = first.happenings ++ second.happenings;
   are = AreLinesOf-append inputs lines others first.happenings second.happenings first.are second.are;
-  leads = subst (λ (all : List Happening). Leads world all last) (sym (happenings-join first.happenings second.happenings)) (Leads-join world middle last (happenings_in first.happenings) (happenings_in second.happenings) first.leads second.leads);
+  leads = subst (λ (all : List Transition). IsExecution world all last) (sym (happenings-join first.happenings second.happenings)) (Leads-join world middle last (happenings_in first.happenings) (happenings_in second.happenings) first.leads second.leads);
   handed =
       second.handed ∙ ap (λ (all : List Delivery). all ++ handed_in (happenings_in second.happenings)) first.handed
       ∙ append_assoc had (handed_in (happenings_in first.happenings)) (handed_in (happenings_in second.happenings))
-      ∙ sym (ap (λ (all : List Happening). had ++ handed_in all) (happenings-join first.happenings second.happenings) ∙ ap (λ (all : List Delivery). had ++ all) (handed-join (happenings_in first.happenings) (happenings_in second.happenings)));
+      ∙ sym (ap (λ (all : List Transition). had ++ handed_in all) (happenings-join first.happenings second.happenings) ∙ ap (λ (all : List Delivery). had ++ all) (handed-join (happenings_in first.happenings) (happenings_in second.happenings)));
   happened = subst (All has_answer) (sym (happenings-join first.happenings second.happenings)) (All-append has_answer (happenings_in first.happenings) (happenings_in second.happenings) first.happened second.happened);
   answered = ap (λ (all : List ℕ). all ++ more) first.answered ∙ ap (λ (all : List ℕ). answers_to first.happenings ++ all) second.answered ∙ sym (answers-join first.happenings second.happenings);
 }
@@ -91,7 +91,7 @@ pub TakesLines-event : (inputs : Inputs) (line : List ℕ) (asked : EventLine) (
 TakesLines-event inputs line asked world next had has answer is taken =
     let its = taken.2.0 in
     let handed = taken.2.1 in
-    let happening : Happening = record { event = taken.0; answer = its; handed = handed; next = next } in
+    let happening : Transition = record { event = taken.0; answer = its; handed = handed; next = next } in
     record {
       happenings = Some happening ∷ [];
       are = ((asked, is, taken.1), tt);

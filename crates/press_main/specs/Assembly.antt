@@ -1,8 +1,8 @@
 -- Streams and assembly text, over readers and writers.
 use Rattle.std.specs.Prelude.{◌≡◌, ℕ, List, [], ◌∷◌, Option, ⊤}
 use Rattle.std.specs.Io.KnownBytes.{Consumes, IsAtEnd, Appends}
-use Rattle.press_pbm.specs.Spelling.{AppendsFront}
-use Rattle.press_sink.specs.Outputs.{MadeOutput, MakesFront, holding, with_outputs}
+use Rattle.press_pbm.specs.Spelling.{AppendsPrefix}
+use Rattle.press_sink.specs.Outputs.{MadeOutput, MakesPrefix, holding, with_outputs}
 use Rattle.press_asm.specs.Text.{Assembles, Refuses}
 use Rattle.press_disasm.specs.Disassembly.{IsDisassembly}
 use Rattle.press_main.specs.declared.assembly.TextError.{TextError}
@@ -32,10 +32,10 @@ TextRefused had left (Input why) = ⊤
 TextRefused had left NoMemory = ⊤
 TextRefused had left other = ⊥
 
--- What was written of a text that was not assembled to a writer, by the fault: a front of its bytes, where a write failed; else
+-- What was written of a text that was not assembled to a writer, by the fault: a prefix of its bytes, where a write failed; else
 -- nothing.
 abbrev pub StopsAssembling : (had left old new : Option (List ℕ)) → TextError → Type 0
-StopsAssembling had left old new WriteFault = (bytes : List ℕ) × Assembled had left bytes × AppendsFront old new bytes
+StopsAssembling had left old new WriteFault = (bytes : List ℕ) × Assembled had left bytes × AppendsPrefix old new bytes
 StopsAssembling had left old new why = TextRefused had left why × (new ≡ old)
 
 -- The text of a reader was assembled, and an output of this name was made, which holds its bytes.
@@ -44,11 +44,11 @@ pub record AssembledInto (name : List ℕ) (had left : Option (List ℕ)) (befor
   pub assembled : Assembled had left bytes
   pub made : after ≡ with_outputs (holding name bytes ∷ []) before
 
--- What was made of a text that was not assembled into an output, by the fault: a front of the output, where it cannot be made or
+-- What was made of a text that was not assembled into an output, by the fault: a prefix of the output, where it cannot be made or
 -- written; else nothing.
 abbrev pub StopsMaking : (name : List ℕ) (had left : Option (List ℕ)) (before after : Option (List MadeOutput)) → TextError → Type 0
 StopsMaking name had left before after WriteFault =
-    (bytes : List ℕ) × Assembled had left bytes × MakesFront (holding name bytes ∷ []) before after
+    (bytes : List ℕ) × Assembled had left bytes × MakesPrefix (holding name bytes ∷ []) before after
 StopsMaking name had left before after why = TextRefused had left why × (after ≡ before)
 
 -- What a reader had is a stream, and this is its disassembly.
@@ -69,8 +69,8 @@ StreamUnread (Input why) = ⊤
 StreamUnread NoMemory = ⊤
 StreamUnread other = ⊥
 
--- What was written of a stream that was not disassembled to a writer, by the fault: a front of its text, where a write failed;
+-- What was written of a stream that was not disassembled to a writer, by the fault: a prefix of its text, where a write failed;
 -- else nothing.
 abbrev pub StopsDisassembling : (had left old new : Option (List ℕ)) → TextError → Type 0
-StopsDisassembling had left old new NoOutput = (text : List ℕ) × Disassembled had left text × AppendsFront old new text
+StopsDisassembling had left old new NoOutput = (text : List ℕ) × Disassembled had left text × AppendsPrefix old new text
 StopsDisassembling had left old new why = StreamUnread why × (new ≡ old)

@@ -2,13 +2,13 @@
 use Rattle.std.specs.Prelude.{◌≡◌, ◌⊎◌, ℕ, Bool, false, List, [], ◌∷◌, ◌++◌, Option, Some, None, Result, Ok, Err, IfSome, codes, ⊤}
 use Rattle.std.specs.Fmt.{decimal, signed_decimal}
 use Rattle.std.specs.Io.KnownBytes.{Consumes, Appends}
-use Rattle.press_pbm.specs.Spelling.{AppendsFront}
+use Rattle.press_pbm.specs.Spelling.{AppendsPrefix}
 use Rattle.press_cmd.specs.declared.variant.Kind.{Kind}
 use Rattle.press_asm.specs.Kinds.{kind_line}
 use Rattle.press_asm.specs.Text.{lines_of}
 use Rattle.press_engine.specs.declared.view.View.{View}
 use Rattle.press_engine.specs.Engine.{view_of}
-use Rattle.press_engine.specs.Machine.{Run}
+use Rattle.press_engine.specs.Machine.{StepResult}
 use Rattle.press_debug.specs.declared.breakpoints.Break.{Break}
 use Rattle.press_debug.specs.declared.breakpoints.Break.TheVariants as break
 use Rattle.press_debug.specs.declared.debugger.Stop.{Stop}
@@ -16,8 +16,8 @@ use Rattle.press_debug.specs.declared.debugger.Stop.TheVariants.{AtBreak, Steppe
 use Rattle.press_debug.specs.declared.fault.BreakError.{BreakError}
 use Rattle.press_debug.specs.Breaks.{Sets, Clears, no_breaks, refusal_number}
 use Rattle.press_debug.specs.Places.{StandsBehind}
-use Rattle.press_debug.specs.Steps.{Standing, at_start}
-use Rattle.press_debug.specs.Stops.{Goes, StopsInto, StopsOver}
+use Rattle.press_debug.specs.Steps.{DebuggerState, at_start}
+use Rattle.press_debug.specs.Stops.{ContinuesTo, StopsInto, StopsOver}
 use Rattle.press_main.specs.declared.debugger_lines.DebuggerLine.{DebuggerLine}
 use Rattle.press_main.specs.declared.debugger_lines.DebuggerLine.TheVariants as line
 use Rattle.press_main.specs.declared.debugging.DebugError.{DebugError}
@@ -30,10 +30,10 @@ use Rattle.press_main.specs.Lines.{BeginsWith}
 
 -- the debugger of a session: where it stands in its stream, and its breakpoints
 pub record Seat : Type 0 where
-  pub steps : Standing
+  pub steps : DebuggerState
   pub breaks : List (Option Break)
 
-abbrev pub seat : Standing → List (Option Break) → Seat
+abbrev pub seat : DebuggerState → List (Option Break) → Seat
 seat steps breaks = record { steps = steps; breaks = breaks }
 
 -- before the first step of the stream of these bytes, with no breakpoint
@@ -77,7 +77,7 @@ kinds_text [] = []
 kinds_text (kind ∷ kinds) = kind_line kind ++ (10 ∷ kinds_text kinds)
 
 -- Why it stopped, and where: what is shown is what can be seen of the machine; after a fault nothing is said of it.
-abbrev pub TellsStop : Stop → Standing → (answer : List ℕ) → Type 0
+abbrev pub TellsStop : Stop → DebuggerState → (answer : List ℕ) → Type 0
 TellsStop stop now answer =
     (view : View) × (answer ≡ stop_text stop view) × IfSome now.job.machine (λ machine. view ≡ view_of view.stack machine)
 
@@ -95,7 +95,7 @@ DoesAsked line.Step old answer new =
 DoesAsked line.Over old answer new =
     (stop : Stop) × StopsOver old.steps stop new.steps × TellsStop stop new.steps answer × (new.breaks ≡ old.breaks)
 DoesAsked (line.Go most) old answer new =
-    (stop : Stop) × Goes NeverMet old.breaks old.steps most stop new.steps × TellsStop stop new.steps answer × (new.breaks ≡ old.breaks)
+    (stop : Stop) × ContinuesTo NeverMet old.breaks old.steps most stop new.steps × TellsStop stop new.steps answer × (new.breaks ≡ old.breaks)
 DoesAsked (line.Break kind) old answer new =
     (set : Result ℕ BreakError) × Sets old.breaks (break.Kind kind) set new.breaks × (answer ≡ set_text set) × (new.steps ≡ old.steps)
 DoesAsked (line.Clear number) old answer new =
@@ -108,8 +108,8 @@ DoesLine None old answer new = (answer ≡ with_feed (codes "what?")) × (new �
 DoesLine (Some asked) old answer new = DoesAsked asked old answer new
 
 -- It stands behind the first items of the trace of these bytes at its end; or it failed.
-abbrev pub StandsIn : List ℕ → Standing → Type 0
-StandsIn bytes now = ((items : List Run) × StandsBehind bytes items now) ⊎ (now.job.machine ≡ None)
+abbrev pub StandsIn : List ℕ → DebuggerState → Type 0
+StandsIn bytes now = ((items : List StepResult) × StandsBehind bytes items now) ⊎ (now.job.machine ≡ None)
 
 -- Lines were answered in order, from one seat to another; behind each of them the debugger stands in the trace of these bytes.
 abbrev pub Answers : (bytes : List ℕ) → (lines : List (List ℕ)) → (old : Seat) → (answers : List ℕ) → (new : Seat) → Type 0
@@ -127,10 +127,10 @@ pub record AnswersAll (bytes : List ℕ) (at : Seat) (had left old new : Option 
   pub answered : Answers bytes (lines_of text) at answers last
   pub written : Appends old new answers
 
--- What was written of the answer of a line at which a session stopped: a front of it, where a write failed; else nothing.
+-- What was written of the answer of a line at which a session stopped: a prefix of it, where a write failed; else nothing.
 abbrev pub StopsAtLine : (line : List ℕ) → Seat → (old new : Option (List ℕ)) → DebugError → Type 0
 StopsAtLine line at old new (Output error) =
-    (next : Seat) × (answer : List ℕ) × DoesLine (asked_of line) at answer next × AppendsFront old new answer
+    (next : Seat) × (answer : List ℕ) × DoesLine (asked_of line) at answer next × AppendsPrefix old new answer
 StopsAtLine line at old new NoMemory = new ≡ old
 StopsAtLine line at old new (Input error) = ⊥
 

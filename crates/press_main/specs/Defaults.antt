@@ -10,16 +10,16 @@ default_line text = codes "@PJL DEFAULT " ++ (text ++ 10 ∷ [])
 
 -- What stands in front of a stream that is printed with these defaults: a line for each of them, and a reset; nothing where there are
 -- none. A stream begins in the mode that such a line leaves, so what follows is read as at the beginning.
-abbrev pub front_of : List (List ℕ) → List ℕ
-front_of [] = []
-front_of (text ∷ texts) = flat_map default_line (text ∷ texts) ++ (codes "@PJL RESET" ++ 10 ∷ [])
+abbrev pub prefix_of : List (List ℕ) → List ℕ
+prefix_of [] = []
+prefix_of (text ∷ texts) = flat_map default_line (text ∷ texts) ++ (codes "@PJL RESET" ++ 10 ∷ [])
 
 -- the bytes in front, and behind them what a reader had
-abbrev pub with_front : (front : List ℕ) → (had : Option (List ℕ)) → Option (List ℕ)
-with_front [] had = had
-with_front (byte ∷ bytes) had = option_append (Some (byte ∷ bytes)) had
+abbrev pub with_prefix : (prefix : List ℕ) → (had : Option (List ℕ)) → Option (List ℕ)
+with_prefix [] had = had
+with_prefix (byte ∷ bytes) had = option_append (Some (byte ∷ bytes)) had
 
 -- It holds of these bytes and what a reader had behind them. What the reader has left is known where no bytes stand in front.
-abbrev pub HoldsBehind : (front : List ℕ) → (had left : Option (List ℕ)) → (Option (List ℕ) → Option (List ℕ) → Type 0) → Type 0
+abbrev pub HoldsBehind : (prefix : List ℕ) → (had left : Option (List ℕ)) → (Option (List ℕ) → Option (List ℕ) → Type 0) → Type 0
 HoldsBehind [] had left Holds = Holds had left
-HoldsBehind (byte ∷ bytes) had left Holds = (rest : Option (List ℕ)) × Holds (with_front (byte ∷ bytes) had) rest
+HoldsBehind (byte ∷ bytes) had left Holds = (rest : Option (List ℕ)) × Holds (with_prefix (byte ∷ bytes) had) rest

@@ -3,7 +3,7 @@ use Rattle.std.specs.Prelude.{ℕ, ◌+◌, List, [], ◌∷◌, ◌++◌, Optio
 use Rattle.std.specs.Fmt.{decimal}
 use Rattle.press_bits.specs.Page.{Page}
 use Rattle.press_sink.specs.declared.sheet.Delivery.{Delivery}
-use Rattle.press_sink.specs.Sides.{Sides}
+use Rattle.press_sink.specs.PrintedSheet.{PrintedSheet}
 use Rattle.press_main.specs.declared.entry_sheets.EntrySheet.{EntrySheet}
 use Rattle.press_main.specs.declared.measures.Measures.{Measures}
 use Rattle.press_main.specs.Listing.{measured_line}
@@ -24,7 +24,7 @@ entry_back_line entry number None = []
 entry_back_line entry number (Some back) = entry_measured_line entry number (codes "back") (measures_of back)
 
 -- the lines of a sheet of an entry: its front, and its back where it has one
-abbrev pub entry_sheet_lines : (entry number : ℕ) → Sides → List ℕ
+abbrev pub entry_sheet_lines : (entry number : ℕ) → PrintedSheet → List ℕ
 entry_sheet_lines entry number sheet = entry_measured_line entry number (codes "front") (measures_of sheet.front) ++ entry_back_line entry number sheet.back
 
 -- the lines of sheets, each under its entry and its number

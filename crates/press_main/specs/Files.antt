@@ -3,11 +3,11 @@ use Rattle.std.specs.Prelude.{◌≡◌, ◌⊎◌, ℕ, zero, suc, List, [], �
 use Rattle.std.specs.Coded.{Coded, code_by, coded×, coded_ℕ}
 use Rattle.press_cmd.specs.Token.{Token}
 use Rattle.press_cmd.specs.Split.{Closed}
-use Rattle.press_sink.specs.Sides.{Sides, sides_code}
+use Rattle.press_sink.specs.PrintedSheet.{PrintedSheet, printed_sheet_code}
 use Rattle.press_sink.specs.declared.sheet.Delivery.{Delivery}
-use Rattle.press_sink.specs.Told.{SheetsTold, RepliesTold, both}
+use Rattle.press_sink.specs.SinkLog.{SheetLog, ReplyLog, logs}
 use Rattle.press_sink.specs.Sending.{sheets_of, sheets_in}
-use Rattle.press_sink.specs.Outputs.{MadeOutput, IsFront, with_outputs, sheet_outputs}
+use Rattle.press_sink.specs.Outputs.{MadeOutput, IsPrefix, with_outputs, sheet_outputs}
 use Rattle.press_sink.specs.Template.{NameParts, IsTemplate, IsNoTemplate, number_after, side_count}
 use Rattle.press_engine.specs.declared.machine.Machine.{Machine}
 use Rattle.press_stream.specs.declared.fault.JobError.{JobError}
@@ -22,51 +22,51 @@ use Rattle.press_main.specs.Telling.{Tells, as_line}
 -- deliveries are stored as the pairs of their tags and sheets
 abbrev pub delivery_code : Coded Delivery
 delivery_code =
-    code_by (ℕ × Sides) (coded× coded_ℕ sides_code)
+    code_by (ℕ × PrintedSheet) (coded× coded_ℕ printed_sheet_code)
     (λ delivery. (delivery.tag, delivery.sheet))
     (λ parts. record { tag = parts.0; sheet = parts.1 })
     (λ _. refl)
 
 -- what a writer tells as a reply sink: the bytes that it holds, and so many replies that failed
-abbrev pub replies_written : Option (List ℕ) → ℕ → RepliesTold
+abbrev pub replies_written : Option (List ℕ) → ℕ → ReplyLog
 replies_written contents faults = record { replied = contents; faults = faults }
 
 -- A stream was printed to a sheet sink under tag 0, and its replies were written: so much of it went out, by the error that
 -- there was or was not, and the status is 0 exactly where there was none. Then the writer took all the replies, and nothing
 -- else. The error is what was told.
-pub record PrintsTo (status : ℕ) (said says had left : Option (List ℕ)) (before after : SheetsTold) (old new : Option (List ℕ)) : Type 0 where
+pub record PrintsTo (status : ℕ) (said says had left : Option (List ℕ)) (before after : SheetLog) (old new : Option (List ℕ)) : Type 0 where
   pub error : Option JobError
   pub machine : Option Machine
   pub faults : ℕ
-  pub printed : Printed had left 0 error machine (both before (replies_written old 0)) (both after (replies_written new faults))
+  pub printed : Printed had left 0 error machine (logs before (replies_written old 0)) (logs after (replies_written new faults))
   pub answers : status ≡ status_of_fault error
   pub told : TellsFault error said says
 
 -- The outputs of sheets in their order, the first front of which has this number.
-abbrev pub sheets_outputs : NameParts → ℕ → List Sides → List MadeOutput
+abbrev pub sheets_outputs : NameParts → ℕ → List PrintedSheet → List MadeOutput
 sheets_outputs parts number [] = []
 sheets_outputs parts number (sheet ∷ sheets) = sheet_outputs parts number sheet ++ sheets_outputs parts (number_after (side_count sheet) number) sheets
 
 -- the number of the side behind these sheets, the first front of which has this number
-abbrev pub number_behind : ℕ → List Sides → ℕ
+abbrev pub number_behind : ℕ → List PrintedSheet → ℕ
 number_behind number [] = number
 number_behind number (sheet ∷ sheets) = number_behind (number_after (side_count sheet) number) sheets
 
--- What stands behind the outputs of sheets that a sink took, by its faults: nothing; or a front of the outputs of one sheet more,
+-- What stands behind the outputs of sheets that a sink took, by its faults: nothing; or a prefix of the outputs of one sheet more,
 -- whose front has this number.
 abbrev pub ComesBehind : (faults : ℕ) → List MadeOutput → NameParts → ℕ → Type 0
 ComesBehind zero behind parts number = behind ≡ []
-ComesBehind (suc faults) behind parts number = (sheet : Sides) × IsFront behind (sheet_outputs parts number sheet)
+ComesBehind (suc faults) behind parts number = (sheet : PrintedSheet) × IsPrefix behind (sheet_outputs parts number sheet)
 
--- What was made of the sheets that a sink took, numbered from 1: the outputs of all of them, and nothing else, but for a front of
+-- What was made of the sheets that a sink took, numbered from 1: the outputs of all of them, and nothing else, but for a prefix of
 -- those of the sheet at which it had a fault.
-pub record MakesSheets (parts : NameParts) (sheets : List Sides) (faults : ℕ) (before after : Option (List MadeOutput)) : Type 0 where
+pub record MakesSheets (parts : NameParts) (sheets : List PrintedSheet) (faults : ℕ) (before after : Option (List MadeOutput)) : Type 0 where
   pub behind : List MadeOutput
   pub comes : ComesBehind faults behind parts (number_behind 1 sheets)
   pub made : after ≡ with_outputs (sheets_outputs parts 1 sheets ++ behind) before
 
 -- what a sink of files tells that took these sheets
-abbrev pub files_told : List Delivery → ℕ → SheetsTold
+abbrev pub files_told : List Delivery → ℕ → SheetLog
 files_told deliveries faults = record { delivered = Some deliveries; faults = faults }
 
 -- A stream was printed to files by a template of these parts: what went out of it is what the sink took, and that was made.

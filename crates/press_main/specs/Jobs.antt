@@ -3,8 +3,8 @@ use Rattle.std.specs.Prelude.{◌≡◌, ℕ, List, [], ◌∷◌, ◌++◌, Opt
 use Rattle.std.specs.Io.KnownBytes.{Consumes, Appends}
 use Rattle.press_bits.specs.Page.{Page}
 use Rattle.press_pbm.specs.File.{IsFile, Refused}
-use Rattle.press_pbm.specs.Spelling.{AppendsFront}
-use Rattle.press_sink.specs.Outputs.{MadeOutput, MakesFront, holding, with_outputs}
+use Rattle.press_pbm.specs.Spelling.{AppendsPrefix}
+use Rattle.press_sink.specs.Outputs.{MadeOutput, MakesPrefix, holding, with_outputs}
 use Rattle.press_ticket.specs.Reading.{ticket_in}
 use Rattle.press_ticket.specs.Ticket.{JobTicket}
 use Rattle.press_ticket.specs.declared.fault.TicketError.{TicketError}
@@ -52,16 +52,16 @@ pub record WritesAJob (ticket : JobTicket) (images : List Page) (old new : Optio
   pub written : Appends old new (job_bytes ticket images)
   pub prints : PrintsTheTicket ticket images (job_bytes ticket images)
 
--- The ticket fits these images, and a front of its job with them was written.
-pub record WritesAFront (ticket : JobTicket) (images : List Page) (old new : Option (List ℕ)) : Type 0 where
+-- The ticket fits these images, and a prefix of its job with them was written.
+pub record WritesAPrefix (ticket : JobTicket) (images : List Page) (old new : Option (List ℕ)) : Type 0 where
   pub fits : refusal ticket images ≡ None
-  pub written : AppendsFront old new (job_bytes ticket images)
+  pub written : AppendsPrefix old new (job_bytes ticket images)
 
--- What was written of a job that was not written whole: a front of it, where a write failed or memory ran out; else nothing, and
+-- What was written of a job that was not written whole: a prefix of it, where a write failed or memory ran out; else nothing, and
 -- this is why the ticket does not fit the images.
 abbrev pub WritesNoJob : JobTicket → List Page → (old new : Option (List ℕ)) → WriterError → Type 0
-WritesNoJob ticket images old new WriteFault = WritesAFront ticket images old new
-WritesNoJob ticket images old new NoMemory = WritesAFront ticket images old new
+WritesNoJob ticket images old new WriteFault = WritesAPrefix ticket images old new
+WritesNoJob ticket images old new NoMemory = WritesAPrefix ticket images old new
 WritesNoJob ticket images old new why = (refusal ticket images ≡ Some why) × Appends old new []
 
 -- The ticket fits these images, and an output of this name was made, which holds its job with them; that prints it.
@@ -70,16 +70,16 @@ pub record MakesAJob (name : List ℕ) (ticket : JobTicket) (images : List Page)
   pub made : after ≡ with_outputs (holding name (job_bytes ticket images) ∷ []) before
   pub prints : PrintsTheTicket ticket images (job_bytes ticket images)
 
--- The ticket fits these images, and a front of the output was made, since it cannot be made or written, or memory ran out.
-pub record MakesAFront (name : List ℕ) (ticket : JobTicket) (images : List Page) (before after : Option (List MadeOutput)) (why : WriterError) : Type 0 where
+-- The ticket fits these images, and a prefix of the output was made, since it cannot be made or written, or memory ran out.
+pub record MakesAPrefix (name : List ℕ) (ticket : JobTicket) (images : List Page) (before after : Option (List MadeOutput)) (why : WriterError) : Type 0 where
   pub fits : refusal ticket images ≡ None
   pub told : (why ≡ WriteFault) ⊎ (why ≡ NoMemory)
-  pub made : MakesFront (holding name (job_bytes ticket images) ∷ []) before after
+  pub made : MakesPrefix (holding name (job_bytes ticket images) ∷ []) before after
 
 -- What was made of a job whose output was not made whole: nothing, and this is why the ticket does not fit the images; else a front.
 abbrev pub MakesNoJob : (name : List ℕ) → JobTicket → List Page → (before after : Option (List MadeOutput)) → WriterError → Type 0
 MakesNoJob name ticket images before after why =
-    ((refusal ticket images ≡ Some why) × (after ≡ before)) ⊎ MakesAFront name ticket images before after why
+    ((refusal ticket images ≡ Some why) × (after ≡ before)) ⊎ MakesAPrefix name ticket images before after why
 
 -- A reader had a ticket and the inputs had images in their order, of which this holds.
 pub record HasTicket (had left : Option (List ℕ)) (inputs : List (Option (List ℕ))) (Of : JobTicket → List Page → Type 0) : Type 0 where

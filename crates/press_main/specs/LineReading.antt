@@ -25,7 +25,7 @@ bytes_left lines = length (held lines) + longest_piece * reads_left lines
 
 -- What was held was added to a line: up to a line feed, behind which the rest is held; or all, where none stood there.
 abbrev pub TakesLine : Bool → (held left : List ℕ) → (old new : List ℕ) → Type 0
-TakesLine true held left old new = (front : List ℕ) × HasNoFeed front × (held ≡ front ++ 10 ∷ left) × (new ≡ old ++ front)
+TakesLine true held left old new = (prefix : List ℕ) × HasNoFeed prefix × (held ≡ prefix ++ 10 ∷ left) × (new ≡ old ++ prefix)
 TakesLine false held left old new = HasNoFeed held × (left ≡ []) × (new ≡ old ++ held)
 
 -- A piece was read and is held; or the reader was at its end.

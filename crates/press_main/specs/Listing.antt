@@ -5,9 +5,9 @@ use Rattle.std.specs.Io.KnownBytes.{Appends}
 use Rattle.press_bits.specs.Page.{Page}
 use Rattle.press_cmd.specs.Token.{Token}
 use Rattle.press_cmd.specs.Split.{Closed}
-use Rattle.press_sink.specs.Sides.{Sides}
+use Rattle.press_sink.specs.PrintedSheet.{PrintedSheet}
 use Rattle.press_sink.specs.declared.sheet.Delivery.{Delivery}
-use Rattle.press_sink.specs.Told.{Told, both}
+use Rattle.press_sink.specs.SinkLog.{SinkLog, logs}
 use Rattle.press_sink.specs.Sending.{Output, sheets_of, sheets_in, reply_bytes_of}
 use Rattle.press_stream.specs.declared.fault.JobError.{JobError}
 use Rattle.press_stream.specs.State.{JobState}
@@ -35,11 +35,11 @@ back_line number None = []
 back_line number (Some back) = side_line number (codes "back") back
 
 -- the lines of a sheet: its front, and its back where it has one
-abbrev pub sheet_lines : ℕ → Sides → List ℕ
+abbrev pub sheet_lines : ℕ → PrintedSheet → List ℕ
 sheet_lines number sheet = side_line number (codes "front") sheet.front ++ back_line number sheet.back
 
 -- the lines of sheets in their order, the first of which has this number
-abbrev pub lines_from : ℕ → List Sides → List ℕ
+abbrev pub lines_from : ℕ → List PrintedSheet → List ℕ
 lines_from number [] = []
 lines_from number (sheet ∷ sheets) = sheet_lines number sheet ++ lines_from (number + 1) sheets
 
@@ -52,8 +52,8 @@ abbrev pub Lists : List ℕ → Option (List ℕ) → Option (List ℕ) → Type
 Lists bytes old new = (commands : List Token) × Closed bytes commands × Appends old new (listing_of (meaning_of (with_exit commands)).outputs)
 
 -- what the sinks of a listing tell that took these sheets and replies
-abbrev pub took : List Delivery → List ℕ → Told
-took deliveries replies = both (record { delivered = Some deliveries; faults = 0 }) (record { replied = Some replies; faults = 0 })
+abbrev pub took : List Delivery → List ℕ → SinkLog
+took deliveries replies = logs (record { delivered = Some deliveries; faults = 0 }) (record { replied = Some replies; faults = 0 })
 
 -- A stream was printed, and unless its listing cannot be written, what went out of it, by the fault that it had or had not, is
 -- listed, and nothing else is written.

@@ -4,12 +4,12 @@ use Rattle.std.specs.Fmt.{decimal}
 use Rattle.std.specs.Io.KnownBytes.{Appends}
 use Rattle.press_bits.specs.Page.{Page}
 use Rattle.press_pbm.specs.Spelling.{file_of}
-use Rattle.press_sink.specs.Outputs.{MadeOutput, MakesFront, holding, with_outputs}
+use Rattle.press_sink.specs.Outputs.{MadeOutput, MakesPrefix, holding, with_outputs}
 use Rattle.press_engine.specs.Closing.{page_now}
-use Rattle.press_engine.specs.Machine.{Run, power_on}
+use Rattle.press_engine.specs.Machine.{StepResult, power_on}
 use Rattle.press_engine.specs.Trace.{last_machine}
 use Rattle.press_stream.specs.Traced.{IsTraceOf}
-use Rattle.press_debug.specs.Steps.{Standing}
+use Rattle.press_debug.specs.Steps.{DebuggerState}
 use Rattle.press_main.specs.Assembly.{ReadWhole}
 use Rattle.press_main.specs.Faults.{told_of_page}
 use Rattle.press_main.specs.Telling.{Tells, as_line}
@@ -17,14 +17,14 @@ use Rattle.press_main.specs.declared.paging.PagingError.{PagingError}
 use Rattle.press_main.specs.declared.paging.PagingError.TheVariants.{Input, WriteFault, NoMemory}
 
 -- The page that is open behind so many items of a trace, or behind all of them where there are fewer: blank where no mark was made.
-abbrev pub page_behind : (steps : ℕ) → List Run → Page
+abbrev pub page_behind : (steps : ℕ) → List StepResult → Page
 page_behind steps items = page_now (last_machine power_on (take steps items)).state
 
 -- What a reader had is a stream, and this page is open behind so many items of its trace.
 pub record HasPage (steps : ℕ) (had left : Option (List ℕ)) (page : Page) : Type 0 where
   pub bytes : List ℕ
   pub read : ReadWhole had left bytes
-  pub items : List Run
+  pub items : List StepResult
   pub trace : IsTraceOf bytes items
   pub open_page : page ≡ page_behind steps items
 
@@ -33,23 +33,23 @@ abbrev pub PagedInto : (steps : ℕ) (name : List ℕ) (had left : Option (List 
 PagedInto steps name had left before after =
     (page : Page) × HasPage steps had left page × (after ≡ with_outputs (holding name (file_of page) ∷ []) before)
 
--- What was made where no page was, by the fault: a front of its output, where that cannot be made or written; else nothing.
+-- What was made where no page was, by the fault: a prefix of its output, where that cannot be made or written; else nothing.
 abbrev pub StopsPaging : (steps : ℕ) (name : List ℕ) (had left : Option (List ℕ)) (before after : Option (List MadeOutput)) → PagingError → Type 0
 StopsPaging steps name had left before after WriteFault =
-    (page : Page) × HasPage steps had left page × MakesFront (holding name (file_of page) ∷ []) before after
+    (page : Page) × HasPage steps had left page × MakesPrefix (holding name (file_of page) ∷ []) before after
 StopsPaging steps name had left before after (Input why) = after ≡ before
 StopsPaging steps name had left before after NoMemory = after ≡ before
 
 -- A stream of these bytes of which so many steps were taken, or all where it has fewer.
-pub record StandsAt (bytes : List ℕ) (steps : ℕ) (now : Standing) : Type 0 where
-  pub items : List Run
+pub record StandsAt (bytes : List ℕ) (steps : ℕ) (now : DebuggerState) : Type 0 where
+  pub items : List StepResult
   pub trace : IsTraceOf bytes items
   pub state : now.job.machine ≡ Some (last_machine power_on (take steps items))
 
 -- An output of this name was made of a page, or not, and this is why.
 abbrev pub MakesPage : (page : Page) (name : List ℕ) → Result (Unit {0}) PagingError → (before after : Option (List MadeOutput)) → Type 0
 MakesPage page name (Ok _) before after = after ≡ with_outputs (holding name (file_of page) ∷ []) before
-MakesPage page name (Err WriteFault) before after = MakesFront (holding name (file_of page) ∷ []) before after
+MakesPage page name (Err WriteFault) before after = MakesPrefix (holding name (file_of page) ∷ []) before after
 MakesPage page name (Err NoMemory) before after = after ≡ before
 MakesPage page name (Err (Input why)) before after = ⊥
 

@@ -9,7 +9,7 @@ use Rattle.press_stream.specs.Faults.{read_fault}
 use Rattle.press_trace.specs.Faults.{output_text}
 use Rattle.press_main.specs.Assembly.{AssembledInto, StopsMaking, DisassembledTo, StopsDisassembling}
 use Rattle.press_main.specs.Debugging.{Debugs, StopsDebugging}
-use Rattle.press_main.specs.Defaults.{HoldsBehind, with_front}
+use Rattle.press_main.specs.Defaults.{HoldsBehind, with_prefix}
 use Rattle.press_main.specs.Faults.{told_of_debugger, told_of_job, told_of_session, told_of_text}
 use Rattle.press_main.specs.Files.{PrintsFiles, PrintsNoFiles, DoesNothing}
 use Rattle.press_main.specs.Jobs.{MakesTheTicket, StopsMakingJob}
@@ -19,7 +19,7 @@ use Rattle.press_main.specs.Sessions.{Plays, Stops}
 use Rattle.press_main.specs.Telling.{Ended, Tells, as_line}
 use Rattle.press_main.specs.Traced.{Tracing}
 use Rattle.press_main.specs.View.{AsksHelp}
-use Rattle.press_main.specs.Words.{Source, Standard, FileNamed, Made, Listed, FilesBy, Answered, AsText, DebuggedOf, TracedOf, PageTo, StreamTo, JobTo, Asked, asked}
+use Rattle.press_main.specs.Words.{Source, Standard, FileNamed, Made, Listed, FilesBy, Answered, AsText, DebuggedOf, TracedOf, PageTo, StreamTo, JobTo, Arguments, arguments}
 
 -- A text was assembled into an output of this name, or not.
 abbrev pub Assembling : (name : Text) (status : ℕ) (said says had left : Option (List ℕ)) (before after : Option (List MadeOutput)) → Type 0
@@ -50,18 +50,18 @@ Debugging status stream said says had left old new =
 -- Standard output takes nothing where an output is named, and no output is made where none is; the inputs are what they have by their
 -- names, and no output that is made is one of them.
 abbrev pub Makes : Made → (inputs : Text → Option (List ℕ)) → ℕ → (said says had left old new : Option (List ℕ)) → (before after : Option (List MadeOutput)) → Type 0
-Makes (Listed front) inputs status said says had left old new before after =
-    HoldsBehind front had left (λ had left. PrintsListing status said says had left old new) × (after ≡ before)
-Makes (FilesBy front template) inputs status said says had left old new before after =
-    HoldsBehind front had left (λ had left. PrintsFiles template status said says had left old new before after ⊎ PrintsNoFiles template status said says had left old new before after)
+Makes (Listed prefix) inputs status said says had left old new before after =
+    HoldsBehind prefix had left (λ had left. PrintsListing status said says had left old new) × (after ≡ before)
+Makes (FilesBy prefix template) inputs status said says had left old new before after =
+    HoldsBehind prefix had left (λ had left. PrintsFiles template status said says had left old new before after ⊎ PrintsNoFiles template status said says had left old new before after)
 Makes (Answered engines) inputs status said says had left old new before after = Playing engines status inputs said says had left old new × (after ≡ before)
 Makes AsText inputs status said says had left old new before after = Disassembling status said says had left old new × (after ≡ before)
-Makes (DebuggedOf front name) inputs status said says had left old new before after =
-    Debugging status (with_front front (inputs name)) said says had left old new × (after ≡ before)
-Makes (TracedOf front) inputs status said says had left old new before after =
-    HoldsBehind front had left (λ had left. Tracing status said says had left old new) × (after ≡ before)
-Makes (PageTo front steps name) inputs status said says had left old new before after =
-    HoldsBehind front had left (λ had left. Paging steps name status said says had left before after) × (new ≡ old)
+Makes (DebuggedOf prefix name) inputs status said says had left old new before after =
+    Debugging status (with_prefix prefix (inputs name)) said says had left old new × (after ≡ before)
+Makes (TracedOf prefix) inputs status said says had left old new before after =
+    HoldsBehind prefix had left (λ had left. Tracing status said says had left old new) × (after ≡ before)
+Makes (PageTo prefix steps name) inputs status said says had left old new before after =
+    HoldsBehind prefix had left (λ had left. Paging steps name status said says had left before after) × (new ≡ old)
 Makes (StreamTo name) inputs status said says had left old new before after = Assembling name status said says had left before after × (new ≡ old)
 Makes (JobTo name images) inputs status said says had left old new before after = Writing name status said says had left (map inputs images) before after × (new ≡ old)
 
@@ -83,13 +83,13 @@ Performs (FileNamed name) made inputs missing status said says had left old new 
     MakesOfFile name made inputs missing status said says had left old new before after
 
 -- Files of a stream are asked for, and the stream is itself a file, which one of them would replace.
-abbrev pub PrintsAFile : Asked → Type 0
-PrintsAFile asked = (name : Text) × (front : List ℕ) × (template : Text) × (asked ≡ record { source = FileNamed name; made = FilesBy front template })
+abbrev pub PrintsAFile : Arguments → Type 0
+PrintsAFile arguments = (name : Text) × (prefix : List ℕ) × (template : Text) × (arguments ≡ record { source = FileNamed name; made = FilesBy prefix template })
 
 -- Nothing was begun of what is asked for, and why: an output would replace the input, or memory ran out.
-abbrev pub BeginsNothing : Asked → (status : ℕ) → (said says had left old new : Option (List ℕ)) → (before after : Option (List MadeOutput)) → Type 0
-BeginsNothing asked status said says had left old new before after =
-    (PrintsAFile asked × DoesNothing (sink_number SinkFault) status said says had left old new before after)
+abbrev pub BeginsNothing : Arguments → (status : ℕ) → (said says had left old new : Option (List ℕ)) → (before after : Option (List MadeOutput)) → Type 0
+BeginsNothing arguments status said says had left old new before after =
+    (PrintsAFile arguments × DoesNothing (sink_number SinkFault) status said says had left old new before after)
     ⊎ DoesNothing None status said says had left old new before after
 
 -- What became of a refusal with this status: of help (0) nothing was told, or that it cannot be written; where memory ran out (1) that was
@@ -105,13 +105,13 @@ Refuses words status said says old new =
     RefusesBy 2 status said says old new ⊎ RefusesBy 1 status said says old new ⊎ (AsksHelp words × RefusesBy 0 status said says old new)
 
 -- What was done for words that ask for this, or for nothing, when nothing is read or made.
-abbrev pub Does : List Text → Option Asked → (inputs : Text → Option (List ℕ)) → (missing : Text → Type 0) → ℕ → (said says had left old new : Option (List ℕ)) → (before after : Option (List MadeOutput)) → Type 0
+abbrev pub Does : List Text → Option Arguments → (inputs : Text → Option (List ℕ)) → (missing : Text → Type 0) → ℕ → (said says had left old new : Option (List ℕ)) → (before after : Option (List MadeOutput)) → Type 0
 Does words None inputs missing status said says had left old new before after = Refuses words status said says old new × (left ≡ had) × (after ≡ before)
-Does words (Some asked) inputs missing status said says had left old new before after =
-    Performs asked.source asked.made inputs missing status said says had left old new before after
-    ⊎ BeginsNothing asked status said says had left old new before after
+Does words (Some arguments) inputs missing status said says had left old new before after =
+    Performs arguments.source arguments.made inputs missing status said says had left old new before after
+    ⊎ BeginsNothing arguments status said says had left old new before after
 
 -- What was done for words: what they ask for, or nothing, and why.
 abbrev pub Runs : List Text → (inputs : Text → Option (List ℕ)) → (missing : Text → Type 0) → ℕ → (said says had left old new : Option (List ℕ)) → (before after : Option (List MadeOutput)) → Type 0
 Runs words inputs missing status said says had left old new before after =
-    Does words (asked words) inputs missing status said says had left old new before after
+    Does words (arguments words) inputs missing status said says had left old new before after

@@ -3,12 +3,12 @@ use Rattle.std.specs.Prelude.{◌≡◌, ◌⊎◌, ℕ, List, [], ◌∷◌, �
 use Rattle.std.specs.Fmt.{decimal}
 use Rattle.std.specs.List.{All}
 use Rattle.std.specs.Io.KnownBytes.{Consumes, IsAtEnd, Appends}
-use Rattle.press_pbm.specs.Spelling.{AppendsFront}
+use Rattle.press_pbm.specs.Spelling.{AppendsPrefix}
 use Rattle.press_sink.specs.declared.sheet.Delivery.{Delivery}
 use Rattle.press_asm.specs.Text.{lines_of}
 use Rattle.press_core.specs.declared.engines.BadEngines.{BadEngines}
 use Rattle.press_core.specs.Engines.{are_engines}
-use Rattle.press_core.specs.Events.{Event, Message, TurnOn, Operator, Happening, Happens, EventAnswer, Response, Turned, Nothing, IsAnswered, Leads}
+use Rattle.press_core.specs.Events.{Event, Message, TurnOn, Operator, Transition, Happens, EventAnswer, Response, Turned, Nothing, IsAnswered, IsExecution}
 use Rattle.press_core.specs.Laws.{GivenUnder}
 use Rattle.press_core.specs.World.{World, new_world}
 use Rattle.press_main.specs.declared.inputs.InputError.{InputError}
@@ -38,23 +38,23 @@ answer_text Nothing = codes "ok" ++ 10 ∷ []
 answer_text answer = []
 
 -- A line is an event with what came of it, or none.
-abbrev pub answer_to : Option Happening → List ℕ
+abbrev pub answer_to : Option Transition → List ℕ
 answer_to None = codes "what?" ++ 10 ∷ []
 answer_to (Some happening) = answer_text happening.answer
 
 -- what is written for lines
-abbrev pub answers_to : List (Option Happening) → List ℕ
+abbrev pub answers_to : List (Option Transition) → List ℕ
 answers_to [] = []
 answers_to (line ∷ lines) = answer_to line ++ answers_to lines
 
 -- the events among lines
-abbrev pub happenings_in : List (Option Happening) → List Happening
+abbrev pub happenings_in : List (Option Transition) → List Transition
 happenings_in [] = []
 happenings_in (None ∷ lines) = happenings_in lines
 happenings_in (Some happening ∷ lines) = happening ∷ happenings_in lines
 
 -- what events handed out
-abbrev pub handed_in : List Happening → List Delivery
+abbrev pub handed_in : List Transition → List Delivery
 handed_in [] = []
 handed_in (happening ∷ happenings) = happening.handed ++ handed_in happenings
 
@@ -74,12 +74,12 @@ IsAsked inputs (OperatorLine asked) (Operator command) = command ≡ asked
 IsAsked inputs asked event = ⊥
 
 -- a line is one of this event, with what came of it; or of none
-abbrev pub IsLineOf : Inputs → (line : List ℕ) → Option Happening → Type 0
+abbrev pub IsLineOf : Inputs → (line : List ℕ) → Option Transition → Type 0
 IsLineOf inputs line None = event_of_line line ≡ None
 IsLineOf inputs line (Some happening) = (asked : EventLine) × (event_of_line line ≡ Some asked) × IsAsked inputs asked happening.event
 
 -- each line is so, in order
-abbrev pub AreLinesOf : Inputs → (lines : List (List ℕ)) → List (Option Happening) → Type 0
+abbrev pub AreLinesOf : Inputs → (lines : List (List ℕ)) → List (Option Transition) → Type 0
 AreLinesOf inputs [] [] = ⊤
 AreLinesOf inputs (line ∷ lines) (happening ∷ happenings) = IsLineOf inputs line happening × AreLinesOf inputs lines happenings
 AreLinesOf inputs _ _ = ⊥
@@ -96,9 +96,9 @@ TakesAsked inputs asked world had next has answer = (event : Event) × IsAsked i
 -- Lines were carried out, one after another, from one world to another, and each event has its answer: what their events handed out was
 -- delivered behind what had been, and these are their answers.
 pub record TakesLines (inputs : Inputs) (lines : List (List ℕ)) (world : World) (had : List Delivery) (next : World) (has : List Delivery) (answers : List ℕ) : Type 0 where
-  pub happenings : List (Option Happening)
+  pub happenings : List (Option Transition)
   pub are : AreLinesOf inputs lines happenings
-  pub leads : Leads world (happenings_in happenings) next
+  pub leads : IsExecution world (happenings_in happenings) next
   pub handed : has ≡ had ++ handed_in (happenings_in happenings)
   pub happened : All (λ happening. IsAnswered happening.answer) (happenings_in happenings)
   pub answered : answers ≡ answers_to happenings
@@ -133,10 +133,10 @@ abbrev pub IsUnanswered : Inputs → (line : List ℕ) → World → SessionErro
 IsUnanswered inputs line world why =
     ((asked : EventLine) × (event_of_line line ≡ Some asked) × HasFault inputs asked world why) ⊎ (why ≡ NoMemory)
 
--- What was written of the answer of a line at which a session stopped: a front of it, where a write failed; else nothing.
+-- What was written of the answer of a line at which a session stopped: a prefix of it, where a write failed; else nothing.
 abbrev pub StopsAtLine : Inputs → (line : List ℕ) → World → (had : List Delivery) → (old new : Option (List ℕ)) → SessionError → Type 0
 StopsAtLine inputs line world had old new (Output error) =
-    (next : World) × (has : List Delivery) × (answer : List ℕ) × TakesLines inputs (line ∷ []) world had next has answer × AppendsFront old new answer
+    (next : World) × (has : List Delivery) × (answer : List ℕ) × TakesLines inputs (line ∷ []) world had next has answer × AppendsPrefix old new answer
 StopsAtLine inputs line world had old new why = IsUnanswered inputs line world why × (new ≡ old)
 
 -- the line stands behind these lines of a text, and the session stopped there
@@ -148,9 +148,9 @@ abbrev pub StopsReading : (text : List ℕ) → List (List ℕ) → (old new : O
 StopsReading text lines old new why =
     (error : InputError) × (why ≡ File (fault.Input error)) × ReadsNoMore error text lines × (new ≡ old)
 
--- It stopped at its listing, behind all lines: a front of it was written, where a write failed; else nothing.
+-- It stopped at its listing, behind all lines: a prefix of it was written, where a write failed; else nothing.
 abbrev pub StopsListing : (had : List Delivery) → (old new : Option (List ℕ)) → SessionError → Type 0
-StopsListing had old new (Output error) = AppendsFront old new (entry_listing had)
+StopsListing had old new (Output error) = AppendsPrefix old new (entry_listing had)
 StopsListing had old new NoMemory = new ≡ old
 StopsListing had old new why = ⊥
 

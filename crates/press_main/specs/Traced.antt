@@ -19,7 +19,7 @@ IsTold (traces.Output error) told = told ≡ Output
 IsTold traces.NoMemory told = told ≡ NoMemory
 
 -- Why it stopped, and what was written: nothing, where the stream was not read; else the lines of its first steps, and where a
--- line cannot be written a front of the next.
+-- line cannot be written a prefix of the next.
 abbrev pub StopsTelling : (had left old new : Option (List ℕ)) → TracedError → Type 0
 StopsTelling had left old new (Input why) = new ≡ old
 StopsTelling had left old new Output =

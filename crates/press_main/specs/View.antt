@@ -10,7 +10,7 @@ use Rattle.press_main.specs.declared.words.Output.TheVariants as outputs
 use Rattle.press_main.specs.declared.words.Request.{Request}
 use Rattle.press_main.specs.declared.words.Refusal.{Refusal}
 use Rattle.press_main.specs.declared.words.Refusal.TheVariants.{Words, NoName, NoDefault}
-use Rattle.press_main.specs.Words.{Source, Standard, FileNamed, Made, Listed, FilesBy, Answered, AsText, DebuggedOf, TracedOf, PageTo, StreamTo, JobTo, Asked, press_app}
+use Rattle.press_main.specs.Words.{Source, Standard, FileNamed, Made, Listed, FilesBy, Answered, AsText, DebuggedOf, TracedOf, PageTo, StreamTo, JobTo, Arguments, press_app}
 
 -- an input by the text of its name
 abbrev pub source_seen : Input → Source
@@ -19,18 +19,18 @@ source_seen (inputs.File name) = FileNamed name.now
 
 -- an output by its texts
 abbrev pub made_seen : Output → Made
-made_seen (outputs.Listing front) = Listed front.items
-made_seen (outputs.Files front template) = FilesBy front.items template.now
+made_seen (outputs.Listing prefix) = Listed prefix.items
+made_seen (outputs.Files prefix template) = FilesBy prefix.items template.now
 made_seen (outputs.Session engines) = Answered engines
 made_seen outputs.Text = AsText
-made_seen (outputs.Debugged front name) = DebuggedOf front.items name.now
-made_seen (outputs.Traced front) = TracedOf front.items
-made_seen (outputs.Page front steps name) = PageTo front.items steps name.now
+made_seen (outputs.Debugged prefix name) = DebuggedOf prefix.items name.now
+made_seen (outputs.Traced prefix) = TracedOf prefix.items
+made_seen (outputs.Page prefix steps name) = PageTo prefix.items steps name.now
 made_seen (outputs.Assembled name) = StreamTo name.now
 made_seen (outputs.Job name images) = JobTo name.now (map (λ image. image.now) images.items)
 
 -- a request by its texts
-abbrev pub request_seen : Request → Asked
+abbrev pub request_seen : Request → Arguments
 request_seen request = record { source = source_seen request.input; made = made_seen request.output }
 
 -- memory ran out

@@ -5,7 +5,7 @@ use Rattle.std.specs.Option.{option_map_or}
 use Rattle.std.specs.Str.{bytes_eq}
 use Rattle.clap.specs.Words.{App, Row, Rule, Text, new_app, new_rule, with_rule, with_subcommand, subcommand_of, first_of, all_of, fault_of}
 use Rattle.press_pjl.specs.Variables.{is_assignment}
-use Rattle.press_main.specs.Defaults.{front_of}
+use Rattle.press_main.specs.Defaults.{prefix_of}
 use Rattle.press_main.specs.Lines.{number_word}
 use Rattle.press_main.specs.declared.words.Subcommand.{Subcommand}
 use Rattle.press_main.specs.declared.words.Subcommand.TheVariants.{Print, Asm, Disasm, Debug, Trace, Page, Write, Press}
@@ -22,18 +22,18 @@ pub data Source : Type 0 where
 -- this file, with these bytes in front of it; of a stream, with these bytes in front of it, its trace, or the file of this name, of the page
 -- that is open behind so many of its steps.
 pub data Made : Type 0 where
-  Listed : (front : List ℕ) → Made
-  FilesBy : (front : List ℕ) (template : Text) → Made
+  Listed : (prefix : List ℕ) → Made
+  FilesBy : (prefix : List ℕ) (template : Text) → Made
   Answered : (engines : ℕ) → Made
   AsText : Made
-  DebuggedOf : (front : List ℕ) (name : Text) → Made
-  TracedOf : (front : List ℕ) → Made
-  PageTo : (front : List ℕ) (steps : ℕ) (name : Text) → Made
+  DebuggedOf : (prefix : List ℕ) (name : Text) → Made
+  TracedOf : (prefix : List ℕ) → Made
+  PageTo : (prefix : List ℕ) (steps : ℕ) (name : Text) → Made
   StreamTo : Text → Made
   JobTo : (name : Text) (images : List Text) → Made
 
 -- What the program is asked to do.
-pub record Asked : Type 0 where
+pub record Arguments : Type 0 where
   pub source : Source
   pub made : Made
 
@@ -110,15 +110,15 @@ abbrev pub defaults_of : List Row → List Text
 defaults_of rows = unwrap_or (all_of (codes "default") rows) []
 
 -- what stands in front of the stream, where each default is one of the job language
-abbrev pub front_in : List Row → Option (List ℕ)
-front_in rows = if list_all is_assignment (defaults_of rows) then Some (front_of (defaults_of rows)) else None
+abbrev pub prefix_in : List Row → Option (List ℕ)
+prefix_in rows = if list_all is_assignment (defaults_of rows) then Some (prefix_of (defaults_of rows)) else None
 
 -- with the flag a listing, whatever the template; without it there has to be a template
-abbrev pub made_behind : List Row → (front : List ℕ) → Option Made
-made_behind rows front = if is_set (codes "list") rows then Some (Listed front) else option_map (FilesBy front) (first_of (codes "OUT") rows)
+abbrev pub made_behind : List Row → (prefix : List ℕ) → Option Made
+made_behind rows prefix = if is_set (codes "list") rows then Some (Listed prefix) else option_map (FilesBy prefix) (first_of (codes "OUT") rows)
 
 abbrev pub made_of : List Row → Option Made
-made_of rows = option_and_then (made_behind rows) (front_in rows)
+made_of rows = option_and_then (made_behind rows) (prefix_in rows)
 
 -- the images that `write` names, in the order of the words
 abbrev pub images_of : List Row → List Text
@@ -132,54 +132,54 @@ abbrev pub made_in : List Row → Option Text
 made_in rows = option_and_then made_named (first_of (codes "OUT") rows)
 
 -- what the values of the words of `write` ask for: the ticket is a file, whatever its name
-abbrev pub job_asked : List Row → Option Asked
-job_asked rows =
+abbrev pub job_arguments : List Row → Option Arguments
+job_arguments rows =
     option_and_then (λ ticket. option_map (λ name. record { source = FileNamed ticket; made = JobTo name (images_of rows) }) (made_in rows)) (first_of (codes "TICKET") rows)
 
 -- what the values of the words of `print`, of `asm` and of `disasm` ask for
-abbrev pub print_asked : List Row → Option Asked
-print_asked rows =
+abbrev pub print_arguments : List Row → Option Arguments
+print_arguments rows =
     option_and_then (λ name. option_map (λ made. record { source = source_of name; made = made }) (made_of rows)) (first_of (codes "IN") rows)
 
-abbrev pub asm_asked : List Row → Option Asked
-asm_asked rows =
+abbrev pub asm_arguments : List Row → Option Arguments
+asm_arguments rows =
     option_and_then (λ name. option_map (λ made. record { source = source_of name; made = StreamTo made }) (made_in rows)) (first_of (codes "IN") rows)
 
-abbrev pub disasm_asked : List Row → Option Asked
-disasm_asked rows = option_map (λ name. record { source = source_of name; made = AsText }) (first_of (codes "IN") rows)
+abbrev pub disasm_arguments : List Row → Option Arguments
+disasm_arguments rows = option_map (λ name. record { source = source_of name; made = AsText }) (first_of (codes "IN") rows)
 
 -- what `debug` asks for: the lines stand on standard input, so the stream stands in a file
-abbrev pub debug_of : (front : List ℕ) → Text → Option Asked
-debug_of front name = if bytes_eq name (codes "-") then None else Some (record { source = Standard; made = DebuggedOf front name })
+abbrev pub debug_of : (prefix : List ℕ) → Text → Option Arguments
+debug_of prefix name = if bytes_eq name (codes "-") then None else Some (record { source = Standard; made = DebuggedOf prefix name })
 
-abbrev pub debug_asked : List Row → Option Asked
-debug_asked rows = option_and_then (λ front. option_and_then (debug_of front) (first_of (codes "IN") rows)) (front_in rows)
+abbrev pub debug_arguments : List Row → Option Arguments
+debug_arguments rows = option_and_then (λ prefix. option_and_then (debug_of prefix) (first_of (codes "IN") rows)) (prefix_in rows)
 
 -- what `trace` asks for
-abbrev pub trace_asked : List Row → Option Asked
-trace_asked rows =
-    option_and_then (λ front. option_map (λ name. record { source = source_of name; made = TracedOf front })
-    (first_of (codes "IN") rows)) (front_in rows)
+abbrev pub trace_arguments : List Row → Option Arguments
+trace_arguments rows =
+    option_and_then (λ prefix. option_map (λ name. record { source = source_of name; made = TracedOf prefix })
+    (first_of (codes "IN") rows)) (prefix_in rows)
 
 -- what `page` asks for: the steps are a number, and the page is made a file
 abbrev pub steps_in : List Row → Option ℕ
 steps_in rows = option_and_then number_word (first_of (codes "K") rows)
 
-abbrev pub page_to : (front : List ℕ) (steps : ℕ) → List Row → Option Asked
-page_to front steps rows =
-    option_and_then (λ source. option_map (λ name. record { source = source_of source; made = PageTo front steps name }) (made_in rows))
+abbrev pub page_to : (prefix : List ℕ) (steps : ℕ) → List Row → Option Arguments
+page_to prefix steps rows =
+    option_and_then (λ source. option_map (λ name. record { source = source_of source; made = PageTo prefix steps name }) (made_in rows))
     (first_of (codes "IN") rows)
 
-abbrev pub page_asked : List Row → Option Asked
-page_asked rows = option_and_then (λ front. option_and_then (λ steps. page_to front steps rows) (steps_in rows)) (front_in rows)
+abbrev pub page_arguments : List Row → Option Arguments
+page_arguments rows = option_and_then (λ prefix. option_and_then (λ steps. page_to prefix steps rows) (steps_in rows)) (prefix_in rows)
 
 -- how many engines `press` asks for: one where nothing is said of them
 abbrev pub engines_of : List Row → Option ℕ
 engines_of rows = option_map_or number_word (first_of (codes "engines") rows) (Some 1)
 
 -- what `press` asks for: the events stand on standard input
-abbrev pub session_asked : List Row → Option Asked
-session_asked rows = option_map (λ engines. record { source = Standard; made = Answered engines }) (engines_of rows)
+abbrev pub session_arguments : List Row → Option Arguments
+session_arguments rows = option_map (λ engines. record { source = Standard; made = Answered engines }) (engines_of rows)
 
 -- the subcommand of a name
 abbrev pub subcommand_named : Text → Option Subcommand
@@ -195,28 +195,28 @@ subcommand_named name =
     else None
 
 -- what the values of the words of a subcommand ask for
-abbrev pub asked_of : Subcommand → List Row → Option Asked
-asked_of Print rows = print_asked rows
-asked_of Asm rows = asm_asked rows
-asked_of Disasm rows = disasm_asked rows
-asked_of Debug rows = debug_asked rows
-asked_of Trace rows = trace_asked rows
-asked_of Page rows = page_asked rows
-asked_of Write rows = job_asked rows
-asked_of Press rows = session_asked rows
+abbrev pub arguments_of : Subcommand → List Row → Option Arguments
+arguments_of Print rows = print_arguments rows
+arguments_of Asm rows = asm_arguments rows
+arguments_of Disasm rows = disasm_arguments rows
+arguments_of Debug rows = debug_arguments rows
+arguments_of Trace rows = trace_arguments rows
+arguments_of Page rows = page_arguments rows
+arguments_of Write rows = job_arguments rows
+arguments_of Press rows = session_arguments rows
 
 -- the same by its name
-abbrev pub asked_by : Text → List Row → Option Asked
-asked_by name rows = option_and_then (λ subcommand. asked_of subcommand rows) (subcommand_named name)
+abbrev pub arguments_by : Text → List Row → Option Arguments
+arguments_by name rows = option_and_then (λ subcommand. arguments_of subcommand rows) (subcommand_named name)
 
 -- what words ask for in which the command line finds these faults
-abbrev pub asked_without : {K : Type 0} → List K → List Text → Option Asked
-asked_without [] words = option_and_then (λ found. asked_by found.0 found.1) (subcommand_of press_app words)
-asked_without (fault ∷ faults) words = None
+abbrev pub arguments_without : {K : Type 0} → List K → List Text → Option Arguments
+arguments_without [] words = option_and_then (λ found. arguments_by found.0 found.1) (subcommand_of press_app words)
+arguments_without (fault ∷ faults) words = None
 
 -- What words ask for, the program's name among them: without any, the listing of standard input; nothing where they are
 -- refused.
-abbrev pub asked : List Text → Option Asked
-asked [] = Some (record { source = Standard; made = Listed [] })
-asked (program ∷ []) = Some (record { source = Standard; made = Listed [] })
-asked (program ∷ word ∷ words) = asked_without (fault_of press_app (program ∷ word ∷ words)) (program ∷ word ∷ words)
+abbrev pub arguments : List Text → Option Arguments
+arguments [] = Some (record { source = Standard; made = Listed [] })
+arguments (program ∷ []) = Some (record { source = Standard; made = Listed [] })
+arguments (program ∷ word ∷ words) = arguments_without (fault_of press_app (program ∷ word ∷ words)) (program ∷ word ∷ words)

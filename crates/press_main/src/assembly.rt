@@ -6,7 +6,7 @@ ghost use Rattle.press_main.specs.Faults.{told_of_text};
 ghost use Rattle.press_main.specs.Telling.{Ended};
 
 use crate::inputs::{InputError, read_all};
-use crate::telling::{NO_OUTPUT, Teller, told, write_flushed};
+use crate::telling::{NO_OUTPUT, Teller, report, write_flushed};
 use press_asm::{AssembleError, assemble};
 use press_disasm::disassemble;
 use press_pbm::WRITE_FAULT;
@@ -113,7 +113,7 @@ pub fn asm_text<R: Read, W: Write, E: Teller>(
 {
     match assemble_to(alloc, reader, out) {
         Ok(()) => 0,
-        Err(error) => told(&error, err),
+        Err(error) => report(&error, err),
     }
 }
 
@@ -159,6 +159,6 @@ pub fn disasm_bytes<R: Read, W: Write, E: Teller>(
 {
     match disassemble_to(alloc, reader, out) {
         Ok(()) => 0,
-        Err(error) => told(&error, err),
+        Err(error) => report(&error, err),
     }
 }

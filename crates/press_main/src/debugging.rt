@@ -22,7 +22,7 @@ use crate::debugger_lines::{DebuggerLine, asked_of};
 use crate::inputs::{InputError, read_all};
 use crate::line_reader::LineReader;
 use crate::lines::{WHAT, line_of};
-use crate::telling::{NO_OUTPUT, Teller, told, write_flushed};
+use crate::telling::{NO_OUTPUT, Teller, report, write_flushed};
 use press_asm::write_kind;
 use press_cmd::{Kind, LINE_FEED};
 use press_debug::{Break, BreakError, Debugger, Stop, Watch};
@@ -112,7 +112,7 @@ pub fn debug_lines<I: Read, R: Read, W: Write, E: Teller>(
 {
     match debug(alloc, input, reader, out) {
         Ok(()) => 0,
-        Err(error) => told(&error, err),
+        Err(error) => report(&error, err),
     }
 }
 

@@ -2,7 +2,7 @@
 ghost use Rattle.std.specs.Prelude.{◌≡◌, ◌++◌, [], ◌∷◌, map, IfOk, OnOk};
 ghost use Rattle.std.specs.List.{list_all};
 ghost use Rattle.press_pjl.specs.Variables.{is_assignment};
-ghost use Rattle.press_main.specs.Defaults.{default_line, front_of};
+ghost use Rattle.press_main.specs.Defaults.{default_line, prefix_of};
 
 use press_cmd::LINE_FEED;
 use press_pjl::is_assignment;
@@ -28,26 +28,26 @@ pub fn are_assignments(defaults: &[&str]) -> bool
 /// none where there are no defaults.
 ///
 /// Source: PJL Technical Reference Manual, DEFAULT and RESET.
-pub fn front_of(alloc: Global, defaults: &[&str]) -> Result<Vec<u8>, AllocError>
-    ensures { IfOk result (λ front. front.items ≡ front_of (map (λ text. text.now) defaults.now)) }
+pub fn prefix_of(alloc: Global, defaults: &[&str]) -> Result<Vec<u8>, AllocError>
+    ensures { IfOk result (λ prefix. prefix.items ≡ prefix_of (map (λ text. text.now) defaults.now)) }
 {
-    let mut front = Vec::new(alloc);
+    let mut prefix = Vec::new(alloc);
     if defaults.is_empty() {
-        return Ok(front);
+        return Ok(prefix);
     }
     for text in defaults {
-        append_default(&mut front, text)?;
+        append_default(&mut prefix, text)?;
     }
-    front.extend_from_slice(&RESET)?;
-    Ok(front)
+    prefix.extend_from_slice(&RESET)?;
+    Ok(prefix)
 }
 
 /// Appends the line of one default.
-fn append_default(front: &mut Vec<u8>, text: &str) -> Result<(), AllocError>
-    ensures { OnOk result (front.new.items ≡ front.old.items ++ default_line text.now) }
+fn append_default(prefix: &mut Vec<u8>, text: &str) -> Result<(), AllocError>
+    ensures { OnOk result (prefix.new.items ≡ prefix.old.items ++ default_line text.now) }
 {
-    front.extend_from_slice(&DEFAULT)?;
-    front.extend_from_slice(text.as_bytes())?;
-    front.push(LINE_FEED)?;
+    prefix.extend_from_slice(&DEFAULT)?;
+    prefix.extend_from_slice(text.as_bytes())?;
+    prefix.push(LINE_FEED)?;
     Ok(())
 }

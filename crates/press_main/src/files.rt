@@ -1,12 +1,12 @@
 //! Streams that are printed to files.
 ghost use Rattle.std.specs.Prelude.{◌≡◌, ◌≤◌, ◌<◌, ◌⊎◌, IfSome};
 ghost use Rattle.press_sink.specs.Kept.{name_parts, next_number, file_faults, outputs_of};
-ghost use Rattle.press_sink.specs.Told.{most_faults};
+ghost use Rattle.press_sink.specs.SinkLog.{most_faults};
 ghost use Rattle.press_sink.specs.Template.{IsNoTemplate};
 ghost use Rattle.press_main.specs.Files.{MakesFiles, PrintsBy, PrintsFiles, PrintsNoFiles, PrintsTo};
 
 use crate::stream::{print_stream, told_status};
-use crate::telling::{Teller, told};
+use crate::telling::{Teller, report};
 use crate::told_folder::{Folder, ToldFolder};
 use press_sink::{FolderSink, NamedOutputs, SheetSink, WriteReplies};
 use std::alloc::Global;
@@ -47,7 +47,7 @@ pub fn print_files<O: NamedOutputs + Drop, R: Read, W: Write + Drop, E: Teller>(
     match FolderSink::open(alloc, outputs, template) {
         Ok(sink) => print_by::<O, R, W, E, Brand>(alloc, sink, reader, out, err),
         Err(unopened) => Finished {
-            status: told(&unopened.error, err),
+            status: report(&unopened.error, err),
             out,
             outputs: unopened.outputs,
         },

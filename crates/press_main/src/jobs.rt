@@ -18,7 +18,7 @@ ghost use Rattle.press_main.specs.Telling.{Ended};
 use crate::counted_read::CountedRead;
 use crate::inputs::{InputError, read_all};
 use crate::named_inputs::{NamedInputs, open_named};
-use crate::telling::{Teller, told};
+use crate::telling::{Teller, report};
 use press_bits::Bitmap;
 use press_pbm::{ReadPbmError, read_pbm};
 use press_ticket::{Ticket, TicketError, read_ticket};
@@ -181,6 +181,6 @@ pub fn write_files<T: Read, I: NamedInputs, W: Write, E: Teller>(
 {
     match write_from(alloc, ticket, inputs, names, out) {
         Ok(()) => 0,
-        Err(error) => told(&error, err),
+        Err(error) => report(&error, err),
     }
 }

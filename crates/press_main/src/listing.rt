@@ -11,7 +11,7 @@ use crate::entry_sheets::{EntrySheet, EntrySheets};
 use crate::listing_sink::{ListedSheet, ListingSink};
 use crate::measures::Measures;
 use crate::stream::{print_stream, told_status};
-use crate::telling::{NO_OUTPUT, Teller, told};
+use crate::telling::{NO_OUTPUT, Teller, report};
 use press_sink::ListReplies;
 use press_stream::{Job, JobError};
 use std::alloc::Global;
@@ -39,7 +39,7 @@ pub fn print_list<R: Read, W: Write, E: Teller>(
     if stream.written {
         status
     } else {
-        told(&NO_OUTPUT, err)
+        report(&NO_OUTPUT, err)
     }
 }
 

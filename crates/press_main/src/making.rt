@@ -8,7 +8,7 @@ ghost use Rattle.press_main.specs.Telling.{Ended};
 use crate::assembly::{TextError, assembled};
 use crate::jobs::{JobFileError, images_named, ticket_in};
 use crate::named_inputs::NamedInputs;
-use crate::telling::{Teller, told};
+use crate::telling::{Teller, report};
 use press_bits::Bitmap;
 use press_sink::{NamedOutputs, write_output};
 use press_ticket::Ticket;
@@ -33,7 +33,7 @@ pub fn asm_file<R: Read, O: NamedOutputs, E: Teller>(
 {
     match make_stream(alloc, reader, outputs, name) {
         Ok(()) => 0,
-        Err(error) => told(&error, err),
+        Err(error) => report(&error, err),
     }
 }
 
@@ -75,7 +75,7 @@ pub fn job_file<T: Read, I: NamedInputs, O: NamedOutputs, E: Teller>(
 {
     match make_ticket(alloc, ticket, inputs, names, outputs, name) {
         Ok(()) => 0,
-        Err(error) => told(&error, err),
+        Err(error) => report(&error, err),
     }
 }
 

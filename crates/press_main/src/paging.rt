@@ -6,11 +6,11 @@ ghost use Rattle.press_main.specs.Paging.{MakesPage, PagedInto, Paging, StandsAt
 ghost use Rattle.press_main.specs.declared.paging.PagingError.{PagingError};
 
 use crate::inputs::{InputError, read_all};
-use crate::telling::{Teller, told};
+use crate::telling::{Teller, report};
 use press_bits::{Bitmap, BlankError};
 use press_debug::laws::places;
 use press_debug::{Stepper, Taken};
-use press_page::Media;
+use press_page::PageSetup;
 use press_pbm::{WRITE_FAULT, WritePbmError};
 use press_sink::{NamedOutputs, write_page};
 use press_units::ToldFault;
@@ -118,7 +118,7 @@ pub fn page_file<R: Read, O: NamedOutputs, E: Teller>(
             }
             0
         }
-        Err(error) => told(&error, err),
+        Err(error) => report(&error, err),
     }
 }
 
@@ -174,7 +174,7 @@ fn write_open_page<O: NamedOutputs>(
             None => write_page(outputs, name, &canvas.page(alloc)?)?,
         },
         None => {
-            let blank = blank_page(alloc, stepper.view().environment.media)?;
+            let blank = blank_page(alloc, stepper.view().environment.page_setup)?;
             write_page(outputs, name, &blank)?;
         }
     }
@@ -183,10 +183,10 @@ fn write_open_page<O: NamedOutputs>(
 
 /// The blank physical page of the media.
 #[tactic(auto, using(press_engine::proofs::PlaceLemmas::media_fits))]
-fn blank_page(alloc: Global, media: Media) -> Result<Bitmap, AllocError>
-    ensures { IfOk result (λ page. page ≡ blank_page media) }
+fn blank_page(alloc: Global, page_setup: PageSetup) -> Result<Bitmap, AllocError>
+    ensures { IfOk result (λ page. page ≡ blank_page page_setup) }
 {
-    let page = media.physical_page();
+    let page = page_setup.physical_page();
     match Bitmap::blank(alloc, page.width, page.height) {
         Ok(bitmap) => Ok(bitmap),
         Err(BlankError::NoMemory) => Err(AllocError),

@@ -1,7 +1,7 @@
 //! What the words ask for, done.
 ghost use Rattle.std.specs.Prelude.{◌≡◌, ◌⊎◌, map, IfOk};
 ghost use Rattle.std.specs.String.{string_bytes};
-ghost use Rattle.press_main.specs.Defaults.{HoldsBehind, with_front};
+ghost use Rattle.press_main.specs.Defaults.{HoldsBehind, with_prefix};
 ghost use Rattle.press_main.specs.Files.{PrintsFiles, PrintsNoFiles};
 ghost use Rattle.press_main.specs.Listing.{PrintsListing};
 ghost use Rattle.press_main.specs.Paging.{Paging};
@@ -18,7 +18,7 @@ use crate::named_inputs::NamedInputs;
 use crate::paging::page_file;
 use crate::sessions::press_lines;
 use crate::sparing::spare_inputs;
-use crate::telling::{NO_OUTPUT, Teller, told};
+use crate::telling::{NO_OUTPUT, Teller, report};
 use crate::traced::tell_trace;
 use crate::words::{Input, Output, REFUSED, Refusal, Request, request_of};
 use press_sink::NamedOutputs;
@@ -45,7 +45,7 @@ pub fn run_words<I: NamedInputs, O: NamedOutputs + Drop, S: Read, W: Write + Dro
 {
     let Ok(texts) = texts_of(alloc, words) else {
         return Finished {
-            status: told(&NO_MEMORY, err),
+            status: report(&NO_MEMORY, err),
             out,
             outputs,
         };
@@ -54,7 +54,7 @@ pub fn run_words<I: NamedInputs, O: NamedOutputs + Drop, S: Read, W: Write + Dro
         Ok(request) => match spare_inputs(&mut outputs, &request) {
             Ok(()) => perform(alloc, inputs, outputs, &request, input, out, err),
             Err(error) => Finished {
-                status: told(&error, err),
+                status: report(&error, err),
                 out,
                 outputs,
             },
@@ -87,9 +87,9 @@ fn refuse<W: Write, E: Teller>(refusal: &Refusal, out: &mut W, err: &mut E) -> u
     match refusal.status() {
         0 => match write_help(refusal, out) {
             Ok(()) => 0,
-            Err(_) => told(&NO_OUTPUT, err),
+            Err(_) => report(&NO_OUTPUT, err),
         },
-        1 => told(&NO_MEMORY, err),
+        1 => report(&NO_MEMORY, err),
         _ => {
             err.tell(refusal);
             REFUSED
@@ -124,7 +124,7 @@ fn perform<I: NamedInputs, O: NamedOutputs + Drop, S: Read, W: Write + Drop, E: 
         Input::File(name) => match inputs.open(name) {
             Ok(mut file) => make(alloc, inputs, outputs, &mut file, output, out, err),
             Err(error) => Finished {
-                status: told(&error, err),
+                status: report(&error, err),
                 out,
                 outputs,
             },
@@ -147,13 +147,13 @@ fn make<I: NamedInputs, O: NamedOutputs + Drop, R: Read, W: Write + Drop, E: Tel
         (W.contents out) (W.contents result.out) (O.made outputs) (O.made result.outputs) }
 {
     match output {
-        Output::Listing(front) => Finished {
-            status: list_behind(alloc, front, reader, &mut out, err),
+        Output::Listing(prefix) => Finished {
+            status: list_behind(alloc, prefix, reader, &mut out, err),
             out,
             outputs,
         },
-        Output::Files(front, template) => {
-            print_behind(alloc, outputs, front, reader, template, out, err)
+        Output::Files(prefix, template) => {
+            print_behind(alloc, outputs, prefix, reader, template, out, err)
         }
         Output::Session(engines) => Finished {
             status: press_lines(alloc, inputs, *engines, reader, &mut out, err),
@@ -165,18 +165,18 @@ fn make<I: NamedInputs, O: NamedOutputs + Drop, R: Read, W: Write + Drop, E: Tel
             out,
             outputs,
         },
-        Output::Debugged(front, name) => Finished {
-            status: debug_file(alloc, inputs, front, name, reader, &mut out, err),
+        Output::Debugged(prefix, name) => Finished {
+            status: debug_file(alloc, inputs, prefix, name, reader, &mut out, err),
             out,
             outputs,
         },
-        Output::Traced(front) => Finished {
-            status: trace_behind(alloc, front, reader, &mut out, err),
+        Output::Traced(prefix) => Finished {
+            status: trace_behind(alloc, prefix, reader, &mut out, err),
             out,
             outputs,
         },
-        Output::Page(front, steps, name) => Finished {
-            status: page_behind(alloc, front, reader, *steps, &mut outputs, name, err),
+        Output::Page(prefix, steps, name) => Finished {
+            status: page_behind(alloc, prefix, reader, *steps, &mut outputs, name, err),
             out,
             outputs,
         },
@@ -196,38 +196,38 @@ fn make<I: NamedInputs, O: NamedOutputs + Drop, R: Read, W: Write + Drop, E: Tel
 /// Lists the sheets of the stream of these bytes and those that a reader has behind them.
 fn list_behind<R: Read, W: Write, E: Teller>(
     alloc: Global,
-    front: &[u8],
+    prefix: &[u8],
     reader: &mut R,
     out: &mut W,
     err: &mut E,
 ) -> u8
-    ensures { HoldsBehind front.now (R.remaining reader.old) (R.remaining reader.new)
+    ensures { HoldsBehind prefix.now (R.remaining reader.old) (R.remaining reader.new)
         (λ had left. PrintsListing result (E.said err.old) (E.said err.new) had left
         (W.contents out.old) (W.contents out.new)) }
 {
-    if front.is_empty() {
+    if prefix.is_empty() {
         return print_list(alloc, reader, out, err);
     }
-    let mut listed = front.chain(reader);
+    let mut listed = prefix.chain(reader);
     print_list(alloc, &mut listed, out, err)
 }
 
 /// Tells the trace of the stream of these bytes and those that a reader has behind them.
 fn trace_behind<R: Read, W: Write, E: Teller>(
     alloc: Global,
-    front: &[u8],
+    prefix: &[u8],
     reader: &mut R,
     out: &mut W,
     err: &mut E,
 ) -> u8
-    ensures { HoldsBehind front.now (R.remaining reader.old) (R.remaining reader.new)
+    ensures { HoldsBehind prefix.now (R.remaining reader.old) (R.remaining reader.new)
         (λ had left. Tracing result (E.said err.old) (E.said err.new) had left
         (W.contents out.old) (W.contents out.new)) }
 {
-    if front.is_empty() {
+    if prefix.is_empty() {
         return tell_trace(alloc, reader, out, err);
     }
-    let mut traced = front.chain(reader);
+    let mut traced = prefix.chain(reader);
     tell_trace(alloc, &mut traced, out, err)
 }
 
@@ -235,21 +235,21 @@ fn trace_behind<R: Read, W: Write, E: Teller>(
 /// has behind them.
 fn page_behind<R: Read, O: NamedOutputs, E: Teller>(
     alloc: Global,
-    front: &[u8],
+    prefix: &[u8],
     reader: &mut R,
     steps: u64,
     outputs: &mut O,
     name: &str,
     err: &mut E,
 ) -> u8
-    ensures { HoldsBehind front.now (R.remaining reader.old) (R.remaining reader.new)
+    ensures { HoldsBehind prefix.now (R.remaining reader.old) (R.remaining reader.new)
         (λ had left. Paging steps name.now result (E.said err.old) (E.said err.new) had left
         (O.made outputs.old) (O.made outputs.new)) }
 {
-    if front.is_empty() {
+    if prefix.is_empty() {
         return page_file(alloc, reader, steps, outputs, name, err);
     }
-    let mut stream = front.chain(reader);
+    let mut stream = prefix.chain(reader);
     page_file(alloc, &mut stream, steps, outputs, name, err)
 }
 
@@ -257,23 +257,23 @@ fn page_behind<R: Read, O: NamedOutputs, E: Teller>(
 fn print_behind<O: NamedOutputs + Drop, R: Read, W: Write + Drop, E: Teller>(
     alloc: Global,
     outputs: O,
-    front: &[u8],
+    prefix: &[u8],
     reader: &mut R,
     template: &str,
     out: W,
     err: &mut E,
 ) -> Finished<W, O>
-    ensures { HoldsBehind front.now (R.remaining reader.old) (R.remaining reader.new)
+    ensures { HoldsBehind prefix.now (R.remaining reader.old) (R.remaining reader.new)
         (λ had left. PrintsFiles template.now result.status (E.said err.old) (E.said err.new)
         had left (W.contents out) (W.contents result.out)
         (O.made outputs) (O.made result.outputs)
         ⊎ PrintsNoFiles template.now result.status (E.said err.old) (E.said err.new) had left
         (W.contents out) (W.contents result.out) (O.made outputs) (O.made result.outputs)) }
 {
-    if front.is_empty() {
+    if prefix.is_empty() {
         return print_files(alloc, outputs, reader, template, out, err);
     }
-    let mut stream = front.chain(reader);
+    let mut stream = prefix.chain(reader);
     print_files(alloc, outputs, &mut stream, template, out, err)
 }
 
@@ -282,39 +282,39 @@ fn print_behind<O: NamedOutputs + Drop, R: Read, W: Write + Drop, E: Teller>(
 fn debug_file<I: NamedInputs, R: Read, W: Write, E: Teller>(
     alloc: Global,
     inputs: &I,
-    front: &[u8],
+    prefix: &[u8],
     name: &str,
     reader: &mut R,
     out: &mut W,
     err: &mut E,
 ) -> u8
-    ensures { Debugging result (with_front front.now (I.bytes inputs.now name.now))
+    ensures { Debugging result (with_prefix prefix.now (I.bytes inputs.now name.now))
         (E.said err.old) (E.said err.new) (R.remaining reader.old) (R.remaining reader.new)
         (W.contents out.old) (W.contents out.new) }
 {
     match inputs.open(name) {
-        Ok(mut input) => debug_behind(alloc, front, &mut input, reader, out, err),
-        Err(error) => told(&error, err),
+        Ok(mut input) => debug_behind(alloc, prefix, &mut input, reader, out, err),
+        Err(error) => report(&error, err),
     }
 }
 
 /// The same of the stream of these bytes and those that `input` has behind them.
 fn debug_behind<I: Read, R: Read, W: Write, E: Teller>(
     alloc: Global,
-    front: &[u8],
+    prefix: &[u8],
     input: &mut I,
     reader: &mut R,
     out: &mut W,
     err: &mut E,
 ) -> u8
-    ensures { Debugging result (with_front front.now (I.remaining input.old))
+    ensures { Debugging result (with_prefix prefix.now (I.remaining input.old))
         (E.said err.old) (E.said err.new) (R.remaining reader.old) (R.remaining reader.new)
         (W.contents out.old) (W.contents out.new) }
 {
-    if front.is_empty() {
+    if prefix.is_empty() {
         return debug_lines(alloc, input, reader, out, err);
     }
-    let mut stream = front.chain(input);
+    let mut stream = prefix.chain(input);
     debug_lines(alloc, &mut stream, reader, out, err)
 }
 
@@ -334,7 +334,7 @@ fn write_file<R: Read, I: NamedInputs, O: NamedOutputs, E: Teller>(
         (O.made outputs.old) (O.made outputs.new) }
 {
     let Ok(words) = names_of(alloc, images) else {
-        return told(&NO_MEMORY, err);
+        return report(&NO_MEMORY, err);
     };
     job_file(alloc, reader, inputs, &words, outputs, name, err)
 }

@@ -37,7 +37,7 @@ use crate::line_reader::LineReader;
 use crate::lines::{WHAT, line_of, words_of};
 use crate::listing::list_delivered;
 use crate::named_inputs::{NamedInputs, open_named};
-use crate::telling::{NO_OUTPUT, Teller, told, write_flushed};
+use crate::telling::{NO_OUTPUT, Teller, report, write_flushed};
 use press_core::{BadEngines, OperatorCommand, Press, Turn, TurnError, laws};
 use press_units::ToldFault;
 use std::alloc::{AllocError, Global};
@@ -147,7 +147,7 @@ impl From<AllocError> for SessionError {
 /// Has a session with a press of so many engines that has no entries: carries out each line of events that a reader has, writes its
 /// answer to `out`, and at the end of the lines the listing, a line for each side that was delivered. The files of a message are opened
 /// by their names. In whatever order the events come, what was delivered under the number of an entry in flight are the sheets of
-/// the steps that were taken of its job, of a completed one all that its ticket wants, of every other one a front of those. After a
+/// the steps that were taken of its job, of a completed one all that its ticket wants, of every other one a prefix of those. After a
 /// fault, which stands on `err`, no line is carried out, and nothing is listed. The answer is the status: 0, or 1 after a fault.
 pub fn press_lines<I: NamedInputs, R: Read, W: Write, E: Teller>(
     alloc: Global,
@@ -165,7 +165,7 @@ pub fn press_lines<I: NamedInputs, R: Read, W: Write, E: Teller>(
 {
     match play(alloc, inputs, engines, reader, out) {
         Ok(()) => 0,
-        Err(error) => told(&error, err),
+        Err(error) => report(&error, err),
     }
 }
 

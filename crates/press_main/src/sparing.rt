@@ -51,11 +51,11 @@ fn spare<O: NamedOutputs>(outputs: &mut O, names: &[&str]) -> Result<(), SinkErr
 
 /// Whether this is the name of a side by a template: a number, as it is written from 1 on, in place of its one `%d`.
 fn is_side(template: &str, name: &str) -> bool {
-    let Some((front, back)) = template.split_once("%d") else {
+    let Some((prefix, back)) = template.split_once("%d") else {
         return false;
     };
     let Some(number) = name
-        .strip_prefix(front)
+        .strip_prefix(prefix)
         .and_then(|rest| rest.strip_suffix(back))
     else {
         return false;

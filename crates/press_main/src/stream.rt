@@ -1,11 +1,11 @@
 //! Streams that are printed from a reader to two sinks.
 ghost use Rattle.std.specs.Prelude.{◌≡◌};
-ghost use Rattle.press_sink.specs.Told.{both, CanCount};
+ghost use Rattle.press_sink.specs.SinkLog.{logs, HasFaultRoom};
 ghost use Rattle.press_stream.specs.Answers.{fault_of};
 ghost use Rattle.press_stream.specs.Printed.{Printed};
 ghost use Rattle.press_main.specs.Printing.{machine_of, status_of_fault, TellsFault};
 
-use crate::telling::{Teller, told};
+use crate::telling::{Teller, report};
 use press_sink::{ReplySink, SheetSink};
 use press_stream::{Job, JobError};
 use std::alloc::Global;
@@ -24,11 +24,11 @@ pub fn print_stream<R: Read, S: SheetSink, P: ReplySink>(
     sheets: &mut S,
     replies: &mut P,
 ) -> Result<Job, JobError>
-    requires { CanCount (both (S.told sheets.old) (P.told replies.old)) }
+    requires { HasFaultRoom (logs (S.told sheets.old) (P.told replies.old)) }
     ensures { Printed (R.remaining reader.old) (R.remaining reader.new) tag (fault_of result)
         (machine_of result)
-        (both (S.told sheets.old) (P.told replies.old))
-        (both (S.told sheets.new) (P.told replies.new)) }
+        (logs (S.told sheets.old) (P.told replies.old))
+        (logs (S.told sheets.new) (P.told replies.new)) }
 {
     press_stream::laws::chain();
     let mut job = Job::open(alloc)?;
@@ -43,6 +43,6 @@ pub fn told_status<E: Teller>(printed: &Result<Job, JobError>, err: &mut E) -> u
 {
     match printed {
         Ok(_) => 0,
-        Err(fault) => told(fault, err),
+        Err(fault) => report(fault, err),
     }
 }

@@ -44,7 +44,7 @@ impl<D: Display> fmt::Display for Line<'_, D> {
 }
 
 /// Tells a fault in a line. The answer is the status after it.
-pub fn told<D: Display, E: Teller>(error: &D, err: &mut E) -> u8
+pub fn report<D: Display, E: Teller>(error: &D, err: &mut E) -> u8
     ensures status { result ≡ 1 }
     ensures told { Tells (E.said err.old) (E.said err.new) (as_line (D.output error.now)) }
 {
@@ -52,7 +52,7 @@ pub fn told<D: Display, E: Teller>(error: &D, err: &mut E) -> u8
     1
 }
 
-/// Writes bytes whole, and flushes; a front of them is written where that failed.
+/// Writes bytes whole, and flushes; a prefix of them is written where that failed.
 pub fn write_flushed<W: Write>(out: &mut W, bytes: &[u8]) -> io::Result<()>
     ensures { Writes result (W.contents out.old) (W.contents out.new) bytes.now }
 {

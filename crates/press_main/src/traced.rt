@@ -4,7 +4,7 @@ ghost use Rattle.press_pbm.specs.Spelling.{Writes};
 ghost use Rattle.press_main.specs.Traced.{StopsTelling, Traced, Tracing};
 
 use crate::inputs::{InputError, read_all};
-use crate::telling::{NO_OUTPUT, Teller, told, write_flushed};
+use crate::telling::{NO_OUTPUT, Teller, report, write_flushed};
 use press_trace::{TraceError, trace_lines};
 use press_units::ToldFault;
 use std::alloc::Global;
@@ -76,7 +76,7 @@ pub fn tell_trace<R: Read, W: Write, E: Teller>(
 {
     match trace_to(alloc, reader, out) {
         Ok(()) => 0,
-        Err(error) => told(&error, err),
+        Err(error) => report(&error, err),
     }
 }
 

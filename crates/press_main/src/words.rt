@@ -3,10 +3,10 @@ ghost use Rattle.std.specs.Prelude.{◌≡◌, ◌↔◌, ◌⊎◌, IfOk, IfErr
 ghost use Rattle.clap.specs.Words.{app_of, new_app, rule_of, new_rule, kind_of, first_of, rows_of, found_of, subcommand_of, subcommand_rows_of, fault_of, FailsBy};
 ghost use Rattle.clap.specs.declared.builder.command.Command.TheViews.{out-Command};
 ghost use Rattle.clap.specs.declared.error.kind.ErrorKind.TheVariants.{OutOfMemory};
-ghost use Rattle.press_main.specs.Words.{list_rule, default_rule, needed_rule, images_rule, engines_rule, print_app, asm_app, disasm_app, debug_app, trace_app, page_app, write_app, session_app, program_app, press_app, source_of, made_behind, made_of, made_named, made_in, images_of, defaults_of, front_in, engines_of, print_asked, asm_asked, disasm_asked, debug_of, debug_asked, trace_asked, steps_in, page_to, page_asked, job_asked, session_asked, subcommand_named, asked_of, asked_by, asked, is_set};
+ghost use Rattle.press_main.specs.Words.{list_rule, default_rule, needed_rule, images_rule, engines_rule, print_app, asm_app, disasm_app, debug_app, trace_app, page_app, write_app, session_app, program_app, press_app, source_of, made_behind, made_of, made_named, made_in, images_of, defaults_of, prefix_in, engines_of, print_arguments, asm_arguments, disasm_arguments, debug_of, debug_arguments, trace_arguments, steps_in, page_to, page_arguments, job_arguments, session_arguments, subcommand_named, arguments_of, arguments_by, arguments, is_set};
 ghost use Rattle.press_main.specs.View.{AsksHelp, source_seen, made_seen, request_seen, status_of, IsForMemory};
 
-use crate::defaults::{are_assignments, front_of};
+use crate::defaults::{are_assignments, prefix_of};
 use crate::lines::number_word;
 use clap::error::ErrorKind;
 use clap::{Arg, ArgAction, ArgMatches, Command, Error};
@@ -428,29 +428,29 @@ fn defaults_of<'a>(alloc: Global, matches: &ArgMatches<'a>) -> Result<Vec<&'a st
 }
 
 /// What stands in front of the stream, where each default that matches name is one of the job language.
-fn front_in(alloc: Global, matches: &ArgMatches<'_>) -> Result<Option<Vec<u8>>, AllocError>
-    ensures { IfOk result (λ front.
-        option_map (λ bytes. bytes.items) front ≡ front_in (rows_of (found_of matches.now))) }
+fn prefix_in(alloc: Global, matches: &ArgMatches<'_>) -> Result<Option<Vec<u8>>, AllocError>
+    ensures { IfOk result (λ prefix.
+        option_map (λ bytes. bytes.items) prefix ≡ prefix_in (rows_of (found_of matches.now))) }
 {
     let defaults = defaults_of(alloc, matches)?;
     if !are_assignments(&defaults) {
         return Ok(None);
     }
-    let front = front_of(alloc, &defaults)?;
-    Ok(Some(front))
+    let prefix = prefix_of(alloc, &defaults)?;
+    Ok(Some(prefix))
 }
 
 /// What the matches of `print` ask to be made of a stream, with these bytes in front of it.
 #[tactic(auto, using(crate::proofs::WordsLemmas::value_by_rows))]
-fn output_behind<'a>(front: Vec<u8>, matches: &ArgMatches<'a>) -> Option<Output<'a>>
+fn output_behind<'a>(prefix: Vec<u8>, matches: &ArgMatches<'a>) -> Option<Output<'a>>
     ensures { option_map made_seen result
-        ≡ made_behind (rows_of (found_of matches.now)) front.items }
+        ≡ made_behind (rows_of (found_of matches.now)) prefix.items }
 {
     if has_flag(matches, "list") {
-        return Some(Output::Listing(front));
+        return Some(Output::Listing(prefix));
     }
     let template = matches.get_str("OUT")?;
-    Some(Output::Files(front, template))
+    Some(Output::Files(prefix, template))
 }
 
 /// What the matches of `print` ask to be made.
@@ -458,8 +458,8 @@ fn output_of<'a>(alloc: Global, matches: &ArgMatches<'a>) -> Result<Option<Outpu
     ensures { IfOk result (λ output.
         option_map made_seen output ≡ made_of (rows_of (found_of matches.now))) }
 {
-    match front_in(alloc, matches)? {
-        Some(front) => Ok(output_behind(front, matches)),
+    match prefix_in(alloc, matches)? {
+        Some(prefix) => Ok(output_behind(prefix, matches)),
         None => Ok(None),
     }
 }
@@ -501,7 +501,7 @@ fn job_request<'a>(
     matches: &ArgMatches<'a>,
 ) -> Result<Option<Request<'a>>, AllocError>
     ensures { IfOk result (λ found. option_map request_seen found
-        ≡ job_asked (rows_of (found_of matches.now))) }
+        ≡ job_arguments (rows_of (found_of matches.now))) }
 {
     let images = images_of(alloc, matches)?;
     let Some(ticket) = matches.get_str("TICKET") else {
@@ -523,7 +523,7 @@ fn print_request<'a>(
     matches: &ArgMatches<'a>,
 ) -> Result<Option<Request<'a>>, AllocError>
     ensures { IfOk result (λ found. option_map request_seen found
-        ≡ print_asked (rows_of (found_of matches.now))) }
+        ≡ print_arguments (rows_of (found_of matches.now))) }
 {
     let made = output_of(alloc, matches)?;
     let Some(name) = matches.get_str("IN") else {
@@ -541,7 +541,7 @@ fn print_request<'a>(
 /// What the matches of `asm` ask for.
 #[tactic(auto, using(crate::proofs::WordsLemmas::value_by_rows))]
 fn asm_request<'a>(matches: &ArgMatches<'a>) -> Option<Request<'a>>
-    ensures { option_map request_seen result ≡ asm_asked (rows_of (found_of matches.now)) }
+    ensures { option_map request_seen result ≡ asm_arguments (rows_of (found_of matches.now)) }
 {
     let name = matches.get_str("IN")?;
     let made = made_in(matches)?;
@@ -554,7 +554,7 @@ fn asm_request<'a>(matches: &ArgMatches<'a>) -> Option<Request<'a>>
 /// What the matches of `disasm` ask for.
 #[tactic(auto, using(crate::proofs::WordsLemmas::value_by_rows))]
 fn disasm_request<'a>(matches: &ArgMatches<'a>) -> Option<Request<'a>>
-    ensures { option_map request_seen result ≡ disasm_asked (rows_of (found_of matches.now)) }
+    ensures { option_map request_seen result ≡ disasm_arguments (rows_of (found_of matches.now)) }
 {
     let name = matches.get_str("IN")?;
     Some(Request {
@@ -564,15 +564,15 @@ fn disasm_request<'a>(matches: &ArgMatches<'a>) -> Option<Request<'a>>
 }
 
 /// What `debug` asks for of a stream with these bytes in front of it. The lines stand on standard input, so the stream does not.
-fn debug_named(front: Vec<u8>, name: &str) -> Option<Request<'_>>
-    ensures { option_map request_seen result ≡ debug_of front.items name.now }
+fn debug_named(prefix: Vec<u8>, name: &str) -> Option<Request<'_>>
+    ensures { option_map request_seen result ≡ debug_of prefix.items name.now }
 {
     if name == "-" {
         return None;
     }
     Some(Request {
         input: Input::Standard,
-        output: Output::Debugged(front, name),
+        output: Output::Debugged(prefix, name),
     })
 }
 
@@ -583,13 +583,13 @@ fn debug_request<'a>(
     matches: &ArgMatches<'a>,
 ) -> Result<Option<Request<'a>>, AllocError>
     ensures { IfOk result (λ found. option_map request_seen found
-        ≡ debug_asked (rows_of (found_of matches.now))) }
+        ≡ debug_arguments (rows_of (found_of matches.now))) }
 {
-    let Some(front) = front_in(alloc, matches)? else {
+    let Some(prefix) = prefix_in(alloc, matches)? else {
         return Ok(None);
     };
     match matches.get_str("IN") {
-        Some(name) => Ok(debug_named(front, name)),
+        Some(name) => Ok(debug_named(prefix, name)),
         None => Ok(None),
     }
 }
@@ -601,9 +601,9 @@ fn trace_request<'a>(
     matches: &ArgMatches<'a>,
 ) -> Result<Option<Request<'a>>, AllocError>
     ensures { IfOk result (λ found. option_map request_seen found
-        ≡ trace_asked (rows_of (found_of matches.now))) }
+        ≡ trace_arguments (rows_of (found_of matches.now))) }
 {
-    let Some(front) = front_in(alloc, matches)? else {
+    let Some(prefix) = prefix_in(alloc, matches)? else {
         return Ok(None);
     };
     let Some(name) = matches.get_str("IN") else {
@@ -611,7 +611,7 @@ fn trace_request<'a>(
     };
     Ok(Some(Request {
         input: input_named(name),
-        output: Output::Traced(front),
+        output: Output::Traced(prefix),
     }))
 }
 
@@ -626,15 +626,15 @@ fn steps_in(matches: &ArgMatches<'_>) -> Option<u64>
 
 /// What the matches of `page` ask for, of so many steps of a stream with these bytes in front of it.
 #[tactic(auto, using(crate::proofs::WordsLemmas::value_by_rows))]
-fn page_to<'a>(front: Vec<u8>, steps: u64, matches: &ArgMatches<'a>) -> Option<Request<'a>>
+fn page_to<'a>(prefix: Vec<u8>, steps: u64, matches: &ArgMatches<'a>) -> Option<Request<'a>>
     ensures { option_map request_seen result
-        ≡ page_to front.items steps (rows_of (found_of matches.now)) }
+        ≡ page_to prefix.items steps (rows_of (found_of matches.now)) }
 {
     let name = matches.get_str("IN")?;
     let made = made_in(matches)?;
     Some(Request {
         input: input_named(name),
-        output: Output::Page(front, steps, made),
+        output: Output::Page(prefix, steps, made),
     })
 }
 
@@ -644,13 +644,13 @@ fn page_request<'a>(
     matches: &ArgMatches<'a>,
 ) -> Result<Option<Request<'a>>, AllocError>
     ensures { IfOk result (λ found. option_map request_seen found
-        ≡ page_asked (rows_of (found_of matches.now))) }
+        ≡ page_arguments (rows_of (found_of matches.now))) }
 {
-    let Some(front) = front_in(alloc, matches)? else {
+    let Some(prefix) = prefix_in(alloc, matches)? else {
         return Ok(None);
     };
     match steps_in(matches) {
-        Some(steps) => Ok(page_to(front, steps, matches)),
+        Some(steps) => Ok(page_to(prefix, steps, matches)),
         None => Ok(None),
     }
 }
@@ -668,7 +668,7 @@ fn engines_of(matches: &ArgMatches<'_>) -> Option<u64>
 
 /// What the matches of `press` ask for. The events stand on standard input.
 fn session_request<'a>(matches: &ArgMatches<'a>) -> Option<Request<'a>>
-    ensures { option_map request_seen result ≡ session_asked (rows_of (found_of matches.now)) }
+    ensures { option_map request_seen result ≡ session_arguments (rows_of (found_of matches.now)) }
 {
     let engines = engines_of(matches)?;
     Some(Request {
@@ -722,7 +722,7 @@ fn subcommand_request<'a>(
     matches: &ArgMatches<'a>,
 ) -> Result<Option<Request<'a>>, AllocError>
     ensures { IfOk result (λ found. option_map request_seen found
-        ≡ asked_of subcommand (rows_of (found_of matches.now))) }
+        ≡ arguments_of subcommand (rows_of (found_of matches.now))) }
 {
     match subcommand {
         Subcommand::Print => print_request(alloc, matches),
@@ -743,7 +743,7 @@ fn named_request<'a>(
     matches: &ArgMatches<'a>,
 ) -> Result<Option<Request<'a>>, AllocError>
     ensures { IfOk result (λ found. option_map request_seen found
-        ≡ asked_by name.now (rows_of (found_of matches.now))) }
+        ≡ arguments_by name.now (rows_of (found_of matches.now))) }
 {
     match subcommand_named(name) {
         Some(subcommand) => subcommand_request(alloc, subcommand, matches),
@@ -753,8 +753,8 @@ fn named_request<'a>(
 
 /// What the matches of the command line ask for.
 fn request_in<'a>(alloc: Global, matches: &ArgMatches<'a>) -> Result<Option<Request<'a>>, Error>
-    ensures ok { IfOk result (λ asked. option_map request_seen asked
-        ≡ option_and_then (λ found. asked_by found.0 found.1) (subcommand_rows_of matches.now)) }
+    ensures ok { IfOk result (λ arguments. option_map request_seen arguments
+        ≡ option_and_then (λ found. arguments_by found.0 found.1) (subcommand_rows_of matches.now)) }
     ensures memory { IfErr result (λ error. kind_of error ≡ OutOfMemory) }
 {
     match matches.subcommand() {
@@ -770,9 +770,9 @@ fn request_in<'a>(alloc: Global, matches: &ArgMatches<'a>) -> Result<Option<Requ
 /// Where the words are refused or ask for help, or memory ran out.
 pub fn request_of<'a>(alloc: Global, words: &'a [&'a str]) -> Result<Request<'a>, Refusal>
     ensures ok { IfOk result (λ request.
-        asked (map (λ word. word.now) words.entry.now) ≡ Some (request_seen request)) }
+        arguments (map (λ word. word.now) words.entry.now) ≡ Some (request_seen request)) }
     ensures refused { IfErr result (λ refusal. (IsForMemory refusal)
-        ⊎ (asked (map (λ word. word.now) words.entry.now) ≡ None)) }
+        ⊎ (arguments (map (λ word. word.now) words.entry.now) ≡ None)) }
     ensures help { IfErr result (λ refusal.
         status_of refusal ≡ 0 → AsksHelp (map (λ word. word.now) words.entry.now)) }
 {

@@ -5,15 +5,15 @@ use Rattle.press_units.specs.declared.position.Resolution.TheVariants.{Dpi600}
 use Rattle.press_cursor.specs.Cursor.{home, position, moved_x, moved_y}
 use Rattle.press_cursor.specs.CursorState.{CursorState}
 use Rattle.std.specs.Prelude.{codes}
-use Rattle.press_page.specs.Environment.{factory, reset_environment, logical_page_of, closes_page, asked_page_size, set_page_size, with_page_size, asked_orientation, set_orientation, with_orientation, asked_sides, set_sides, with_printed_sides, set_unit_of_measure, set_vertical_motion, set_line_termination, set_copies, asked_left, set_left_margin, set_top_margin, set_right_margin, set_text_length, skip_moves_top, set_perforation_skip, clear_margins, set_line_spacing, set_horizontal_motion, passes_text}
+use Rattle.press_page.specs.Environment.{factory, reset_environment, logical_page_of, closes_page, asked_page_size, set_page_size, with_page_size, asked_orientation, set_orientation, with_orientation, asked_duplex, set_duplex, with_duplex_mode, set_unit_of_measure, set_vertical_motion, set_line_termination, set_copies, asked_left, set_left_margin, set_top_margin, set_right_margin, set_text_length, skip_moves_top, set_perforation_skip, clear_margins, set_line_spacing, set_horizontal_motion, passes_text}
 use Rattle.press_page.specs.Margins.{default_text_length}
-use Rattle.press_page.specs.Media.{physical_page, frame, logical_page, page_size_of, printed_sides, with_sides}
+use Rattle.press_page.specs.PageSetup.{physical_page, frame, logical_page, page_size_of, duplex_mode, with_duplex}
 use Rattle.press_page.specs.Place.{lies_on, to_physical, to_frame, cursor_dot}
 use Rattle.press_page.specs.declared.environment.PageEnv.{PageEnv}
 use Rattle.press_page.specs.declared.media.Binding.TheVariants.{LongEdge, ShortEdge}
 use Rattle.press_page.specs.declared.media.Orientation.TheVariants.{Portrait, Landscape, ReversePortrait, ReverseLandscape}
 use Rattle.press_page.specs.declared.media.PageSize.TheVariants.{A4, A3, Ledger}
-use Rattle.press_page.specs.declared.media.Sides.TheVariants.{OneSided, TwoSidedLongEdge, TwoSidedShortEdge}
+use Rattle.press_page.specs.declared.media.DuplexMode.TheVariants.{OneSided, TwoSidedLongEdge, TwoSidedShortEdge}
 use Rattle.press_page.specs.declared.media.Orientation.{Orientation}
 use Rattle.press_page.specs.declared.place.Dot.{Dot}
 use Rattle.press_page.specs.declared.place.Extent.{Extent}
@@ -32,7 +32,7 @@ abbrev dot : (column line : ℕ) → Dot
 dot column line = record { x = column; y = line }
 
 abbrev placed : PageEnv → Dot → Option Dot
-placed env place = to_physical env.media.orientation (physical_page env.media) place
+placed env place = to_physical env.page_setup.orientation (physical_page env.page_setup) place
 
 -- ESC&l1O ESC*p0x0Y: the cursor's dot of the frame
 abbrev at_origin : CursorState
@@ -40,7 +40,7 @@ at_origin =
     moved_y (pos 0) false (logical_page_of landscape)
     (moved_x (pos 0) false (logical_page_of landscape) (home 0 1200 (logical_page_of landscape)))
 
-frame_of_origin : cursor_dot landscape.media landscape.margins.top (position at_origin) ≡ dot 60 150
+frame_of_origin : cursor_dot landscape.page_setup landscape.margins.top (position at_origin) ≡ dot 60 150
 frame_of_origin = refl
 
 -- A rectangle of three columns and two lines there: dots x 150 and 151, y 3237 to 3239.
@@ -50,7 +50,7 @@ first_of_rectangle = refl
 last_of_rectangle : placed landscape (dot 62 151) ≡ Some (dot 151 3237)
 last_of_rectangle = refl
 
-back_to_frame : to_frame Landscape (physical_page landscape.media) (dot 151 3237) ≡ Some (dot 62 151)
+back_to_frame : to_frame Landscape (physical_page landscape.page_setup) (dot 151 3237) ≡ Some (dot 62 151)
 back_to_frame = refl
 
 below_the_frame : placed landscape (dot 60 2550) ≡ None
@@ -172,17 +172,17 @@ cleared-right : (clear_margins narrow).margins.right ≡ 57600
 cleared-right = refl
 
 -- sides: simplex leaves the binding
-short_edge : printed_sides (set_sides (tenthousandths_of (codes "2")) letter).media ≡ TwoSidedShortEdge
+short_edge : duplex_mode (set_duplex (tenthousandths_of (codes "2")) letter).page_setup ≡ TwoSidedShortEdge
 short_edge = refl
 
-long_edge : (with_sides TwoSidedLongEdge (set_sides (tenthousandths_of (codes "2")) letter).media).binding ≡ LongEdge
+long_edge : (with_duplex TwoSidedLongEdge (set_duplex (tenthousandths_of (codes "2")) letter).page_setup).binding ≡ LongEdge
 long_edge = refl
 
-binding_stays : (with_printed_sides OneSided (set_sides (tenthousandths_of (codes "2")) letter)).media.binding ≡ ShortEdge
+binding_stays : (with_duplex_mode OneSided (set_duplex (tenthousandths_of (codes "2")) letter)).page_setup.binding ≡ ShortEdge
 binding_stays = refl
 
-sides-close : closes_page (asked_sides (tenthousandths_of (codes "2"))) ≡ true
-sides-close = refl
+duplex-closes : closes_page (asked_duplex (tenthousandths_of (codes "2"))) ≡ true
+duplex-closes = refl
 
 orientation-closes : closes_page (asked_orientation (tenthousandths_of (codes "1"))) ≡ true
 orientation-closes = refl
@@ -205,7 +205,7 @@ below_the_page = refl
 
 -- the cursor's dot of the frame: a dot has 24 positions, and above the page's edge it is line 0
 abbrev lies : (x : ℕ) (y : ℤ) → Dot
-lies x y = cursor_dot letter.media letter.margins.top (record { x = x; y = y })
+lies x y = cursor_dot letter.page_setup letter.margins.top (record { x = x; y = y })
 
 first_dot : lies 0 (pos 0) ≡ dot 75 150
 first_dot = refl
@@ -235,12 +235,12 @@ same_margins = refl
 same_logical_page : logical_page_of fine ≡ logical_page_of letter
 same_logical_page = refl
 
-fine_page : physical_page fine.media ≡ record { width = 5100; height = 6600 }
+fine_page : physical_page fine.page_setup ≡ record { width = 5100; height = 6600 }
 fine_page = refl
 
 -- a dot has 12 positions there
 abbrev lies_fine : (x : ℕ) (y : ℤ) → Dot
-lies_fine x y = cursor_dot fine.media fine.margins.top (record { x = x; y = y })
+lies_fine x y = cursor_dot fine.page_setup fine.margins.top (record { x = x; y = y })
 
 fine_dots : map (λ n. lies_fine n (pos n)) (0 ∷ 11 ∷ 12 ∷ 24 ∷ 57600 ∷ []) ≡ dot 150 300 ∷ dot 150 300 ∷ dot 151 301 ∷ dot 152 302 ∷ dot 4950 5100 ∷ []
 fine_dots = refl
@@ -252,7 +252,7 @@ above_the_fine_margin : map (lies_fine 0) (neg_ℤ (pos 1) ∷ neg_ℤ (pos 3600
 above_the_fine_margin = refl
 
 -- no command changes it: ESC&l1O, ESC&l6A, ESC&l2S
-still_fine : map (λ env. env.media.resolution) (set_orientation (tenthousandths_of (codes "1")) fine ∷ set_page_size (tenthousandths_of (codes "6")) fine ∷ set_sides (tenthousandths_of (codes "2")) fine ∷ [])
+still_fine : map (λ env. env.page_setup.resolution) (set_orientation (tenthousandths_of (codes "1")) fine ∷ set_page_size (tenthousandths_of (codes "6")) fine ∷ set_duplex (tenthousandths_of (codes "2")) fine ∷ [])
     ≡ Dpi600 ∷ Dpi600 ∷ Dpi600 ∷ []
 still_fine = refl
 
@@ -266,18 +266,18 @@ upright = record { width = 3300; height = 5100 }
 abbrev lying : Extent
 lying = record { width = 5100; height = 3300 }
 
-ledger-pages : map (λ o. physical_page (ledger o).media) (Portrait ∷ Landscape ∷ ReversePortrait ∷ ReverseLandscape ∷ [])
+ledger-pages : map (λ o. physical_page (ledger o).page_setup) (Portrait ∷ Landscape ∷ ReversePortrait ∷ ReverseLandscape ∷ [])
     ≡ upright ∷ upright ∷ upright ∷ upright ∷ []
 ledger-pages = refl
 
-ledger-frames : map (λ o. frame (ledger o).media) (Portrait ∷ Landscape ∷ ReversePortrait ∷ ReverseLandscape ∷ [])
+ledger-frames : map (λ o. frame (ledger o).page_setup) (Portrait ∷ Landscape ∷ ReversePortrait ∷ ReverseLandscape ∷ [])
     ≡ upright ∷ lying ∷ upright ∷ lying ∷ []
 ledger-frames = refl
 
 abbrev within : (width length : ℕ) → LogicalPage
 within width length = record { width = width; length = length; top_margin = 720 }
 
-ledger-logical_pages : map (λ o. logical_page (ledger o).media 720) (Portrait ∷ Landscape ∷ ReversePortrait ∷ ReverseLandscape ∷ [])
+ledger-logical_pages : map (λ o. logical_page (ledger o).page_setup 720) (Portrait ∷ Landscape ∷ ReversePortrait ∷ ReverseLandscape ∷ [])
     ≡ within 75600 122400 ∷ within 119520 79200 ∷ within 75600 122400 ∷ within 119520 79200 ∷ []
 ledger-logical_pages = refl
 

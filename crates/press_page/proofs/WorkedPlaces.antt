@@ -4,60 +4,60 @@ use Rattle.std.specs.Option.{option_and_then}
 use Rattle.std.specs.List.{flat_map}
 use Rattle.press_units.specs.Position.{positions_per_dot, resolutions}
 use Rattle.press_units.specs.declared.position.Resolution.{Resolution}
-use Rattle.press_page.specs.Media.{physical_page, logical_width, logical_length, offset, orientations, page_sizes}
+use Rattle.press_page.specs.PageSetup.{physical_page, logical_width, logical_length, offset, orientations, page_sizes}
 use Rattle.press_page.specs.Place.{to_physical, to_frame}
 use Rattle.press_page.specs.declared.media.Binding.TheVariants.{LongEdge}
-use Rattle.press_page.specs.declared.media.Media.{Media}
+use Rattle.press_page.specs.declared.media.PageSetup.{PageSetup}
 use Rattle.press_page.specs.declared.media.Orientation.{Orientation}
 use Rattle.press_page.specs.declared.media.PageSize.{PageSize}
 use Rattle.press_page.specs.declared.media.PageSize.TheVariants.{Executive, Letter, Legal, Ledger, A4, A3}
 use Rattle.press_page.specs.declared.place.Dot.{Dot}
 
 -- the media of a page size: in each orientation at 300 dots per inch, and then in each at 600
-abbrev medium : PageSize → Resolution → Orientation → Media
+abbrev medium : PageSize → Resolution → Orientation → PageSetup
 medium size resolution orientation =
     record { size = size; orientation = orientation; duplex = false; binding = LongEdge; resolution = resolution }
 
-abbrev media_of : PageSize → List Media
+abbrev media_of : PageSize → List PageSetup
 media_of size = flat_map (λ resolution. map (medium size resolution) orientations) resolutions
 
-abbrev all_media : List Media
+abbrev all_media : List PageSetup
 all_media = flat_map media_of page_sizes
 
 abbrev dot : (column line : ℕ) → Dot
 dot column line = record { x = column; y = line }
 
-abbrev placed : Media → Dot → Option Dot
-placed media frame = to_physical media.orientation (physical_page media) frame
+abbrev placed : PageSetup → Dot → Option Dot
+placed page_setup frame = to_physical page_setup.orientation (physical_page page_setup) frame
 
-abbrev framed : Media → Dot → Option Dot
-framed media physical = to_frame media.orientation (physical_page media) physical
+abbrev framed : PageSetup → Dot → Option Dot
+framed page_setup physical = to_frame page_setup.orientation (physical_page page_setup) physical
 
 -- the frame dots at the corners of the logical page: upper left, upper right, lower left, lower right
-abbrev first_column : Media → ℕ
-first_column media = offset media
+abbrev first_column : PageSetup → ℕ
+first_column page_setup = offset page_setup
 
-abbrev last_column : Media → ℕ
-last_column media = offset media + logical_width media / positions_per_dot media.resolution - 1
+abbrev last_column : PageSetup → ℕ
+last_column page_setup = offset page_setup + logical_width page_setup / positions_per_dot page_setup.resolution - 1
 
-abbrev last_line : Media → ℕ
-last_line media = logical_length media / positions_per_dot media.resolution - 1
+abbrev last_line : PageSetup → ℕ
+last_line page_setup = logical_length page_setup / positions_per_dot page_setup.resolution - 1
 
-abbrev corners : Media → List Dot
-corners media =
-    dot (first_column media) 0 ∷ dot (last_column media) 0 ∷ dot (first_column media) (last_line media)
-    ∷ dot (last_column media) (last_line media) ∷ []
+abbrev corners : PageSetup → List Dot
+corners page_setup =
+    dot (first_column page_setup) 0 ∷ dot (last_column page_setup) 0 ∷ dot (first_column page_setup) (last_line page_setup)
+    ∷ dot (last_column page_setup) (last_line page_setup) ∷ []
 
 -- and those left of the first column and right of the last
-abbrev beside : Media → List Dot
-beside media =
-    dot (first_column media - 1) 0 ∷ dot (last_column media + 1) 0 ∷ dot (first_column media - 1) (last_line media)
-    ∷ dot (last_column media + 1) (last_line media) ∷ []
+abbrev beside : PageSetup → List Dot
+beside page_setup =
+    dot (first_column page_setup - 1) 0 ∷ dot (last_column page_setup + 1) 0 ∷ dot (first_column page_setup - 1) (last_line page_setup)
+    ∷ dot (last_column page_setup + 1) (last_line page_setup) ∷ []
 
 -- and those below the last line
-abbrev below : Media → List Dot
-below media =
-    dot (first_column media) (last_line media + 1) ∷ dot (last_column media) (last_line media + 1) ∷ []
+abbrev below : PageSetup → List Dot
+below page_setup =
+    dot (first_column page_setup) (last_line page_setup + 1) ∷ dot (last_column page_setup) (last_line page_setup + 1) ∷ []
 
 -- What is seen of media: width and length of the logical page in positions, and the dots of the physical page at its corners and
 -- beside them.
@@ -67,12 +67,12 @@ record Seen : Type 0 where
   at_corners : List (Option Dot)
   at_edges : List (Option Dot)
 
-abbrev seen : Media → Seen
-seen media = record {
-  width = logical_width media;
-  length = logical_length media;
-  at_corners = map (placed media) (corners media);
-  at_edges = map (placed media) (beside media);
+abbrev seen : PageSetup → Seen
+seen page_setup = record {
+  width = logical_width page_setup;
+  length = logical_length page_setup;
+  at_corners = map (placed page_setup) (corners page_setup);
+  at_edges = map (placed page_setup) (beside page_setup);
 }
 
 abbrev lies : (width length : ℕ) (at_corners at_edges : List Dot) → Seen
@@ -80,11 +80,11 @@ lies width length at_corners at_edges =
     record { width = width; length = length; at_corners = map Some at_corners; at_edges = map Some at_edges }
 
 -- Each is the physical dot of its frame dot and the other way round, and below the last line there is none.
-there_and_back : map (λ media. map (λ dot. option_and_then (framed media) (placed media dot)) (corners media ++ beside media)) all_media
-    ≡ map (λ media. map Some (corners media ++ beside media)) all_media
+there_and_back : map (λ page_setup. map (λ dot. option_and_then (framed page_setup) (placed page_setup dot)) (corners page_setup ++ beside page_setup)) all_media
+    ≡ map (λ page_setup. map Some (corners page_setup ++ beside page_setup)) all_media
 there_and_back = refl
 
-none_below : map (λ media. map (placed media) (below media)) all_media ≡ map (λ _. None ∷ None ∷ []) all_media
+none_below : map (λ page_setup. map (placed page_setup) (below page_setup)) all_media ≡ map (λ _. None ∷ None ∷ []) all_media
 none_below = refl
 
 letter-pages : map seen (media_of Letter) ≡

@@ -6,7 +6,7 @@ use Rattle.press_units.specs.Value.{whole_part}
 use Rattle.press_units.specs.declared.position.Resolution.TheVariants.{Dpi300}
 use Rattle.press_cursor.specs.declared.logical_page.LogicalPage.{LogicalPage}
 use Rattle.press_page.specs.Margins.{default_top, default_text_length, default_margins, top_margin_of, text_length_of, left_margin_of, right_margin_of}
-use Rattle.press_page.specs.Media.{page_size_of, orientation_of, sides_of, logical_width, logical_length, logical_page, with_sides}
+use Rattle.press_page.specs.PageSetup.{page_size_of, orientation_of, duplex_of, logical_width, logical_length, logical_page, with_duplex}
 use Rattle.press_page.specs.Settings.{measure_of, line_termination_of, horizontal_motion_of, vertical_motion_of, line_spacing_of}
 use Rattle.press_page.specs.Settings.{skip_change_of, copies_of, default_vertical_motion, default_horizontal_motion}
 use Rattle.press_page.specs.Settings.{default_settings}
@@ -17,8 +17,8 @@ use Rattle.press_page.specs.declared.media.Orientation.{Orientation}
 use Rattle.press_page.specs.declared.media.Orientation.TheVariants.{Portrait}
 use Rattle.press_page.specs.declared.media.PageSize.{PageSize}
 use Rattle.press_page.specs.declared.media.PageSize.TheVariants.{Letter}
-use Rattle.press_page.specs.declared.media.Media.{Media}
-use Rattle.press_page.specs.declared.media.Sides.{Sides}
+use Rattle.press_page.specs.declared.media.PageSetup.{PageSetup}
+use Rattle.press_page.specs.declared.media.DuplexMode.{DuplexMode}
 
 -- the factory values of the job language's variables
 abbrev pub factory : Defaults
@@ -32,7 +32,7 @@ factory = record {
 }
 
 -- the media of a reset
-abbrev pub default_media : Defaults → Media
+abbrev pub default_media : Defaults → PageSetup
 default_media defaults = record {
   size = defaults.size;
   orientation = defaults.orientation;
@@ -46,12 +46,12 @@ abbrev pub reset_environment : Defaults → PageEnv
 reset_environment defaults = record {
   settings = default_settings defaults.copies;
   margins = default_margins (default_media defaults) default_vertical_motion;
-  media = default_media defaults;
+  page_setup = default_media defaults;
 }
 
 -- the logical page
 abbrev pub logical_page_of : PageEnv → LogicalPage
-logical_page_of env = logical_page env.media env.margins.top
+logical_page_of env = logical_page env.page_setup env.margins.top
 
 -- A change by what a command asks for, if it asks for something: of the environment, or of whatever else commands set.
 abbrev pub changed_by : {Asked Changed : Type 0} → Option Asked → (Asked → Changed → Changed) → Changed → Changed
@@ -93,13 +93,13 @@ with_top top env =
     record env {
       margins = record env.margins {
         top = top;
-        text_length = default_text_length (logical_length env.media) top env.settings.vertical_motion;
+        text_length = default_text_length (logical_length env.page_setup) top env.settings.vertical_motion;
       };
     }
 
 -- ESC&l#E, Top Margin, and whether it has effect
 abbrev pub asked_top : ℤ → PageEnv → Option ℕ
-asked_top value env = top_margin_of value env.settings.vertical_motion (logical_length env.media)
+asked_top value env = top_margin_of value env.settings.vertical_motion (logical_length env.page_setup)
 
 abbrev pub set_top_margin : ℤ → PageEnv → PageEnv
 set_top_margin value env = changed_by (asked_top value env) with_top env
@@ -107,7 +107,7 @@ set_top_margin value env = changed_by (asked_top value env) with_top env
 -- ESC&l#F, Text Length
 abbrev pub asked_text_length : ℤ → PageEnv → Option ℕ
 asked_text_length value env =
-    text_length_of (whole_part value) env.settings.vertical_motion env.margins.top (logical_length env.media)
+    text_length_of (whole_part value) env.settings.vertical_motion env.margins.top (logical_length env.page_setup)
 
 abbrev pub set_text_length : ℤ → PageEnv → PageEnv
 set_text_length value env =
@@ -139,7 +139,7 @@ set_left_margin value env =
 -- ESC&a#M, Right Margin
 abbrev pub asked_right : ℤ → PageEnv → Option ℕ
 asked_right value env =
-    right_margin_of value env.settings.horizontal_motion env.margins.left (logical_width env.media)
+    right_margin_of value env.settings.horizontal_motion env.margins.left (logical_width env.page_setup)
 
 abbrev pub set_right_margin : ℤ → PageEnv → PageEnv
 set_right_margin value env =
@@ -147,11 +147,11 @@ set_right_margin value env =
 
 -- ESC 9, Clear Horizontal Margins
 abbrev pub clear_margins : PageEnv → PageEnv
-clear_margins env = record env { margins = record env.margins { left = 0; right = logical_width env.media } }
+clear_margins env = record env { margins = record env.margins { left = 0; right = logical_width env.page_setup } }
 
 -- the margins by default, on the media and with the vertical motion index of now
 abbrev pub with_default_margins : PageEnv → PageEnv
-with_default_margins env = record env { margins = default_margins env.media env.settings.vertical_motion }
+with_default_margins env = record env { margins = default_margins env.page_setup env.settings.vertical_motion }
 
 -- Whether the page closes, if it has a mark, at ESC&l#A, ESC&l#O and ESC&l#S: where the value asks for something, also for what
 -- holds already. No other setter closes the page.
@@ -163,7 +163,7 @@ abbrev pub asked_page_size : ℤ → Option PageSize
 asked_page_size value = page_size_of (whole_part value)
 
 abbrev pub with_page_size : PageSize → PageEnv → PageEnv
-with_page_size size env = with_default_margins (record env { media = record env.media { size = size } })
+with_page_size size env = with_default_margins (record env { page_setup = record env.page_setup { size = size } })
 
 abbrev pub set_page_size : ℤ → PageEnv → PageEnv
 set_page_size value = changed_by (asked_page_size value) with_page_size
@@ -175,20 +175,20 @@ asked_orientation value = orientation_of (whole_part value)
 abbrev pub with_orientation : Orientation → PageEnv → PageEnv
 with_orientation orientation env =
     with_default_margins (with_vertical_motion default_vertical_motion (with_horizontal_motion default_horizontal_motion
-    (record env { media = record env.media { orientation = orientation } })))
+    (record env { page_setup = record env.page_setup { orientation = orientation } })))
 
 abbrev pub set_orientation : ℤ → PageEnv → PageEnv
 set_orientation value = changed_by (asked_orientation value) with_orientation
 
 -- ESC&l#S, Simplex/Duplex Print
-abbrev pub asked_sides : ℤ → Option Sides
-asked_sides value = sides_of (whole_part value)
+abbrev pub asked_duplex : ℤ → Option DuplexMode
+asked_duplex value = duplex_of (whole_part value)
 
-abbrev pub with_printed_sides : Sides → PageEnv → PageEnv
-with_printed_sides sides env = record env { media = with_sides sides env.media }
+abbrev pub with_duplex_mode : DuplexMode → PageEnv → PageEnv
+with_duplex_mode sides env = record env { page_setup = with_duplex sides env.page_setup }
 
-abbrev pub set_sides : ℤ → PageEnv → PageEnv
-set_sides value = changed_by (asked_sides value) with_printed_sides
+abbrev pub set_duplex : ℤ → PageEnv → PageEnv
+set_duplex value = changed_by (asked_duplex value) with_duplex_mode
 
 -- ESC&l#X, Number of Copies
 abbrev pub set_copies : ℤ → PageEnv → PageEnv
@@ -200,7 +200,7 @@ set_copies value =
 abbrev pub text_end : PageEnv → ℤ
 text_end env =
     if env.settings.perforation_skip then pos env.margins.text_length
-    else (pos (logical_length env.media) -ℤ pos env.margins.top)
+    else (pos (logical_length env.page_setup) -ℤ pos env.margins.top)
 
 -- whether a line feed by a distance passes the end of the text, from where the cursor is
 abbrev pub passes_text : (y : ℤ) (distance : ℕ) → PageEnv → Bool

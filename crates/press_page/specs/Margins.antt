@@ -3,9 +3,9 @@
 use Rattle.std.specs.Prelude.{ℕ, ◌+◌, ◌-◌, ◌*◌, ◌/◌, ◌==◌, ◌&&◌, ℤ, pos, negsuc, ◌+ℤ◌, nat_le, nat_lt, if◌then◌else◌, Option, Some, None, unsigned_abs}
 use Rattle.press_units.specs.Position.{position_of}
 use Rattle.press_page.specs.Numbers.{within, cut, below, above}
-use Rattle.press_page.specs.Media.{logical_width, logical_length}
+use Rattle.press_page.specs.PageSetup.{logical_width, logical_length}
 use Rattle.press_page.specs.declared.margins.Margins.{Margins}
-use Rattle.press_page.specs.declared.media.Media.{Media}
+use Rattle.press_page.specs.declared.media.PageSetup.{PageSetup}
 
 -- the top margin after a reset, and the least room below the text by default: half an inch
 abbrev pub default_top : ℕ
@@ -24,12 +24,12 @@ default_text_length length top vertical_motion =
     else vertical_motion * (text_room length top / vertical_motion)
 
 -- the margins after a reset
-abbrev pub default_margins : Media → (vertical_motion : ℕ) → Margins
-default_margins media vertical_motion = record {
+abbrev pub default_margins : PageSetup → (vertical_motion : ℕ) → Margins
+default_margins page_setup vertical_motion = record {
   left = 0;
-  right = logical_width media;
+  right = logical_width page_setup;
   top = default_top;
-  text_length = default_text_length (logical_length media) default_top vertical_motion;
+  text_length = default_text_length (logical_length page_setup) default_top vertical_motion;
 }
 
 -- ESC&l#E, the top margin in lines: on the page

@@ -3,10 +3,10 @@
 use Rattle.std.specs.Prelude.{◌≡◌, ◌↔◌, ℕ, ◌+◌, ◌-◌, ◌/◌, ℤ, pos, negsuc, ◌+ℤ◌, ◌&&◌, Bool, nat_lt, if◌then◌else◌, Option, Some, None}
 use Rattle.press_units.specs.Position.{positions_per_dot}
 use Rattle.press_cursor.specs.declared.stack.CursorPosition.{CursorPosition}
-use Rattle.press_page.specs.Media.{turned, offset}
+use Rattle.press_page.specs.PageSetup.{turned, offset}
 use Rattle.press_page.specs.declared.media.Orientation.{Orientation}
 use Rattle.press_page.specs.declared.media.Orientation.TheVariants.{Portrait, Landscape, ReversePortrait, ReverseLandscape}
-use Rattle.press_page.specs.declared.media.Media.{Media}
+use Rattle.press_page.specs.declared.media.PageSetup.{PageSetup}
 use Rattle.press_page.specs.declared.place.Dot.{Dot}
 use Rattle.press_page.specs.declared.place.Extent.{Extent}
 
@@ -54,8 +54,8 @@ below_edge (pos n) = n
 below_edge (negsuc n) = 0
 
 -- The cursor's frame dot: the dot of the frame on which the cursor lies, under a top margin.
-abbrev pub cursor_dot : Media → (top_margin : ℕ) → CursorPosition → Dot
-cursor_dot media top_margin cursor = record {
-  x = offset media + cursor.x / positions_per_dot media.resolution;
-  y = below_edge (cursor.y +ℤ pos top_margin) / positions_per_dot media.resolution;
+abbrev pub cursor_dot : PageSetup → (top_margin : ℕ) → CursorPosition → Dot
+cursor_dot page_setup top_margin cursor = record {
+  x = offset page_setup + cursor.x / positions_per_dot page_setup.resolution;
+  y = below_edge (cursor.y +ℤ pos top_margin) / positions_per_dot page_setup.resolution;
 }

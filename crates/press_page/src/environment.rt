@@ -8,7 +8,7 @@ use crate::margins::{
     DEFAULT_TOP, Margins, default_text_length, left_margin_of, right_margin_of, text_length_of,
     top_margin_of,
 };
-use crate::media::{Media, Orientation, PageSize, Sides};
+use crate::media::{DuplexMode, Orientation, PageSetup, PageSize};
 use crate::place::{Dot, below_edge};
 use crate::settings::{
     DEFAULT_HORIZONTAL_MOTION, DEFAULT_VERTICAL_MOTION, Settings, copies_of, horizontal_motion_of,
@@ -20,10 +20,10 @@ use press_units::Value;
 /// The page environment. A setter takes the value of its command; a value that the command does not know changes
 /// nothing.
 ///
-/// `set_page_size`, `set_orientation` and `set_sides` answer whether the page closes, if it has a mark: it does at each
+/// `set_page_size`, `set_orientation` and `set_duplex` answer whether the page closes, if it has a mark: it does at each
 /// value that they know. At every other setter the page never closes; what some of them answer is whether they had
 /// effect. A page that closes does so on the media that held until then: ask a copy of the environment first, and change
-/// it after the close by `change_page_size`, `change_orientation` or `change_sides`.
+/// it after the close by `change_page_size`, `change_orientation` or `change_duplex`.
 #[derive(Clone, Copy, Debug, PartialEq, Eq)]
 pub struct PageEnv {
     /// What a macro call restores.
@@ -31,7 +31,7 @@ pub struct PageEnv {
     /// What a macro call restores if size and orientation are as before.
     pub margins: Margins,
     /// What a macro call does not restore.
-    pub media: Media,
+    pub page_setup: PageSetup,
 }
 
 /// Whether a move down by a distance passes a limit.
@@ -51,14 +51,14 @@ impl PageEnv {
     ghost use Rattle.press_page.specs.Environment.{skip_moves_top, asked_left, set_left_margin, asked_right, set_right_margin};
     ghost use Rattle.press_page.specs.Environment.{clear_margins, with_default_margins, closes_page, asked_page_size};
     ghost use Rattle.press_page.specs.Environment.{with_page_size, set_page_size, asked_orientation, with_orientation};
-    ghost use Rattle.press_page.specs.Environment.{set_orientation, asked_sides, with_printed_sides, set_sides, set_copies};
+    ghost use Rattle.press_page.specs.Environment.{set_orientation, asked_duplex, with_duplex_mode, set_duplex, set_copies};
     ghost use Rattle.press_page.specs.Environment.{text_end, passes_text};
 
     /// The page environment after power on, `ESC E` and a universal exit.
     pub fn reset_from(defaults: &Defaults) -> Self
         ensures { result ≡ reset_environment defaults.now }
     {
-        let media = Media {
+        let page_setup = PageSetup {
             size: defaults.size,
             orientation: defaults.orientation,
             duplex: defaults.duplex,
@@ -67,8 +67,8 @@ impl PageEnv {
         };
         PageEnv {
             settings: Settings::defaults(defaults.copies),
-            margins: Margins::defaults(media, DEFAULT_VERTICAL_MOTION),
-            media,
+            margins: Margins::defaults(page_setup, DEFAULT_VERTICAL_MOTION),
+            page_setup,
         }
     }
 
@@ -76,17 +76,17 @@ impl PageEnv {
     pub fn logical_page(&self) -> LogicalPage
         ensures { result ≡ logical_page_of self.now }
     {
-        self.media.logical_page(self.margins.top)
+        self.page_setup.logical_page(self.margins.top)
     }
 
     /// The dot of the frame on which the cursor lies.
     pub fn cursor_dot(&self, cursor: CursorPosition) -> Dot
         requires { unsigned_abs cursor.y < 2 ^ 33 }
-        ensures { result ≡ cursor_dot self.now.media self.now.margins.top cursor }
+        ensures { result ≡ cursor_dot self.now.page_setup self.now.margins.top cursor }
     {
-        let dot = u32::from(self.media.resolution.positions_per_dot());
+        let dot = u32::from(self.page_setup.resolution.positions_per_dot());
         Dot {
-            x: self.media.offset() + cursor.x / dot,
+            x: self.page_setup.offset() + cursor.x / dot,
             y: (below_edge(cursor.y, self.margins.top) / u64::from(dot)) as u32,
         }
     }
@@ -140,7 +140,7 @@ impl PageEnv {
     fn set_top(&mut self, top: u32)
         ensures { self.new ≡ with_top top self.old }
     {
-        let length = self.media.logical_length();
+        let length = self.page_setup.logical_length();
         self.margins.top = top;
         self.margins.text_length = default_text_length(length, top, self.settings.vertical_motion);
     }
@@ -150,7 +150,7 @@ impl PageEnv {
         ensures set { self.new ≡ set_top_margin value.tenthousandths self.old }
         ensures effect { result ≡ is_some (asked_top value.tenthousandths self.old) }
     {
-        let length = self.media.logical_length();
+        let length = self.page_setup.logical_length();
         match top_margin_of(value, self.settings.vertical_motion, length) {
             Some(top) => {
                 self.set_top(top);
@@ -164,7 +164,7 @@ impl PageEnv {
     pub fn set_text_length(&mut self, value: Value)
         ensures { self.new ≡ set_text_length value.tenthousandths self.old }
     {
-        let length = self.media.logical_length();
+        let length = self.page_setup.logical_length();
         let line = self.settings.vertical_motion;
         if let Some(text_length) = text_length_of(value, line, self.margins.top, length) {
             self.margins.text_length = text_length;
@@ -207,7 +207,7 @@ impl PageEnv {
         ensures set { self.new ≡ set_right_margin value.tenthousandths self.old }
         ensures effect { result ≡ is_some (asked_right value.tenthousandths self.old) }
     {
-        let width = self.media.logical_width();
+        let width = self.page_setup.logical_width();
         let column = self.settings.horizontal_motion;
         match right_margin_of(value, column, self.margins.left, width) {
             Some(right) => {
@@ -223,21 +223,21 @@ impl PageEnv {
         ensures { self.new ≡ clear_margins self.old }
     {
         self.margins.left = 0;
-        self.margins.right = self.media.logical_width();
+        self.margins.right = self.page_setup.logical_width();
     }
 
     /// Sets margins and text length to their defaults.
     fn set_default_margins(&mut self)
         ensures { self.new ≡ with_default_margins self.old }
     {
-        self.margins = Margins::defaults(self.media, self.settings.vertical_motion);
+        self.margins = Margins::defaults(self.page_setup, self.settings.vertical_motion);
     }
 
     /// Another page size, with margins and text length by default.
     pub fn change_page_size(&mut self, size: PageSize)
         ensures { self.new ≡ with_page_size size self.old }
     {
-        self.media.size = size;
+        self.page_setup.size = size;
         self.set_default_margins();
     }
 
@@ -245,17 +245,17 @@ impl PageEnv {
     pub fn change_orientation(&mut self, orientation: Orientation)
         ensures { self.new ≡ with_orientation orientation self.old }
     {
-        self.media.orientation = orientation;
+        self.page_setup.orientation = orientation;
         self.settings.horizontal_motion = DEFAULT_HORIZONTAL_MOTION;
         self.settings.vertical_motion = DEFAULT_VERTICAL_MOTION;
         self.set_default_margins();
     }
 
     /// Other sides to print.
-    pub fn change_sides(&mut self, sides: Sides)
-        ensures { self.new ≡ with_printed_sides sides self.old }
+    pub fn change_duplex(&mut self, sides: DuplexMode)
+        ensures { self.new ≡ with_duplex_mode sides self.old }
     {
-        self.media = self.media.with_sides(sides);
+        self.page_setup = self.page_setup.with_duplex(sides);
     }
 
     /// `ESC & l # A`: the page size, with margins and text length by default; answers whether the page closes.
@@ -288,13 +288,13 @@ impl PageEnv {
     }
 
     /// `ESC & l # S`: the sides that are printed; answers whether the page closes.
-    pub fn set_sides(&mut self, value: Value) -> bool
-        ensures set { self.new ≡ set_sides value.tenthousandths self.old }
-        ensures closes { result ≡ closes_page (asked_sides value.tenthousandths) }
+    pub fn set_duplex(&mut self, value: Value) -> bool
+        ensures set { self.new ≡ set_duplex value.tenthousandths self.old }
+        ensures closes { result ≡ closes_page (asked_duplex value.tenthousandths) }
     {
-        match Sides::of_number(value.whole()) {
+        match DuplexMode::of_number(value.whole()) {
             Some(sides) => {
-                self.change_sides(sides);
+                self.change_duplex(sides);
                 true
             }
             None => false,
@@ -317,7 +317,7 @@ impl PageEnv {
         if self.settings.perforation_skip {
             i64::from(self.margins.text_length)
         } else {
-            i64::from(self.media.logical_length()) - i64::from(self.margins.top)
+            i64::from(self.page_setup.logical_length()) - i64::from(self.margins.top)
         }
     }
 

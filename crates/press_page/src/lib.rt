@@ -14,7 +14,7 @@ mod settings;
 pub use defaults::Defaults;
 pub use environment::PageEnv;
 pub use margins::Margins;
-pub use media::{Binding, Media, Orientation, PAGE_SIZES, PageSize, Sides};
+pub use media::{Binding, DuplexMode, Orientation, PAGE_SIZES, PageSetup, PageSize};
 pub use numbered::Numbered;
 pub use place::{Dot, Extent, placement_is_inverse};
 pub use settings::{LineTermination, MOST_COPIES, Settings};

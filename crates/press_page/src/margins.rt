@@ -5,7 +5,7 @@ ghost use Rattle.std.specs.Prelude.{◌≡◌, ◌<◌, ◌≤◌, ◌^◌, unsi
 ghost use Rattle.press_units.specs.Value.{whole_part};
 ghost use Rattle.press_page.specs.Margins.{text_room, default_text_length, default_margins, top_margin_of, text_length_of, left_margin_of, right_margin_of};
 
-use crate::media::Media;
+use crate::media::PageSetup;
 use crate::numbers::{above, below, cut, within};
 use press_units::{Unit, Value, position_of, to_pos};
 
@@ -117,14 +117,18 @@ pub(crate) fn right_margin_of(
 
 impl Margins {
     /// The margins after a reset.
-    pub(crate) fn defaults(media: Media, vertical_motion: u16) -> Self
-        ensures { result ≡ default_margins media vertical_motion }
+    pub(crate) fn defaults(page_setup: PageSetup, vertical_motion: u16) -> Self
+        ensures { result ≡ default_margins page_setup vertical_motion }
     {
         Margins {
             left: 0,
-            right: media.logical_width(),
+            right: page_setup.logical_width(),
             top: DEFAULT_TOP,
-            text_length: default_text_length(media.logical_length(), DEFAULT_TOP, vertical_motion),
+            text_length: default_text_length(
+                page_setup.logical_length(),
+                DEFAULT_TOP,
+                vertical_motion,
+            ),
         }
     }
 }

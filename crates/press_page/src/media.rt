@@ -2,9 +2,9 @@
 //! Reference Manual, Page Control Commands).
 
 ghost use Rattle.std.specs.Prelude.{◌≡◌, ◌≤◌, ◌<◌, ◌*◌};
-ghost use Rattle.press_page.specs.Media.{page_size_of, orientation_of, sides_of, sized, dimensions_of, turned, offset_of, scale, table_frame, table_offset};
-ghost use Rattle.press_page.specs.Media.{physical_page, frame, offset, logical_width, logical_length, logical_page, with_sides};
-ghost use Rattle.press_page.specs.Media.{printed_sides};
+ghost use Rattle.press_page.specs.PageSetup.{page_size_of, orientation_of, duplex_of, sized, dimensions_of, turned, offset_of, scale, table_frame, table_offset};
+ghost use Rattle.press_page.specs.PageSetup.{physical_page, frame, offset, logical_width, logical_length, logical_page, with_duplex};
+ghost use Rattle.press_page.specs.PageSetup.{duplex_mode};
 
 use crate::numbered::find_numbered;
 use crate::place::{Dot, Extent, to_physical};
@@ -58,22 +58,22 @@ pub enum Binding {
 
 /// Which sides of a sheet are printed: what a simplex/duplex command asks for.
 #[derive(Clone, Copy, Debug, PartialEq, Eq)]
-pub enum Sides {
+pub enum DuplexMode {
     OneSided,
     TwoSidedLongEdge,
     TwoSidedShortEdge,
 }
 
 /// All that a simplex/duplex command asks for.
-const ALL_SIDES: [Sides; 3] = [
-    Sides::OneSided,
-    Sides::TwoSidedLongEdge,
-    Sides::TwoSidedShortEdge,
+const ALL_DUPLEX_MODES: [DuplexMode; 3] = [
+    DuplexMode::OneSided,
+    DuplexMode::TwoSidedLongEdge,
+    DuplexMode::TwoSidedShortEdge,
 ];
 
 /// The media: what a macro call does not restore.
 #[derive(Clone, Copy, Debug, PartialEq, Eq)]
-pub struct Media {
+pub struct PageSetup {
     pub size: PageSize,
     pub orientation: Orientation,
     /// Whether both sides of a sheet are printed.
@@ -173,14 +173,14 @@ impl Orientation {
     }
 }
 
-impl Sides {
+impl DuplexMode {
     /// The sides that `ESC & l # S` names by a number.
     ///
     /// Source: PCL 5 Printer Language Technical Reference Manual, Simplex/Duplex Print command.
     pub(crate) fn of_number(number: i64) -> Option<Self>
-        ensures { result ≡ sides_of number }
+        ensures { result ≡ duplex_of number }
     {
-        find_numbered(&ALL_SIDES, number)
+        find_numbered(&ALL_DUPLEX_MODES, number)
     }
 }
 
@@ -194,10 +194,10 @@ fn offset_of(orientation: Orientation, size: Dimensions) -> u32
     }
 }
 
-impl Media {
+impl PageSetup {
     ghost use Rattle.std.specs.Prelude.{◌≡◌, ◌≤◌, ◌<◌, ◌*◌, ◌^◌};
-    ghost use Rattle.press_page.specs.Media.{table_frame, table_offset, physical_page, frame, offset, logical_width, logical_length, logical_page};
-    ghost use Rattle.press_page.specs.Media.{with_sides, printed_sides};
+    ghost use Rattle.press_page.specs.PageSetup.{table_frame, table_offset, physical_page, frame, offset, logical_width, logical_length, logical_page};
+    ghost use Rattle.press_page.specs.PageSetup.{with_duplex, duplex_mode};
     ghost use Rattle.press_page.specs.Place.{to_physical};
 
     /// The frame, in dots of the table of page sizes.
@@ -286,20 +286,20 @@ impl Media {
     }
 
     /// The media after `ESC & l # S`: simplex leaves the binding.
-    pub fn with_sides(self, sides: Sides) -> Media
-        ensures { result ≡ with_sides sides self }
+    pub fn with_duplex(self, sides: DuplexMode) -> PageSetup
+        ensures { result ≡ with_duplex sides self }
     {
         match sides {
-            Sides::OneSided => Media {
+            DuplexMode::OneSided => PageSetup {
                 duplex: false,
                 ..self
             },
-            Sides::TwoSidedLongEdge => Media {
+            DuplexMode::TwoSidedLongEdge => PageSetup {
                 duplex: true,
                 binding: Binding::LongEdge,
                 ..self
             },
-            Sides::TwoSidedShortEdge => Media {
+            DuplexMode::TwoSidedShortEdge => PageSetup {
                 duplex: true,
                 binding: Binding::ShortEdge,
                 ..self
@@ -308,13 +308,13 @@ impl Media {
     }
 
     /// The sides that are printed.
-    pub fn printed_sides(self) -> Sides
-        ensures { result ≡ printed_sides self }
+    pub fn duplex_mode(self) -> DuplexMode
+        ensures { result ≡ duplex_mode self }
     {
         match (self.duplex, self.binding) {
-            (false, _) => Sides::OneSided,
-            (true, Binding::LongEdge) => Sides::TwoSidedLongEdge,
-            (true, Binding::ShortEdge) => Sides::TwoSidedShortEdge,
+            (false, _) => DuplexMode::OneSided,
+            (true, Binding::LongEdge) => DuplexMode::TwoSidedLongEdge,
+            (true, Binding::ShortEdge) => DuplexMode::TwoSidedShortEdge,
         }
     }
 }

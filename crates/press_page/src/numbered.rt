@@ -3,9 +3,9 @@
 
 ghost use Rattle.std.specs.Prelude.{◌≡◌, ℕ};
 ghost use Rattle.press_page.specs.Numbers.{numbered};
-ghost use Rattle.press_page.specs.Media.{size_number, orientation_number, sides_number};
+ghost use Rattle.press_page.specs.PageSetup.{size_number, orientation_number, duplex_number};
 
-use crate::media::{Orientation, PageSize, Sides};
+use crate::media::{DuplexMode, Orientation, PageSize};
 
 /// What a command names by a number.
 pub trait Numbered: Copy {
@@ -54,14 +54,14 @@ impl Numbered for Orientation {
     }
 }
 
-impl Numbered for Sides {
-    ghost number_of = { sides_number };
+impl Numbered for DuplexMode {
+    ghost number_of = { duplex_number };
 
     fn number(&self) -> u32 {
         match self {
-            Sides::OneSided => 0,
-            Sides::TwoSidedLongEdge => 1,
-            Sides::TwoSidedShortEdge => 2,
+            DuplexMode::OneSided => 0,
+            DuplexMode::TwoSidedLongEdge => 1,
+            DuplexMode::TwoSidedShortEdge => 2,
         }
     }
 }

@@ -7,7 +7,7 @@ use Rattle.std.proofs.lemmas.Map.Entries.{option_filter}
 use Rattle.press_units.proofs.EntryLemmas as entries
 use Rattle.press_units.proofs.EntryLemmas.{get-map_of, inserted}
 use Rattle.press_pattern.specs.declared.user_pattern.UserPattern.{UserPattern}
-use Rattle.press_pattern.specs.declared.pattern.Kind.TheVariants as kinds
+use Rattle.press_pattern.specs.declared.pattern.PatternKind.TheVariants as kinds
 use Rattle.press_pattern.specs.Store.{UserPatterns, is_permanent, permanent_only, found_made, made, tile_of}
 
 -- the map that entries stand for

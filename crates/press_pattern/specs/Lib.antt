@@ -6,4 +6,4 @@ pub mod Shading
 pub mod CrossHatch
 pub mod UserData
 pub mod Store
-pub mod Ink
+pub mod Brush

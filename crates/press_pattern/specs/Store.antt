@@ -10,8 +10,8 @@ use Rattle.press_pattern.specs.Shading.{shading}
 use Rattle.press_pattern.specs.CrossHatch.{cross_hatch}
 use Rattle.press_pattern.specs.UserData.{tile_in}
 use Rattle.press_pattern.specs.declared.user_pattern.UserPattern.{UserPattern}
-use Rattle.press_pattern.specs.declared.pattern.Kind.{Kind}
-use Rattle.press_pattern.specs.declared.pattern.Kind.TheVariants as kinds
+use Rattle.press_pattern.specs.declared.pattern.PatternKind.{PatternKind}
+use Rattle.press_pattern.specs.declared.pattern.PatternKind.TheVariants as kinds
 
 -- A user pattern is stored as its tile and whether it is permanent.
 abbrev pub user_pattern_code : Coded UserPattern
@@ -26,7 +26,7 @@ abbrev pub UserPatterns : Type 0
 UserPatterns = maps.FinMap nat_cmp UserPattern
 
 -- The tile of the pattern of a kind under an ID, where it exists. The solid patterns always do, whatever the ID.
-abbrev pub tile_of : UserPatterns → Kind → (id : ℕ) → Option Tiling
+abbrev pub tile_of : UserPatterns → PatternKind → (id : ℕ) → Option Tiling
 tile_of patterns kinds.Black id = Some solid_black
 tile_of patterns kinds.White id = Some solid_white
 tile_of patterns kinds.Shading id = shading id

@@ -5,18 +5,18 @@
 //! the frame lies the tile's dot at column `a` modulo its width of line `b` modulo its height.
 #![tactic(auto)]
 
+mod brush;
 mod fault;
 mod fixed;
-mod ink;
 mod pattern;
 mod patterns;
 mod tile;
 mod user_data;
 mod user_pattern;
 
+pub use brush::Brush;
 pub use fault::DefineError;
-pub use ink::Ink;
-pub use pattern::{Kind, Pattern};
+pub use pattern::{Pattern, PatternKind};
 pub use patterns::Patterns;
 pub use tile::{OwnedTile, Tile};
 pub use user_pattern::UserPattern;

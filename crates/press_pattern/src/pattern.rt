@@ -5,7 +5,7 @@
 /// Source: PCL 5 Printer Language Technical Reference Manual, The PCL Print Model, the Select Current
 /// Pattern command.
 #[derive(Clone, Copy, Debug, PartialEq, Eq)]
-pub enum Kind {
+pub enum PatternKind {
     /// Solid black, whatever the ID.
     Black,
     /// Solid white, whatever the ID.
@@ -21,6 +21,6 @@ pub enum Kind {
 /// A pattern: its kind and its ID.
 #[derive(Clone, Copy, Debug, PartialEq, Eq)]
 pub struct Pattern {
-    pub kind: Kind,
+    pub kind: PatternKind,
     pub id: u16,
 }

@@ -5,12 +5,12 @@ ghost use Rattle.std.specs.FinMap as maps;
 ghost use Rattle.press_pattern.specs.Tiling.{tile_row};
 ghost use Rattle.press_pattern.specs.UserData.{has_header, has_rows};
 ghost use Rattle.press_pattern.specs.Store.{tile_of, with_definition, made, permanent_only};
-ghost use Rattle.press_pattern.specs.Ink.{ink_of};
+ghost use Rattle.press_pattern.specs.Brush.{brush_of};
 
+use crate::brush::{Brush, mode_of};
 use crate::fault::DefineError;
 use crate::fixed;
-use crate::ink::{Ink, mode_of};
-use crate::pattern::{Kind, Pattern};
+use crate::pattern::{Pattern, PatternKind};
 use crate::tile::Tile;
 use crate::user_data::read_tile;
 use crate::user_pattern::UserPattern;
@@ -136,11 +136,11 @@ impl Patterns {
         ensures { result ≡ tile_of self.now pattern.kind pattern.id }
     {
         match pattern.kind {
-            Kind::Black => Some(fixed::black()),
-            Kind::White => Some(fixed::white()),
-            Kind::Shading => fixed::shading(pattern.id),
-            Kind::CrossHatch => fixed::cross_hatch(pattern.id),
-            Kind::User => {
+            PatternKind::Black => Some(fixed::black()),
+            PatternKind::White => Some(fixed::white()),
+            PatternKind::Shading => fixed::shading(pattern.id),
+            PatternKind::CrossHatch => fixed::cross_hatch(pattern.id),
+            PatternKind::User => {
                 let found = self.user.get(&pattern.id)?;
                 Some(found.tile.as_tile())
             }
@@ -151,11 +151,11 @@ impl Patterns {
     /// are opaque.
     ///
     /// Source: PCL 5 Printer Language Technical Reference Manual, The PCL Print Model.
-    pub fn ink(&self, pattern: Pattern, mode: Mode) -> Option<Ink<'_>>
-        ensures { result ≡ ink_of self.now pattern mode }
+    pub fn brush(&self, pattern: Pattern, mode: Mode) -> Option<Brush<'_>>
+        ensures { result ≡ brush_of self.now pattern mode }
     {
         let tile = self.tile(pattern)?;
-        Some(Ink {
+        Some(Brush {
             tile,
             mode: mode_of(pattern.kind, mode),
         })
@@ -167,7 +167,7 @@ impl Patterns {
     }
 
     /// The bytes of a pattern's tile for line `y` of the frame, if the pattern exists; see [`Tile::row`].
-    pub fn row_of(&self, kind: Kind, id: u16, y: u32) -> Option<&[u8]>
+    pub fn row_of(&self, kind: PatternKind, id: u16, y: u32) -> Option<&[u8]>
         ensures { option_copied result
             ≡ option_map (λ tile. tile_row tile y) (tile_of self.now kind id) }
     {

@@ -4,8 +4,8 @@ use Rattle.std.specs.Prelude.{option_and_then}
 use Rattle.press_bits.specs.Page.{Page, is_page_size}
 use Rattle.press_bits.specs.Lines.{bytes_per_line}
 use Rattle.press_bits.specs.DotRows.{page_of_rows}
-use Rattle.press_pbm.specs.Header.{HeaderParts, AreHeaderParts, header_spelling, width_of, height_of, IsHeader, IsHeaderFront}
-use Rattle.press_pbm.specs.File.{IsFile, IsBadHeader, IsNoHeader, IsFileFront}
+use Rattle.press_pbm.specs.Header.{HeaderParts, AreHeaderParts, header_spelling, width_of, height_of, IsHeader, IsHeaderPrefix}
+use Rattle.press_pbm.specs.File.{IsFile, IsBadHeader, IsNoHeader, IsFilePrefix}
 use Rattle.press_pbm.specs.Reading.{past_longest}
 use Rattle.press_pbm.specs.Answer.{PageOf, NoHeader, BadHeader, CutShort, HasOneAnswer}
 use Rattle.press_pbm.specs.declared.place.Place.TheVariants as at
@@ -16,7 +16,7 @@ no_bytes : (bytes : List ℕ) → length bytes ≤ 0 → bytes ≡ []
 no_bytes [] none = refl
 no_bytes (byte ∷ bytes) none = absurd (omega arith)
 
--- of two fronts of a list, one is a front of the other
+-- of two prefixes of a list, one is a prefix of the other
 compare : (a b x y : List ℕ) → a ++ x ≡ b ++ y → ((c : List ℕ) × (a ≡ b ++ c) × (y ≡ c ++ x)) ⊎ ((c : List ℕ) × (b ≡ a ++ c) × (x ≡ c ++ y))
 compare [] b x y same = inr (b, refl, same)
 compare (h ∷ a) [] x y same = inl (h ∷ a, refl, sym same)
@@ -72,27 +72,27 @@ header_goes_on header x read y is none same =
       | inr (c, longer, _) ↦ behind c longer
     ]
   where
-    within : (d : List ℕ) → none.front ≡ header ++ d → ⊥
+    within : (d : List ℕ) → none.prefix ≡ header ++ d → ⊥
     within d longer =
         let more = none.goes_on.0 in
         let some : 0 < length more = none.goes_on.1 in
-        let all : none.front ++ more ≡ header ++ (d ++ more) = ap (λ l. l ++ more) longer ∙ append_assoc header d more in
+        let all : none.prefix ++ more ≡ header ++ (d ++ more) = ap (λ l. l ++ more) longer ∙ append_assoc header d more in
         let gone = no_more header (d ++ more) is (subst IsHeader all none.goes_on.2) in
         omega (arith, ap length gone, length-append d more)
 
     behind : (c : List ℕ) → read ≡ header ++ c → ⊥
     behind [] longer = none.none ([], subst IsHeader (sym (longer ∙ append-nil header) ∙ sym (append-nil read)) is)
     behind (byte ∷ c) longer =
-        elim (compare header none.front (byte ∷ c) (none.byte ∷ []) (sym longer ∙ none.ends)) [
-          | inl (d, longer_front, rest) ↦
+        elim (compare header none.prefix (byte ∷ c) (none.byte ∷ []) (sym longer ∙ none.ends)) [
+          | inl (d, longer_prefix, rest) ↦
               let empty : d ≡ [] = no_bytes d (omega (arith, ap length rest, length-append d (byte ∷ c))) in
-              within [] (sym (longer_front ∙ ap (λ l. none.front ++ l) empty ∙ append-nil none.front) ∙ sym (append-nil header))
-          | inr (d, longer_front, _) ↦ within d longer_front
+              within [] (sym (longer_prefix ∙ ap (λ l. none.prefix ++ l) empty ∙ append-nil none.prefix) ∙ sym (append-nil header))
+          | inr (d, longer_prefix, _) ↦ within d longer_prefix
         ]
 
--- a front of a header does not begin with a header
-front_ends : (header x input : List ℕ) → IsHeader header → input ≡ header ++ x → IsHeaderFront input → ⊥
-front_ends header x input is begins (more, some, whole) =
+-- a prefix of a header does not begin with a header
+prefix_ends : (header x input : List ℕ) → IsHeader header → input ≡ header ++ x → IsHeaderPrefix input → ⊥
+prefix_ends header x input is begins (more, some, whole) =
     let all : input ++ more ≡ header ++ (x ++ more) = ap (λ l. l ++ more) begins ∙ append_assoc header x more in
     let gone = no_more header (x ++ more) is (subst IsHeader all whole) in
     omega (arith, ap length gone, length-append x more)
@@ -134,7 +134,7 @@ same_file page other file more x y one two same =
     let files : file ≡ more = one.spelled ∙ (λ i. header i ++ alike i) ∙ sym two.spelled in
     λ i. PageOf (pages i) (files i)
 
--- a front of a file does not begin with a file
+-- a prefix of a file does not begin with a file
 file_ends : (page other : Page) (file x input more : List ℕ) → IsFile page file → input ≡ file ++ x → 0 < length more → IsFile other (input ++ more) → ⊥
 file_ends page other file x input more one begins some two =
     let same : file ++ (x ++ more) ≡ (input ++ more) ++ [] = sym (append_assoc file x more) ∙ ap (λ l. l ++ more) (sym begins) ∙ sym (append-nil (input ++ more)) in
@@ -145,19 +145,19 @@ file_no_header : (page : Page) (file x read y : List ℕ) → IsFile page file �
 file_no_header page file x read y whole none same =
     header_goes_on (header_spelling whole.parts) (whole.rows ++ x) read y (whole.parts, whole.header, refl) none (sym (append_assoc (header_spelling whole.parts) whole.rows x) ∙ ap (λ l. l ++ x) (sym whole.spelled) ∙ same)
 
-no_header_cut : (input read y : List ℕ) → IsNoHeader read → input ≡ read ++ y → IsHeaderFront input ⊎ IsFileFront input → ⊥
+no_header_cut : (input read y : List ℕ) → IsNoHeader read → input ≡ read ++ y → IsHeaderPrefix input ⊎ IsFilePrefix input → ⊥
 no_header_cut input read y none begins (inl (more, some, header)) = none.none (y ++ more, subst IsHeader (ap (λ l. l ++ more) begins ∙ append_assoc read y more) header)
 no_header_cut input read y none begins (inr (more, some, page, file)) =
     file_no_header page (input ++ more) [] read (y ++ more) file none (append-nil (input ++ more) ∙ ap (λ l. l ++ more) begins ∙ append_assoc read y more)
 
-bad_cut : (input bad x : List ℕ) → IsBadHeader bad → input ≡ bad ++ x → IsHeaderFront input ⊎ IsFileFront input → ⊥
-bad_cut input bad x is begins (inl front) = front_ends bad x input (is.parts, is.header, is.spelled) begins front
+bad_cut : (input bad x : List ℕ) → IsBadHeader bad → input ≡ bad ++ x → IsHeaderPrefix input ⊎ IsFilePrefix input → ⊥
+bad_cut input bad x is begins (inl prefix) = prefix_ends bad x input (is.parts, is.header, is.spelled) begins prefix
 bad_cut input bad x is begins (inr (more, some, page, file)) =
     bad_or_file bad (x ++ more) page (input ++ more) [] is file (sym (append_assoc bad x more) ∙ ap (λ l. l ++ more) (sym begins) ∙ sym (append-nil (input ++ more)))
 
-file_cut : (page : Page) (input file x : List ℕ) → IsFile page file → input ≡ file ++ x → IsHeaderFront input ⊎ IsFileFront input → ⊥
-file_cut page input file x is begins (inl front) =
-    front_ends (header_spelling is.parts) (is.rows ++ x) input (is.parts, is.header, refl) (begins ∙ ap (λ l. l ++ x) is.spelled ∙ append_assoc (header_spelling is.parts) is.rows x) front
+file_cut : (page : Page) (input file x : List ℕ) → IsFile page file → input ≡ file ++ x → IsHeaderPrefix input ⊎ IsFilePrefix input → ⊥
+file_cut page input file x is begins (inl prefix) =
+    prefix_ends (header_spelling is.parts) (is.rows ++ x) input (is.parts, is.header, refl) (begins ∙ ap (λ l. l ++ x) is.spelled ∙ append_assoc (header_spelling is.parts) is.rows x) prefix
 file_cut page input file x is begins (inr (more, some, other, longer)) = file_ends page other file x input more is begins some longer
 
 bad_no_header : (bad x read y : List ℕ) → IsBadHeader bad → IsNoHeader read → bad ++ x ≡ read ++ y → ⊥

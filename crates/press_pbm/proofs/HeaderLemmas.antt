@@ -6,7 +6,7 @@ use Rattle.std.specs.Char.{is_ascii_digit}
 use Rattle.std.proofs.lemmas.Bool.{eqb-true}
 use Rattle.std.proofs.lemmas.Bool.Decides.{nat_tests}
 use Rattle.press_units.specs.Value.{number_of}
-use Rattle.press_pbm.specs.Header.{is_white_space, is_line_end, Piece, White, Comment, IsPiece, piece_bytes, gap_bytes, IsGap, IsNumber, HeaderParts, header_spelling, AreHeaderParts, width_of, height_of, IsHeader, BeginsHeader, IsHeaderFront}
+use Rattle.press_pbm.specs.Header.{is_white_space, is_line_end, Piece, White, Comment, IsPiece, piece_bytes, gap_bytes, IsGap, IsNumber, HeaderParts, header_spelling, AreHeaderParts, width_of, height_of, IsHeader, BeginsHeader, IsHeaderPrefix}
 use Rattle.press_pbm.specs.Reading.{past_longest, with_digit, place_in_gap, place_after, least_behind_gap, least_behind}
 use Rattle.press_pbm.specs.declared.place.Side.{Side}
 use Rattle.press_pbm.specs.declared.place.Side.TheVariants.{Width, Height}
@@ -416,9 +416,9 @@ run-least place (byte ∷ bytes) width height is =
 
 -- ---- what a reader knows of the bytes that it read
 
--- they are a front of a header
+-- they are a prefix of a header
 pub cut_header : (read : List ℕ) (place : Place) → run at.Start read ≡ Some place → length read + least_behind place ≤ 65536 → 0 < least_behind place →
-    IsHeaderFront read
+    IsHeaderPrefix read
 cut_header read place is short some =
     let last = completes place in
     let long : length (read ++ last.more) ≤ 65536 = omega (arith, length-append read last.more, last.long) in

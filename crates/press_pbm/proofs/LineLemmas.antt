@@ -124,7 +124,7 @@ ArePageLines-line_bytes page (suc count) y bytes none small are =
     let begin : 0 * b ≡ 0 = omega arith in
     let line : y + 0 ≡ y = omega arith in
     let first : take b bytes ≡ line_bytes page y =
-    IsPageLine-line_bytes page y (take b bytes) none (λ i. small_front i (cases_lt i b))
+    IsPageLine-line_bytes page y (take b bytes) none (λ i. small_prefix i (cases_lt i b))
     (subst (λ k. IsPageLine page y (take b (drop k bytes))) begin (subst (λ k. IsPageLine page k (take b (drop (0 * b) bytes))) line (are.lines 0 (omega arith)))) in
     let others : ArePageLines page (y + 1) count (drop b bytes) = record {
       long = length-drop b bytes ∙ omega (arith, are.long, more count b);
@@ -140,9 +140,9 @@ ArePageLines-line_bytes page (suc count) y bytes none small are =
     more : (n b : ℕ) → suc n * b ≡ b + n * b
     more n b = omega arith
 
-    small_front : (i : ℕ) → (i < bytes_per_line page.width) ⊎ (bytes_per_line page.width ≤ i) → get_or (take (bytes_per_line page.width) bytes) i 0 < 256
-    small_front i (inl before) = omega (arith, get_or-take (bytes_per_line page.width) bytes i 0 before, small i)
-    small_front i (inr past) = omega (arith, get_or_past (take (bytes_per_line page.width) bytes) i 0 (omega (arith, length-take (bytes_per_line page.width) bytes)))
+    small_prefix : (i : ℕ) → (i < bytes_per_line page.width) ⊎ (bytes_per_line page.width ≤ i) → get_or (take (bytes_per_line page.width) bytes) i 0 < 256
+    small_prefix i (inl before) = omega (arith, get_or-take (bytes_per_line page.width) bytes i 0 before, small i)
+    small_prefix i (inr past) = omega (arith, get_or_past (take (bytes_per_line page.width) bytes) i 0 (omega (arith, length-take (bytes_per_line page.width) bytes)))
 
 -- some lines, and those below them
 lines_split : (line : ℕ → List ℕ) (count rest y : ℕ) → flat_map line (range_with_len y (count + rest)) ≡ flat_map line (range_with_len y count) ++ flat_map line (range_with_len (y + count) rest)

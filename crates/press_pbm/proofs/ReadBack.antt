@@ -17,7 +17,7 @@ use Rattle.press_pbm.specs.Header.{White, IsNumber, HeaderParts, header_spelling
 use Rattle.press_pbm.specs.Spelling.{byte_of_dots, line_bytes}
 use Rattle.press_pbm.specs.Answer.{WrittenIsFile}
 use Rattle.press_pbm.proofs.LineLemmas.{byte_dot-byte_of_dots}
-use Rattle.press_pbm.proofs.RowsLemmas.{row_dot-front, row_dot-behind}
+use Rattle.press_pbm.proofs.RowsLemmas.{row_dot-prefix, row_dot-behind}
 
 -- ---- a number in decimal
 
@@ -57,7 +57,7 @@ row_dot-lines page first (suc count) zero x inside within =
     let place : 8 * (0 * n) + x ≡ x = omega arith in
     let line : first ≡ first + 0 = omega arith in
     ap (row_dot (line_bytes page first ++ flat_map (line_bytes page) (range_with_len (first + 1) count))) place
-    ∙ row_dot-front (line_bytes page first) (flat_map (line_bytes page) (range_with_len (first + 1) count)) x (omega (arith, length-line_bytes page first))
+    ∙ row_dot-prefix (line_bytes page first) (flat_map (line_bytes page) (range_with_len (first + 1) count)) x (omega (arith, length-line_bytes page first))
     ∙ row_dot-line_bytes page first x within
     ∙ ap (black_at page x) line
 row_dot-lines page first (suc count) (suc y) x inside within =

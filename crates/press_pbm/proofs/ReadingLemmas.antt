@@ -54,4 +54,4 @@ read_header_of had left bytes width height is short reads =
 pub no_header_read : (had left : Option (List ℕ)) (read : List ℕ) (byte : ℕ) (place : Place) → run at.Start read ≡ Some place → length read + least_behind place ≤ 65536 → 0 < least_behind place →
     Consumes had left (read ++ byte ∷ []) → (BeginsHeader (read ++ byte ∷ []) → ⊥) → (bytes : List ℕ) × Consumes had left bytes × IsNoHeader bytes
 no_header_read had left read byte place is short some reads none =
-    (read ++ byte ∷ [], reads, record { front = read; byte = byte; ends = refl; goes_on = cut_header read place is short some; none = none })
+    (read ++ byte ∷ [], reads, record { prefix = read; byte = byte; ends = refl; goes_on = cut_header read place is short some; none = none })

@@ -24,9 +24,9 @@ pub no_rows : (width height : ℕ) → blank width height ≡ page_of_rows width
 no_rows width height = sym (white_page_of_rows width height 0 [] refl)
 
 -- the dots of the first bytes, and those of the bytes behind them
-pub row_dot-front : (bytes others : List ℕ) (p : ℕ) → p < 8 * length bytes → row_dot (bytes ++ others) p ≡ row_dot bytes p
+pub row_dot-prefix : (bytes others : List ℕ) (p : ℕ) → p < 8 * length bytes → row_dot (bytes ++ others) p ≡ row_dot bytes p
 unfolding row_dot
-row_dot-front bytes others p within = ap (λ b. byte_dot b (p % 8)) (get_or_append_left bytes others 0 (p / 8) (omega arith))
+row_dot-prefix bytes others p within = ap (λ b. byte_dot b (p % 8)) (get_or_append_left bytes others 0 (p / 8) (omega arith))
 
 pub row_dot-behind : (bytes others : List ℕ) (p x : ℕ) → p ≡ 8 * length bytes + x → row_dot (bytes ++ others) p ≡ row_dot others x
 unfolding row_dot
@@ -60,7 +60,7 @@ row_more w n y v x rows row wide long one within =
       | inr apart ↦ elim apart [
         | inl before ↦
             let next : v + 1 ≤ y = omega arith in
-            row_dot-front rows row (8 * (v * n) + x) (omega (arith, mul-le-mul_right n next)) ∙ above (row_dot rows (8 * (v * n) + x)) (row_dot row (0 + (x - 0))) v y x w before
+            row_dot-prefix rows row (8 * (v * n) + x) (omega (arith, mul-le-mul_right n next)) ∙ above (row_dot rows (8 * (v * n) + x)) (row_dot row (0 + (x - 0))) v y x w before
         | inr after ↦
             let next : y + 1 ≤ v = omega arith in
             row_dot-past (rows ++ row) (8 * (v * n) + x) (omega (arith, mul-le-mul_right n next, length-append rows row))

@@ -1,8 +1,8 @@
 -- What an input is to a reader of P4 files.
 use Rattle.std.specs.Prelude.{◌≡◌, ℕ, true, List, ◌++◌, ◌⊎◌}
 use Rattle.press_bits.specs.Page.{Page, HasNoDotOutside, is_page_size}
-use Rattle.press_pbm.specs.Header.{IsHeaderFront}
-use Rattle.press_pbm.specs.File.{IsFile, IsBadHeader, IsNoHeader, IsFileFront}
+use Rattle.press_pbm.specs.Header.{IsHeaderPrefix}
+use Rattle.press_pbm.specs.File.{IsFile, IsBadHeader, IsNoHeader, IsFilePrefix}
 use Rattle.press_pbm.specs.Spelling.{file_of}
 
 pub data Answer : Type 0 where
@@ -12,12 +12,12 @@ pub data Answer : Type 0 where
   CutShort : Answer
 
 -- The input begins with a file of the page; with bytes with which no header begins; with a header of a bad size; or it is itself
--- a front of a header or of a file.
+-- a prefix of a header or of a file.
 abbrev pub Answers : List ℕ → Answer → Type 0
 Answers input (PageOf page file) = (rest : List ℕ) × (input ≡ file ++ rest) × IsFile page file
 Answers input NoHeader = (read rest : List ℕ) × (input ≡ read ++ rest) × IsNoHeader read
 Answers input BadHeader = (header rest : List ℕ) × (input ≡ header ++ rest) × IsBadHeader header
-Answers input CutShort = IsHeaderFront input ⊎ IsFileFront input
+Answers input CutShort = IsHeaderPrefix input ⊎ IsFilePrefix input
 
 -- An input has at most one answer.
 abbrev pub HasOneAnswer : Type 0

@@ -4,7 +4,7 @@ use Rattle.std.specs.Io.KnownBytes.{Consumes, IsAtEnd}
 use Rattle.press_bits.specs.Page.{Page, is_page_size}
 use Rattle.press_bits.specs.Lines.{bytes_per_line}
 use Rattle.press_bits.specs.DotRows.{page_of_rows}
-use Rattle.press_pbm.specs.Header.{HeaderParts, AreHeaderParts, header_spelling, width_of, height_of, BeginsHeader, IsHeaderFront}
+use Rattle.press_pbm.specs.Header.{HeaderParts, AreHeaderParts, header_spelling, width_of, height_of, BeginsHeader, IsHeaderPrefix}
 use Rattle.press_pbm.specs.declared.fault.ReadPbmError.{ReadPbmError}
 use Rattle.press_pbm.specs.declared.fault.ReadPbmError.TheVariants.{NotPbm, BadSize, Truncated, ReadFault, NoMemory}
 
@@ -26,16 +26,16 @@ pub record IsBadHeader (bytes : List ℕ) : Type 0 where
   pub spelled : bytes ≡ header_spelling parts
   pub size : is_page_size (width_of parts) (height_of parts) ≡ false
 
--- The bytes are a front of a P4 file, and not all of it.
-abbrev pub IsFileFront : List ℕ → Type 0
-IsFileFront bytes = (more : List ℕ) × (0 < length more) × (page : Page) × IsFile page (bytes ++ more)
+-- The bytes are a prefix of a P4 file, and not all of it.
+abbrev pub IsFilePrefix : List ℕ → Type 0
+IsFilePrefix bytes = (more : List ℕ) × (0 < length more) × (page : Page) × IsFile page (bytes ++ more)
 
 -- The bytes end with the first byte that no header has there.
 pub record IsNoHeader (bytes : List ℕ) : Type 0 where
-  pub front : List ℕ
+  pub prefix : List ℕ
   pub byte : ℕ
-  pub ends : bytes ≡ front ++ byte ∷ []
-  pub goes_on : IsHeaderFront front
+  pub ends : bytes ≡ prefix ++ byte ∷ []
+  pub goes_on : IsHeaderPrefix prefix
   pub none : BeginsHeader bytes → ⊥
 
 -- What was read, by why no page was given: it ends with the first byte that no header has there; it is a header of a bad size;
@@ -43,6 +43,6 @@ pub record IsNoHeader (bytes : List ℕ) : Type 0 where
 abbrev pub Refused : ReadPbmError → Option (List ℕ) → Option (List ℕ) → Type 0
 Refused NotPbm had left = (read : List ℕ) × Consumes had left read × IsNoHeader read
 Refused BadSize had left = (read : List ℕ) × Consumes had left read × IsBadHeader read
-Refused Truncated had left = (read : List ℕ) × Consumes had left read × IsAtEnd left × (IsHeaderFront read ⊎ IsFileFront read)
+Refused Truncated had left = (read : List ℕ) × Consumes had left read × IsAtEnd left × (IsHeaderPrefix read ⊎ IsFilePrefix read)
 Refused ReadFault had left = ⊤
 Refused NoMemory had left = ⊤

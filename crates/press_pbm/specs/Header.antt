@@ -71,6 +71,6 @@ IsHeader bytes = (parts : HeaderParts) × AreHeaderParts parts × (bytes ≡ hea
 abbrev pub BeginsHeader : List ℕ → Type 0
 BeginsHeader bytes = (more : List ℕ) × IsHeader (bytes ++ more)
 
--- The bytes are a front of a header, and not all of it.
-abbrev pub IsHeaderFront : List ℕ → Type 0
-IsHeaderFront bytes = (more : List ℕ) × (0 < length more) × IsHeader (bytes ++ more)
+-- The bytes are a prefix of a header, and not all of it.
+abbrev pub IsHeaderPrefix : List ℕ → Type 0
+IsHeaderPrefix bytes = (more : List ℕ) × (0 < length more) × IsHeader (bytes ++ more)

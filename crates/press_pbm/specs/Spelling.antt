@@ -22,10 +22,10 @@ header_of page = codes "P4\n" ++ (decimal page.width ++ (codes " " ++ (decimal p
 abbrev pub file_of : Page → List ℕ
 file_of page = header_of page ++ flat_map (line_bytes page) (range_with_len 0 page.height)
 
--- A front of the bytes was added.
-abbrev pub AppendsFront : Option (List ℕ) → Option (List ℕ) → List ℕ → Type 0
-AppendsFront old new bytes = (front back : List ℕ) × (bytes ≡ front ++ back) × Appends old new front
+-- A prefix of the bytes was added.
+abbrev pub AppendsPrefix : Option (List ℕ) → Option (List ℕ) → List ℕ → Type 0
+AppendsPrefix old new bytes = (prefix back : List ℕ) × (bytes ≡ prefix ++ back) × Appends old new prefix
 
--- The bytes were written: all of them, or a front of them where a write failed.
+-- The bytes were written: all of them, or a prefix of them where a write failed.
 abbrev pub Writes : {X E : Type 0} → Result X E → Option (List ℕ) → Option (List ℕ) → List ℕ → Type 0
-Writes result old new bytes = MatchResult result (λ _. Appends old new bytes) (λ _. AppendsFront old new bytes)
+Writes result old new bytes = MatchResult result (λ _. Appends old new bytes) (λ _. AppendsPrefix old new bytes)

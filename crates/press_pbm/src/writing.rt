@@ -3,7 +3,7 @@
 ghost use Rattle.std.specs.Prelude.{ℕ, ◌<◌, slice_index, OnOk, OnErr};
 ghost use Rattle.std.specs.List.{flat_map, range_with_len};
 ghost use Rattle.std.specs.Io.KnownBytes.{Appends};
-ghost use Rattle.press_pbm.specs.Spelling.{header_of, line_bytes, file_of, AppendsFront, Writes};
+ghost use Rattle.press_pbm.specs.Spelling.{header_of, line_bytes, file_of, AppendsPrefix, Writes};
 
 use crate::fault::WritePbmError;
 use itoa::Buffer;
@@ -13,7 +13,7 @@ use std::io::{self, ErrorKind, Write};
 /// The most writes of one list of bytes.
 const MOST_WRITES: u32 = u32::MAX;
 
-/// Writes all the bytes, or a front of them where a write failed. The `write_all` of std does not say what was written then.
+/// Writes all the bytes, or a prefix of them where a write failed. The `write_all` of std does not say what was written then.
 ///
 /// # Errors
 ///
@@ -39,7 +39,7 @@ pub fn write_whole<W: Write>(output: &mut W, bytes: &[u8]) -> io::Result<()>
     Err(io::Error::from(ErrorKind::Interrupted))
 }
 
-/// Writes all the bytes of a part of a file, or a front of them.
+/// Writes all the bytes of a part of a file, or a prefix of them.
 fn write_bytes<W: Write>(output: &mut W, bytes: &[u8]) -> Result<(), WritePbmError>
     ensures written { Writes result (W.contents output.old) (W.contents output.new) bytes.now }
     ensures bytes { (i : ℕ) → slice_index bytes.now i < 256 }
@@ -77,13 +77,13 @@ fn write_lines<W: Write>(bitmap: &Bitmap, output: &mut W) -> Result<(), WritePbm
 ///
 /// # Errors
 ///
-/// `WriteFault` (115) where a write failed; a front of the file was written then.
+/// `WriteFault` (115) where a write failed; a prefix of the file was written then.
 ///
 /// Source: Netpbm, the raw form of the PBM format.
 pub fn write_pbm<W: Write>(bitmap: &Bitmap, output: &mut W) -> Result<(), WritePbmError>
     ensures ok { OnOk result (Appends (W.contents output.old) (W.contents output.new)
         (file_of bitmap.now)) }
-    ensures fault { OnErr result (AppendsFront (W.contents output.old) (W.contents output.new)
+    ensures fault { OnErr result (AppendsPrefix (W.contents output.old) (W.contents output.new)
         (file_of bitmap.now)) }
 {
     write_header(bitmap, output)?;

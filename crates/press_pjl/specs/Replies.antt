@@ -15,11 +15,11 @@ reply_end = 13 ∷ 10 ∷ 12 ∷ []
 
 -- A reply of a value: `@PJL`, a space, the command, a space, the name in upper case, the end of a line; the value; and the
 -- end of the reply.
-abbrev pub reply_front : (command name : List ℕ) → List ℕ
-reply_front command name = codes "@PJL " ++ command ++ codes " " ++ raised name ++ line_end
+abbrev pub reply_prefix : (command name : List ℕ) → List ℕ
+reply_prefix command name = codes "@PJL " ++ command ++ codes " " ++ raised name ++ line_end
 
 abbrev pub reply_of : (command name value : List ℕ) → List ℕ
-reply_of command name value = reply_front command name ++ value ++ reply_end
+reply_of command name value = reply_prefix command name ++ value ++ reply_end
 
 -- the value of a name that is not known
 abbrev pub unknown : List ℕ

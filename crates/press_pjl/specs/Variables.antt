@@ -11,7 +11,7 @@ use Rattle.press_page.specs.Environment.{factory}
 use Rattle.press_page.specs.declared.defaults.Defaults.{Defaults}
 use Rattle.press_page.specs.declared.media.Binding.TheVariants.{LongEdge, ShortEdge}
 use Rattle.press_page.specs.declared.media.Orientation.TheVariants.{Portrait, Landscape}
-use Rattle.press_page.specs.Media.{page_sizes}
+use Rattle.press_page.specs.PageSetup.{page_sizes}
 use Rattle.press_page.specs.Settings.{most_copies}
 use Rattle.press_pjl.specs.Names.{of_name, size_name, orientation_name, switch_name, binding_name, resolution_name}
 use Rattle.press_pjl.specs.declared.variable.Variable.{Variable}

@@ -7,7 +7,7 @@ use crate::command::Command;
 use crate::effect::{Facts, PjlEffect, ReplyBytes};
 use crate::fact::Fact;
 use crate::named::{Named, find_named};
-use crate::reply::{REPLY_END, append_front, echo};
+use crate::reply::{REPLY_END, append_prefix, echo};
 use crate::variable::{SWITCHES, Variable, assigned};
 use press_cmd::pjl;
 use press_page::Defaults;
@@ -86,7 +86,7 @@ fn inquire(
     if name.is_empty() {
         return Ok(ReplyBytes::of(out));
     }
-    append_front(command.name(), name, &mut out)?;
+    append_prefix(command.name(), name, &mut out)?;
     match Variable::of(name) {
         Some(variable) => variable.append_value(values, &mut out)?,
         None => out.extend_from_slice(&UNKNOWN)?,
@@ -105,7 +105,7 @@ fn inform(alloc: Global, line: &[u8], facts: &Facts) -> Result<ReplyBytes, Alloc
     if name.is_empty() {
         return Ok(ReplyBytes::of(out));
     }
-    append_front(Command::Info.name(), name, &mut out)?;
+    append_prefix(Command::Info.name(), name, &mut out)?;
     match Fact::of(name) {
         Some(fact) => fact.append(facts, &mut out)?,
         None => out.extend_from_slice(&UNKNOWN)?,

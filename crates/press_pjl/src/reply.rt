@@ -2,7 +2,7 @@
 
 ghost use Rattle.std.specs.Prelude.{◌≡◌, ◌++◌, IfOk, OnOk, OnErr};
 ghost use Rattle.press_cmd.specs.Language.{raised};
-ghost use Rattle.press_pjl.specs.Replies.{reply_front, echo_of, page_reply};
+ghost use Rattle.press_pjl.specs.Replies.{reply_prefix, echo_of, page_reply};
 
 use crate::effect::ReplyBytes;
 use itoa::Buffer;
@@ -22,8 +22,12 @@ fn append_raised(bytes: &[u8], out: &mut Vec<u8>) -> Result<(), AllocError>
 }
 
 /// Appends what stands in a reply before its value.
-pub(crate) fn append_front(command: &[u8], name: &[u8], out: &mut Vec<u8>) -> Result<(), AllocError>
-    ensures { OnOk result (out.new.items ≡ out.old.items ++ reply_front command.now name.now) }
+pub(crate) fn append_prefix(
+    command: &[u8],
+    name: &[u8],
+    out: &mut Vec<u8>,
+) -> Result<(), AllocError>
+    ensures { OnOk result (out.new.items ≡ out.old.items ++ reply_prefix command.now name.now) }
 {
     out.extend_from_slice(b"@PJL ")?;
     out.extend_from_slice(command)?;
@@ -48,7 +52,7 @@ fn page(alloc: Global, since_job: u64) -> Result<ReplyBytes, AllocError>
 {
     let mut digits = Buffer::new();
     let mut bytes = Vec::new(alloc);
-    append_front(b"USTATUS", b"PAGE", &mut bytes)?;
+    append_prefix(b"USTATUS", b"PAGE", &mut bytes)?;
     bytes.extend_from_slice(digits.format(since_job).as_bytes())?;
     bytes.extend_from_slice(&REPLY_END)?;
     Ok(ReplyBytes::of(bytes))

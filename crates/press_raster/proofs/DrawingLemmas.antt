@@ -15,7 +15,7 @@ use Rattle.press_cursor.specs.CursorState.{CursorState}
 use Rattle.press_page.specs.Environment.{logical_page_of}
 use Rattle.press_page.specs.declared.environment.PageEnv.{PageEnv}
 use Rattle.press_page.specs.declared.media.Orientation.{Orientation}
-use Rattle.press_pattern.specs.declared.ink.Ink.{Ink}
+use Rattle.press_pattern.specs.declared.brush.Brush.{Brush}
 use Rattle.press_canvas.specs.Turned.{page_of_frame}
 use Rattle.press_rows.specs.Blocks.{Item, count_rows}
 use Rattle.press_rows.specs.Row.{fitted, raster_row}
@@ -35,7 +35,7 @@ use Rattle.press_raster.proofs.DecodingLemmas.{fitted_twice, raster_row-fitted}
 use Rattle.press_raster.proofs.SeedLemmas.{fitted-trimmed, raster_row-trimmed}
 use Rattle.press_raster.proofs.StripLemmas.{row_turned}
 
-module _ (environment : PageEnv) (settings : RasterSettings) (ink : Ink) where
+module _ (environment : PageEnv) (settings : RasterSettings) (brush : Brush) where
   -- where a row lies at this cursor
   abbrev pub place_at : CursorState → RowPlace
   place_at cursor = record { environment = environment; y = cursor.y }
@@ -44,31 +44,31 @@ module _ (environment : PageEnv) (settings : RasterSettings) (ink : Ink) where
   abbrev pub with_bits : RasterGraphics → Page → CursorState → List ℕ → Drawn
   with_bits on page cursor bits =
       drawn (Some (record { left = on.left; rows = min most_rows (on.rows + 1); seed = trimmed bits }))
-      (painted page (raster_mark environment.media.orientation page (row_corner (place_at cursor) on.left)
-      (dot_size settings.resolution environment.media.resolution)
-      (record { bits = bits; dots = row_dots (place_at cursor) settings on.left }) ink))
+      (painted page (raster_mark environment.page_setup.orientation page (row_corner (place_at cursor) on.left)
+      (dot_size settings.resolution environment.page_setup.resolution)
+      (record { bits = bits; dots = row_dots (place_at cursor) settings on.left }) brush))
       (moved_y (pos (row_height settings.resolution)) true (logical_page_of environment) cursor)
 
   -- a row that has effect
   pub with_item-taken : (on : RasterGraphics) (page : Page) (cursor : CursorState) (row : Method × List ℕ) → is_below_height settings.source_height on.rows ≡ true →
-      with_item environment settings ink (drawn (Some on) page cursor) (Some row)
+      with_item environment settings brush (drawn (Some on) page cursor) (Some row)
       ≡ with_bits on page cursor (raster_row row.0 row.1 on.seed (bytes_per_line (row_dots (place_at cursor) settings on.left)))
   with_item-taken on page cursor row below = search (rules, below)
 
   -- and one that has none
-  pub with_item-untaken : (d : Drawn) (row : Method × List ℕ) → takes_row settings d.graphics ≡ false → with_item environment settings ink d (Some row) ≡ d
+  pub with_item-untaken : (d : Drawn) (row : Method × List ℕ) → takes_row settings d.graphics ≡ false → with_item environment settings brush d (Some row) ≡ d
   with_item-untaken d row untaken = search (rules, untaken)
 
   -- items behind others
   pub with_items-append : (xs ys : List Item) (d : Drawn) →
-      with_items environment settings ink (xs ++ ys) d ≡ with_items environment settings ink ys (with_items environment settings ink xs d)
-  with_items-append xs ys d = fold-append (with_item environment settings ink) d xs ys
+      with_items environment settings brush (xs ++ ys) d ≡ with_items environment settings brush ys (with_items environment settings brush xs d)
+  with_items-append xs ys d = fold-append (with_item environment settings brush) d xs ys
 
   -- where an item changes nothing, neither does the same one again
-  pub with_items-settled : (n : ℕ) (item : Item) (d : Drawn) → with_item environment settings ink d item ≡ d →
-      with_items environment settings ink (replicate n item) d ≡ d
+  pub with_items-settled : (n : ℕ) (item : Item) (d : Drawn) → with_item environment settings brush d item ≡ d →
+      with_items environment settings brush (replicate n item) d ≡ d
   with_items-settled zero item d same = refl
-  with_items-settled (suc n) item d same = ap (with_items environment settings ink (replicate n item)) same ∙ with_items-settled n item d same
+  with_items-settled (suc n) item d same = ap (with_items environment settings brush (replicate n item)) same ∙ with_items-settled n item d same
 
   -- white once and twice
   white_twice : (graphics : Option RasterGraphics) → whitened (whitened graphics) ≡ whitened graphics
@@ -96,26 +96,26 @@ module _ (environment : PageEnv) (settings : RasterSettings) (ink : Ink) where
 
   -- data of which no row has effect
   pub with_items-idle : (xs : List Item) (d : Drawn) → (takes_row settings d.graphics && list_any is_some xs) ≡ false →
-      with_items environment settings ink xs d ≡ after_idle (list_any is_none xs) d
+      with_items environment settings brush xs d ≡ after_idle (list_any is_none xs) d
   with_items-idle [] d idle = refl
   with_items-idle (None ∷ others) d idle =
       with_items-idle others (record d { graphics = whitened d.graphics }) (ap (λ t. t && list_any is_some others) (takes_row-whitened d.graphics) ∙ idle)
       ∙ after_idle-white (list_any is_none others) d
   with_items-idle (Some row ∷ others) d idle =
       let untaken : takes_row settings d.graphics ≡ false = not_both (takes_row settings d.graphics) idle in
-      ap (with_items environment settings ink others) (with_item-untaken d row untaken)
+      ap (with_items environment settings brush others) (with_item-untaken d row untaken)
       ∙ with_items-idle others d (still (takes_row settings d.graphics) (list_any is_some others) untaken)
 
   -- seed rows count as they are cut or filled up to the width of a row, where a row has effect
   pub with_items-fitted : (xs : List Item) (on : RasterGraphics) (seed : List ℕ) (page : Page) (cursor : CursorState) (width : ℕ) →
       width ≡ bytes_per_line (row_dots (place_at cursor) settings on.left) → is_below_height settings.source_height on.rows ≡ true → list_any is_some xs ≡ true →
       fitted width seed ≡ fitted width on.seed →
-      with_items environment settings ink xs (drawn (Some (record on { seed = seed })) page cursor)
-      ≡ with_items environment settings ink xs (drawn (Some on) page cursor)
+      with_items environment settings brush xs (drawn (Some (record on { seed = seed })) page cursor)
+      ≡ with_items environment settings brush xs (drawn (Some on) page cursor)
   with_items-fitted [] on seed page cursor width wide below some same = absurd (true≢false (sym some))
   with_items-fitted (None ∷ others) on seed page cursor width wide below some same = refl
   with_items-fitted (Some row ∷ others) on seed page cursor width wide below some same =
-      ap (with_items environment settings ink others)
+      ap (with_items environment settings brush others)
       (with_item-taken (record on { seed = seed }) page cursor row below
       ∙ ap (with_bits on page cursor)
       (ap (raster_row row.0 row.1 seed) (sym wide)
@@ -150,42 +150,42 @@ layout-painted page page' mark painting ready =
     λ i. record { width = wide i; height = high i; ready = ready i }
 
 -- rows that are drawn from the seed row as it is cut or filled up, where one has effect
-pub drawn-fitted : (setup : RowSetup) (environment : PageEnv) (settings : RasterSettings) (ink : Ink) (width : ℕ) (position : RasterPosition) (seed : List ℕ)
+pub drawn-fitted : (setup : RowSetup) (environment : PageEnv) (settings : RasterSettings) (brush : Brush) (width : ℕ) (position : RasterPosition) (seed : List ℕ)
     (drawing : Drawing) (page : BandedPage) (whole : Page) (cursor : CursorState) (xs : List Item) →
     setup ≡ setup_of width environment settings position.left →
-    drawing.position ≡ position → drawing.seed.items ≡ fitted (bytes_per_line setup.dots) seed → page_of_frame environment.media.orientation page.page ≡ whole →
+    drawing.position ≡ position → drawing.seed.items ≡ fitted (bytes_per_line setup.dots) seed → page_of_frame environment.page_setup.orientation page.page ≡ whole →
     takes_row settings (graphics (Some position) seed) ≡ true → list_any is_some xs ≡ true →
-    with_items setup.environment setup.settings ink xs (drawn_by setup drawing page cursor)
-    ≡ with_items environment settings ink xs (drawn (graphics (Some position) seed) whole cursor)
-drawn-fitted setup environment settings ink width position seed drawing page whole cursor xs same place cut on_page taken some =
-    (λ i. with_items (same i).environment (same i).settings ink xs (drawn (graphics (Some (place i)) (cut i)) ((ap (λ (s : RowSetup). page_of_frame s.environment.media.orientation page.page) same ∙ on_page) i) cursor))
-    ∙ with_items-fitted environment settings ink xs (record { left = position.left; rows = position.rows; seed = trimmed seed }) (trimmed (fitted (bytes_per_line setup.dots) seed)) whole cursor
+    with_items setup.environment setup.settings brush xs (drawn_by setup drawing page cursor)
+    ≡ with_items environment settings brush xs (drawn (graphics (Some position) seed) whole cursor)
+drawn-fitted setup environment settings brush width position seed drawing page whole cursor xs same place cut on_page taken some =
+    (λ i. with_items (same i).environment (same i).settings brush xs (drawn (graphics (Some (place i)) (cut i)) ((ap (λ (s : RowSetup). page_of_frame s.environment.page_setup.orientation page.page) same ∙ on_page) i) cursor))
+    ∙ with_items-fitted environment settings brush xs (record { left = position.left; rows = position.rows; seed = trimmed seed }) (trimmed (fitted (bytes_per_line setup.dots) seed)) whole cursor
     (bytes_per_line setup.dots) (ap (λ (s : RowSetup). bytes_per_line s.dots) same) taken some
     (fitted-trimmed (bytes_per_line setup.dots) (fitted (bytes_per_line setup.dots) seed) ∙ fitted_twice (bytes_per_line setup.dots) seed
     ∙ sym (fitted-trimmed (bytes_per_line setup.dots) seed))
 
 -- a row that is painted on the frame, has become the seed row and has moved the cursor, is the next item
-pub row_drawn : (setup : RowSetup) (ink : Ink) (drawing : Drawing) (frame after : BandedPage) (cursor moved : CursorState) (row : Method × List ℕ) (line : ℕ) (source bits seed : List ℕ) (position : RasterPosition) →
+pub row_drawn : (setup : RowSetup) (brush : Brush) (drawing : Drawing) (frame after : BandedPage) (cursor moved : CursorState) (row : Method × List ℕ) (line : ℕ) (source bits seed : List ℕ) (position : RasterPosition) →
     IsSetUp setup (layout frame) drawing → is_below_height setup.settings.source_height drawing.position.rows ≡ true →
     bits ≡ raster_row row.0 row.1 drawing.seed.items (bytes_per_line setup.dots) → source ≡ bits → seed ≡ bits →
     line ≡ line_of setup.environment cursor.y → position ≡ one_row_on drawing.position →
     moved ≡ moved_y (pos (row_height setup.settings.resolution)) true (logical_page_of setup.environment) cursor →
-    after.page ≡ painted frame.page (row_on_frame (record { x = setup.across.left; y = line }) setup.across.size (record { bits = source; dots = setup.dots }) ink frame.page) →
-    drawn (graphics (Some position) seed) (page_of_frame setup.environment.media.orientation after.page) moved
-    ≡ with_item setup.environment setup.settings ink (drawn_by setup drawing frame cursor) (Some row)
-row_drawn setup ink drawing frame after cursor moved row line source bits seed position is below bits_are source_is seed_is line_is position_is moved_is painting =
-    let o : Orientation = setup.environment.media.orientation in
+    after.page ≡ painted frame.page (row_on_frame (record { x = setup.across.left; y = line }) setup.across.size (record { bits = source; dots = setup.dots }) brush frame.page) →
+    drawn (graphics (Some position) seed) (page_of_frame setup.environment.page_setup.orientation after.page) moved
+    ≡ with_item setup.environment setup.settings brush (drawn_by setup drawing frame cursor) (Some row)
+row_drawn setup brush drawing frame after cursor moved row line source bits seed position is below bits_are source_is seed_is line_is position_is moved_is painting =
+    let o : Orientation = setup.environment.page_setup.orientation in
     let page : Page = page_of_frame o frame.page in
     let on : RasterGraphics = record { left = drawing.position.left; rows = drawing.position.rows; seed = trimmed drawing.seed.items } in
-    let place : RowPlace = place_at setup.environment setup.settings ink cursor in
+    let place : RowPlace = place_at setup.environment setup.settings brush cursor in
     let left : setup.across.left ≡ (row_corner place on.left).x = ap (λ (s : RowSetup). s.across.left) is.same in
-    let size : setup.across.size ≡ dot_size setup.settings.resolution setup.environment.media.resolution = ap (λ (s : RowSetup). s.across.size) is.same in
+    let size : setup.across.size ≡ dot_size setup.settings.resolution setup.environment.page_setup.resolution = ap (λ (s : RowSetup). s.across.size) is.same in
     let dots : setup.dots ≡ row_dots place setup.settings on.left = ap (λ (s : RowSetup). s.dots) is.same in
     (λ i. drawn (graphics (Some (position_is i)) (seed_is i))
-    (row_turned o frame.page after.page (record { x = setup.across.left; y = line }) setup.across.size (record { bits = source; dots = setup.dots }) ink painting i) (moved_is i))
+    (row_turned o frame.page after.page (record { x = setup.across.left; y = line }) setup.across.size (record { bits = source; dots = setup.dots }) brush painting i) (moved_is i))
     ∙ (λ i. drawn (graphics (Some (one_row_on drawing.position)) bits)
-    (painted page (raster_mark o page (record { x = left i; y = line_is i }) (size i) (record { bits = source_is i; dots = dots i }) ink))
+    (painted page (raster_mark o page (record { x = left i; y = line_is i }) (size i) (record { bits = source_is i; dots = dots i }) brush))
     (moved_y (pos (row_height setup.settings.resolution)) true (logical_page_of setup.environment) cursor))
-    ∙ ap (with_bits setup.environment setup.settings ink on page cursor)
+    ∙ ap (with_bits setup.environment setup.settings brush on page cursor)
     (bits_are ∙ sym (raster_row-trimmed row.0 row.1 drawing.seed.items (bytes_per_line setup.dots)) ∙ ap (λ n. raster_row row.0 row.1 on.seed (bytes_per_line n)) dots)
-    ∙ sym (with_item-taken setup.environment setup.settings ink on page cursor row below)
+    ∙ sym (with_item-taken setup.environment setup.settings brush on page cursor row below)

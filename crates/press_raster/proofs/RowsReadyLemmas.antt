@@ -13,7 +13,7 @@ use Rattle.press_cursor.specs.Bounds.{nearest_y}
 use Rattle.press_cursor.specs.declared.logical_page.LogicalPage.{LogicalPage}
 use Rattle.press_page.specs.Environment.{logical_page_of}
 use Rattle.press_page.specs.Place.{below_edge}
-use Rattle.press_pattern.specs.declared.ink.Ink.{Ink}
+use Rattle.press_pattern.specs.declared.brush.Brush.{Brush}
 use Rattle.press_rows.specs.Blocks.{Item}
 use Rattle.press_raster.specs.Across.{AcrossReady}
 use Rattle.press_raster.specs.Drawing.{IsSetUp, Layout, RowsReady, laid_out, last_line, line_of, lines_of_row}
@@ -110,8 +110,8 @@ moved_edge y h page =
 pub row_ready : (setup : RowSetup) (page : Layout) (drawing : Drawing) (y : ℤ) (line : ℕ) → IsSetUp setup page drawing → line ≡ line_of setup.environment y → RowsReady setup page y 1 →
     AcrossReady setup.across (laid_out page) line setup.across.size
 row_ready setup page drawing y line is here ready some =
-    let size : setup.across.size ≡ dot_size setup.settings.resolution setup.environment.media.resolution = ap (λ (s : RowSetup). s.across.size) is.same in
-    let fits = (size_fits setup.settings.resolution setup.environment.media.resolution).0 in
+    let size : setup.across.size ≡ dot_size setup.settings.resolution setup.environment.page_setup.resolution = ap (λ (s : RowSetup). s.across.size) is.same in
+    let fits = (size_fits setup.settings.resolution setup.environment.page_setup.resolution).0 in
     strip_within (laid_out page) ready.first ready.lines line setup.across.size
     (omega (arith, here, ready.begins)) (omega (arith, here, ready.ends, size, fits)) (ready.ready some)
 
@@ -136,7 +136,7 @@ rows_ready-moved setup page y n ready =
     let logical = logical_page_of setup.environment in
     let top = setup.environment.margins.top in
     let edge = moved_edge y h logical in
-    let apart = lines_apart setup.environment.media.resolution h (below_edge (y +ℤ pos top)) (below_edge (nearest_y (y +ℤ pos h) logical +ℤ pos top)) logical.length edge.0 edge.1 in
+    let apart = lines_apart setup.environment.page_setup.resolution h (below_edge (y +ℤ pos top)) (below_edge (nearest_y (y +ℤ pos h) logical +ℤ pos top)) logical.length edge.0 edge.1 in
     let more : suc n * lines_of_row setup ≡ n * lines_of_row setup + lines_of_row setup = suc-mul n (lines_of_row setup) in
     record {
       first = ready.first;
@@ -148,25 +148,25 @@ rows_ready-moved setup page y n ready =
     }
 
 -- rows behind an item
-pub rows_ready-next : (setup : RowSetup) (ink : Ink) (page : Layout) (d : Drawn) (item : Item) (n : ℕ) → RowsReady setup page d.cursor.y (suc n) →
-    RowsReady setup page (with_item setup.environment setup.settings ink d item).cursor.y n
-rows_ready-next setup ink page d None n ready = rows_ready-fewer setup page d.cursor.y n (suc n) (omega arith) ready
-rows_ready-next setup ink page d (Some row) n ready = behind (takes_row setup.settings d.graphics)
+pub rows_ready-next : (setup : RowSetup) (brush : Brush) (page : Layout) (d : Drawn) (item : Item) (n : ℕ) → RowsReady setup page d.cursor.y (suc n) →
+    RowsReady setup page (with_item setup.environment setup.settings brush d item).cursor.y n
+rows_ready-next setup brush page d None n ready = rows_ready-fewer setup page d.cursor.y n (suc n) (omega arith) ready
+rows_ready-next setup brush page d (Some row) n ready = behind (takes_row setup.settings d.graphics)
   where
-    behind : (taken : Bool) → RowsReady setup page (if taken then with_row setup.environment setup.settings ink row.0 row.1 d else d).cursor.y n
+    behind : (taken : Bool) → RowsReady setup page (if taken then with_row setup.environment setup.settings brush row.0 row.1 d else d).cursor.y n
     behind true = rows_ready-moved setup page d.cursor.y n ready
     behind false = rows_ready-fewer setup page d.cursor.y n (suc n) (omega arith) ready
 
 -- rows behind a run
-pub rows_ready-after : (setup : RowSetup) (ink : Ink) (page : Layout) (d : Drawn) (item : Item) (n m k : ℕ) → k ≡ n + m → RowsReady setup page d.cursor.y k →
-    RowsReady setup page (with_items setup.environment setup.settings ink (replicate n item) d).cursor.y m
-rows_ready-after setup ink page d item zero m k is ready =
+pub rows_ready-after : (setup : RowSetup) (brush : Brush) (page : Layout) (d : Drawn) (item : Item) (n m k : ℕ) → k ≡ n + m → RowsReady setup page d.cursor.y k →
+    RowsReady setup page (with_items setup.environment setup.settings brush (replicate n item) d).cursor.y m
+rows_ready-after setup brush page d item zero m k is ready =
     let none : k ≡ m = omega (arith, is) in
     subst (RowsReady setup page d.cursor.y) none ready
-rows_ready-after setup ink page d item (suc n) m k is ready =
+rows_ready-after setup brush page d item (suc n) m k is ready =
     let more : k ≡ suc (n + m) = omega (arith, is) in
-    rows_ready-after setup ink page (with_item setup.environment setup.settings ink d item) item n m (n + m) refl
-    (rows_ready-next setup ink page d item (n + m) (subst (RowsReady setup page d.cursor.y) more ready))
+    rows_ready-after setup brush page (with_item setup.environment setup.settings brush d item) item n m (n + m) refl
+    (rows_ready-next setup brush page d item (n + m) (subst (RowsReady setup page d.cursor.y) more ready))
 
 -- the lines that are made ready: those of so many rows, or of as many as a page has lines
 pub rows_ready-made : (setup : RowSetup) (page : Layout) (y : ℤ) (rows count first lines : ℕ) → rows ≡ min longest_side count →
@@ -175,7 +175,7 @@ pub rows_ready-made : (setup : RowSetup) (page : Layout) (y : ℤ) (rows count f
     AcrossReady setup.across (laid_out page) first lines → RowsReady setup page y count
 rows_ready-made setup page y rows count first lines most from small long ready =
     let s : ℕ = lines_of_row setup in
-    let some : 1 ≤ s = (size_fits setup.settings.resolution setup.environment.media.resolution).1 in
+    let some : 1 ≤ s = (size_fits setup.settings.resolution setup.environment.page_setup.resolution).1 in
     record {
       first = first;
       lines = lines;

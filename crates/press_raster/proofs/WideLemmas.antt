@@ -86,14 +86,14 @@ widened_dot fours size byte j some most are small within =
     = shifted_left low (64 - 8 * size) j in_low ∙ are.dots (byte % 16) (64 - 8 * size + j) (omega arith) in_low in
     word_dot-or (high * 2 ^ (64 - 4 * size) % 2 ^ 64) (low * 2 ^ (64 - 8 * size) % 2 ^ 64) j
     ∙ elim (cases_lt j (4 * size)) [
-      | inl front ↦
-          let in_high : 64 - 4 * size + j < 64 = omega (arith, most, front) in
+      | inl prefix ↦
+          let in_high : 64 - 4 * size + j < 64 = omega (arith, most, prefix) in
           (λ i. (shifted_left high (64 - 4 * size) j in_high
           ∙ are.dots (byte / 16) (64 - 4 * size + j) (omega (arith, small)) in_high
           ∙ a_four size (byte / 16 * 16) (64 - 4 * size + j) j (omega (arith, most))) i
-          || (last ∙ no_four size (byte % 16 * 16) (64 - 8 * size + j) (omega (arith, most, front))) i)
+          || (last ∙ no_four size (byte % 16 * 16) (64 - 8 * size + j) (omega (arith, most, prefix))) i)
           ∙ or_false (byte_dot (byte / 16 * 16) (j / size))
-          ∙ first_four byte (j / size) (div_below j size 4 some front)
+          ∙ first_four byte (j / size) (div_below j size 4 some prefix)
       | inr behind ↦
           let k : ℕ = j - 4 * size in
           let place : 4 * size + k ≡ j = omega (arith, behind) in

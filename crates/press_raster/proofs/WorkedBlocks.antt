@@ -7,7 +7,7 @@ use Rattle.press_bits.specs.DotRule.{both_transparent}
 use Rattle.press_bits.specs.Page.{blank}
 use Rattle.press_page.specs.Environment.{factory, reset_environment}
 use Rattle.press_page.specs.declared.environment.PageEnv.{PageEnv}
-use Rattle.press_pattern.specs.Ink.{black_ink}
+use Rattle.press_pattern.specs.Brush.{black_brush}
 use Rattle.press_rows.specs.Blocks.{items}
 use Rattle.press_rows.specs.DeltaRow.{deltas, replacements, laid_over}
 use Rattle.press_rows.specs.Row.{raster_row}
@@ -39,7 +39,7 @@ abbrev start : List ℕ → Drawn
 start seed = drawn (on seed) (blank 1 1) (record { x = 0; y = pos 900; stack = [] })
 
 abbrev after : RasterSettings → List ℕ → Drawn → Drawn
-after settings «data» from = drawn_rows environment settings (black_ink both_transparent) «data» from
+after settings «data» from = drawn_rows environment settings (black_brush both_transparent) «data» from
 
 -- a row, the same twice more, an empty one, and a delta row of that: five rows, and the last is the seed row
 abbrev five : List ℕ

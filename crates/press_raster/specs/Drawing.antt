@@ -7,7 +7,7 @@ use Rattle.press_units.specs.Position.{positions_per_dot}
 use Rattle.press_bits.specs.Bands.{BandedPage}
 use Rattle.press_bits.specs.Lines.{bytes_per_line}
 use Rattle.press_cursor.specs.CursorState.{CursorState}
-use Rattle.press_page.specs.Media.{logical_width, logical_length}
+use Rattle.press_page.specs.PageSetup.{logical_width, logical_length}
 use Rattle.press_page.specs.declared.environment.PageEnv.{PageEnv}
 use Rattle.press_canvas.specs.Turned.{page_of_frame}
 use Rattle.press_raster.specs.Across.{HasRoom, AcrossReady, across_of}
@@ -23,11 +23,11 @@ use Rattle.press_raster.specs.declared.settings.RasterSettings.{RasterSettings}
 -- What the rows of a transfer have in common, on a frame of this width.
 abbrev pub setup_of : (width : ℕ) → PageEnv → RasterSettings → (left : ℕ) → RowSetup
 setup_of width environment settings left =
-    let dots = dots_of_row settings.source_width settings.resolution (logical_width environment.media) left in record {
+    let dots = dots_of_row settings.source_width settings.resolution (logical_width environment.page_setup) left in record {
       environment = environment;
       settings = settings;
       across = across_of width (row_corner (record { environment = environment; y = pos 0 }) left).x
-          (dot_size settings.resolution environment.media.resolution) dots;
+          (dot_size settings.resolution environment.page_setup.resolution) dots;
       dots = dots;
     }
 
@@ -58,7 +58,7 @@ pub record IsSetUp (setup : RowSetup) (page : Layout) (drawing : Drawing) : Type
 abbrev pub drawn_by : RowSetup → Drawing → BandedPage → CursorState → Drawn
 drawn_by setup drawing frame cursor =
     drawn (graphics (Some drawing.position) drawing.seed.items)
-    (page_of_frame setup.environment.media.orientation frame.page) cursor
+    (page_of_frame setup.environment.page_setup.orientation frame.page) cursor
 
 -- where raster graphics stands after a row
 abbrev pub one_row_on : RasterPosition → RasterPosition
@@ -70,12 +70,12 @@ line_of environment y = (row_corner (record { environment = environment; y = y }
 
 -- the line of the frame at the lower edge of the logical page
 abbrev pub last_line : PageEnv → ℕ
-last_line environment = logical_length environment.media / positions_per_dot environment.media.resolution
+last_line environment = logical_length environment.page_setup / positions_per_dot environment.page_setup.resolution
 
 -- how many lines of the frame a row takes down the page, the last of them maybe not whole
 abbrev pub lines_of_row : RowSetup → ℕ
 lines_of_row setup =
-    let dot = positions_per_dot setup.environment.media.resolution in
+    let dot = positions_per_dot setup.environment.page_setup.resolution in
     (row_height setup.settings.resolution + (dot - 1)) / dot
 
 -- The lines that so many rows cross, the first of them at this y, are ready.

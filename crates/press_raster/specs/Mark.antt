@@ -8,7 +8,7 @@ use Rattle.press_page.specs.declared.media.Orientation.{Orientation}
 use Rattle.press_page.specs.declared.media.Orientation.TheVariants.{Portrait}
 use Rattle.press_page.specs.declared.place.Dot.{Dot}
 use Rattle.press_pattern.specs.Tiling.{Tiling, tile_dot}
-use Rattle.press_pattern.specs.declared.ink.Ink.{Ink}
+use Rattle.press_pattern.specs.declared.brush.Brush.{Brush}
 use Rattle.press_bits.specs.declared.mode.Mode.{Mode}
 
 -- The source of a strip of the frame, of so many columns and lines from x and y on: each of its lines has the same dots.
@@ -30,11 +30,11 @@ strip_mark orientation width height x y columns lines dots tile mode = record {
 
 -- The mark of a raster row on a page: the strip whose corner is a dot of the frame, in which each dot of the row is so many
 -- dots wide and high.
-abbrev pub raster_mark : Orientation → Page → (corner : Dot) → (size : ℕ) → Row → Ink → Mark
-raster_mark orientation page corner size row ink =
+abbrev pub raster_mark : Orientation → Page → (corner : Dot) → (size : ℕ) → Row → Brush → Mark
+raster_mark orientation page corner size row brush =
     strip_mark orientation page.width page.height corner.x corner.y (size * row.dots) size
-    (λ i. row_dot row.bits (i / size)) ink.tile ink.mode
+    (λ i. row_dot row.bits (i / size)) brush.tile brush.mode
 
 -- The mark of a raster row on the frame itself.
-abbrev pub row_on_frame : (corner : Dot) → (size : ℕ) → Row → Ink → Page → Mark
-row_on_frame corner size row ink frame = raster_mark Portrait frame corner size row ink
+abbrev pub row_on_frame : (corner : Dot) → (size : ℕ) → Row → Brush → Page → Mark
+row_on_frame corner size row brush frame = raster_mark Portrait frame corner size row brush

@@ -5,10 +5,10 @@ use Rattle.press_units.specs.Measure.{positions_per_inch}
 use Rattle.press_bits.specs.Lines.{bytes_per_line}
 use Rattle.press_bits.specs.Mark.{Mark, Row, painted}
 use Rattle.press_bits.specs.Page.{Page}
-use Rattle.press_page.specs.Media.{logical_width}
+use Rattle.press_page.specs.PageSetup.{logical_width}
 use Rattle.press_page.specs.Place.{cursor_dot}
 use Rattle.press_page.specs.declared.place.Dot.{Dot}
-use Rattle.press_pattern.specs.declared.ink.Ink.{Ink}
+use Rattle.press_pattern.specs.declared.brush.Brush.{Brush}
 use Rattle.press_rows.specs.Row.{raster_row}
 use Rattle.press_rows.specs.declared.compression.Method.{Method}
 use Rattle.press_raster.specs.Graphics.{RasterGraphics, most_rows, is_below_height, trimmed}
@@ -26,7 +26,7 @@ dots_of_row None resolution logical_width left =
 
 abbrev pub row_dots : RowPlace → RasterSettings → (left : ℕ) → ℕ
 row_dots place settings left =
-    dots_of_row settings.source_width settings.resolution (logical_width place.environment.media) left
+    dots_of_row settings.source_width settings.resolution (logical_width place.environment.page_setup) left
 
 -- The row that data stands for by a method, after the seed row.
 abbrev pub row_of_data : RowPlace → RasterSettings → Method → List ℕ → RasterGraphics → Row
@@ -37,21 +37,21 @@ row_of_data place settings method «data» on =
 -- The row's upper left dot in the frame: the cursor's, were it where rows begin.
 abbrev pub row_corner : RowPlace → (left : ℕ) → Dot
 row_corner place left =
-    cursor_dot place.environment.media place.environment.margins.top
+    cursor_dot place.environment.page_setup place.environment.margins.top
     (record { x = left; y = place.y })
 
 -- The mark of the row.
-abbrev pub transfer_mark : RowPlace → RasterSettings → Ink → Method → List ℕ → RasterGraphics → Page → Mark
-transfer_mark place settings ink method «data» on page =
-    raster_mark place.environment.media.orientation page (row_corner place on.left)
-    (dot_size settings.resolution place.environment.media.resolution) (row_of_data place settings method «data» on) ink
+abbrev pub transfer_mark : RowPlace → RasterSettings → Brush → Method → List ℕ → RasterGraphics → Page → Mark
+transfer_mark place settings brush method «data» on page =
+    raster_mark place.environment.page_setup.orientation page (row_corner place on.left)
+    (dot_size settings.resolution place.environment.page_setup.resolution) (row_of_data place settings method «data» on) brush
 
 -- The page after a row: marked where the row has effect.
-abbrev pub page_with_row : RowPlace → RasterSettings → Ink → Method → List ℕ → Option RasterGraphics → Page → Page
-page_with_row place settings ink method «data» None page = page
-page_with_row place settings ink method «data» (Some on) page =
+abbrev pub page_with_row : RowPlace → RasterSettings → Brush → Method → List ℕ → Option RasterGraphics → Page → Page
+page_with_row place settings brush method «data» None page = page
+page_with_row place settings brush method «data» (Some on) page =
     if is_below_height settings.source_height on.rows
-    then painted page (transfer_mark place settings ink method «data» on page) else page
+    then painted page (transfer_mark place settings brush method «data» on page) else page
 
 -- Raster graphics after a row that has effect: the row is the seed, and there is one more.
 abbrev pub after_row : Row → RasterGraphics → RasterGraphics

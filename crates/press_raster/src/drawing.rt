@@ -21,7 +21,7 @@ use crate::strip::{Across, make_room, paint_across};
 use press_bits::{Bands, DotRow, MAX_SIDE, line_bytes};
 use press_cursor::Cursor;
 use press_page::PageEnv;
-use press_pattern::Ink;
+use press_pattern::Brush;
 use press_rows::{Blocks, Method, Run, decode};
 use press_units::Pos;
 use std::alloc::{AllocError, Global};
@@ -47,13 +47,13 @@ impl RowSetup {
         ensures setup { result ≡ setup_of frame.now.page.width environment.now settings left }
         ensures small { result.dots < 2 ^ 29 }
     {
-        let media = environment.media;
+        let page_setup = environment.page_setup;
         let place = RowPlace {
             environment: *environment,
             y: 0,
         };
-        let size = settings.resolution.dot_size(media.resolution);
-        let dots = settings.dots_of_row(media.logical_width(), left);
+        let size = settings.resolution.dot_size(page_setup.resolution);
+        let dots = settings.dots_of_row(page_setup.logical_width(), left);
         let column = place.corner(left).x;
         RowSetup {
             environment: *environment,
@@ -78,7 +78,7 @@ impl RowSetup {
     fn last_line(&self) -> u32
         ensures { result ≡ last_line self.now.environment }
     {
-        let dot = u32::from(self.environment.media.resolution.positions_per_dot());
+        let dot = u32::from(self.environment.page_setup.resolution.positions_per_dot());
         self.environment.logical_page().length / dot
     }
 
@@ -87,7 +87,7 @@ impl RowSetup {
         ensures lines { result ≡ lines_of_row self.now }
         ensures most { result ≤ 8 }
     {
-        let dot = usize::from(self.environment.media.resolution.positions_per_dot());
+        let dot = usize::from(self.environment.page_setup.resolution.positions_per_dot());
         (usize::from(self.settings.resolution.row_height()) + (dot - 1)) / dot
     }
 
@@ -208,12 +208,12 @@ impl Drawing {
         frame: &mut Bands,
         cursor: &mut Cursor,
         setup: &RowSetup,
-        ink: &Ink<'_>,
+        brush: &Brush<'_>,
         row: RowData<'_>,
     ) -> Result<bool, AllocError>
         requires { IsSetUp setup.now (layout frame.old) self.old }
         ensures item { OnOk result (drawn_by setup.now self.new frame.new cursor.new
-            ≡ with_item setup.now.environment setup.now.settings ink.now
+            ≡ with_item setup.now.environment setup.now.settings brush.now
             (drawn_by setup.now self.old frame.old cursor.old)
             (Some (row.entry.method, row.entry.bytes.now))) }
         ensures same { result ≡ Ok false
@@ -234,7 +234,7 @@ impl Drawing {
         let dots = setup.dots;
         let source = DotRow { bits, dots };
         let line = setup.line(cursor);
-        let painted = paint_across(frame, setup.across, line, source, ink, &mut self.scratch)?;
+        let painted = paint_across(frame, setup.across, line, source, brush, &mut self.scratch)?;
         let moved = setup.move_down(cursor);
         let taken = self.take_row();
         Ok(painted | moved | taken)
@@ -246,14 +246,14 @@ impl Drawing {
         frame: &mut Bands,
         cursor: &mut Cursor,
         setup: &RowSetup,
-        ink: &Ink<'_>,
+        brush: &Brush<'_>,
         row: RowData<'_>,
         count: usize,
     ) -> Result<(), AllocError>
         requires setup { IsSetUp setup.now (layout frame.old) self.old }
         requires ready { RowsReady setup.now (layout frame.old) cursor.old.y count }
         ensures items { drawn_by setup.now self.new frame.new cursor.new
-            ≡ with_items setup.now.environment setup.now.settings ink.now
+            ≡ with_items setup.now.environment setup.now.settings brush.now
             (replicate count (Some (row.entry.method, row.entry.bytes.now)))
             (drawn_by setup.now self.old frame.old cursor.old) }
         ensures layout { layout frame.new ≡ layout frame.old }
@@ -261,7 +261,7 @@ impl Drawing {
         ensures takes_none { IsOk result }
     {
         for drawn in 0..count {
-            if !self.draw_row(frame, cursor, setup, ink, row)? {
+            if !self.draw_row(frame, cursor, setup, brush, row)? {
                 break;
             }
         }
@@ -274,13 +274,13 @@ impl Drawing {
         frame: &mut Bands,
         cursor: &mut Cursor,
         setup: &RowSetup,
-        ink: &Ink<'_>,
+        brush: &Brush<'_>,
         mut blocks: Blocks<'_>,
     ) -> Result<(), AllocError>
         requires setup { IsSetUp setup.now (layout frame.old) self.old }
         requires ready { RowsReady setup.now (layout frame.old) cursor.old.y (count_rows blocks) }
         ensures items { drawn_by setup.now self.new frame.new cursor.new
-            ≡ with_items setup.now.environment setup.now.settings ink.now blocks.entry
+            ≡ with_items setup.now.environment setup.now.settings brush.now blocks.entry
             (drawn_by setup.now self.old frame.old cursor.old) }
         ensures takes_none { IsOk result }
     {
@@ -296,7 +296,7 @@ impl Drawing {
                         method,
                         bytes: data,
                     };
-                    self.draw_run(frame, cursor, setup, ink, row, count)?;
+                    self.draw_run(frame, cursor, setup, brush, row, count)?;
                 }
             }
         }
@@ -313,12 +313,12 @@ impl Drawing {
         frame: &mut Bands,
         cursor: &mut Cursor,
         setup: &RowSetup,
-        ink: &Ink<'_>,
+        brush: &Brush<'_>,
         bytes: &[u8],
     ) -> Result<(), AllocError>
         requires setup { IsSetUp setup.now (layout frame.old) self.old }
         ensures items { OnOk result (drawn_by setup.now self.new frame.new cursor.new
-            ≡ with_items setup.now.environment setup.now.settings ink.now
+            ≡ with_items setup.now.environment setup.now.settings brush.now
             (items_of setup.now.settings.coding bytes.now)
             (drawn_by setup.now self.old frame.old cursor.old)) }
         ensures same_page { OnErr result (frame.new.page ≡ frame.old.page) }
@@ -326,13 +326,13 @@ impl Drawing {
     {
         match setup.settings.coding {
             RowCoding::By(method) => {
-                self.draw_row(frame, cursor, setup, ink, RowData { method, bytes })?;
+                self.draw_row(frame, cursor, setup, brush, RowData { method, bytes })?;
                 Ok(())
             }
             RowCoding::Adaptive => {
                 let rows = count_rows(Blocks::new(bytes));
                 setup.ready(frame, cursor, rows)?;
-                self.draw_blocks(frame, cursor, setup, ink, Blocks::new(bytes))
+                self.draw_blocks(frame, cursor, setup, brush, Blocks::new(bytes))
             }
         }
     }

@@ -14,7 +14,7 @@ use press_bits::Bitmap;
 use press_canvas::Canvas;
 use press_cursor::{Cursor, CursorPosition};
 use press_page::{Dot, PageEnv};
-use press_pattern::Ink;
+use press_pattern::Brush;
 use press_rows::{Blocks, Method, Run};
 use press_units::{GREATEST_VALUE, Pos};
 use std::alloc::{AllocError, Global};
@@ -226,7 +226,7 @@ impl Raster {
         }
     }
 
-    /// `ESC * b # W`: transfers rows, by a method one. Each that raster graphics takes is painted with the ink, each of its dots
+    /// `ESC * b # W`: transfers rows, by a method one. Each that raster graphics takes is painted with the brush, each of its dots
     /// as many dots wide and high as the resolution says, and becomes the seed row, and the cursor moves down by it. Dots
     /// outside the page are dropped.
     ///
@@ -241,11 +241,11 @@ impl Raster {
         environment: &PageEnv,
         cursor: &mut Cursor,
         settings: RasterSettings,
-        ink: &Ink<'_>,
+        brush: &Brush<'_>,
         data: &[u8],
     ) -> Result<(), AllocError>
         ensures rows { OnOk result (drawn self.new page.new cursor.new ≡ drawn_rows environment.now
-            settings ink.now «data».now (drawn self.old page.old cursor.old)) }
+            settings brush.now «data».now (drawn self.old page.old cursor.old)) }
         // what has no row with effect takes no memory
         ensures untaken { takes_rows settings «data».now self.old ≡ false → IsOk result }
         ensures same_page { OnErr result (page.new ≡ page.old) }
@@ -257,8 +257,15 @@ impl Raster {
             return Ok(());
         }
         let frame = page.frame();
-        frame.lie_as(*self.seed.allocator(), environment.media.orientation)?;
-        self.draw_rows(&mut frame.bitmap, environment, cursor, settings, ink, data)
+        frame.lie_as(*self.seed.allocator(), environment.page_setup.orientation)?;
+        self.draw_rows(
+            &mut frame.bitmap,
+            environment,
+            cursor,
+            settings,
+            brush,
+            data,
+        )
     }
 
     /// Draws the rows of a transfer, one of which has effect, on the frame of a page.
@@ -268,14 +275,14 @@ impl Raster {
         environment: &PageEnv,
         cursor: &mut Cursor,
         settings: RasterSettings,
-        ink: &Ink<'_>,
+        brush: &Brush<'_>,
         data: &[u8],
     ) -> Result<(), AllocError>
         requires { takes_rows settings «data».now self.old ≡ true }
         ensures rows { OnOk result (drawn self.new
-            (page_of_frame environment.now.media.orientation frame.new) cursor.new
-            ≡ drawn_rows environment.now settings ink.now «data».now (drawn self.old
-            (page_of_frame environment.now.media.orientation frame.old) cursor.old)) }
+            (page_of_frame environment.now.page_setup.orientation frame.new) cursor.new
+            ≡ drawn_rows environment.now settings brush.now «data».now (drawn self.old
+            (page_of_frame environment.now.page_setup.orientation frame.old) cursor.old)) }
         ensures same_page { OnErr result (frame.new ≡ frame.old) }
         ensures same_raster { OnErr result (self.new ≡ self.old) }
         ensures same_cursor { OnErr result (cursor.new ≡ cursor.old) }
@@ -286,7 +293,7 @@ impl Raster {
         let bands = frame.bands();
         let setup = RowSetup::new(bands, environment, settings, position.left);
         self.drawing.begin(position, &self.seed, &setup)?;
-        self.drawing.draw(bands, cursor, &setup, ink, data)?;
+        self.drawing.draw(bands, cursor, &setup, brush, data)?;
         self.position = Some(self.drawing.position);
         mem::swap(&mut self.seed, &mut self.drawing.seed);
         Ok(())

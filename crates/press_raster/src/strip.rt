@@ -12,22 +12,28 @@ ghost use Rattle.press_raster.specs.Widening.{IsDotSize};
 use crate::widening::widen;
 use press_bits::{Bands, DotRow, cut_length};
 use press_page::Dot;
-use press_pattern::Ink;
+use press_pattern::Brush;
 use std::alloc::AllocError;
 
 /// Paints a strip of the frame, whose lines have these source dots.
-fn paint_lines(frame: &mut Bands, corner: Dot, lines: usize, source: DotRow<'_>, ink: &Ink<'_>)
+fn paint_lines(frame: &mut Bands, corner: Dot, lines: usize, source: DotRow<'_>, brush: &Brush<'_>)
     requires ready { AreReady frame.old (pos corner.y) lines }
     ensures painted { frame.new.page ≡ painted frame.old.page
         (strip_mark Portrait frame.old.page.width frame.old.page.height corner.x corner.y
-        (row source.entry).dots lines (row_dot (row source.entry).bits) ink.now.tile ink.now.mode) }
+        (row source.entry).dots lines (row_dot (row source.entry).bits) brush.now.tile brush.now.mode) }
     ensures ready { frame.new.ready ≡ frame.old.ready }
 {
     let lines = cut_length(corner.y, lines, frame.height());
     for line in 0..lines {
         let y = corner.y + line;
-        let pattern = ink.tile.line(y);
-        frame.paint_row(i64::from(corner.x), i64::from(y), source, pattern, ink.mode);
+        let pattern = brush.tile.line(y);
+        frame.paint_row(
+            i64::from(corner.x),
+            i64::from(y),
+            source,
+            pattern,
+            brush.mode,
+        );
     }
 }
 
@@ -69,11 +75,11 @@ impl Across {
     }
 
     /// Whether a row from a line of the frame on marks nothing: it lies beside the frame, or is white and transparent.
-    fn marks_nothing(self, frame: &Bands, line: u32, source: DotRow<'_>, ink: &Ink<'_>) -> bool
+    fn marks_nothing(self, frame: &Bands, line: u32, source: DotRow<'_>, brush: &Brush<'_>) -> bool
         requires columns { self.columns
             ≡ covered_columns frame.now.page.width self.left self.size source.dots }
         ensures unmarked { result ≡ true → frame.now.page ≡ painted frame.now.page
-            (row_on_frame (record { x = self.left; y = line }) self.size (row source.entry) ink.now
+            (row_on_frame (record { x = self.left; y = line }) self.size (row source.entry) brush.now
             frame.now.page) }
         ensures met { result ≡ false → 1 ≤ self.columns }
     {
@@ -83,7 +89,7 @@ impl Across {
         if self.columns == 0 {
             return true;
         }
-        !ink.mode.source_opaque && source.is_white()
+        !brush.mode.source_opaque && source.is_white()
     }
 
     /// Makes so many lines of the frame ready, from a line on. Where they are, it takes no memory.
@@ -121,7 +127,7 @@ fn paint_wide(
     across: Across,
     line: u32,
     source: DotRow<'_>,
-    ink: &Ink<'_>,
+    brush: &Brush<'_>,
     scratch: &mut Vec<u8>,
 )
     requires some { 1 ≤ across.columns }
@@ -132,7 +138,7 @@ fn paint_wide(
     requires room { HasRoom across scratch.old.items }
     ensures painted { frame.new.page ≡ painted frame.old.page
         (row_on_frame (record { x = across.left; y = line }) across.size
-        (row source.entry) ink.now frame.old.page) }
+        (row source.entry) brush.now frame.old.page) }
     ensures ready { frame.new.ready ≡ frame.old.ready }
     ensures room { HasRoom across scratch.new.items }
 {
@@ -144,12 +150,12 @@ fn paint_wide(
     let size = across.size as usize;
     if size == 1 {
         let bits = source.bits;
-        paint_lines(frame, corner, size, DotRow { bits, dots }, ink);
+        paint_lines(frame, corner, size, DotRow { bits, dots }, brush);
         return;
     }
     widen(source, size, scratch);
     let bits = &*scratch;
-    paint_lines(frame, corner, size, DotRow { bits, dots }, ink);
+    paint_lines(frame, corner, size, DotRow { bits, dots }, brush);
 }
 
 /// Paints a raster row from a line of the frame on, as `paint_wide` does, makes the lines ready that it needs, and says whether it
@@ -163,7 +169,7 @@ pub(crate) fn paint_across(
     across: Across,
     line: u32,
     source: DotRow<'_>,
-    ink: &Ink<'_>,
+    brush: &Brush<'_>,
     scratch: &mut Vec<u8>,
 ) -> Result<bool, AllocError>
     requires size { IsDotSize across.size }
@@ -172,7 +178,7 @@ pub(crate) fn paint_across(
     requires room { HasRoom across scratch.old.items }
     ensures painted { OnOk result (frame.new.page ≡ painted frame.old.page
         (row_on_frame (record { x = across.left; y = line }) across.size
-        (row source.entry) ink.now frame.old.page)) }
+        (row source.entry) brush.now frame.old.page)) }
     ensures unmarked { result ≡ Ok false → frame.new.page ≡ frame.old.page }
     ensures same_page { OnErr result (frame.new.page ≡ frame.old.page) }
     ensures takes_none { AcrossReady across frame.old line across.size → IsOk result }
@@ -180,10 +186,10 @@ pub(crate) fn paint_across(
         → frame.new.ready ≡ frame.old.ready }
     ensures room { HasRoom across scratch.new.items }
 {
-    if across.marks_nothing(frame, line, source, ink) {
+    if across.marks_nothing(frame, line, source, brush) {
         return Ok(false);
     }
     across.ready(frame, line, across.size)?;
-    paint_wide(frame, across, line, source, ink, scratch);
+    paint_wide(frame, across, line, source, brush, scratch);
     Ok(true)
 }

@@ -43,8 +43,8 @@ fn widened(fours: &[u64; 16], byte: u8, size: usize) -> u64
     requires fours { AreFours size fours.now }
     ensures { (j : ℕ) → j < 8 * size → word_dot result j ≡ byte_dot byte (j / size) }
 {
-    let front = fours[byte as usize / 16] << (64 - 4 * size);
-    front | (fours[byte as usize % 16] << (64 - 8 * size))
+    let prefix = fours[byte as usize / 16] << (64 - 4 * size);
+    prefix | (fours[byte as usize % 16] << (64 - 8 * size))
 }
 
 /// Widens a row by a table of four dots, a byte of it after another, each to a word whose rear the next one covers.

@@ -39,7 +39,7 @@ edges_of_pairs (suc k) x (byte ∷ bytes) h =
     (λ w. (let more : suc k ≤ 1 + leading x bytes = subst (λ b. suc k ≤ cond b (1 + leading x bytes) 0) w.0 h in
     let same : leading x bytes ≡ leading byte bytes = ap (λ (y : ℕ). leading y bytes) (sym w.1) in
     let rest = edges_of_pairs k byte bytes (omega arith) in
-    let front = none (eqb x byte) (equal_tests x byte (sym w.1)) in
+    let prefix = none (eqb x byte) (equal_tests x byte (sym w.1)) in
     omega arith))
     (λ w. absurd (let gone : suc k ≤ 0 = subst (λ b. suc k ≤ cond b (1 + leading x bytes) 0) w.0 h in omega arith))
     (eqb_tells byte x)
@@ -57,11 +57,11 @@ loose_more : (byte : ℕ) (bytes : List ℕ) → loose (byte ∷ bytes) ≤ 1 + 
 unfolding loose
 loose_more byte bytes = (let first = at_most_one_not (starts_long (byte ∷ bytes)) in omega arith)
 
-loose_front : (k : ℕ) (bytes : List ℕ) → k ≤ length bytes → loose bytes ≤ k + loose (drop k bytes)
-loose_front zero bytes h = omega arith
-loose_front (suc k) [] h = absurd (omega arith)
-loose_front (suc k) (byte ∷ bytes) h =
-    let rest = loose_front k bytes (omega arith) in
+loose_prefix : (k : ℕ) (bytes : List ℕ) → k ≤ length bytes → loose bytes ≤ k + loose (drop k bytes)
+loose_prefix zero bytes h = omega arith
+loose_prefix (suc k) [] h = absurd (omega arith)
+loose_prefix (suc k) (byte ∷ bytes) h =
+    let rest = loose_prefix k bytes (omega arith) in
     let first = loose_more byte bytes in
     omega arith
 
@@ -152,7 +152,7 @@ loose_of_code : (literal : Bool) (byte more : ℕ) (bytes : List ℕ) (rest : �
     ≤ length (cond literal (more ∷ byte ∷ take more bytes) ((256 - more) ∷ byte ∷ [])) + rest
 loose_of_code true byte more bytes rest e f h =
     let short = before_triple-le-length bytes in
-    let all = loose_front more bytes (omega arith) in
+    let all = loose_prefix more bytes (omega arith) in
     let first = loose_more byte bytes in
     let edge = edge_at_most_one (byte ∷ bytes) in
     let size = length-take-le more bytes (omega arith) in

@@ -138,7 +138,7 @@ impl<'a> Blocks<'a> {
     ///
     /// Source: PCL 5 Printer Language Technical Reference Manual, Raster Graphics, Set Compression Method command.
     pub fn next_run(&mut self) -> Option<Run<'a>>
-        ensures front { self.old ≡ items_of_run result ++ self.new }
+        ensures prefix { self.old ≡ items_of_run result ++ self.new }
         ensures some { IfSome result (λ run. 1 ≤ length (run_items run)) }
         ensures end { result ≡ None → self.old ≡ [] }
     {

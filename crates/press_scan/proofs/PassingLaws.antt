@@ -8,7 +8,7 @@ use Rattle.std.proofs.lemmas.Bool.{and_parts, ltb-true, ltb-false, ne_eqb}
 use Rattle.press_cmd.specs.Token.{Token, Control, Text, ForeignByte, escape_byte, uel}
 use Rattle.press_cmd.specs.Kinds.{kind_of}
 use Rattle.press_cmd.specs.declared.variant.Kind.{Kind}
-use Rattle.press_cmd.specs.Mode.{Mode, Exit, Tail, Foreign, Pcl, Open}
+use Rattle.press_cmd.specs.ParserState.{ParserState, Exit, OverlongLine, OtherLanguage, Pcl, Open}
 use Rattle.press_cmd.specs.Grammar.{Head, Whole, differs}
 use Rattle.press_cmd.proofs.ByteTests.{range-true}
 use Rattle.press_cmd.proofs.Splits.{closed-cons}
@@ -36,16 +36,16 @@ pcl_byte true byte false low plain =
     (((ltb-false byte 32 low, range.1), refl, refl), tt)
 
 module _ (ended : Bool) (room : ℕ) where
-  abbrev held : Mode → List ℕ → ScannerState
+  abbrev held : ParserState → List ℕ → ScannerState
   held mode bytes = in_room room (scanner_state mode bytes ended)
 
-  head_passes : (mode : Mode) (byte : ℕ) (bytes : List ℕ) (command : Token) → Head mode (byte ∷ []) bytes command mode → Passes (held mode (byte ∷ bytes)) command (held mode bytes)
+  head_passes : (mode : ParserState) (byte : ℕ) (bytes : List ℕ) (command : Token) → Head mode (byte ∷ []) bytes command mode → Passes (held mode (byte ∷ bytes)) command (held mode bytes)
   head_passes mode byte bytes command head = record {
     ended = refl;
     room = refl;
     used = omega arith;
     head = λ _. (byte ∷ [], refl, head);
-    front = λ _. (byte ∷ [], refl, inl head);
+    prefix = λ _. (byte ∷ [], refl, inl head);
     closes = λ _ commands closed. closed-cons mode (byte ∷ []) bytes command mode commands head closed;
   }
 
@@ -62,7 +62,7 @@ module _ (ended : Bool) (room : ℕ) where
         whole_head byte rest false whole = whole
 
   foreign_each : (controls : Bool) (bytes following : List ℕ) → list_all (is_plain true) bytes ≡ true
-      → PassesEach (held Foreign (bytes ++ following)) (map (byte_command Foreign) bytes) (held Foreign following) × AllByRecursion (IsOneByte controls) (map (byte_command Foreign) bytes)
+      → PassesEach (held OtherLanguage (bytes ++ following)) (map (byte_command OtherLanguage) bytes) (held OtherLanguage following) × AllByRecursion (IsOneByte controls) (map (byte_command OtherLanguage) bytes)
   foreign_each controls [] following all = (refl, tt)
   foreign_each controls (byte ∷ bytes) following all =
       let parts = and_parts _ _ all in
@@ -70,18 +70,18 @@ module _ (ended : Bool) (room : ℕ) where
       let other : (escape_byte == byte) ≡ false = ne_eqb escape_byte byte (λ e. not_escape byte plain.1 (sym e)) in
       let differ : differs uel (byte ∷ (bytes ++ following)) ≡ true = rw other refl in
       let others = foreign_each controls bytes following parts.1 in
-      ((held Foreign (bytes ++ following), head_passes Foreign byte (bytes ++ following) (ForeignByte byte) (refl, differ, refl), others.0), (tt, others.1))
+      ((held OtherLanguage (bytes ++ following), head_passes OtherLanguage byte (bytes ++ following) (ForeignByte byte) (refl, differ, refl), others.0), (tt, others.1))
 
-  pub each_plain : (controls : Bool) (mode : Mode) (bytes following : List ℕ) → ArePlain controls mode bytes
+  pub each_plain : (controls : Bool) (mode : ParserState) (bytes following : List ℕ) → ArePlain controls mode bytes
       → PassesEach (held mode (bytes ++ following)) (map (byte_command mode) bytes) (held mode following) × AllByRecursion (IsOneByte controls) (map (byte_command mode) bytes)
   each_plain controls Pcl bytes following plain = pcl_each controls bytes following plain
-  each_plain controls Foreign bytes following plain = foreign_each controls bytes following plain
+  each_plain controls OtherLanguage bytes following plain = foreign_each controls bytes following plain
   each_plain controls Exit bytes following none = rw none (refl, tt)
-  each_plain controls Tail bytes following none = rw none (refl, tt)
+  each_plain controls OverlongLine bytes following none = rw none (refl, tt)
   each_plain controls (Open character group) bytes following none = rw none (refl, tt)
 
 -- the front of what is held, and what is held then
-pub plain_passes : (controls : Bool) (mode : Mode) (items all : List ℕ) (start count : ℕ) (ended : Bool) (room d : ℕ) (kind : Kind) (old new : ScannerState)
+pub plain_passes : (controls : Bool) (mode : ParserState) (items all : List ℕ) (start count : ℕ) (ended : Bool) (room d : ℕ) (kind : Kind) (old new : ScannerState)
     → all ≡ drop start items → ArePlain controls mode (take count all) → count ≤ length all → 0 < count
     → kind ≡ kind_of (byte_command mode (slice_index_or all (count - 1) d)) → held ended room mode (drop start items) ≡ old → held ended room mode (drop (start + count) items) ≡ new
     → PassesOver controls old (record { count = count; kind = kind }) new
@@ -96,7 +96,7 @@ plain_passes controls mode items all start count ended room d kind old new same 
     let to : held ended room mode (drop count all) ≡ new = ap (held ended room mode) (ap (drop count) same ∙ drop-drop count start items) ∙ left in
     let P : List Token → Type 0 = λ these. PassesEach old these new in
     record {
-      front = map f (take (count - 1) all);
+      prefix = map f (take (count - 1) all);
       last = f byte;
       each = subst P commands (subst (λ (s : ScannerState). PassesEach s (map f (take count all)) new) from (subst (λ (s : ScannerState). PassesEach (held ended room mode (take count all ++ drop count all)) (map f (take count all)) s) to both.0));
       bytes = subst (AllByRecursion (IsOneByte controls)) commands both.1;

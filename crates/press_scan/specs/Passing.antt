@@ -4,7 +4,7 @@ use Rattle.std.specs.Int.{is_in_range}
 use Rattle.std.specs.List.{AllByRecursion, list_all}
 use Rattle.press_cmd.specs.Token.{Token, Control, Text, ForeignByte, escape_byte}
 use Rattle.press_cmd.specs.Kinds.{kind_of}
-use Rattle.press_cmd.specs.Mode.{Mode, Foreign, Pcl}
+use Rattle.press_cmd.specs.ParserState.{ParserState, OtherLanguage, Pcl}
 use Rattle.press_scan.specs.declared.passing.Passed.{Passed}
 use Rattle.press_scan.specs.Gives.{Passes}
 use Rattle.press_scan.specs.ScannerState.{ScannerState}
@@ -23,11 +23,11 @@ IsOneByte controls _ = ⊥
 
 -- So many such commands were given, one after another, and the last has this kind.
 pub record PassesOver (controls : Bool) (old : ScannerState) (passed : Passed) (new : ScannerState) : Type 0 where
-  pub front : List Token
+  pub prefix : List Token
   pub last : Token
-  pub each : PassesEach old (front ++ last ∷ []) new
-  pub bytes : AllByRecursion (IsOneByte controls) (front ++ last ∷ [])
-  pub count : passed.count ≡ length (front ++ last ∷ [])
+  pub each : PassesEach old (prefix ++ last ∷ []) new
+  pub bytes : AllByRecursion (IsOneByte controls) (prefix ++ last ∷ [])
+  pub count : passed.count ≡ length (prefix ++ last ∷ [])
   pub kind : passed.kind ≡ kind_of last
 
 -- whether a byte is a text byte, or with control bytes any but the escape character
@@ -36,12 +36,12 @@ is_plain false byte = is_in_range 32 255 byte
 is_plain true byte = is_in_range 0 255 byte && not (byte == escape_byte)
 
 -- the command of one byte that is no escape character
-abbrev pub byte_command : Mode → ℕ → Token
-byte_command Foreign byte = ForeignByte byte
+abbrev pub byte_command : ParserState → ℕ → Token
+byte_command OtherLanguage byte = ForeignByte byte
 byte_command mode byte = if nat_lt byte 32 then Control byte else Text byte
 
 -- whether bytes are such commands, in the mode in which they are scanned
-abbrev pub ArePlain : (controls : Bool) → Mode → List ℕ → Type 0
+abbrev pub ArePlain : (controls : Bool) → ParserState → List ℕ → Type 0
 ArePlain controls Pcl bytes = list_all (is_plain controls) bytes ≡ true
-ArePlain controls Foreign bytes = list_all (is_plain true) bytes ≡ true
+ArePlain controls OtherLanguage bytes = list_all (is_plain true) bytes ≡ true
 ArePlain controls _ bytes = bytes ≡ []

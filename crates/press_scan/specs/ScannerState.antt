@@ -1,11 +1,11 @@
 -- The state of a scanner: what it holds.
 use Rattle.std.specs.Prelude.{ℕ, ◌-◌, List, Bool, length, min, if◌then◌else◌}
-use Rattle.press_cmd.specs.Mode.{Mode}
+use Rattle.press_cmd.specs.ParserState.{ParserState}
 
 -- The mode, the bytes fed that stand in no command given, whether the end of input was given, and how many bytes may be held in
 -- memory that is reserved: 0 where none is.
 pub record ScannerState : Type 0 where
-  pub mode : Mode
+  pub mode : ParserState
   pub bytes : List ℕ
   pub ended : Bool
   pub room : ℕ

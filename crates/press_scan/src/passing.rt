@@ -6,7 +6,7 @@ ghost use Rattle.press_cmd.specs.Kinds.{kind_of};
 ghost use Rattle.press_scan.specs.Modes.{mode_of};
 ghost use Rattle.press_scan.specs.Passing.{is_plain, byte_command, ArePlain};
 
-use crate::mode::Mode;
+use crate::parser_state::ParserState;
 use press_cmd::{ESCAPE, Kind};
 
 /// Commands of one byte each that were passed over.
@@ -52,23 +52,23 @@ fn unescaped_length(bytes: &[u8]) -> usize
 }
 
 /// How many bytes at the front are commands of one byte each that are passed over, in the mode in which they are scanned.
-pub fn passed_front(mode: Mode, controls: bool, bytes: &[u8]) -> usize
+pub fn passed_prefix(mode: ParserState, controls: bool, bytes: &[u8]) -> usize
     ensures within { result ≤ length bytes.now }
     ensures plain { ArePlain controls (mode_of mode) (take result bytes.now) }
 {
     match mode {
-        Mode::Pcl if !controls => text_length(bytes),
-        Mode::Pcl | Mode::Foreign => unescaped_length(bytes),
+        ParserState::Pcl if !controls => text_length(bytes),
+        ParserState::Pcl | ParserState::OtherLanguage => unescaped_length(bytes),
         _ => 0,
     }
 }
 
 /// The kind of the command that a byte other than the escape character is.
-pub fn byte_kind(mode: Mode, byte: u8) -> Kind
+pub fn byte_kind(mode: ParserState, byte: u8) -> Kind
     ensures { result ≡ kind_of (byte_command (mode_of mode) byte) }
 {
     match mode {
-        Mode::Foreign => Kind::Foreign(byte),
+        ParserState::OtherLanguage => Kind::Foreign(byte),
         _ if byte < 32 => Kind::Control(byte),
         _ => Kind::Text(byte),
     }

@@ -3,10 +3,10 @@
 ghost use Rattle.std.specs.Prelude.{◌≡◌, ◌≤◌, ◌-◌, [], ◌++◌, true, false, length, drop, take, vec_len, IsOk, OnOk, OnErr, IfOk, IfSome, IfNone, MatchOption};
 ghost use Rattle.std.specs.Borrow.{sem};
 ghost use Rattle.press_cmd.specs.Split.{NoHead};
-ghost use Rattle.press_cmd.specs.Mode.{Exit};
+ghost use Rattle.press_cmd.specs.ParserState.{Exit};
 ghost use Rattle.press_cmd.specs.View.{token};
 ghost use Rattle.press_scan.specs.Modes.{mode_of, IsSettled};
-ghost use Rattle.press_scan.specs.Lines.{IsKnownPlain, IsPlainFront};
+ghost use Rattle.press_scan.specs.Lines.{IsKnownPlain, IsPlainPrefix};
 ghost use Rattle.press_scan.specs.Peeks.{Peeks, PeeksWhereScanned};
 ghost use Rattle.press_scan.specs.Gives.{IsNext, IsDone};
 ghost use Rattle.press_scan.specs.Rest.{IsRestLength};
@@ -18,9 +18,9 @@ use crate::awaited::awaited;
 use crate::buffer::{drop_consumed, make_room};
 use crate::closing::close;
 use crate::head::{head, scanned_in};
-use crate::line::plain_front;
-use crate::mode::Mode;
-use crate::passing::{Passed, byte_kind, passed_front};
+use crate::line::plain_prefix;
+use crate::parser_state::ParserState;
+use crate::passing::{Passed, byte_kind, passed_prefix};
 use crate::reading::Found;
 use press_cmd::Command;
 use std::alloc::{AllocError, Global};
@@ -40,7 +40,7 @@ pub struct Scanner {
     buffer: Vec<u8>,
     /// Where the bytes begin that stand in no command given.
     start: usize,
-    mode: Mode,
+    mode: ParserState,
     ended: bool,
     /// How many bytes behind `@PJL` are known to be part of a line.
     searched: usize,
@@ -75,20 +75,20 @@ impl Model for Scanner {
 
 /// The next command of what is held, if there is one, and how many bytes behind `@PJL` are then known to be part of
 /// a line.
-fn peek(mode: Mode, bytes: &[u8], searched: usize, ended: bool) -> (Option<Found<'_>>, usize)
+fn peek(mode: ParserState, bytes: &[u8], searched: usize, ended: bool) -> (Option<Found<'_>>, usize)
     requires { IsKnownPlain bytes.now searched }
     ensures known { IsKnownPlain bytes.now result.1 }
     ensures found { Peeks (mode_of mode) bytes.now ended result.0 }
 {
     let scanned = scanned_in(mode, bytes);
-    let plain = plain_front(scanned, bytes, searched);
+    let plain = plain_prefix(scanned, bytes, searched);
     (first_command(scanned, bytes, plain, ended), plain)
 }
 
 /// The first command of bytes that are scanned in the mode, and, where they end, the first that they stand for.
-fn first_command(scanned: Mode, bytes: &[u8], plain: usize, ended: bool) -> Option<Found<'_>>
+fn first_command(scanned: ParserState, bytes: &[u8], plain: usize, ended: bool) -> Option<Found<'_>>
     requires settled { IsSettled (mode_of scanned) bytes.now }
-    requires line { mode_of scanned ≡ Exit → IsPlainFront bytes.now plain }
+    requires line { mode_of scanned ≡ Exit → IsPlainPrefix bytes.now plain }
     ensures { PeeksWhereScanned (mode_of scanned) bytes.now ended result }
 {
     match head(scanned, bytes, plain) {
@@ -99,7 +99,7 @@ fn first_command(scanned: Mode, bytes: &[u8], plain: usize, ended: bool) -> Opti
 }
 
 /// The length of the rest of bytes, where `searched` ones behind `@PJL` are known to be part of a line.
-fn rest_length(mut mode: Mode, bytes: &[u8], mut searched: usize) -> usize
+fn rest_length(mut mode: ParserState, bytes: &[u8], mut searched: usize) -> usize
     requires { IsKnownPlain bytes.now searched }
     ensures rest { IsRestLength (mode_of mode) bytes.now result }
     ensures few { result ≤ longest_rest }
@@ -126,7 +126,7 @@ impl Scanner {
         Scanner {
             buffer: Vec::new(alloc),
             start: 0,
-            mode: Mode::Exit,
+            mode: ParserState::Exit,
             ended: false,
             searched: 0,
             awaited: 1,
@@ -251,7 +251,7 @@ impl Scanner {
             (λ passed. PassesOver controls self.old passed self.new) }
     {
         let held = &self.buffer[self.start..];
-        let count = passed_front(self.mode, controls, held);
+        let count = passed_prefix(self.mode, controls, held);
         if count == 0 {
             return None;
         }

@@ -3,14 +3,14 @@ use Rattle.std.proofs.Common.{◌≡◌, ◌∙◌, ℕ, suc, ◌-◌, List, [],
 use Rattle.std.proofs.lemmas.List.{append_assoc, append-nil}
 use Rattle.std.specs.Io.KnownBytes.{Appends}
 use Rattle.press_bits.specs.Page.{Page}
-use Rattle.press_pbm.specs.Spelling.{AppendsFront}
+use Rattle.press_pbm.specs.Spelling.{AppendsPrefix}
 use Rattle.press_sink.proofs.SendingLemmas.{told-twice, told-nothing}
 use Rattle.press_sink.specs.declared.fault.SinkError.{SinkError}
 use Rattle.press_sink.specs.declared.fault.SinkError.TheVariants.{SinkFault, NoMemory}
 use Rattle.press_sink.specs.declared.list_outputs.ListedOutput.{ListedOutput}
 use Rattle.press_sink.specs.Kept.{output_of, outputs_in}
-use Rattle.press_sink.specs.Outputs.{MadeOutput, opened, holding, with_outputs, last_holds, HoldsFront, GivesUp, Closes, IsCut, IsFront, MakesFront, MakesOutputs, side_output, back_output, sheet_outputs}
-use Rattle.press_sink.specs.Sides.{Sides}
+use Rattle.press_sink.specs.Outputs.{MadeOutput, opened, holding, with_outputs, last_holds, HoldsPrefix, GivesUp, Closes, IsCut, IsPrefix, MakesPrefix, MakesOutputs, side_output, back_output, sheet_outputs}
+use Rattle.press_sink.specs.PrintedSheet.{PrintedSheet}
 use Rattle.press_sink.specs.Template.{NameParts, number_after}
 
 -- the output behind others is the last
@@ -32,32 +32,32 @@ holds_all name file None last (Some all) new empty appends made = cc
 holds_all name file (Some bytes) None (Some all) new empty appends made = absurd appends
 holds_all name file (Some bytes) (Some held) (Some all) new empty appends made =
     let none : bytes ≡ [] = cc in
-    let holds : held ≡ file = appends ∙ ap (λ front. front ++ file) none in
+    let holds : held ≡ file = appends ∙ ap (λ prefix. prefix ++ file) none in
     made ∙ ap (λ (content : List ℕ). Some (all ++ holding name content ∷ [])) holds
 
--- nothing is a front of these
-pub IsFront-none : (outputs : List MadeOutput) → IsFront [] outputs
-IsFront-none outputs = record { whole = []; cut = []; others = outputs; in_order = refl; is_made = refl; is_cut = tt }
+-- nothing is a prefix of these
+pub IsPrefix-none : (outputs : List MadeOutput) → IsPrefix [] outputs
+IsPrefix-none outputs = record { whole = []; cut = []; others = outputs; in_order = refl; is_made = refl; is_cut = tt }
 
 -- nothing was made of these
-pub MakesFront-none : (outputs : List MadeOutput) (old new : Option (List MadeOutput)) → new ≡ old → MakesFront outputs old new
-MakesFront-none outputs old new same = ([], IsFront-none outputs, same ∙ told-nothing old)
+pub MakesPrefix-none : (outputs : List MadeOutput) (old new : Option (List MadeOutput)) → new ≡ old → MakesPrefix outputs old new
+MakesPrefix-none outputs old new same = ([], IsPrefix-none outputs, same ∙ told-nothing old)
 
--- all that was written is a front of it
-HoldsFront-all : (written : Option (List ℕ)) → HoldsFront written written
-HoldsFront-all None = tt
-HoldsFront-all (Some bytes) = ([], sym (append-nil bytes))
+-- all that was written is a prefix of it
+HoldsPrefix-all : (written : Option (List ℕ)) → HoldsPrefix written written
+HoldsPrefix-all None = tt
+HoldsPrefix-all (Some bytes) = ([], sym (append-nil bytes))
 
--- a front of the bytes was written to an output that was empty, and it holds a front of that
-holds_front : (name file : List ℕ) (first last holds : Option (List ℕ)) (old new : Option (List MadeOutput)) → first ≡ option_map (λ _. []) old → AppendsFront first last file → HoldsFront holds last → new ≡ with_outputs (record { name = name; holds = holds } ∷ []) old → MakesFront (holding name file ∷ []) old new
-holds_front name file first last holds None new empty appends held made = MakesFront-none _ None new made
-holds_front name file None last holds (Some all) new empty appends held made = cc
-holds_front name file (Some bytes) None holds (Some all) new empty (front, back, split, appends) held made = absurd appends
-holds_front name file (Some bytes) (Some written) None (Some all) new empty appends held made = absurd held
-holds_front name file (Some bytes) (Some written) (Some kept) (Some all) new empty (front, back, split, appends) (more, held) made =
+-- a prefix of the bytes was written to an output that was empty, and it holds a prefix of that
+holds_prefix : (name file : List ℕ) (first last holds : Option (List ℕ)) (old new : Option (List MadeOutput)) → first ≡ option_map (λ _. []) old → AppendsPrefix first last file → HoldsPrefix holds last → new ≡ with_outputs (record { name = name; holds = holds } ∷ []) old → MakesPrefix (holding name file ∷ []) old new
+holds_prefix name file first last holds None new empty appends held made = MakesPrefix-none _ None new made
+holds_prefix name file None last holds (Some all) new empty appends held made = cc
+holds_prefix name file (Some bytes) None holds (Some all) new empty (prefix, back, split, appends) held made = absurd appends
+holds_prefix name file (Some bytes) (Some written) None (Some all) new empty appends held made = absurd held
+holds_prefix name file (Some bytes) (Some written) (Some kept) (Some all) new empty (prefix, back, split, appends) (more, held) made =
     let none : bytes ≡ [] = cc in
-    let wrote : front ≡ written = ap (λ first. first ++ front) (sym none) ∙ sym appends in
-    let is_front : IsFront (holding name kept ∷ []) (holding name file ∷ []) = record {
+    let wrote : prefix ≡ written = ap (λ first. first ++ prefix) (sym none) ∙ sym appends in
+    let is_prefix : IsPrefix (holding name kept ∷ []) (holding name file ∷ []) = record {
       whole = [];
       cut = holding name kept ∷ [];
       others = holding name file ∷ [];
@@ -65,7 +65,7 @@ holds_front name file (Some bytes) (Some written) (Some kept) (Some all) new emp
       is_made = refl;
       is_cut = (refl, (more ++ back, split ∙ ap (λ first. first ++ back) (wrote ∙ held) ∙ append_assoc kept more back));
     } in
-    (holding name kept ∷ [], is_front, made)
+    (holding name kept ∷ [], is_prefix, made)
 
 -- an output was made, written to, and closed
 pub made_whole : {X E : Type 0} → (result : Result X E) (text name file : List ℕ) (first last : Option (List ℕ)) (old between new : Option (List MadeOutput)) → is_err result ≡ false → text ≡ name → between ≡ with_outputs (opened text ∷ []) old → first ≡ option_map (λ _. []) old → Appends first last file → Closes result last between new → new ≡ with_outputs (holding name file ∷ []) old
@@ -74,15 +74,15 @@ made_whole (Ok done) text name file first last old between new good is opens emp
 made_whole (Err error) text name file first last old between new good is opens empty appends closes = cc
 
 -- the same where it was given up, and a front was written
-pub made_given_up : (text name file : List ℕ) (first last : Option (List ℕ)) (old between new : Option (List MadeOutput)) → text ≡ name → between ≡ with_outputs (opened text ∷ []) old → first ≡ option_map (λ _. []) old → AppendsFront first last file → GivesUp last between new → MakesFront (holding name file ∷ []) old new
-made_given_up text name file first last old between new is opens empty appends (holds, front, gives) =
-    holds_front name file first last holds old new empty appends front (closed text name holds old between new is opens gives)
+pub made_given_up : (text name file : List ℕ) (first last : Option (List ℕ)) (old between new : Option (List MadeOutput)) → text ≡ name → between ≡ with_outputs (opened text ∷ []) old → first ≡ option_map (λ _. []) old → AppendsPrefix first last file → GivesUp last between new → MakesPrefix (holding name file ∷ []) old new
+made_given_up text name file first last old between new is opens empty appends (holds, prefix, gives) =
+    holds_prefix name file first last holds old new empty appends prefix (closed text name holds old between new is opens gives)
 
 -- the same where it was closed, and a front was written or came through
-pub made_front : {X E : Type 0} → (result : Result X E) (text name file : List ℕ) (first last : Option (List ℕ)) (old between new : Option (List MadeOutput)) → text ≡ name → between ≡ with_outputs (opened text ∷ []) old → first ≡ option_map (λ _. []) old → AppendsFront first last file → Closes result last between new → MakesFront (holding name file ∷ []) old new
-made_front (Ok done) text name file first last old between new is opens empty appends closes =
-    holds_front name file first last last old new empty appends (HoldsFront-all last) (closed text name last old between new is opens closes)
-made_front (Err error) text name file first last old between new is opens empty appends closes =
+pub made_prefix : {X E : Type 0} → (result : Result X E) (text name file : List ℕ) (first last : Option (List ℕ)) (old between new : Option (List MadeOutput)) → text ≡ name → between ≡ with_outputs (opened text ∷ []) old → first ≡ option_map (λ _. []) old → AppendsPrefix first last file → Closes result last between new → MakesPrefix (holding name file ∷ []) old new
+made_prefix (Ok done) text name file first last old between new is opens empty appends closes =
+    holds_prefix name file first last last old new empty appends (HoldsPrefix-all last) (closed text name last old between new is opens closes)
+made_prefix (Err error) text name file first last old between new is opens empty appends closes =
     made_given_up text name file first last old between new is opens empty appends closes
 
 IsCut-append : (cut outputs others : List MadeOutput) → IsCut cut outputs → IsCut cut (outputs ++ others)
@@ -91,48 +91,48 @@ IsCut-append (one ∷ []) [] others is = absurd is
 IsCut-append (one ∷ []) (first ∷ outputs) others is = is
 IsCut-append (one ∷ next ∷ cut) outputs others is = absurd is
 
--- a front of these is one of these and others
-pub IsFront-append : (made outputs others : List MadeOutput) → IsFront made outputs → IsFront made (outputs ++ others)
-IsFront-append made outputs others front = record {
-  whole = front.whole;
-  cut = front.cut;
-  others = front.others ++ others;
-  in_order = ap (λ (all : List MadeOutput). all ++ others) front.in_order ∙ append_assoc front.whole front.others others;
-  is_made = front.is_made;
-  is_cut = IsCut-append front.cut front.others others front.is_cut;
+-- a prefix of these is one of these and others
+pub IsPrefix-append : (made outputs others : List MadeOutput) → IsPrefix made outputs → IsPrefix made (outputs ++ others)
+IsPrefix-append made outputs others prefix = record {
+  whole = prefix.whole;
+  cut = prefix.cut;
+  others = prefix.others ++ others;
+  in_order = ap (λ (all : List MadeOutput). all ++ others) prefix.in_order ∙ append_assoc prefix.whole prefix.others others;
+  is_made = prefix.is_made;
+  is_cut = IsCut-append prefix.cut prefix.others others prefix.is_cut;
 }
 
--- these, and a front of others behind them
-pub IsFront-behind : (outputs made others : List MadeOutput) → IsFront made others → IsFront (outputs ++ made) (outputs ++ others)
-IsFront-behind outputs made others front = record {
-  whole = outputs ++ front.whole;
-  cut = front.cut;
-  others = front.others;
-  in_order = ap (λ (all : List MadeOutput). outputs ++ all) front.in_order ∙ sym (append_assoc outputs front.whole front.others);
-  is_made = ap (λ (all : List MadeOutput). outputs ++ all) front.is_made ∙ sym (append_assoc outputs front.whole front.cut);
-  is_cut = front.is_cut;
+-- these, and a prefix of others behind them
+pub IsPrefix-behind : (outputs made others : List MadeOutput) → IsPrefix made others → IsPrefix (outputs ++ made) (outputs ++ others)
+IsPrefix-behind outputs made others prefix = record {
+  whole = outputs ++ prefix.whole;
+  cut = prefix.cut;
+  others = prefix.others;
+  in_order = ap (λ (all : List MadeOutput). outputs ++ all) prefix.in_order ∙ sym (append_assoc outputs prefix.whole prefix.others);
+  is_made = ap (λ (all : List MadeOutput). outputs ++ all) prefix.is_made ∙ sym (append_assoc outputs prefix.whole prefix.cut);
+  is_cut = prefix.is_cut;
 }
 
 -- all of these were made, and of others what the answer says, which is not want of memory
 pub MakesOutputs-then : (result : Result (Unit {0}) SinkError) (outputs others : List MadeOutput) (old between new : Option (List MadeOutput)) → IfErr result (λ error. error ≡ SinkFault) → between ≡ with_outputs outputs old → MakesOutputs result others between new → MakesOutputs result (outputs ++ others) old new
 MakesOutputs-then (Ok done) outputs others old between new told first made = made ∙ ap (with_outputs others) first ∙ told-twice old outputs others
 MakesOutputs-then (Err SinkFault) outputs others old between new told first made =
-    (outputs ++ made.0, IsFront-behind outputs made.0 others made.1, made.2 ∙ ap (with_outputs made.0) first ∙ told-twice old outputs made.0)
+    (outputs ++ made.0, IsPrefix-behind outputs made.0 others made.1, made.2 ∙ ap (with_outputs made.0) first ∙ told-twice old outputs made.0)
 MakesOutputs-then (Err NoMemory) outputs others old between new told first made = cc
 
 -- these had a fault, and others behind them were not begun
 pub MakesOutputs-stopped : (result : Result (Unit {0}) SinkError) (error : SinkError) (outputs others : List MadeOutput) (old new : Option (List MadeOutput)) → IsErrAnd result (λ told. told ≡ error) → error ≡ SinkFault → MakesOutputs (Err error) outputs old new → MakesOutputs result (outputs ++ others) old new
 MakesOutputs-stopped (Ok done) error outputs others old new told is made = absurd told
-MakesOutputs-stopped (Err SinkFault) SinkFault outputs others old new told is made = (made.0, IsFront-append made.0 outputs others made.1, made.2)
+MakesOutputs-stopped (Err SinkFault) SinkFault outputs others old new told is made = (made.0, IsPrefix-append made.0 outputs others made.1, made.2)
 MakesOutputs-stopped (Err NoMemory) SinkFault outputs others old new told is made = cc
 MakesOutputs-stopped (Err error) NoMemory outputs others old new told is made = cc
 
 -- the outputs of a front and of a back
-pub sheet_outputs-both : (parts : NameParts) (number next : ℕ) (front back : MadeOutput) (inside sheet : Sides) (page : Page) → inside ≡ sheet → inside.back ≡ Some page → next ≡ number_after 1 number → front ≡ side_output parts number inside.front → back ≡ side_output parts next page → (front ∷ []) ++ (back ∷ []) ≡ sheet_outputs parts number sheet
-sheet_outputs-both parts number next front back inside sheet page seen has is first second =
+pub sheet_outputs-both : (parts : NameParts) (number next : ℕ) (prefix back : MadeOutput) (inside sheet : PrintedSheet) (page : Page) → inside ≡ sheet → inside.back ≡ Some page → next ≡ number_after 1 number → prefix ≡ side_output parts number inside.prefix → back ≡ side_output parts next page → (prefix ∷ []) ++ (back ∷ []) ≡ sheet_outputs parts number sheet
+sheet_outputs-both parts number next prefix back inside sheet page seen has is first second =
     ap (λ (one : MadeOutput). one ∷ back ∷ []) first
-    ∙ ap (λ (one : MadeOutput). side_output parts number inside.front ∷ one ∷ []) (second ∙ ap (λ n. side_output parts n page) is)
-    ∙ ap (λ (more : Option Page). side_output parts number inside.front ∷ back_output parts (number_after 1 number) more) (sym has)
+    ∙ ap (λ (one : MadeOutput). side_output parts number inside.prefix ∷ one ∷ []) (second ∙ ap (λ n. side_output parts n page) is)
+    ∙ ap (λ (more : Option Page). side_output parts number inside.prefix ∷ back_output parts (number_after 1 number) more) (sym has)
     ∙ ap (sheet_outputs parts number) seen
 
 -- the last of listed outputs is another, which differs in what it holds

@@ -3,28 +3,28 @@ use Rattle.std.proofs.Common.{◌≡◌, ◌∙◌, ◌+◌, ℕ, List, [], ◌�
 use Rattle.std.proofs.lemmas.List.{append_assoc, append-nil, map-append}
 use Rattle.std.proofs.KnownBytes.{Appends-nil, Appends-trans}
 use Rattle.std.specs.Io.KnownBytes.{Appends}
-use Rattle.press_sink.specs.Sides.{Sides}
+use Rattle.press_sink.specs.PrintedSheet.{PrintedSheet}
 use Rattle.press_sink.specs.declared.sheet.Delivery.{Delivery}
-use Rattle.press_sink.specs.Told.{Told}
+use Rattle.press_sink.specs.SinkLog.{SinkLog}
 use Rattle.press_sink.specs.Sending.{Output, Deliver, Reply, Ending, Complete, AtSheet, AtReply, ForMemory, sheets_of, sheets_in, under_tag, reply_bytes_of, TookAll, WentOut}
 
 -- the sheets of outputs, and of others behind them
 pub sheets_of-append : (outputs others : List Output) → sheets_of (outputs ++ others) ≡ sheets_of outputs ++ sheets_of others
 sheets_of-append [] others = refl
-sheets_of-append (Deliver sheet ∷ outputs) others = ap (λ (all : List Sides). sheet ∷ all) (sheets_of-append outputs others)
+sheets_of-append (Deliver sheet ∷ outputs) others = ap (λ (all : List PrintedSheet). sheet ∷ all) (sheets_of-append outputs others)
 sheets_of-append (Reply bytes ∷ outputs) others = sheets_of-append outputs others
 
 -- the sheets of deliveries under one tag
-pub sheets_in-tagged : (tag : ℕ) (sheets : List Sides) → sheets_in (under_tag tag sheets) ≡ sheets
+pub sheets_in-tagged : (tag : ℕ) (sheets : List PrintedSheet) → sheets_in (under_tag tag sheets) ≡ sheets
 sheets_in-tagged tag [] = refl
-sheets_in-tagged tag (sheet ∷ sheets) = ap (λ (all : List Sides). sheet ∷ all) (sheets_in-tagged tag sheets)
+sheets_in-tagged tag (sheet ∷ sheets) = ap (λ (all : List PrintedSheet). sheet ∷ all) (sheets_in-tagged tag sheets)
 
 -- the sheets of outputs that are sheets alone, and the bytes of their replies
-pub sheets_of-delivered : (sheets : List Sides) → sheets_of (map Deliver sheets) ≡ sheets
+pub sheets_of-delivered : (sheets : List PrintedSheet) → sheets_of (map Deliver sheets) ≡ sheets
 sheets_of-delivered [] = refl
-sheets_of-delivered (sheet ∷ sheets) = ap (λ (all : List Sides). sheet ∷ all) (sheets_of-delivered sheets)
+sheets_of-delivered (sheet ∷ sheets) = ap (λ (all : List PrintedSheet). sheet ∷ all) (sheets_of-delivered sheets)
 
-pub reply_bytes_of-delivered : (sheets : List Sides) → reply_bytes_of (map Deliver sheets) ≡ []
+pub reply_bytes_of-delivered : (sheets : List PrintedSheet) → reply_bytes_of (map Deliver sheets) ≡ []
 reply_bytes_of-delivered [] = refl
 reply_bytes_of-delivered (sheet ∷ sheets) = reply_bytes_of-delivered sheets
 
@@ -56,7 +56,7 @@ delivered-then tag outputs others before between after first then =
 replied-then : (outputs : List Output) (more all : List ℕ) (before between after : Option (List ℕ)) → Appends before between (reply_bytes_of outputs) → Appends between after more → all ≡ reply_bytes_of outputs ++ more → Appends before after all
 replied-then outputs more all before between after first then e = subst (Appends before after) (sym e) (Appends-trans before between after (reply_bytes_of outputs) more first then)
 
-pub TookAll-none : (tag : ℕ) (told : Told) → TookAll tag [] told told
+pub TookAll-none : (tag : ℕ) (told : SinkLog) → TookAll tag [] told told
 TookAll-none tag told = record {
   delivered = told-nothing told.sheets.delivered;
   replied = Appends-nil told.replies.replied;
@@ -65,7 +65,7 @@ TookAll-none tag told = record {
 }
 
 -- outputs, and then others
-pub TookAll-append : (tag : ℕ) (outputs others : List Output) (before between after : Told) → TookAll tag outputs before between → TookAll tag others between after → TookAll tag (outputs ++ others) before after
+pub TookAll-append : (tag : ℕ) (outputs others : List Output) (before between after : SinkLog) → TookAll tag outputs before between → TookAll tag others between after → TookAll tag (outputs ++ others) before after
 TookAll-append tag outputs others before between after first then = record {
   delivered = delivered-then tag outputs others _ _ _ first.delivered then.delivered;
   replied = replied-then outputs (reply_bytes_of others) _ before.replies.replied between.replies.replied after.replies.replied first.replied then.replied (reply_bytes_of-append outputs others);
@@ -74,7 +74,7 @@ TookAll-append tag outputs others before between after first then = record {
 }
 
 -- all of the outputs went out, and then others so far
-pub WentOut-then : (tag : ℕ) (outputs others : List Output) (ending : Ending) (before between after : Told) → TookAll tag outputs before between → WentOut tag others ending between after → WentOut tag (outputs ++ others) ending before after
+pub WentOut-then : (tag : ℕ) (outputs others : List Output) (ending : Ending) (before between after : SinkLog) → TookAll tag outputs before between → WentOut tag others ending between after → WentOut tag (outputs ++ others) ending before after
 WentOut-then tag outputs others Complete before between after first then = TookAll-append tag outputs others before between after first then
 WentOut-then tag outputs others AtSheet before between after first then = record {
   taken = outputs ++ then.taken;
@@ -88,12 +88,12 @@ WentOut-then tag outputs others AtSheet before between after first then = record
 }
 WentOut-then tag outputs others AtReply before between after first then = record {
   taken = outputs ++ then.taken;
-  front = then.front;
+  prefix = then.prefix;
   back = then.back;
   others = then.others;
-  outputs_are = ap (λ more. outputs ++ more) then.outputs_are ∙ sym (append_assoc outputs then.taken (Reply (then.front ++ then.back) ∷ then.others));
+  outputs_are = ap (λ more. outputs ++ more) then.outputs_are ∙ sym (append_assoc outputs then.taken (Reply (then.prefix ++ then.back) ∷ then.others));
   delivered = delivered-then tag outputs then.taken _ _ _ first.delivered then.delivered;
-  replied = replied-then outputs (reply_bytes_of then.taken ++ then.front) _ before.replies.replied between.replies.replied after.replies.replied first.replied then.replied (ap (λ more. more ++ then.front) (reply_bytes_of-append outputs then.taken) ∙ append_assoc (reply_bytes_of outputs) (reply_bytes_of then.taken) then.front);
+  replied = replied-then outputs (reply_bytes_of then.taken ++ then.prefix) _ before.replies.replied between.replies.replied after.replies.replied first.replied then.replied (ap (λ more. more ++ then.prefix) (reply_bytes_of-append outputs then.taken) ∙ append_assoc (reply_bytes_of outputs) (reply_bytes_of then.taken) then.prefix);
   sheet_faults = then.sheet_faults ∙ first.sheet_faults;
   fault = then.fault ∙ ap (λ (n : ℕ). n + 1) first.reply_faults;
 }
@@ -105,7 +105,7 @@ WentOut-then tag outputs others ForMemory before between after first then = reco
 }
 
 -- outputs that did not all go out, and others behind them
-pub WentOut-stopped : (tag : ℕ) (outputs others : List Output) (ending : Ending) (before after : Told) → (ending ≡ Complete → ⊥) → WentOut tag outputs ending before after → WentOut tag (outputs ++ others) ending before after
+pub WentOut-stopped : (tag : ℕ) (outputs others : List Output) (ending : Ending) (before after : SinkLog) → (ending ≡ Complete → ⊥) → WentOut tag outputs ending before after → WentOut tag (outputs ++ others) ending before after
 WentOut-stopped tag outputs others Complete before after stops stopped = absurd (stops refl)
 WentOut-stopped tag outputs others AtSheet before after stops stopped = record {
   taken = stopped.taken;
@@ -119,10 +119,10 @@ WentOut-stopped tag outputs others AtSheet before after stops stopped = record {
 }
 WentOut-stopped tag outputs others AtReply before after stops stopped = record {
   taken = stopped.taken;
-  front = stopped.front;
+  prefix = stopped.prefix;
   back = stopped.back;
   others = stopped.others ++ others;
-  outputs_are = ap (λ more. more ++ others) stopped.outputs_are ∙ append_assoc stopped.taken (Reply (stopped.front ++ stopped.back) ∷ stopped.others) others;
+  outputs_are = ap (λ more. more ++ others) stopped.outputs_are ∙ append_assoc stopped.taken (Reply (stopped.prefix ++ stopped.back) ∷ stopped.others) others;
   delivered = stopped.delivered;
   replied = stopped.replied;
   sheet_faults = stopped.sheet_faults;

@@ -51,8 +51,8 @@ abbrev pub replies_left : {S : Type 0} → FuseReplies S → Option ℕ
 replies_left fuse = fuse.left
 
 -- how many bytes of that reply it passes on
-abbrev pub passed_front : {S : Type 0} → FuseReplies S → ℕ
-passed_front fuse = fuse.front
+abbrev pub passed_prefix : {S : Type 0} → FuseReplies S → ℕ
+passed_prefix fuse = fuse.front
 
 -- how many faults it had that were its own
 abbrev pub own_reply_faults : {S : Type 0} → FuseReplies S → ℕ

@@ -2,7 +2,7 @@
 use Rattle.std.specs.Prelude.{◌≡◌, ℕ, List, [], ◌∷◌, ◌++◌, Option, Some, None, option_map, Result, Ok, Err, ⊤}
 use Rattle.press_bits.specs.Page.{Page}
 use Rattle.press_pbm.specs.Spelling.{file_of}
-use Rattle.press_sink.specs.Sides.{Sides}
+use Rattle.press_sink.specs.PrintedSheet.{PrintedSheet}
 use Rattle.press_sink.specs.Template.{NameParts, side_name, number_after}
 use Rattle.press_sink.specs.declared.fault.SinkError.{SinkError}
 use Rattle.press_sink.specs.declared.fault.SinkError.TheVariants.{SinkFault, NoMemory}
@@ -30,29 +30,29 @@ last_holds bytes [] = []
 last_holds bytes (last ∷ []) = record last { holds = bytes } ∷ []
 last_holds bytes (first ∷ next ∷ others) = first ∷ last_holds bytes (next ∷ others)
 
--- The bytes are a front of those that are to be held, where those are known.
-abbrev pub HoldsFront : (holds all : Option (List ℕ)) → Type 0
-HoldsFront (Some front) (Some bytes) = (back : List ℕ) × (bytes ≡ front ++ back)
-HoldsFront None None = ⊤
-HoldsFront holds all = ⊥
+-- The bytes are a prefix of those that are to be held, where those are known.
+abbrev pub HoldsPrefix : (holds all : Option (List ℕ)) → Type 0
+HoldsPrefix (Some prefix) (Some bytes) = (back : List ℕ) × (bytes ≡ prefix ++ back)
+HoldsPrefix None None = ⊤
+HoldsPrefix holds all = ⊥
 
--- The output that was made last is given up: it holds a front of what was written.
+-- The output that was made last is given up: it holds a prefix of what was written.
 abbrev pub GivesUp : (written : Option (List ℕ)) → (old new : Option (List MadeOutput)) → Type 0
-GivesUp written old new = (holds : Option (List ℕ)) × HoldsFront holds written × (new ≡ option_map (last_holds holds) old)
+GivesUp written old new = (holds : Option (List ℕ)) × HoldsPrefix holds written × (new ≡ option_map (last_holds holds) old)
 
--- The output that was made last is closed: it holds what was written, all of it, or a front of it after a fault.
+-- The output that was made last is closed: it holds what was written, all of it, or a prefix of it after a fault.
 abbrev pub Closes : {X E : Type 0} → Result X E → (written : Option (List ℕ)) → (old new : Option (List MadeOutput)) → Type 0
 Closes (Ok _) written old new = new ≡ option_map (last_holds written) old
 Closes (Err _) written old new = GivesUp written old new
 
--- Nothing stands there; or one output, which has the name of the first of these, and holds a front of what that is to hold.
+-- Nothing stands there; or one output, which has the name of the first of these, and holds a prefix of what that is to hold.
 abbrev pub IsCut : (cut outputs : List MadeOutput) → Type 0
 IsCut [] outputs = ⊤
-IsCut (one ∷ []) (first ∷ outputs) = (one.name ≡ first.name) × HoldsFront one.holds first.holds
+IsCut (one ∷ []) (first ∷ outputs) = (one.name ≡ first.name) × HoldsPrefix one.holds first.holds
 IsCut cut outputs = ⊥
 
--- A front of outputs: the first of them whole, and perhaps the next, which holds a front of its bytes.
-pub record IsFront (made outputs : List MadeOutput) : Type 0 where
+-- A prefix of outputs: the first of them whole, and perhaps the next, which holds a prefix of its bytes.
+pub record IsPrefix (made outputs : List MadeOutput) : Type 0 where
   pub whole : List MadeOutput
   pub cut : List MadeOutput
   pub others : List MadeOutput
@@ -60,9 +60,9 @@ pub record IsFront (made outputs : List MadeOutput) : Type 0 where
   pub is_made : made ≡ whole ++ cut
   pub is_cut : IsCut cut others
 
--- A front of these outputs was made.
-abbrev pub MakesFront : (outputs : List MadeOutput) (old new : Option (List MadeOutput)) → Type 0
-MakesFront outputs old new = (made : List MadeOutput) × IsFront made outputs × (new ≡ with_outputs made old)
+-- A prefix of these outputs was made.
+abbrev pub MakesPrefix : (outputs : List MadeOutput) (old new : Option (List MadeOutput)) → Type 0
+MakesPrefix outputs old new = (made : List MadeOutput) × IsPrefix made outputs × (new ≡ with_outputs made old)
 
 -- The output of a side: the name with its number, and the P4 file of its page.
 abbrev pub side_output : NameParts → ℕ → Page → MadeOutput
@@ -74,11 +74,11 @@ back_output parts number None = []
 back_output parts number (Some back) = side_output parts number back ∷ []
 
 -- Those of a sheet, whose front has this number: the front's before the back's.
-abbrev pub sheet_outputs : NameParts → ℕ → Sides → List MadeOutput
-sheet_outputs parts number sheet = side_output parts number sheet.front ∷ back_output parts (number_after 1 number) sheet.back
+abbrev pub sheet_outputs : NameParts → ℕ → PrintedSheet → List MadeOutput
+sheet_outputs parts number sheet = side_output parts number sheet.prefix ∷ back_output parts (number_after 1 number) sheet.back
 
--- What was made of these outputs, by the answer: all of them; a front of them after a fault; nothing for want of memory.
+-- What was made of these outputs, by the answer: all of them; a prefix of them after a fault; nothing for want of memory.
 abbrev pub MakesOutputs : Result (Unit {0}) SinkError → (outputs : List MadeOutput) (old new : Option (List MadeOutput)) → Type 0
 MakesOutputs (Ok _) outputs old new = new ≡ with_outputs outputs old
-MakesOutputs (Err SinkFault) outputs old new = MakesFront outputs old new
+MakesOutputs (Err SinkFault) outputs old new = MakesPrefix outputs old new
 MakesOutputs (Err NoMemory) outputs old new = new ≡ old

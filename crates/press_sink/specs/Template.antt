@@ -2,7 +2,7 @@
 use Rattle.std.specs.Prelude.{◌≡◌, ℕ, ◌+◌, List, ◌++◌, codes, min, is_some, if◌then◌else◌}
 use Rattle.std.specs.Fmt.{decimal}
 use Rattle.press_units.specs.Limits.{greatest_of_64_bits}
-use Rattle.press_sink.specs.Sides.{Sides}
+use Rattle.press_sink.specs.PrintedSheet.{PrintedSheet}
 
 -- What stands before the place of the number, and what stands behind it.
 pub record NameParts : Type 0 where
@@ -31,5 +31,5 @@ abbrev pub number_after : ℕ → ℕ → ℕ
 number_after sides number = min (number + sides) greatest_of_64_bits
 
 -- how many sides of a sheet are printed
-abbrev pub side_count : Sides → ℕ
+abbrev pub side_count : PrintedSheet → ℕ
 side_count sheet = if is_some sheet.back then 2 else 1

@@ -3,7 +3,7 @@ ghost use Rattle.std.specs.Prelude.{◌≡◌, ◌∷◌, [], IfOk, IfErr, IsErr
 ghost use Rattle.press_sink.specs.Kept.{name_parts, next_number, file_faults, outputs_of, output_of_side};
 ghost use Rattle.press_sink.specs.Outputs.{side_output, sheet_outputs, MakesOutputs};
 ghost use Rattle.press_sink.specs.Template.{IsTemplate, IsNoTemplate, number_after, side_count};
-ghost use Rattle.press_sink.specs.Told.{Delivers, most_faults, nothing_told};
+ghost use Rattle.press_sink.specs.SinkLog.{Delivers, most_faults, unlisted_log};
 
 use crate::fault::{SinkError, TemplateError};
 use crate::named_outputs::{NamedOutputs, write_page};
@@ -14,7 +14,7 @@ use press_bits::Bitmap;
 use std::alloc::Global;
 
 /// A sheet sink that makes an output of its own for each side, a P4 file, whose name is a template with the number of the side,
-/// from 1 on, fronts before backs. It tells no list of sheets.
+/// from 1 on, prefixes before backs. It tells no list of sheets.
 ///
 /// Source: Netpbm, the raw form of the PBM format; the names are this profile's.
 #[derive(Drop)]
@@ -130,19 +130,19 @@ fn count_sides(sheet: &Sheet) -> u64
 }
 
 impl<O: NamedOutputs + Drop> SheetSink for FolderSink<O> {
-    ghost told = { λ sink. nothing_told sink.faults };
+    ghost told = { λ sink. unlisted_log sink.faults };
 
     fn faults(&self) -> u64 {
         self.faults
     }
 
-    /// Makes the outputs of the sides of the sheet. `SinkFault` (301): one could not be made or written; a front of them was
+    /// Makes the outputs of the sides of the sheet. `SinkFault` (301): one could not be made or written; a prefix of them was
     /// made. Where the sheet is not delivered, the number of the next side stays.
     fn deliver(&mut self, _tag: u64, sheet: &Sheet) -> Result<(), SinkError>
         requires { file_faults self.old < most_faults }
-        ensures delivers { Delivers (nothing_told (file_faults self.old))
+        ensures delivers { Delivers (unlisted_log (file_faults self.old))
             (record { tag = _tag; sheet = sheet.now }) result
-            (nothing_told (file_faults self.new)) }
+            (unlisted_log (file_faults self.new)) }
         ensures made { MakesOutputs result
             (sheet_outputs (name_parts self.old) (next_number self.old) sheet.now)
             (O.made (outputs_of self.old)) (O.made (outputs_of self.new)) }

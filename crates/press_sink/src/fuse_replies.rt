@@ -1,7 +1,7 @@
 //! A reply sink that has one fault, for tests.
 ghost use Rattle.std.specs.Prelude.{◌≡◌, ◌≢◌, ◌<◌, ◌+◌, Some, IsErrOf, take};
-ghost use Rattle.press_sink.specs.Told.{Replies, HandsOn, most_faults, replies_with_own_faults};
-ghost use Rattle.press_sink.specs.Kept.{inner_replies, replies_left, passed_front, left_after, own_reply_faults};
+ghost use Rattle.press_sink.specs.SinkLog.{Replies, HandsOn, most_faults, replies_with_own_faults};
+ghost use Rattle.press_sink.specs.Kept.{inner_replies, replies_left, passed_prefix, left_after, own_reply_faults};
 
 use crate::fault::ReplyError;
 use crate::sink::ReplySink;
@@ -23,7 +23,7 @@ impl<S: ReplySink + Drop> FuseReplies<S> {
     pub fn new(sink: S, replies: u64, bytes: usize) -> Self
         ensures sink { inner_replies result ≡ sink }
         ensures left { replies_left result ≡ Some replies }
-        ensures front { passed_front result ≡ bytes }
+        ensures front { passed_prefix result ≡ bytes }
         ensures faults { own_reply_faults result ≡ 0 }
     {
         FuseReplies {
@@ -41,7 +41,7 @@ impl<S: ReplySink + Drop> FuseReplies<S> {
         ensures counts { own_reply_faults self.new ≡ own_reply_faults self.old + 1 }
         ensures sink { inner_replies self.new ≡ inner_replies self.old }
         ensures left { replies_left self.new ≡ replies_left self.old }
-        ensures front { passed_front self.new ≡ passed_front self.old }
+        ensures front { passed_prefix self.new ≡ passed_prefix self.old }
     {
         self.faults += 1;
         Err(ReplyError::ReplyFault)
@@ -62,7 +62,7 @@ impl<S: ReplySink + Drop> ReplySink for FuseReplies<S> {
         self.sink.faults().saturating_add(self.faults)
     }
 
-    /// Passes the reply on to the other sink, or a front of it and then has the one fault.
+    /// Passes the reply on to the other sink, or a prefix of it and then has the one fault.
     fn reply(&mut self, bytes: &[u8]) -> Result<(), ReplyError>
         requires { (replies_with_own_faults (S.told (inner_replies self.old))
             (own_reply_faults self.old)).faults < most_faults }
@@ -73,11 +73,11 @@ impl<S: ReplySink + Drop> ReplySink for FuseReplies<S> {
             (own_reply_faults self.new)) }
         ensures blows { replies_left self.old ≡ Some 0 → IsErrOf result ReplyError.ReplyFault }
         ensures front { replies_left self.old ≡ Some 0 → HandsOn (S.told (inner_replies self.old))
-            (take (passed_front self.old) bytes.now) (S.told (inner_replies self.new)) }
+            (take (passed_prefix self.old) bytes.now) (S.told (inner_replies self.new)) }
         ensures passes { replies_left self.old ≢ Some 0 → Replies (S.told (inner_replies self.old))
             bytes.now result (S.told (inner_replies self.new)) }
         ensures counts { replies_left self.new ≡ left_after (replies_left self.old) }
-        ensures keeps { passed_front self.new ≡ passed_front self.old }
+        ensures keeps { passed_prefix self.new ≡ passed_prefix self.old }
     {
         match self.left {
             Some(0) => {

@@ -1,6 +1,6 @@
 //! A sheet sink that has one fault, for tests.
 ghost use Rattle.std.specs.Prelude.{◌≡◌, ◌≢◌, ◌<◌, ◌+◌, ◌-◌, Some, None, IsErrOf, min};
-ghost use Rattle.press_sink.specs.Told.{Delivers, most_faults, with_own_faults};
+ghost use Rattle.press_sink.specs.SinkLog.{Delivers, most_faults, with_own_faults};
 ghost use Rattle.press_sink.specs.Kept.{inner, left_of, left_after, own_faults};
 
 use crate::fault::SinkError;

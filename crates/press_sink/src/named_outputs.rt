@@ -1,7 +1,7 @@
 //! Outputs that are made by their names, one after another (this profile).
 ghost use Rattle.std.specs.Prelude.{◌≡◌, ◌∷◌, [], List, Option, option_map, IfOk, OnOk, OnErr};
 ghost use Rattle.press_pbm.specs.Spelling.{file_of};
-ghost use Rattle.press_sink.specs.Outputs.{MadeOutput, MakesFront, Closes, GivesUp, opened, holding, with_outputs};
+ghost use Rattle.press_sink.specs.Outputs.{MadeOutput, MakesPrefix, Closes, GivesUp, opened, holding, with_outputs};
 
 use press_bits::Bitmap;
 use press_pbm::{WritePbmError, write_pbm, write_whole};
@@ -41,11 +41,11 @@ pub trait NamedOutputs {
     ///
     /// # Errors
     ///
-    /// Where what was written does not come through; the output holds a front of it then.
+    /// Where what was written does not come through; the output holds a prefix of it then.
     fn close(&mut self, output: Self::Output) -> io::Result<()>
         ensures { Closes result (Self.Output.contents output) (made self.old) (made self.new) };
 
-    /// Gives up the output that was made last, which is not whole. It holds a front of what was written to it, or is removed where
+    /// Gives up the output that was made last, which is not whole. It holds a prefix of what was written to it, or is removed where
     /// nothing tells of it.
     fn abandon(&mut self, output: Self::Output)
         ensures { GivesUp (Self.Output.contents output) (made self.old) (made self.new) };
@@ -55,11 +55,11 @@ pub trait NamedOutputs {
 ///
 /// # Errors
 ///
-/// Where it cannot be made or written; a front of it was made then.
+/// Where it cannot be made or written; a prefix of it was made then.
 pub fn write_output<O: NamedOutputs>(outputs: &mut O, name: &str, bytes: &[u8]) -> io::Result<()>
     ensures made { OnOk result (O.made outputs.new
         ≡ with_outputs (holding name.now bytes.now ∷ []) (O.made outputs.old)) }
-    ensures fault { OnErr result (MakesFront (holding name.now bytes.now ∷ [])
+    ensures fault { OnErr result (MakesPrefix (holding name.now bytes.now ∷ [])
         (O.made outputs.old) (O.made outputs.new)) }
 {
     let mut output = outputs.make(name)?;
@@ -76,7 +76,7 @@ pub fn write_output<O: NamedOutputs>(outputs: &mut O, name: &str, bytes: &[u8]) 
 ///
 /// # Errors
 ///
-/// `WriteFault` (115) where it cannot be made or written; a front of it was made then.
+/// `WriteFault` (115) where it cannot be made or written; a prefix of it was made then.
 ///
 /// Source: Netpbm, the raw form of the PBM format.
 pub fn write_page<O: NamedOutputs>(
@@ -86,7 +86,7 @@ pub fn write_page<O: NamedOutputs>(
 ) -> Result<(), WritePbmError>
     ensures made { OnOk result (O.made outputs.new
         ≡ with_outputs (holding name.now (file_of page.now) ∷ []) (O.made outputs.old)) }
-    ensures fault { OnErr result (MakesFront (holding name.now (file_of page.now) ∷ [])
+    ensures fault { OnErr result (MakesPrefix (holding name.now (file_of page.now) ∷ [])
         (O.made outputs.old) (O.made outputs.new)) }
 {
     let Ok(mut output) = outputs.make(name) else {

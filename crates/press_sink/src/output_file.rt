@@ -28,7 +28,7 @@ impl<T: Write + Drop> OutputFile<T> {
         self.held.capacity().saturating_sub(self.held.len())
     }
 
-    /// Writes to the file what is held. Where that failed a front of it was written, and nothing is held.
+    /// Writes to the file what is held. Where that failed a prefix of it was written, and nothing is held.
     fn send(&mut self) -> io::Result<()> {
         let sent = write_whole(&mut self.file, &self.held);
         self.held.clear();

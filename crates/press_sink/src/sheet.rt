@@ -15,11 +15,11 @@ pub struct Sheet {
 }
 
 impl Model for Sheet {
-    ghost use Rattle.press_sink.specs.Sides.{Sides, sides_code};
+    ghost use Rattle.press_sink.specs.PrintedSheet.{PrintedSheet, printed_sheet_code};
 
-    ghost Value = { Sides };
+    ghost Value = { PrintedSheet };
 
-    ghost coded = { sides_code };
+    ghost coded = { printed_sheet_code };
 
     ghost view = { λ sheet. record { front = sheet.front; back = sheet.back } };
 }

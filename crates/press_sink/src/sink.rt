@@ -1,6 +1,6 @@
 //! Where finished sheets and replies go (this profile).
 ghost use Rattle.std.specs.Prelude.{◌≡◌, ◌<◌, ℕ};
-ghost use Rattle.press_sink.specs.Told.{SheetsTold, RepliesTold, Delivers, TookLast, Replies, most_faults};
+ghost use Rattle.press_sink.specs.SinkLog.{SheetLog, ReplyLog, Delivers, TookLast, Replies, most_faults};
 
 use crate::fault::{ReplyError, SinkError};
 use crate::sheet::Sheet;
@@ -8,7 +8,7 @@ use crate::sheet::Sheet;
 /// Where finished sheets go.
 pub trait SheetSink {
     /// The sheets it took, where it tells them, and how many faults it had.
-    ghost told: { Self → SheetsTold };
+    ghost told: { Self → SheetLog };
 
     /// How many faults it had.
     fn faults(&self) -> u64
@@ -42,7 +42,7 @@ pub trait SheetSink {
 /// Where replies go.
 pub trait ReplySink {
     /// The bytes it took, where it tells them, and how many faults it had.
-    ghost told: { Self → RepliesTold };
+    ghost told: { Self → ReplyLog };
 
     /// How many faults it had.
     fn faults(&self) -> u64
@@ -52,7 +52,7 @@ pub trait ReplySink {
     ///
     /// # Errors
     ///
-    /// `ReplyFault` (302): a front of them was added, and the sink had one fault more. `NoMemory`: nothing changed.
+    /// `ReplyFault` (302): a prefix of them was added, and the sink had one fault more. `NoMemory`: nothing changed.
     fn reply(&mut self, bytes: &[u8]) -> Result<(), ReplyError>
         requires { (told self.old).faults < most_faults }
         ensures { Replies (told self.old) bytes.now result (told self.new) };

@@ -34,7 +34,7 @@ impl<W: Write + Drop> WriteReplies<W> {
     }
 }
 
-/// Writes all the bytes and flushes the writer; a front of them is written where that failed.
+/// Writes all the bytes and flushes the writer; a prefix of them is written where that failed.
 fn send<W: Write>(writer: &mut W, bytes: &[u8]) -> io::Result<()>
     ensures { Writes result (W.contents writer.old) (W.contents writer.new) bytes.now }
 {

@@ -3,19 +3,19 @@ use Rattle.std.proofs.Common.{◌≡◌, ◌≢◌, ◌∙◌, ℕ, List, [], �
 use Rattle.press_cmd.specs.Token.{Token, Uel}
 use Rattle.press_cmd.specs.declared.variant.Kind.{Kind}
 use Rattle.press_scan.specs.ScannerState.{ScannerState, buffer_size}
-use Rattle.press_sink.specs.Told.{Told}
+use Rattle.press_sink.specs.SinkLog.{SinkLog}
 use Rattle.press_sink.specs.Sending.{Output, Ending, Complete, AtSheet, AtReply, ForMemory, WentOut}
 use Rattle.press_sink.proofs.SendingLemmas.{TookAll-none}
 use Rattle.press_engine.specs.declared.effect.Sent.{Sent}
 use Rattle.press_engine.specs.declared.effect.StepOutput.{StepOutput}
 use Rattle.press_engine.specs.declared.fault.EngineError.{EngineError}
 use Rattle.press_engine.specs.declared.fault.EngineError.TheVariants as engine_errors
-use Rattle.press_engine.specs.declared.frame.Frame.{Frame}
+use Rattle.press_engine.specs.declared.activation.Activation.{Activation}
 use Rattle.press_engine.specs.declared.machine.Machine.{Machine}
 use Rattle.press_engine.specs.Engine.{bodies, Sends, Steps, NeedsMemory, InnerNeedsMemory}
-use Rattle.press_engine.specs.Machine.{Run, levels}
+use Rattle.press_engine.specs.Machine.{StepResult, macro_levels}
 use Rattle.press_engine.specs.Outputs.{all_outputs}
-use Rattle.press_engine.specs.Stack.{owed, HasNext}
+use Rattle.press_engine.specs.Stack.{continuation, HasNext}
 use Rattle.press_engine.specs.Trace.{trace_at}
 use Rattle.press_engine.proofs.ValueLemmas.{some-items, outer-some, inner-some, wants-outer, wants-inner}
 use Rattle.press_stream.specs.declared.fault.JobError.{JobError}
@@ -34,46 +34,46 @@ same_fault result one other p q = cc
 -- ---- the steps of a job
 
 -- What was left of an engine was what is left of a job with what it takes of its stream.
-abbrev IsLeft : List Token → JobState → (Machine → List Run) → Type 0
+abbrev IsLeft : List Token → JobState → (Machine → List StepResult) → Type 0
 IsLeft given job owing = (machine : Machine) → left given job.bodies machine ≡ owing machine
 
-command_is_left : (bodies : List Frame) (command : Token) (machine : Machine) → bodies ≡ [] → left (command ∷ []) bodies machine ≡ trace_at levels command machine
-command_is_left bodies command machine idle = ap (λ (these : List Frame). left (command ∷ []) these machine) idle ∙ left-one command machine
+command_is_left : (bodies : List Activation) (command : Token) (machine : Machine) → bodies ≡ [] → left (command ∷ []) bodies machine ≡ trace_at macro_levels command machine
+command_is_left bodies command machine idle = ap (λ (these : List Activation). left (command ∷ []) these machine) idle ∙ left-one command machine
 
-does_step : (given : List Token) (old new : JobState) (owing : Machine → List Run) (step : StepOutput) → TakesGiven old given new → IsLeft given old owing → Steps old.machine owing step new.machine new.bodies → DoesStep old step new
+does_step : (given : List Token) (old new : JobState) (owing : Machine → List StepResult) (step : StepOutput) → TakesGiven old given new → IsLeft given old owing → Steps old.machine owing step new.machine new.bodies → DoesStep old step new
 does_step given old new owing step takes is s = (
   s.after,
   record { given = given; takes = takes; from = s.before; starts = s.was; ends = s.is; is_kind = s.steps.kind; are = is s.before ∙ s.steps.owes },
 )
 
 -- a step in a body that runs
-pub DoesStep-inside : (old new : JobState) (step : StepOutput) → TakesNothing old [] new → Steps old.machine (owed old.bodies) step new.machine new.bodies → DoesStep old step new
-DoesStep-inside old new step takes s = does_step [] old new (owed old.bodies) step (inl takes) (left-none old.bodies) s
+pub DoesStep-inside : (old new : JobState) (step : StepOutput) → TakesNothing old [] new → Steps old.machine (continuation old.bodies) step new.machine new.bodies → DoesStep old step new
+DoesStep-inside old new step takes s = does_step [] old new (continuation old.bodies) step (inl takes) (left-none old.bodies) s
 
 -- a job that runs
-abbrev running_job : ScannerState → Option Machine → List Frame → JobState
+abbrev running_job : ScannerState → Option Machine → List Activation → JobState
 running_job held machine bodies = record { held = held; machine = machine; bodies = bodies; exited = false }
 
 -- a step that took a command that was held
-pub DoesStep-next : (held next : ScannerState) (old new : Option Machine) (bodies still : List Frame) (step : StepOutput) → bodies ≡ [] → CarriesNext held old (Ok (Some step)) next new still → DoesStep (running_job held old bodies) step (running_job next new still)
+pub DoesStep-next : (held next : ScannerState) (old new : Option Machine) (bodies still : List Activation) (step : StepOutput) → bodies ≡ [] → CarriesNext held old (Ok (Some step)) next new still → DoesStep (running_job held old bodies) step (running_job next new still)
 DoesStep-next held next old new bodies still step idle (command, passes, s) =
-    does_step (command ∷ []) (running_job held old bodies) (running_job next new still) (trace_at levels command) step
+    does_step (command ∷ []) (running_job held old bodies) (running_job next new still) (trace_at macro_levels command) step
     (inr (inl (command, refl, idle, refl, refl, passes))) (λ machine. command_is_left bodies command machine idle) s
 
-pub Stops-next : (held next : ScannerState) (old new : Option Machine) (bodies still : List Frame) (error : JobError) → bodies ≡ [] → CarriesNext held old (Err error) next new still → TakesStep (running_job held old bodies) (Err error) (running_job next new still)
+pub Stops-next : (held next : ScannerState) (old new : Option Machine) (bodies still : List Activation) (error : JobError) → bodies ≡ [] → CarriesNext held old (Err error) next new still → TakesStep (running_job held old bodies) (Err error) (running_job next new still)
 Stops-next held next old new bodies still error idle (command, passes, (is, needs, gone)) =
     let P : JobError → Type 0 = λ one. TakesStep (running_job held old bodies) (Err one) (running_job next new still) in
     subst P (sym is) (inr (command, (idle, refl, inl (next, passes)), needs), gone)
 
 -- a step that took the exit, where nothing was held
-pub DoesStep-exit : (held next : ScannerState) (old between new : Option Machine) (bodies none still : List Frame) (step : StepOutput) → bodies ≡ [] → next.ended ≡ true → CarriesNext held old (Ok None) next between none → CarriesOne Uel between (Ok step) new still → DoesStep (running_job held old bodies) step (record { held = next; machine = new; bodies = still; exited = true })
+pub DoesStep-exit : (held next : ScannerState) (old between new : Option Machine) (bodies none still : List Activation) (step : StepOutput) → bodies ≡ [] → next.ended ≡ true → CarriesNext held old (Ok None) next between none → CarriesOne Uel between (Ok step) new still → DoesStep (running_job held old bodies) step (record { held = next; machine = new; bodies = still; exited = true })
 DoesStep-exit held next old between new bodies none still step idle ended nothing s =
-    let P : Option Machine → Type 0 = λ machine. Steps machine (trace_at levels Uel) step new still in
+    let P : Option Machine → Type 0 = λ machine. Steps machine (trace_at macro_levels Uel) step new still in
     let over : held.ended ≡ true = ap (λ (now : ScannerState). now.ended) (sym nothing.1) ∙ ended in
-    does_step (Uel ∷ []) (running_job held old bodies) (record { held = next; machine = new; bodies = still; exited = true }) (trace_at levels Uel) step
+    does_step (Uel ∷ []) (running_job held old bodies) (record { held = next; machine = new; bodies = still; exited = true }) (trace_at macro_levels Uel) step
     (inr (inr (refl, idle, refl, refl, nothing.1, over, nothing.0))) (λ machine. command_is_left bodies Uel machine idle) (subst P nothing.2 s)
 
-pub Stops-exit : (held next : ScannerState) (old between new : Option Machine) (bodies none still : List Frame) (error : JobError) → bodies ≡ [] → next.ended ≡ true → CarriesNext held old (Ok None) next between none → CarriesOne Uel between (Err error) new still → TakesStep (running_job held old bodies) (Err error) (running_job next new still)
+pub Stops-exit : (held next : ScannerState) (old between new : Option Machine) (bodies none still : List Activation) (error : JobError) → bodies ≡ [] → next.ended ≡ true → CarriesNext held old (Ok None) next between none → CarriesOne Uel between (Err error) new still → TakesStep (running_job held old bodies) (Err error) (running_job next new still)
 Stops-exit held next old between new bodies none still error idle ended nothing (is, needs, gone) =
     let over : held.ended ≡ true = ap (λ (now : ScannerState). now.ended) (sym nothing.1) ∙ ended in
     let P : JobError → Type 0 = λ one. TakesStep (running_job held old bodies) (Err one) (running_job next new still) in
@@ -81,40 +81,40 @@ Stops-exit held next old between new bodies none still error idle ended nothing 
     subst P (sym is) (inr (Uel, (idle, refl, inr (over, nothing.0, refl)), subst Q nothing.2 needs), gone)
 
 -- what a step that took a command leaves
-pub Fits-next : (held next : ScannerState) (old new : Option Machine) (still : List Frame) (step : StepOutput) → held.room ≡ buffer_size → CarriesNext held old (Ok (Some step)) next new still → IsSome new × (next.room ≡ buffer_size)
+pub Fits-next : (held next : ScannerState) (old new : Option Machine) (still : List Activation) (step : StepOutput) → held.room ≡ buffer_size → CarriesNext held old (Ok (Some step)) next new still → IsSome new × (next.room ≡ buffer_size)
 Fits-next held next old new still step room (command, passes, s) =
     (subst (λ (machine : Option Machine). IsSome machine) (sym s.is) refl, passes.room ∙ room)
 
-pub Fits-nothing : (held next : ScannerState) (old new : Option Machine) (still : List Frame) → IsSome old → held.room ≡ buffer_size → CarriesNext held old (Ok None) next new still → IsSome new × (next.room ≡ buffer_size)
+pub Fits-nothing : (held next : ScannerState) (old new : Option Machine) (still : List Activation) → IsSome old → held.room ≡ buffer_size → CarriesNext held old (Ok None) next new still → IsSome new × (next.room ≡ buffer_size)
 Fits-nothing held next old new still running room nothing =
     (subst (λ (machine : Option Machine). IsSome machine) (sym nothing.2) running, ap (λ (now : ScannerState). now.room) nothing.1 ∙ room)
 
 -- ---- what goes out in a step
 
 -- how far outputs were handed over, by an engine's answer
-pub HandsOver-err : (tag : ℕ) (outputs : List Output) (error : EngineError) (before after : Told) → Sends tag outputs (Err error) before after → HandsOver tag outputs (Err (job_error error)) before after
+pub HandsOver-err : (tag : ℕ) (outputs : List Output) (error : EngineError) (before after : SinkLog) → Sends tag outputs (Err error) before after → HandsOver tag outputs (Err (job_error error)) before after
 HandsOver-err tag outputs engine_errors.SinkFault before after sends = sends
 HandsOver-err tag outputs engine_errors.ReplyFault before after sends = sends
 HandsOver-err tag outputs engine_errors.NoMemory before after sends = sends
 HandsOver-err tag outputs engine_errors.Failed before after sends = absurd sends
 
 -- a step all of whose outputs went out
-pub RanOne-sent : (old between new : JobState) (step : StepOutput) (sent : List Sent) (tag : ℕ) (before after : Told) → DoesStep old step between → new ≡ between → sent ≡ step.sent.items → HandsOver tag (all_outputs sent) (Ok tt) before after → RanOne old tag step.kind new before after
+pub RanOne-sent : (old between new : JobState) (step : StepOutput) (sent : List Sent) (tag : ℕ) (before after : SinkLog) → DoesStep old step between → new ≡ between → sent ≡ step.sent.items → HandsOver tag (all_outputs sent) (Ok tt) before after → RanOne old tag step.kind new before after
 RanOne-sent old between new step sent tag before after (machine, did) same is hands =
     let P : List Sent → Type 0 = λ these. WentOut tag (all_outputs these) Complete before after in
-    let item : Run = record { machine = machine; outputs = all_outputs step.sent.items } in
+    let item : StepResult = record { machine = machine; outputs = all_outputs step.sent.items } in
     let Q : JobState → Type 0 = λ job. Does old item step.kind job in
     record { item = item; did = subst Q (sym same) did; went = subst P is hands }
 
 -- the outputs of a step's item went out so far
-stops-at : (old new : JobState) (item : Run) (kind : Kind) (tag : ℕ) (ending : Ending) (before after : Told) → Does old item kind new → WentOut tag item.outputs ending before after → StopsAtDue old tag ending before after
+stops-at : (old new : JobState) (item : StepResult) (kind : Kind) (tag : ℕ) (ending : Ending) (before after : SinkLog) → Does old item kind new → WentOut tag item.outputs ending before after → StopsAtDue old tag ending before after
 stops-at old new item kind tag ending before after did went = (
   did.given,
   taken-of old new did.given did.takes,
-  record { from = did.from; starts = did.starts; item = item; others = owed new.bodies item.machine; are = did.are; went = went },
+  record { from = did.from; starts = did.starts; item = item; others = continuation new.bodies item.machine; are = did.are; went = went },
 )
 
-faults-by : (old between new : JobState) (item : Run) (kind : Kind) (tag : ℕ) (error : JobError) (before after : Told) → Does old item kind between → new.machine ≡ None → HandsOver tag item.outputs (Err error) before after → StepFaults old tag error new before after
+faults-by : (old between new : JobState) (item : StepResult) (kind : Kind) (tag : ℕ) (error : JobError) (before after : SinkLog) → Does old item kind between → new.machine ≡ None → HandsOver tag item.outputs (Err error) before after → StepFaults old tag error new before after
 faults-by old between new item kind tag errors.SinkFault before after did gone hands = (gone, stops-at old between item kind tag AtSheet before after did hands)
 faults-by old between new item kind tag errors.ReplyFault before after did gone hands = (gone, stops-at old between item kind tag AtReply before after did hands)
 faults-by old between new item kind tag errors.NoMemory before after did gone hands = (gone, stops-at old between item kind tag ForMemory before after did hands)
@@ -123,23 +123,23 @@ faults-by old between new item kind tag errors.ReadFault before after did gone h
 faults-by old between new item kind tag errors.AfterEnd before after did gone hands = absurd hands
 
 -- a step whose outputs were not all taken
-pub Faults-sent : (old between new : JobState) (step : StepOutput) (sent : List Sent) (tag : ℕ) (error : JobError) (before after : Told) → DoesStep old step between → sent ≡ step.sent.items → new.machine ≡ None → HandsOver tag (all_outputs sent) (Err error) before after → StepFaults old tag error new before after
+pub Faults-sent : (old between new : JobState) (step : StepOutput) (sent : List Sent) (tag : ℕ) (error : JobError) (before after : SinkLog) → DoesStep old step between → sent ≡ step.sent.items → new.machine ≡ None → HandsOver tag (all_outputs sent) (Err error) before after → StepFaults old tag error new before after
 Faults-sent old between new step sent tag error before after (machine, did) is gone hands =
     let P : List Sent → Type 0 = λ these. HandsOver tag (all_outputs these) (Err error) before after in
     faults-by old between new (record { machine = machine; outputs = all_outputs step.sent.items }) step.kind tag error before after did gone (subst P is hands)
 
 -- where something goes out in a step, what comes next may take memory
-needs-command : (old new : JobState) (item : Run) (kind : Kind) → (did : Does old item kind new) → item.outputs ≢ [] → (command : Token) → did.given ≡ command ∷ [] → old.bodies ≡ [] → NeedsMemory old.machine command
+needs-command : (old new : JobState) (item : StepResult) (kind : Kind) → (did : Does old item kind new) → item.outputs ≢ [] → (command : Token) → did.given ≡ command ∷ [] → old.bodies ≡ [] → NeedsMemory old.machine command
 needs-command old new item kind did some command is idle =
     let P : Option Machine → Type 0 = λ machine. NeedsMemory machine command in
     let owes = sym (command_is_left old.bodies command did.from idle) ∙ ap (λ (given : List Token). left given old.bodies did.from) (sym is) ∙ did.are in
-    subst P (sym did.starts) (wants-outer command did.from item (owed new.bodies item.machine) owes some)
+    subst P (sym did.starts) (wants-outer command did.from item (continuation new.bodies item.machine) owes some)
 
-wants-in : (old new : JobState) (item : Run) (kind : Kind) → (did : Does old item kind new) → item.outputs ≢ [] → TakesGiven old did.given new → WantsMemory old
+wants-in : (old new : JobState) (item : StepResult) (kind : Kind) → (did : Does old item kind new) → item.outputs ≢ [] → TakesGiven old did.given new → WantsMemory old
 wants-in old new item kind did some (inl (next, none, _, _)) =
     let P : Option Machine → Type 0 = λ machine. InnerNeedsMemory machine old.bodies in
     let owes = sym (left-none old.bodies did.from) ∙ ap (λ (given : List Token). left given old.bodies did.from) (sym none) ∙ did.are in
-    inl (subst P (sym did.starts) (wants-inner old.bodies did.from item (owed new.bodies item.machine) next owes some))
+    inl (subst P (sym did.starts) (wants-inner old.bodies did.from item (continuation new.bodies item.machine) next owes some))
 wants-in old new item kind did some (inr (inl (command, is, idle, going, _, passes))) =
     inr (command, (idle, going, inl (new.held, passes)), needs-command old new item kind did some command is idle)
 wants-in old new item kind did some (inr (inr (is, idle, going, _, _, ended, done))) =
@@ -152,7 +152,7 @@ wants-sent old new step sent (machine, did) is some =
 
 -- ---- where memory ran out in a step
 
-stopped-before : (given : List Token) (job : JobState) (machine : Machine) (tag : ℕ) (told : Told) → job.machine ≡ Some machine → left given job.bodies machine ≢ [] → StoppedAt given job tag ForMemory told told
+stopped-before : (given : List Token) (job : JobState) (machine : Machine) (tag : ℕ) (told : SinkLog) → job.machine ≡ Some machine → left given job.bodies machine ≢ [] → StoppedAt given job tag ForMemory told told
 stopped-before given job machine tag told is some =
     let (item, others, are) = some-items (left given job.bodies machine) some in
     record {
@@ -165,24 +165,24 @@ stopped-before given job machine tag told is some =
     }
 
 -- nothing of what comes next went out
-stops-inside : (job : JobState) (machine : Option Machine) (tag : ℕ) (told : Told) → job.machine ≡ machine → InnerNeedsMemory machine job.bodies → StopsAtDue job tag ForMemory told told
+stops-inside : (job : JobState) (machine : Option Machine) (tag : ℕ) (told : SinkLog) → job.machine ≡ machine → InnerNeedsMemory machine job.bodies → StopsAtDue job tag ForMemory told told
 stops-inside job None tag told is needs = absurd needs
-stops-inside job (Some machine) tag told is (frame, command, rest, outer, all, _) =
-    let next : HasNext job.bodies = (frame, command, rest, outer, all) in
+stops-inside job (Some machine) tag told is (activation, command, rest, outer, all, _) =
+    let next : HasNext job.bodies = (activation, command, rest, outer, all) in
     let some : left [] job.bodies machine ≢ [] = λ none. inner-some job.bodies machine next (sym (left-none job.bodies machine) ∙ none) in
     ([], inl (next_runs job.bodies next, refl), stopped-before [] job machine tag told is some)
 
-stops-at_command : (job : JobState) (command : Token) (machine : Option Machine) (tag : ℕ) (told : Told) → IsDue job command → job.machine ≡ machine → NeedsMemory machine command → StopsAtDue job tag ForMemory told told
+stops-at_command : (job : JobState) (command : Token) (machine : Option Machine) (tag : ℕ) (told : SinkLog) → IsDue job command → job.machine ≡ machine → NeedsMemory machine command → StopsAtDue job tag ForMemory told told
 stops-at_command job command None tag told due is needs = absurd needs
 stops-at_command job command (Some machine) tag told due is needs =
     let some : left (command ∷ []) job.bodies machine ≢ [] = λ none. outer-some command machine (sym (command_is_left job.bodies command machine due.0) ∙ none) in
     (command ∷ [], inr (command, due, refl), stopped-before (command ∷ []) job machine tag told is some)
 
-stops-for_memory : (job : JobState) (tag : ℕ) (told : Told) → WantsMemory job → StopsAtDue job tag ForMemory told told
+stops-for_memory : (job : JobState) (tag : ℕ) (told : SinkLog) → WantsMemory job → StopsAtDue job tag ForMemory told told
 stops-for_memory job tag told (inl needs) = stops-inside job job.machine tag told refl needs
 stops-for_memory job tag told (inr (command, due, needs)) = stops-at_command job command job.machine tag told due refl needs
 
-pub Faults-taken : (old new : JobState) (tag : ℕ) (error : JobError) (told : Told) → TakesStep old (Err error) new → StepFaults old tag error new told told
+pub Faults-taken : (old new : JobState) (tag : ℕ) (error : JobError) (told : SinkLog) → TakesStep old (Err error) new → StepFaults old tag error new told told
 Faults-taken old new tag errors.NoMemory told takes = (takes.1, stops-for_memory old tag told takes.0)
 Faults-taken old new tag errors.Failed told takes = (takes.0, takes.1, refl)
 Faults-taken old new tag errors.SinkFault told takes = absurd takes

@@ -3,21 +3,21 @@ use Rattle.std.proofs.Common.{◌≡◌, ◌∙◌, inl, inr, ℕ, List, [], ◌
 use Rattle.std.proofs.lemmas.Bool.{true≢false}
 use Rattle.std.proofs.lemmas.List.{append-nil}
 use Rattle.press_cmd.specs.Token.{Token}
-use Rattle.press_sink.specs.Told.{Told}
+use Rattle.press_sink.specs.SinkLog.{SinkLog}
 use Rattle.press_sink.specs.Sending.{AtSheet, AtReply, ForMemory}
 use Rattle.press_stream.specs.declared.fault.JobError.{JobError}
 use Rattle.press_stream.specs.declared.fault.JobError.TheVariants as errors
-use Rattle.press_stream.specs.State.{JobState, IsHungry, with_piece, input_ended}
-use Rattle.press_stream.specs.Meaning.{Goes}
+use Rattle.press_stream.specs.State.{JobState, NeedsInput, with_piece, input_ended}
+use Rattle.press_stream.specs.Meaning.{CarriesOut}
 use Rattle.press_stream.specs.Answers.{Drains, Feeds, Finishes, Faults, FaultsBefore, StepFaults}
-use Rattle.press_stream.proofs.Going.{Goes-then, Goes-push, Goes-ends, Stops-then, Stops-due}
+use Rattle.press_stream.proofs.Going.{CarriesOut-then, CarriesOut-push, CarriesOut-ends, Stops-then, Stops-due}
 
 -- a job that has failed has no machine
 none_is_no_some : {X : Type 0} (option : Option X) (value : X) → option ≡ None → option ≡ Some value → ⊥
 none_is_no_some option value p q = cc
 
 -- a job that stopped after it had gone on
-pub Faults-then : (old between new : JobState) (bytes more : List ℕ) (given : List Token) (tag : ℕ) (error : JobError) (before middle after : Told) → Goes old bytes given tag between before middle → Faults between more tag error new middle after → Faults old (bytes ++ more) tag error new before after
+pub Faults-then : (old between new : JobState) (bytes more : List ℕ) (given : List Token) (tag : ℕ) (error : JobError) (before middle after : SinkLog) → CarriesOut old bytes given tag between before middle → Faults between more tag error new middle after → Faults old (bytes ++ more) tag error new before after
 Faults-then old between new bytes more given tag errors.SinkFault before middle after goes faults = (faults.0, Stops-then old between bytes more given tag AtSheet before middle after goes faults.1)
 Faults-then old between new bytes more given tag errors.ReplyFault before middle after goes faults = (faults.0, Stops-then old between bytes more given tag AtReply before middle after goes faults.1)
 Faults-then old between new bytes more given tag errors.NoMemory before middle after goes faults = (faults.0, Stops-then old between bytes more given tag ForMemory before middle after goes faults.1)
@@ -26,7 +26,7 @@ Faults-then old between new bytes more given tag errors.ReadFault before middle 
 Faults-then old between new bytes more given tag errors.AfterEnd before middle after goes faults = absurd faults
 
 -- the same for a fault at the last bytes that were handed in
-pub Faults-after : (old between new : JobState) (bytes : List ℕ) (given : List Token) (tag : ℕ) (error : JobError) (before middle after : Told) → Goes old bytes given tag between before middle → Faults between [] tag error new middle after → Faults old bytes tag error new before after
+pub Faults-after : (old between new : JobState) (bytes : List ℕ) (given : List Token) (tag : ℕ) (error : JobError) (before middle after : SinkLog) → CarriesOut old bytes given tag between before middle → Faults between [] tag error new middle after → Faults old bytes tag error new before after
 Faults-after old between new bytes given tag error before middle after goes faults =
     let P : List ℕ → Type 0 = λ all. Faults old all tag error new before after in
     subst P (append-nil bytes) (Faults-then old between new bytes [] given tag error before middle after goes faults)
@@ -37,12 +37,12 @@ none_behind [] more e = e
 none_behind (byte ∷ bytes) more e = absurd (cc)
 
 -- the same whatever bytes come behind them
-pub FaultsBefore-after : (old between new : JobState) (bytes : List ℕ) (given : List Token) (tag : ℕ) (error : JobError) (before middle after : Told) → between.held.ended ≡ old.held.ended → Goes old bytes given tag between before middle → FaultsBefore between [] tag error new middle after → FaultsBefore old bytes tag error new before after
+pub FaultsBefore-after : (old between new : JobState) (bytes : List ℕ) (given : List Token) (tag : ℕ) (error : JobError) (before middle after : SinkLog) → between.held.ended ≡ old.held.ended → CarriesOut old bytes given tag between before middle → FaultsBefore between [] tag error new middle after → FaultsBefore old bytes tag error new before after
 FaultsBefore-after old between new bytes given tag error before middle after still goes faults =
     λ more none_after. Faults-then old between new bytes more given tag error before middle after goes (faults more (λ ended. none_behind bytes more (none_after (sym still ∙ ended))))
 
 -- the fault of a step, whatever bytes come
-pub FaultsBefore-step : (old new : JobState) (tag : ℕ) (error : JobError) (before after : Told) → StepFaults old tag error new before after → FaultsBefore old [] tag error new before after
+pub FaultsBefore-step : (old new : JobState) (tag : ℕ) (error : JobError) (before after : SinkLog) → StepFaults old tag error new before after → FaultsBefore old [] tag error new before after
 FaultsBefore-step old new tag errors.SinkFault before after faults = λ more none_after. (faults.0, Stops-due old more tag AtSheet before after (λ e. cc) none_after faults.1)
 FaultsBefore-step old new tag errors.ReplyFault before after faults = λ more none_after. (faults.0, Stops-due old more tag AtReply before after (λ e. cc) none_after faults.1)
 FaultsBefore-step old new tag errors.NoMemory before after faults = λ more none_after. (faults.0, Stops-due old more tag ForMemory before after (λ e. cc) none_after faults.1)
@@ -51,23 +51,23 @@ FaultsBefore-step old new tag errors.ReadFault before after faults = absurd faul
 FaultsBefore-step old new tag errors.AfterEnd before after faults = absurd faults
 
 -- the fault where nothing comes behind
-pub Faults-now : (old new : JobState) (tag : ℕ) (error : JobError) (before after : Told) → FaultsBefore old [] tag error new before after → Faults old [] tag error new before after
+pub Faults-now : (old new : JobState) (tag : ℕ) (error : JobError) (before after : SinkLog) → FaultsBefore old [] tag error new before after → Faults old [] tag error new before after
 Faults-now old new tag error before after faults = faults [] (λ _. refl)
 
 -- no drain answers that a read failed
-pub no_read_fault : (old new : JobState) (tag : ℕ) (error : JobError) (before after : Told) → error ≡ errors.ReadFault → Drains old tag (Err error) new before after → ⊥
+pub no_read_fault : (old new : JobState) (tag : ℕ) (error : JobError) (before after : SinkLog) → error ≡ errors.ReadFault → Drains old tag (Err error) new before after → ⊥
 no_read_fault old new tag error before after is drains =
     let P : JobError → Type 0 = λ fault. Faults old [] tag fault new before after in
     subst P is (Faults-now old new tag error before after drains)
 
 -- a job that went on and then drained
-pub Goes-after : (old between new : JobState) (bytes : List ℕ) (given others : List Token) (tag : ℕ) (before middle after : Told) → Goes old bytes given tag between before middle → Goes between [] others tag new middle after → Goes old bytes (given ++ others) tag new before after
-Goes-after old between new bytes given others tag before middle after first second =
-    let P : List ℕ → Type 0 = λ all. Goes old all (given ++ others) tag new before after in
-    subst P (append-nil bytes) (Goes-then old between new bytes [] given others tag before middle after first second)
+pub CarriesOut-after : (old between new : JobState) (bytes : List ℕ) (given others : List Token) (tag : ℕ) (before middle after : SinkLog) → CarriesOut old bytes given tag between before middle → CarriesOut between [] others tag new middle after → CarriesOut old bytes (given ++ others) tag new before after
+CarriesOut-after old between new bytes given others tag before middle after first second =
+    let P : List ℕ → Type 0 = λ all. CarriesOut old all (given ++ others) tag new before after in
+    subst P (append-nil bytes) (CarriesOut-then old between new bytes [] given others tag before middle after first second)
 
 -- a fault before the end of input
-feeds_fault : (old new : JobState) (piece : List ℕ) (tag : ℕ) (error : JobError) (before after : Told) → old.held.ended ≡ false → FaultsBefore old piece tag error new before after → Feeds old piece tag (Err error) new before after
+feeds_fault : (old new : JobState) (piece : List ℕ) (tag : ℕ) (error : JobError) (before after : SinkLog) → old.held.ended ≡ false → FaultsBefore old piece tag error new before after → Feeds old piece tag (Err error) new before after
 feeds_fault old new piece tag errors.SinkFault before after going faults = faults
 feeds_fault old new piece tag errors.ReplyFault before after going faults = faults
 feeds_fault old new piece tag errors.NoMemory before after going faults = faults
@@ -76,20 +76,20 @@ feeds_fault old new piece tag errors.ReadFault before after going faults = fault
 feeds_fault old new piece tag errors.AfterEnd before after going faults = absurd (faults [] (λ ended. absurd (true≢false (sym ended ∙ going))))
 
 -- no piece that is fed answers that a read failed
-pub no_read_fault-fed : (old new : JobState) (piece : List ℕ) (tag : ℕ) (error : JobError) (before after : Told) → old.held.ended ≡ false → error ≡ errors.ReadFault → Feeds old piece tag (Err error) new before after → ⊥
+pub no_read_fault-fed : (old new : JobState) (piece : List ℕ) (tag : ℕ) (error : JobError) (before after : SinkLog) → old.held.ended ≡ false → error ≡ errors.ReadFault → Feeds old piece tag (Err error) new before after → ⊥
 no_read_fault-fed old new piece tag error before after going is feeds =
     let P : JobError → Type 0 = λ fault. Feeds old piece tag (Err fault) new before after in
     subst P is feeds [] (λ ended. absurd (true≢false (sym ended ∙ going)))
 
 -- what was held had a fault
-pub Feeds-stopped : (old new : JobState) (piece : List ℕ) (tag : ℕ) (error : JobError) (before after : Told) → old.held.ended ≡ false → FaultsBefore old [] tag error new before after → Feeds old piece tag (Err error) new before after
+pub Feeds-stopped : (old new : JobState) (piece : List ℕ) (tag : ℕ) (error : JobError) (before after : SinkLog) → old.held.ended ≡ false → FaultsBefore old [] tag error new before after → Feeds old piece tag (Err error) new before after
 Feeds-stopped old new piece tag error before after going faults =
     feeds_fault old new piece tag error before after going (λ more none_after. faults (piece ++ more) none_after)
 
 -- a job went on and was hungry, and was then fed
-pub Feeds-then : (old between new : JobState) (piece : List ℕ) (given : List Token) (tag : ℕ) (result : Result (Unit {0}) JobError) (before middle after : Told) → old.held.ended ≡ false → Goes old [] given tag between before middle → IsHungry between → Feeds between piece tag result new middle after → Feeds old piece tag result new before after
+pub Feeds-then : (old between new : JobState) (piece : List ℕ) (given : List Token) (tag : ℕ) (result : Result (Unit {0}) JobError) (before middle after : SinkLog) → old.held.ended ≡ false → CarriesOut old [] given tag between before middle → NeedsInput between → Feeds between piece tag result new middle after → Feeds old piece tag result new before after
 Feeds-then old between new piece given tag (Ok done) before middle after going goes hungry feeds =
-    (given ++ feeds.0, Goes-then old between new [] piece given feeds.0 tag before middle after goes feeds.1, feeds.2)
+    (given ++ feeds.0, CarriesOut-then old between new [] piece given feeds.0 tag before middle after goes feeds.1, feeds.2)
 Feeds-then old between new piece given tag (Err error) before middle after going goes hungry feeds =
     feeds_fault old new piece tag error before after going
     (λ more none_after. Faults-then old between new [] (piece ++ more) given tag error before middle after goes (fault error feeds more (λ ended. absurd (true≢false (sym ended ∙ hungry.going))))) where
@@ -102,7 +102,7 @@ Feeds-then old between new piece given tag (Err error) before middle after going
       fault errors.AfterEnd feeds = absurd (true≢false (sym feeds.0.1 ∙ hungry.going))
 
 -- a job that takes more bytes and drained is hungry
-pub hungry_of : (old new : JobState) (tag : ℕ) (done : Unit {0}) (before after : Told) → old.held.ended ≡ false → Drains old tag (Ok done) new before after → IsHungry new
+pub hungry_of : (old new : JobState) (tag : ℕ) (done : Unit {0}) (before after : SinkLog) → old.held.ended ≡ false → Drains old tag (Ok done) new before after → NeedsInput new
 hungry_of old new tag done before after going drains =
     elim drains.2 [
       | inl hungry ↦ hungry
@@ -110,24 +110,24 @@ hungry_of old new tag done before after going drains =
     ]
 
 -- A part of a piece was taken, and carried out.
-pub Takes-part : (old between new : JobState) (part : List ℕ) (tag : ℕ) (before after : Told) → IsHungry old → between ≡ with_piece part old → Drains between tag (Ok tt) new before after → (given : List Token) × Goes old part given tag new before after × IsHungry new
+pub Takes-part : (old between new : JobState) (part : List ℕ) (tag : ℕ) (before after : SinkLog) → NeedsInput old → between ≡ with_piece part old → Drains between tag (Ok tt) new before after → (given : List Token) × CarriesOut old part given tag new before after × NeedsInput new
 Takes-part old between new part tag before after hungry is =
-    let P : JobState → Type 0 = λ job. Drains job tag (Ok tt) new before after → (given : List Token) × Goes old part given tag new before after × IsHungry new in
+    let P : JobState → Type 0 = λ job. Drains job tag (Ok tt) new before after → (given : List Token) × CarriesOut old part given tag new before after × NeedsInput new in
     subst P (sym is) (λ drains. (
       drains.0,
-      Goes-after old (with_piece part old) new part [] drains.0 tag before before after (Goes-push old part tag before hungry.running hungry.going) drains.1,
+      CarriesOut-after old (with_piece part old) new part [] drains.0 tag before before after (CarriesOut-push old part tag before hungry.running hungry.going) drains.1,
       hungry_of (with_piece part old) new tag tt before after hungry.going drains,
     ))
 
 -- A part of a piece was taken, and there was a fault: whatever is left of the piece comes behind it.
-Stops-part : (old between new : JobState) (part more : List ℕ) (tag : ℕ) (error : JobError) (before after : Told) → IsHungry old → between ≡ with_piece part old → Drains between tag (Err error) new before after → Faults old (part ++ more) tag error new before after
+Stops-part : (old between new : JobState) (part more : List ℕ) (tag : ℕ) (error : JobError) (before after : SinkLog) → NeedsInput old → between ≡ with_piece part old → Drains between tag (Err error) new before after → Faults old (part ++ more) tag error new before after
 Stops-part old between new part more tag error before after hungry is =
     let P : JobState → Type 0 = λ job. Drains job tag (Err error) new before after → Faults old (part ++ more) tag error new before after in
-    subst P (sym is) (λ drains. Faults-then old (with_piece part old) new part more [] tag error before before after (Goes-push old part tag before hungry.running hungry.going)
+    subst P (sym is) (λ drains. Faults-then old (with_piece part old) new part more [] tag error before before after (CarriesOut-push old part tag before hungry.running hungry.going)
     (drains more (λ ended. absurd (true≢false (sym ended ∙ hungry.going)))))
 
 -- A piece was fed as far as a part, and there was a fault then.
-pub Feeds-part : (old between taken new : JobState) (piece fed part rest : List ℕ) (given : List Token) (tag : ℕ) (error : JobError) (before middle after : Told) → old.held.ended ≡ false → piece ≡ fed ++ (part ++ rest) → Goes old fed given tag between before middle → IsHungry between → taken ≡ with_piece part between → Drains taken tag (Err error) new middle after → Feeds old piece tag (Err error) new before after
+pub Feeds-part : (old between taken new : JobState) (piece fed part rest : List ℕ) (given : List Token) (tag : ℕ) (error : JobError) (before middle after : SinkLog) → old.held.ended ≡ false → piece ≡ fed ++ (part ++ rest) → CarriesOut old fed given tag between before middle → NeedsInput between → taken ≡ with_piece part between → Drains taken tag (Err error) new middle after → Feeds old piece tag (Err error) new before after
 Feeds-part old between taken new piece fed part rest given tag error before middle after going whole goes hungry is drains =
     feeds_fault old new piece tag error before after going
     (λ more none_after.
@@ -137,17 +137,17 @@ Feeds-part old between taken new piece fed part rest given tag error before midd
     (Stops-part between taken new part (rest ++ more) tag error middle after hungry is drains)))
 
 -- the input ended, and the job drained
-pub Finishes-drain : (old between new : JobState) (tag : ℕ) (result : Result (Unit {0}) JobError) (before after : Told) → IsSome old.machine → between ≡ input_ended old → Drains between tag result new before after → Finishes old tag result new before after
+pub Finishes-drain : (old between new : JobState) (tag : ℕ) (result : Result (Unit {0}) JobError) (before after : SinkLog) → IsSome old.machine → between ≡ input_ended old → Drains between tag result new before after → Finishes old tag result new before after
 Finishes-drain old between new tag result before after running is =
     let P : JobState → Type 0 = λ job. Drains job tag result new before after → Finishes old tag result new before after in
     subst P (sym is) (finished result) where
       finished : (result : Result (Unit {0}) JobError) → Drains (input_ended old) tag result new before after → Finishes old tag result new before after
       finished (Ok done) drains = (
         drains.0,
-        Goes-after old (input_ended old) new [] [] drains.0 tag before before after (Goes-ends old tag before running) drains.1,
+        CarriesOut-after old (input_ended old) new [] [] drains.0 tag before before after (CarriesOut-ends old tag before running) drains.1,
         elim drains.2 [
           | inl hungry ↦ absurd (true≢false (sym drains.3 ∙ hungry.going))
           | inr over ↦ over
         ],
       )
-      finished (Err error) drains = Faults-after old (input_ended old) new [] [] tag error before before after (Goes-ends old tag before running) (Faults-now (input_ended old) new tag error before after drains)
+      finished (Err error) drains = Faults-after old (input_ended old) new [] [] tag error before before after (CarriesOut-ends old tag before running) (Faults-now (input_ended old) new tag error before after drains)

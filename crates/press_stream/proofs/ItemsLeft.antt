@@ -2,14 +2,14 @@
 use Rattle.std.proofs.Common.{◌≡◌, ◌∙◌, List, [], Option, Some, None, refl, sym, ap}
 use Rattle.press_cmd.specs.Token.{Token}
 use Rattle.press_engine.specs.declared.machine.Machine.{Machine}
-use Rattle.press_engine.specs.Machine.{Run}
+use Rattle.press_engine.specs.Machine.{StepResult}
 use Rattle.press_stream.specs.Left.{LeftOf}
 use Rattle.press_stream.specs.Meaning.{left, Owes}
 use Rattle.press_stream.specs.State.{JobState}
 use Rattle.press_stream.proofs.Going.{Owes-some, same_some}
 use Rattle.press_stream.proofs.LeftLemmas.{Owes-one}
 
-pub LeftOf-one : (job : JobState) (items others : List Run) → LeftOf job items → LeftOf job others → items ≡ others
+pub LeftOf-one : (job : JobState) (items others : List StepResult) → LeftOf job items → LeftOf job others → items ≡ others
 LeftOf-one job items others is other =
     let from = same_some job.machine is.from other.from is.starts other.starts in
     let commands = Owes-one job [] is.commands other.commands is.owes other.owes in
@@ -19,11 +19,11 @@ LeftOf-one job items others is other =
 commands_left : (job : JobState) → (commands : List Token) × Owes job [] commands
 commands_left job = Owes-some job [] (λ _. refl)
 
-items_in : JobState → Option Machine → List Run
+items_in : JobState → Option Machine → List StepResult
 items_in job None = []
 items_in job (Some machine) = left (commands_left job).0 job.bodies machine
 
-pub items_left : JobState → List Run
+pub items_left : JobState → List StepResult
 items_left job = items_in job job.machine
 
 pub items_left-none : (job : JobState) → job.machine ≡ None → items_left job ≡ []

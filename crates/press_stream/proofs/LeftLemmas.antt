@@ -5,13 +5,13 @@ use Rattle.press_cmd.specs.Token.{Token}
 use Rattle.press_cmd.specs.Split.{ClosedFrom, Closed}
 use Rattle.press_cmd.proofs.Splits.{closed_once}
 use Rattle.press_cmd.specs.declared.variant.Kind.{Kind}
-use Rattle.press_sink.specs.Told.{Told}
-use Rattle.press_engine.specs.declared.frame.Frame.{Frame}
+use Rattle.press_sink.specs.SinkLog.{SinkLog}
+use Rattle.press_engine.specs.declared.activation.Activation.{Activation}
 use Rattle.press_engine.specs.declared.machine.Machine.{Machine}
-use Rattle.press_engine.specs.Machine.{Run, levels, power_on}
-use Rattle.press_engine.specs.Stack.{owed, HasNext, IsReady}
+use Rattle.press_engine.specs.Machine.{StepResult, macro_levels, power_on}
+use Rattle.press_engine.specs.Stack.{continuation, HasNext, IsReady}
 use Rattle.press_engine.specs.Trace.{last_machine, trace, trace_each, trace_at}
-use Rattle.press_engine.proofs.StackLaws.{inner-owed, outer-owed}
+use Rattle.press_engine.proofs.StackLaws.{inner-continuation, outer-continuation}
 use Rattle.press_stream.specs.declared.phase.Phase.{Phase}
 use Rattle.press_stream.specs.declared.phase.Phase.TheVariants as phases
 use Rattle.press_stream.specs.State.{JobState, IsOver, opened, with_piece, input_ended, is_exited}
@@ -33,7 +33,7 @@ Owes-one job bytes commands others owes other = at_exit job.exited owes.1 other.
     at_exit true is are = is ∙ sym are
     at_exit false (c, closed, is) (d, other, are) = is ∙ ap with_exit (closed_once job.held.mode (job.held.bytes ++ bytes) c d closed other) ∙ sym are
 
-left_does : (old new : JobState) (item : Run) (kind : Kind) (bytes : List ℕ) (items : List Run) → LeftWith old bytes items → Does old item kind new → StepsOn new bytes items item
+left_does : (old new : JobState) (item : StepResult) (kind : Kind) (bytes : List ℕ) (items : List StepResult) → LeftWith old bytes items → Does old item kind new → StepsOn new bytes items item
 left_does old new item kind bytes items is did =
     let later = Owes-some new bytes (λ e. is.owes.0 (sym (taken-ended old new did.given did.takes) ∙ e)) in
     let rest = later.0 in
@@ -45,12 +45,12 @@ left_does old new item kind bytes items is did =
       still = record { from = item.machine; starts = did.ends; commands = rest; owes = later.1; are = refl };
     }
 
-left_steps : (old new : JobState) (tag : ℕ) (kind : Kind) (before after : Told) (bytes : List ℕ) (items : List Run) → LeftWith old bytes items → (ran : RanOne old tag kind new before after)
+left_steps : (old new : JobState) (tag : ℕ) (kind : Kind) (before after : SinkLog) (bytes : List ℕ) (items : List StepResult) → LeftWith old bytes items → (ran : RanOne old tag kind new before after)
     → StepsOn new bytes items ran.item
 left_steps old new tag kind before after bytes items is ran = left_does old new ran.item kind bytes items is ran.did
 
 -- what was left before a step
-pub left_before : (old new : JobState) (item : Run) (kind : Kind) (bytes : List ℕ) (others : List Run) → LeftWith new bytes others → Does old item kind new → LeftWith old bytes (item ∷ others)
+pub left_before : (old new : JobState) (item : StepResult) (kind : Kind) (bytes : List ℕ) (others : List StepResult) → LeftWith new bytes others → Does old item kind new → LeftWith old bytes (item ∷ others)
 left_before old new item kind bytes others is did =
     let same : is.from ≡ item.machine = same_some new.machine is.from item.machine is.starts did.ends in
     record {
@@ -59,7 +59,7 @@ left_before old new item kind bytes others is did =
       commands = did.given ++ is.commands;
       owes = taken-to_end old new did.given did.takes bytes is.commands is.owes;
       are =
-          ap (λ (more : List Run). item ∷ more) (is.are ∙ ap (left is.commands new.bodies) same)
+          ap (λ (more : List StepResult). item ∷ more) (is.are ∙ ap (left is.commands new.bodies) same)
           ∙ sym (left-then did.given is.commands old.bodies new.bodies did.from (item ∷ []) did.are);
     }
 
@@ -69,14 +69,14 @@ no_commands : (job : JobState) (bytes : List ℕ) (commands : List Token) → jo
 no_commands job bytes commands exited owes =
     subst (λ (out : Bool). MatchBool out (commands ≡ []) ((closed : List Token) × ClosedFrom job.held.mode (job.held.bytes ++ bytes) closed × (commands ≡ with_exit closed))) exited owes.1
 
-nothing_left : (job : JobState) (bytes : List ℕ) (items : List Run) → job.bodies ≡ [] → job.exited ≡ true → LeftWith job bytes items → items ≡ []
+nothing_left : (job : JobState) (bytes : List ℕ) (items : List StepResult) → job.bodies ≡ [] → job.exited ≡ true → LeftWith job bytes items → items ≡ []
 nothing_left job bytes items idle exited is =
     is.are
     ∙ ap (λ (commands : List Token). left commands job.bodies is.from) (no_commands job bytes is.commands exited is.owes)
     ∙ left-none job.bodies is.from
-    ∙ ap (λ (bodies : List Frame). owed bodies is.from) idle
+    ∙ ap (λ (bodies : List Activation). continuation bodies is.from) idle
 
-left_over : (job : JobState) (bytes : List ℕ) (items : List Run) → IsOver job → LeftWith job bytes items → items ≡ []
+left_over : (job : JobState) (bytes : List ℕ) (items : List StepResult) → IsOver job → LeftWith job bytes items → items ≡ []
 left_over job bytes items over is = nothing_left job bytes items over.idle over.exited is
 
 -- ---- what comes in
@@ -90,7 +90,7 @@ left_opens bytes closed is = record {
   are = refl;
 }
 
-left_pushes : (job : JobState) (piece more : List ℕ) (items : List Run) → job.held.ended ≡ false → LeftWith job (piece ++ more) items → LeftWith (with_piece piece job) more items
+left_pushes : (job : JobState) (piece more : List ℕ) (items : List StepResult) → job.held.ended ≡ false → LeftWith job (piece ++ more) items → LeftWith (with_piece piece job) more items
 left_pushes job piece more items going is = record {
   from = is.from;
   starts = is.starts;
@@ -103,56 +103,56 @@ left_pushes job piece more items going is = record {
   are = is.are;
 }
 
-left_ends : (job : JobState) (items : List Run) → LeftWith job [] items → LeftWith (input_ended job) [] items
+left_ends : (job : JobState) (items : List StepResult) → LeftWith job [] items → LeftWith (input_ended job) [] items
 left_ends job items is = record { from = is.from; starts = is.starts; commands = is.commands; owes = (λ _. refl, is.owes.1); are = is.are }
 
 pub left_goes_on : LeftGoesOn
 left_goes_on = record { opens = left_opens; pushes = left_pushes; ends = left_ends; does = left_does; steps = left_steps; over = left_over }
 
 -- something is owed by bodies of which the innermost has a command
-some-then : (items others : List Run) → items ++ others ≡ [] → items ≡ []
+some-then : (items others : List StepResult) → items ++ others ≡ [] → items ≡ []
 some-then [] others is = refl
 some-then (item ∷ items) others is = absurd cc
 
-then-some : (items others : List Run) → items ++ others ≡ [] → others ≡ []
+then-some : (items others : List StepResult) → items ++ others ≡ [] → others ≡ []
 then-some [] others is = is
 then-some (item ∷ items) others is = absurd cc
 
-ready_owes : (bodies : List Frame) (machine : Machine) → HasNext bodies → owed bodies machine ≡ [] → ⊥
-ready_owes bodies machine (frame, command, rest, outer, is) none =
-    let some = inner-owed frame command rest outer machine in
-    nothing (sym some ∙ ap (λ (frames : List Frame). owed frames machine) (sym is) ∙ none) where
-      nothing : {item : Run} {others : List Run} → item ∷ others ≡ [] → ⊥
+ready_owes : (bodies : List Activation) (machine : Machine) → HasNext bodies → continuation bodies machine ≡ [] → ⊥
+ready_owes bodies machine (activation, command, rest, outer, is) none =
+    let some = inner-continuation activation command rest outer machine in
+    nothing (sym some ∙ ap (λ (activations : List Activation). continuation activations machine) (sym is) ∙ none) where
+      nothing : {item : StepResult} {others : List StepResult} → item ∷ others ≡ [] → ⊥
       nothing e = cc
 
 -- a command has an item
-command_owes : (command : Token) (commands : List Token) (bodies : List Frame) (machine : Machine) → left (command ∷ commands) bodies machine ≡ [] → ⊥
+command_owes : (command : Token) (commands : List Token) (bodies : List Activation) (machine : Machine) → left (command ∷ commands) bodies machine ≡ [] → ⊥
 unfolding trace_each
 command_owes command commands bodies machine none =
-    let at = last_machine machine (owed bodies machine) in
-    let items : List Run = trace_at levels command at in
-    let these : trace_at levels command at ≡ [] = some-then items _ (then-some (owed bodies machine) _ none) in
-    nothing (sym (outer-owed command at) ∙ these) where
-      nothing : {item : Run} {others : List Run} → item ∷ others ≡ [] → ⊥
+    let at = last_machine machine (continuation bodies machine) in
+    let items : List StepResult = trace_at macro_levels command at in
+    let these : trace_at macro_levels command at ≡ [] = some-then items _ (then-some (continuation bodies machine) _ none) in
+    nothing (sym (outer-continuation command at) ∙ these) where
+      nothing : {item : StepResult} {others : List StepResult} → item ∷ others ≡ [] → ⊥
       nothing e = cc
 
-exit_owes : (closed : List Token) (bodies : List Frame) (machine : Machine) → left (with_exit closed) bodies machine ≡ [] → ⊥
+exit_owes : (closed : List Token) (bodies : List Activation) (machine : Machine) → left (with_exit closed) bodies machine ≡ [] → ⊥
 exit_owes [] bodies machine none = command_owes _ [] bodies machine none
 exit_owes (command ∷ closed) bodies machine none = command_owes command (with_exit closed) bodies machine none
 
 -- Before the exit something is left.
-pub left_before_exit : (job : JobState) (bytes : List ℕ) (items : List Run) → job.exited ≡ false → LeftWith job bytes items → items ≡ [] → ⊥
+pub left_before_exit : (job : JobState) (bytes : List ℕ) (items : List StepResult) → job.exited ≡ false → LeftWith job bytes items → items ≡ [] → ⊥
 left_before_exit job bytes items going is none =
     let some = subst (λ (out : Bool). MatchBool out (is.commands ≡ []) ((closed : List Token) × ClosedFrom job.held.mode (job.held.bytes ++ bytes) closed × (is.commands ≡ with_exit closed))) going is.owes.1 in
     exit_owes some.0 job.bodies is.from (ap (λ (commands : List Token). left commands job.bodies is.from) (sym some.2) ∙ sym is.are ∙ none)
 
 -- While a body runs something is left.
-pub left_inside : (job : JobState) (bytes : List ℕ) (items : List Run) → HasNext job.bodies → LeftWith job bytes items → items ≡ [] → ⊥
+pub left_inside : (job : JobState) (bytes : List ℕ) (items : List StepResult) → HasNext job.bodies → LeftWith job bytes items → items ≡ [] → ⊥
 left_inside job bytes items next is none =
-    ready_owes job.bodies is.from next (some-then (owed job.bodies is.from) _ (sym is.are ∙ none))
+    ready_owes job.bodies is.from next (some-then (continuation job.bodies is.from) _ (sym is.are ∙ none))
 
 -- whether something is left, by what tells whether a body runs, and before the exit
-pub tells_left : (job : JobState) (idle : Bool) (bytes : List ℕ) (items : List Run) → (IsTrue idle ↔ (job.bodies ≡ [])) → IsReady job.bodies → job.exited ≡ true → LeftWith job bytes items
+pub tells_left : (job : JobState) (idle : Bool) (bytes : List ℕ) (items : List StepResult) → (IsTrue idle ↔ (job.bodies ≡ [])) → IsReady job.bodies → job.exited ≡ true → LeftWith job bytes items
     → IsTrue idle ↔ (items ≡ [])
 tells_left job idle bytes items tells ready exited is =
     (λ still. nothing_left job bytes items (tells.0 still) exited is, λ none. by_ready none ready) where
@@ -160,7 +160,7 @@ tells_left job idle bytes items tells ready exited is =
       by_ready none (inl empty) = tells.1 empty
       by_ready none (inr next) = absurd (left_inside job bytes items next is none)
 
-pub tells_before : (job : JobState) (bytes : List ℕ) (items : List Run) → job.exited ≡ false → LeftWith job bytes items → IsTrue false ↔ (items ≡ [])
+pub tells_before : (job : JobState) (bytes : List ℕ) (items : List StepResult) → job.exited ≡ false → LeftWith job bytes items → IsTrue false ↔ (items ≡ [])
 tells_before job bytes items going is = (λ e. absurd (false≢true e), λ none. absurd (left_before_exit job bytes items going is none))
 
 pub not_exited : (phase : Phase) → phase ≢ phases.Exited → is_exited phase ≡ false

@@ -7,22 +7,22 @@ use Rattle.press_cmd.specs.Split.{Steps}
 use Rattle.press_scan.specs.declared.passing.Passed.{Passed}
 use Rattle.press_scan.specs.Passing.{PassesEach, IsOneByte, PassesOver}
 use Rattle.press_scan.specs.ScannerState.{ScannerState}
-use Rattle.press_sink.specs.Told.{Told}
+use Rattle.press_sink.specs.SinkLog.{SinkLog}
 use Rattle.press_sink.specs.Sending.{Output, Complete, WentOut}
 use Rattle.press_sink.proofs.SendingLemmas.{TookAll-none}
-use Rattle.press_engine.specs.declared.frame.Frame.{Frame}
+use Rattle.press_engine.specs.declared.activation.Activation.{Activation}
 use Rattle.press_engine.specs.declared.machine.Machine.{Machine}
 use Rattle.press_engine.specs.declared.state.State.{State}
-use Rattle.press_engine.specs.Machine.{Run}
+use Rattle.press_engine.specs.Machine.{StepResult}
 use Rattle.press_engine.specs.Passing.{HasNoEffect, SkipsBytes, SkipsControls, passed}
-use Rattle.press_engine.specs.Stack.{owed}
+use Rattle.press_engine.specs.Stack.{continuation}
 use Rattle.press_engine.specs.Trace.{last_machine, joined, trace, run_all}
 use Rattle.press_engine.proofs.PassingLaws.{passing_is_counted}
 use Rattle.press_stream.specs.Answers.{PassesOn}
-use Rattle.press_stream.specs.Meaning.{left, Carried, Owes, Goes}
+use Rattle.press_stream.specs.Meaning.{left, Carried, Owes, CarriesOut}
 use Rattle.press_stream.specs.State.{JobState, most_commands}
 use Rattle.press_stream.specs.Steps.{CarriesIdle}
-use Rattle.press_stream.proofs.Going.{Goes-none, passes-to_end}
+use Rattle.press_stream.proofs.Going.{CarriesOut-none, passes-to_end}
 
 -- ---- what a scanner passes over
 
@@ -73,16 +73,16 @@ pub CarriesIdle-some : (controls : Bool) (held next : ScannerState) (old new : O
     → IfSome old (λ machine. SkipsBytes machine.state) → (IsTrue controls → IfSome old (λ machine. SkipsControls machine.state))
     → PassesOver controls held over next → new ≡ option_map (passed over.count over.kind) old → CarriesIdle held old next new
 CarriesIdle-some controls held next (Some machine) new over running bytes some passes is =
-    let given = passes.front ++ passes.last ∷ [] in
-    let run = passing_is_counted passes.front passes.last machine (no_effects controls machine.state bytes some given passes.bytes) in
-    let ends : passed over.count over.kind machine ≡ (run_all given machine).machine = rw (passes.count, passes.kind) (sym (ap (λ (r : Run). r.machine) run)) in
+    let given = passes.prefix ++ passes.last ∷ [] in
+    let run = passing_is_counted passes.prefix passes.last machine (no_effects controls machine.state bytes some given passes.bytes) in
+    let ends : passed over.count over.kind machine ≡ (run_all given machine).machine = rw (passes.count, passes.kind) (sym (ap (λ (r : StepResult). r.machine) run)) in
     record {
       given = given;
       each = passes.each;
       from = machine;
       starts = refl;
       ends = is ∙ ap (λ (m : Machine). Some m) ends;
-      nothing = ap (λ (r : Run). r.outputs) run;
+      nothing = ap (λ (r : StepResult). r.outputs) run;
     }
 CarriesIdle-some controls held next None new over running bytes some passes is = absurd (cc)
 
@@ -108,9 +108,9 @@ passes_on old new going still idle none carries =
           starts = carries.starts;
           ends = carries.ends;
           are =
-              ap (λ (bodies : List Frame). left given bodies from) idle
+              ap (λ (bodies : List Activation). left given bodies from) idle
               ∙ sym (append-nil items)
-              ∙ ap (λ (bodies : List Frame). items ++ owed bodies (last_machine from items)) (sym none);
+              ∙ ap (λ (bodies : List Activation). items ++ continuation bodies (last_machine from items)) (sym none);
           went = subst (λ (outputs : List Output). WentOut tag outputs Complete told told) (sym carries.nothing) (TookAll-none tag told);
         };
       };
@@ -121,4 +121,4 @@ passes_on old new going still idle none carries =
 
 -- in a job that runs no more nothing is taken
 pub PassesOn-none : (job : JobState) → IsSome job.machine → job.bodies ≡ [] → PassesOn job job
-PassesOn-none job running idle = record { given = []; goes = λ tag told. Goes-none job tag told running; idle = idle; fewer = omega arith; ended = refl }
+PassesOn-none job running idle = record { given = []; goes = λ tag told. CarriesOut-none job tag told running; idle = idle; fewer = omega arith; ended = refl }

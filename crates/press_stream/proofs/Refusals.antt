@@ -2,24 +2,24 @@
 use Rattle.std.proofs.Common.{◌≡◌, ◌≢◌, ◌↔◌, ◌∙◌, ℕ, List, [], ◌++◌, Option, Some, None, IsSome, IsErrOf, IfErr, OnErr, Result, Ok, Err, true, false, refl, sym, ap}
 use Rattle.std.proofs.lemmas.Bool.{true≢false}
 use Rattle.press_cmd.specs.Token.{Token}
-use Rattle.press_sink.specs.Told.{Told}
+use Rattle.press_sink.specs.SinkLog.{SinkLog}
 use Rattle.press_sink.specs.Sending.{Output, Ending, AtSheet, AtReply, ForMemory, WentOut}
 use Rattle.press_engine.specs.declared.machine.Machine.{Machine}
 use Rattle.press_stream.specs.declared.fault.JobError.{JobError}
 use Rattle.press_stream.specs.declared.fault.JobError.TheVariants as errors
 use Rattle.press_stream.specs.State.{JobState}
-use Rattle.press_stream.specs.Meaning.{Goes, Stops}
+use Rattle.press_stream.specs.Meaning.{CarriesOut, Stops}
 use Rattle.press_stream.specs.Answers.{FaultsBy, Faults, FaultsBefore, Feeds, Finishes, RunsThrough, IsEarly, CountsFaults, fault_of}
 
 -- What a call promises of its refusals, and of the counts of faults.
-pub record Answered (old : JobState) (result : Result (Unit {0}) JobError) (new : JobState) (before after : Told) : Type 0 where
+pub record Answered (old : JobState) (result : Result (Unit {0}) JobError) (new : JobState) (before after : SinkLog) : Type 0 where
   pub failed : IsErrOf result errors.Failed ↔ (old.machine ≡ None)
   pub unchanged : IsEarly result → (new ≡ old) × (after ≡ before)
   pub lost : IfErr result (λ error. error ≢ errors.AfterEnd → new.machine ≡ None)
   pub counts : CountsFaults (fault_of result) before after
 
 -- Outputs went out from a machine as far as an ending says.
-record Sent (old : JobState) (ending : Ending) (before after : Told) : Type 0 where
+record Sent (old : JobState) (ending : Ending) (before after : SinkLog) : Type 0 where
   from : Machine
   starts : old.machine ≡ Some from
   tag : ℕ
@@ -31,7 +31,7 @@ runs : (machine : Option Machine) (from : Machine) → machine ≡ Some from →
 runs machine from some none = cc
 
 -- a job went on
-went_on : (old new : JobState) (value : Unit {0}) (bytes : List ℕ) (given : List Token) (tag : ℕ) (before after : Told) → Goes old bytes given tag new before after → Answered old (Ok value) new before after
+went_on : (old new : JobState) (value : Unit {0}) (bytes : List ℕ) (given : List Token) (tag : ℕ) (before after : SinkLog) → CarriesOut old bytes given tag new before after → Answered old (Ok value) new before after
 went_on old new value bytes given tag before after goes = record {
   failed = (λ is. absurd (cc), λ none. absurd (runs old.machine _ goes.carried.starts none));
   unchanged = λ early. absurd early;
@@ -40,7 +40,7 @@ went_on old new value bytes given tag before after goes = record {
 }
 
 -- a job stopped at a fault
-stopped_by : (stops : Ending → Type 0) (old new : JobState) (error : JobError) (before after : Told) → ((ending : Ending) → stops ending → Sent old ending before after) → FaultsBy stops old error new before after → Answered old (Err error) new before after
+stopped_by : (stops : Ending → Type 0) (old new : JobState) (error : JobError) (before after : SinkLog) → ((ending : Ending) → stops ending → Sent old ending before after) → FaultsBy stops old error new before after → Answered old (Err error) new before after
 stopped_by stops old new errors.SinkFault before after sent faults =
     let one = sent AtSheet faults.1 in
     record {
@@ -69,13 +69,13 @@ stopped_by stops old new errors.Failed before after sent faults = record {
   failed = (λ _. faults.0, λ _. refl);
   unchanged = λ _. (faults.1, faults.2);
   lost = λ _. ap (λ (job : JobState). job.machine) faults.1 ∙ faults.0;
-  counts = record { sheets = ap (λ (tells : Told). tells.sheets.faults) faults.2; replies = ap (λ (tells : Told). tells.replies.faults) faults.2 };
+  counts = record { sheets = ap (λ (tells : SinkLog). tells.sheets.faults) faults.2; replies = ap (λ (tells : SinkLog). tells.replies.faults) faults.2 };
 }
 stopped_by stops old new errors.ReadFault before after sent faults = absurd faults
 stopped_by stops old new errors.AfterEnd before after sent faults = absurd faults
 
 -- a job that stopped has failed
-gone : (stops : Ending → Type 0) (old new : JobState) (error : JobError) (before after : Told) → FaultsBy stops old error new before after → new.machine ≡ None
+gone : (stops : Ending → Type 0) (old new : JobState) (error : JobError) (before after : SinkLog) → FaultsBy stops old error new before after → new.machine ≡ None
 gone stops old new errors.SinkFault before after faults = faults.0
 gone stops old new errors.ReplyFault before after faults = faults.0
 gone stops old new errors.NoMemory before after faults = faults.0
@@ -84,15 +84,15 @@ gone stops old new errors.ReadFault before after faults = absurd faults
 gone stops old new errors.AfterEnd before after faults = absurd faults
 
 -- the end of input was given before
-after_end : (old new : JobState) (before after : Told) → IsSome old.machine → new ≡ old → after ≡ before → Answered old (Err errors.AfterEnd) new before after
+after_end : (old new : JobState) (before after : SinkLog) → IsSome old.machine → new ≡ old → after ≡ before → Answered old (Err errors.AfterEnd) new before after
 after_end old new before after running same told = record {
   failed = (λ is. absurd (cc), λ none. absurd (cc));
   unchanged = λ _. (same, told);
   lost = λ other. absurd (other refl);
-  counts = record { sheets = ap (λ (tells : Told). tells.sheets.faults) told; replies = ap (λ (tells : Told). tells.replies.faults) told };
+  counts = record { sheets = ap (λ (tells : SinkLog). tells.sheets.faults) told; replies = ap (λ (tells : SinkLog). tells.replies.faults) told };
 }
 
-sent_of_stops : (old : JobState) (bytes : List ℕ) (tag : ℕ) (before after : Told) (ending : Ending) → Stops old bytes tag ending before after → Sent old ending before after
+sent_of_stops : (old : JobState) (bytes : List ℕ) (tag : ℕ) (before after : SinkLog) (ending : Ending) → Stops old bytes tag ending before after → Sent old ending before after
 sent_of_stops old bytes tag before after ending (commands, owes, stopped) = record {
   from = stopped.from;
   starts = stopped.starts;
@@ -102,20 +102,20 @@ sent_of_stops old bytes tag before after ending (commands, owes, stopped) = reco
 }
 
 -- a job that had these bytes behind what it held
-stopped_with : (old new : JobState) (bytes : List ℕ) (tag : ℕ) (error : JobError) (before after : Told) → Faults old bytes tag error new before after → Answered old (Err error) new before after
+stopped_with : (old new : JobState) (bytes : List ℕ) (tag : ℕ) (error : JobError) (before after : SinkLog) → Faults old bytes tag error new before after → Answered old (Err error) new before after
 stopped_with old new bytes tag error before after faults =
     stopped_by (λ ending. Stops old bytes tag ending before after) old new error before after (sent_of_stops old bytes tag before after) faults
 
-pub Answered-finish : (old new : JobState) (tag : ℕ) (result : Result (Unit {0}) JobError) (before after : Told) → Finishes old tag result new before after → Answered old result new before after
+pub Answered-finish : (old new : JobState) (tag : ℕ) (result : Result (Unit {0}) JobError) (before after : SinkLog) → Finishes old tag result new before after → Answered old result new before after
 Answered-finish old new tag (Ok done) before after (given, goes, _) = went_on old new done [] given tag before after goes
 Answered-finish old new tag (Err error) before after faults = stopped_with old new [] tag error before after faults
 
-pub lost-finish : (old new : JobState) (tag : ℕ) (result : Result (Unit {0}) JobError) (before after : Told) → Finishes old tag result new before after → OnErr result (new.machine ≡ None)
+pub lost-finish : (old new : JobState) (tag : ℕ) (result : Result (Unit {0}) JobError) (before after : SinkLog) → Finishes old tag result new before after → OnErr result (new.machine ≡ None)
 lost-finish old new tag (Ok done) before after finishes = tt
 lost-finish old new tag (Err error) before after faults = gone (λ ending. Stops old [] tag ending before after) old new error before after faults
 
 -- a job that takes more bytes was fed
-pub Answered-feed : (old new : JobState) (piece : List ℕ) (tag : ℕ) (result : Result (Unit {0}) JobError) (before after : Told) → old.held.ended ≡ false → Feeds old piece tag result new before after → Answered old result new before after
+pub Answered-feed : (old new : JobState) (piece : List ℕ) (tag : ℕ) (result : Result (Unit {0}) JobError) (before after : SinkLog) → old.held.ended ≡ false → Feeds old piece tag result new before after → Answered old result new before after
 Answered-feed old new piece tag (Ok done) before after going (given, goes, _) = went_on old new done piece given tag before after goes
 Answered-feed old new piece tag (Err error) before after going feeds = by error feeds where
   now : (error : JobError) → FaultsBefore old piece tag error new before after → Answered old (Err error) new before after
@@ -130,7 +130,7 @@ Answered-feed old new piece tag (Err error) before after going feeds = by error 
   by errors.AfterEnd feeds = absurd (true≢false (sym feeds.0.1 ∙ going))
 
 -- a job ran the bytes of a reader
-pub Answered-run : (old new : JobState) (bytes : List ℕ) (tag : ℕ) (result : Result (Unit {0}) JobError) (before after : Told) → RunsThrough old bytes tag result new before after → Answered old result new before after
+pub Answered-run : (old new : JobState) (bytes : List ℕ) (tag : ℕ) (result : Result (Unit {0}) JobError) (before after : SinkLog) → RunsThrough old bytes tag result new before after → Answered old result new before after
 Answered-run old new bytes tag (Ok done) before after (given, goes, _) = went_on old new done bytes given tag before after goes
 Answered-run old new bytes tag (Err errors.ReadFault) before after (gone, given, last, goes, _) = record {
   failed = (λ is. absurd (cc), λ none. absurd (runs old.machine _ goes.carried.starts none));

@@ -4,21 +4,21 @@ use Rattle.std.proofs.lemmas.List.{map-append}
 use Rattle.std.proofs.lemmas.Option.{same_Some}
 use Rattle.std.specs.Io.KnownBytes.{Appends}
 use Rattle.press_cmd.specs.Token.{Token}
-use Rattle.press_sink.specs.Sides.{Sides}
+use Rattle.press_sink.specs.PrintedSheet.{PrintedSheet}
 use Rattle.press_sink.specs.declared.sheet.Delivery.{Delivery}
-use Rattle.press_sink.specs.Told.{Told, RepliesTold}
+use Rattle.press_sink.specs.SinkLog.{SinkLog, ReplyLog}
 use Rattle.press_sink.specs.Sending.{Output, Ending, Complete, AtSheet, AtReply, ForMemory, sheets_of, reply_bytes_of, sheets_in, under_tag, TookAll, WentOut}
 use Rattle.press_sink.proofs.SendingLemmas.{sheets_in-tagged}
 use Rattle.press_stream.specs.State.{JobState}
-use Rattle.press_stream.specs.Meaning.{Goes, Stops}
+use Rattle.press_stream.specs.Meaning.{CarriesOut, Stops}
 use Rattle.press_stream.specs.Chain.{SameButTags}
 
 -- sheets under a tag behind deliveries
-sheets_in-behind : (tag : ℕ) (all : List Delivery) (sheets : List Sides) → sheets_in (all ++ under_tag tag sheets) ≡ sheets_in all ++ sheets
+sheets_in-behind : (tag : ℕ) (all : List Delivery) (sheets : List PrintedSheet) → sheets_in (all ++ under_tag tag sheets) ≡ sheets_in all ++ sheets
 sheets_in-behind tag all sheets = map-append _ all (under_tag tag sheets) ∙ ap (λ more. sheets_in all ++ more) (sheets_in-tagged tag sheets)
 
 -- the same sheets are added under either tag
-sheets_told : (tag other : ℕ) (sheets : List Sides) (one two : Option (List Delivery)) → option_map sheets_in one ≡ option_map sheets_in two
+sheets_told : (tag other : ℕ) (sheets : List PrintedSheet) (one two : Option (List Delivery)) → option_map sheets_in one ≡ option_map sheets_in two
     → option_map sheets_in (option_map (λ all. all ++ under_tag tag sheets) one) ≡ option_map sheets_in (option_map (λ all. all ++ under_tag other sheets) two)
 sheets_told tag other sheets None None same = refl
 sheets_told tag other sheets None (Some two) same = absurd (cc)
@@ -27,13 +27,13 @@ sheets_told tag other sheets (Some one) (Some two) same =
     ap Some (sheets_in-behind tag one sheets ∙ ap (λ all. all ++ sheets) (same_Some (sheets_in one) (sheets_in two) same) ∙ sym (sheets_in-behind other two sheets))
 
 -- what is told after sheets under another tag
-abbrev under : (other : ℕ) (sheets : List Sides) (after from : Told) → Told
+abbrev under : (other : ℕ) (sheets : List PrintedSheet) (after from : SinkLog) → SinkLog
 under other sheets after from = record {
   sheets = record { delivered = option_map (λ all. all ++ under_tag other sheets) from.sheets.delivered; faults = after.sheets.faults };
   replies = after.replies;
 }
 
-same_under : (tag other : ℕ) (sheets : List Sides) (before after from : Told) → after.sheets.delivered ≡ option_map (λ all. all ++ under_tag tag sheets) before.sheets.delivered
+same_under : (tag other : ℕ) (sheets : List PrintedSheet) (before after from : SinkLog) → after.sheets.delivered ≡ option_map (λ all. all ++ under_tag tag sheets) before.sheets.delivered
     → SameButTags before from → SameButTags after (under other sheets after from)
 same_under tag other sheets before after from delivered same = record {
   sheets = ap (option_map sheets_in) delivered ∙ sheets_told tag other sheets before.sheets.delivered from.sheets.delivered same.sheets;
@@ -42,22 +42,22 @@ same_under tag other sheets before after from delivered same = record {
 }
 
 -- all outputs were taken, under another tag
-took-under : (tag other : ℕ) (outputs : List Output) (before after from : Told) → TookAll tag outputs before after → SameButTags before from
-    → (to : Told) × SameButTags after to × TookAll other outputs from to
+took-under : (tag other : ℕ) (outputs : List Output) (before after from : SinkLog) → TookAll tag outputs before after → SameButTags before from
+    → (to : SinkLog) × SameButTags after to × TookAll other outputs from to
 took-under tag other outputs before after from took same = (
   under other (sheets_of outputs) after from,
   same_under tag other (sheets_of outputs) before after from took.delivered same,
   record {
     delivered = refl;
-    replied = subst (λ (told : RepliesTold). Appends told.replied after.replies.replied (reply_bytes_of outputs)) same.replies took.replied;
+    replied = subst (λ (told : ReplyLog). Appends told.replied after.replies.replied (reply_bytes_of outputs)) same.replies took.replied;
     sheet_faults = took.sheet_faults ∙ same.sheet_faults;
-    reply_faults = took.reply_faults ∙ ap (λ (told : RepliesTold). told.faults) same.replies;
+    reply_faults = took.reply_faults ∙ ap (λ (told : ReplyLog). told.faults) same.replies;
   },
 )
 
 -- how outputs went out, under another tag
-pub WentOut-under : (tag other : ℕ) (outputs : List Output) (ending : Ending) (before after from : Told) → WentOut tag outputs ending before after → SameButTags before from
-    → (to : Told) × SameButTags after to × WentOut other outputs ending from to
+pub WentOut-under : (tag other : ℕ) (outputs : List Output) (ending : Ending) (before after from : SinkLog) → WentOut tag outputs ending before after → SameButTags before from
+    → (to : SinkLog) × SameButTags after to × WentOut other outputs ending from to
 WentOut-under tag other outputs Complete before after from went same = took-under tag other outputs before after from went same
 WentOut-under tag other outputs AtSheet before after from went same = (
   under other (sheets_of went.taken) after from,
@@ -68,9 +68,9 @@ WentOut-under tag other outputs AtSheet before after from went same = (
     others = went.others;
     outputs_are = went.outputs_are;
     delivered = refl;
-    replied = subst (λ (told : RepliesTold). Appends told.replied after.replies.replied (reply_bytes_of went.taken)) same.replies went.replied;
+    replied = subst (λ (told : ReplyLog). Appends told.replied after.replies.replied (reply_bytes_of went.taken)) same.replies went.replied;
     fault = went.fault ∙ ap (λ (n : ℕ). n + 1) same.sheet_faults;
-    reply_faults = went.reply_faults ∙ ap (λ (told : RepliesTold). told.faults) same.replies;
+    reply_faults = went.reply_faults ∙ ap (λ (told : ReplyLog). told.faults) same.replies;
   },
 )
 WentOut-under tag other outputs AtReply before after from went same = (
@@ -78,14 +78,14 @@ WentOut-under tag other outputs AtReply before after from went same = (
   same_under tag other (sheets_of went.taken) before after from went.delivered same,
   record {
     taken = went.taken;
-    front = went.front;
+    prefix = went.prefix;
     back = went.back;
     others = went.others;
     outputs_are = went.outputs_are;
     delivered = refl;
-    replied = subst (λ (told : RepliesTold). Appends told.replied after.replies.replied (reply_bytes_of went.taken ++ went.front)) same.replies went.replied;
+    replied = subst (λ (told : ReplyLog). Appends told.replied after.replies.replied (reply_bytes_of went.taken ++ went.prefix)) same.replies went.replied;
     sheet_faults = went.sheet_faults ∙ same.sheet_faults;
-    fault = went.fault ∙ ap (λ (told : RepliesTold). told.faults + 1) same.replies;
+    fault = went.fault ∙ ap (λ (told : ReplyLog). told.faults + 1) same.replies;
   },
 )
 WentOut-under tag other outputs ForMemory before after from went same =
@@ -93,9 +93,9 @@ WentOut-under tag other outputs ForMemory before after from went same =
     (all.0, all.1, record { taken = went.taken; others = went.others; outputs_are = went.outputs_are; took = all.2 })
 
 -- a job that went under a tag
-pub Goes-under : (old new : JobState) (bytes : List ℕ) (given : List Token) (tag other : ℕ) (before after from : Told) → Goes old bytes given tag new before after → SameButTags before from
-    → (to : Told) × SameButTags after to × Goes old bytes given other new from to
-Goes-under old new bytes given tag other before after from goes same =
+pub CarriesOut-under : (old new : JobState) (bytes : List ℕ) (given : List Token) (tag other : ℕ) (before after from : SinkLog) → CarriesOut old bytes given tag new before after → SameButTags before from
+    → (to : SinkLog) × SameButTags after to × CarriesOut old bytes given other new from to
+CarriesOut-under old new bytes given tag other before after from goes same =
     let told = WentOut-under tag other _ Complete before after from goes.carried.went same in (
       told.0,
       told.1,
@@ -108,8 +108,8 @@ Goes-under old new bytes given tag other before after from goes same =
     )
 
 -- a job that stopped under a tag
-pub Stops-under : (job : JobState) (bytes : List ℕ) (tag other : ℕ) (ending : Ending) (before after from : Told) → Stops job bytes tag ending before after → SameButTags before from
-    → (to : Told) × SameButTags after to × Stops job bytes other ending from to
+pub Stops-under : (job : JobState) (bytes : List ℕ) (tag other : ℕ) (ending : Ending) (before after from : SinkLog) → Stops job bytes tag ending before after → SameButTags before from
+    → (to : SinkLog) × SameButTags after to × Stops job bytes other ending from to
 Stops-under job bytes tag other ending before after from (commands, owes, stopped) same =
     let told = WentOut-under tag other _ ending before after from stopped.went same in
     (told.0, told.1, (commands, owes, record { from = stopped.from; starts = stopped.starts; went = told.2 }))

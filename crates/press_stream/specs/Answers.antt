@@ -4,10 +4,10 @@ use Rattle.std.specs.Io.KnownBytes.{Consumes, IsAtEnd}
 use Rattle.press_cmd.specs.Token.{Token, Uel}
 use Rattle.press_cmd.specs.declared.variant.Kind.{Kind}
 use Rattle.press_scan.specs.Gives.{IsDone, IsNext}
-use Rattle.press_sink.specs.Told.{Told}
+use Rattle.press_sink.specs.SinkLog.{SinkLog}
 use Rattle.press_sink.specs.Sending.{Output, Ending, Complete, AtSheet, AtReply, ForMemory, WentOut}
 use Rattle.press_engine.specs.Engine.{NeedsMemory, InnerNeedsMemory}
-use Rattle.press_engine.specs.Machine.{Run}
+use Rattle.press_engine.specs.Machine.{StepResult}
 use Rattle.press_engine.specs.declared.fault.EngineError.{EngineError}
 use Rattle.press_engine.specs.declared.fault.EngineError.TheVariants as engine_errors
 use Rattle.press_stream.specs.declared.fault.JobError.{JobError}
@@ -16,9 +16,9 @@ use Rattle.press_stream.specs.declared.step.Step.{Step}
 use Rattle.press_stream.specs.declared.step.Step.TheVariants as answers
 use Rattle.press_stream.specs.declared.step.JobStep.{JobStep}
 use Rattle.press_stream.specs.declared.step.JobStep.TheVariants as steps
-use Rattle.press_stream.specs.State.{JobState, IsHungry, IsOver, IsAfterEnd, with_piece, most_commands}
+use Rattle.press_stream.specs.State.{JobState, NeedsInput, IsOver, IsAfterEnd, with_piece, most_commands}
 use Rattle.press_stream.specs.Steps.{Does, DoesStep}
-use Rattle.press_stream.specs.Meaning.{StoppedAt, Goes, Stops}
+use Rattle.press_stream.specs.Meaning.{StoppedAt, CarriesOut, Stops}
 
 -- an engine's error as a job's
 abbrev pub job_error : EngineError → JobError
@@ -29,7 +29,7 @@ job_error engine_errors.NoMemory = errors.NoMemory
 
 -- A job stopped at a fault, and has failed for good: so much went out as the fault's ending says. A job that had failed
 -- before lets nothing out.
-abbrev pub FaultsBy : (Ending → Type 0) → JobState → JobError → JobState → Told → Told → Type 0
+abbrev pub FaultsBy : (Ending → Type 0) → JobState → JobError → JobState → SinkLog → SinkLog → Type 0
 FaultsBy stops old errors.SinkFault new before after = (new.machine ≡ None) × stops AtSheet
 FaultsBy stops old errors.ReplyFault new before after = (new.machine ≡ None) × stops AtReply
 FaultsBy stops old errors.NoMemory new before after = (new.machine ≡ None) × stops ForMemory
@@ -38,11 +38,11 @@ FaultsBy stops old errors.ReadFault new before after = ⊥
 FaultsBy stops old errors.AfterEnd new before after = ⊥
 
 -- The same of a job with these bytes behind what it held: it is so much of what it owed.
-abbrev pub Faults : JobState → List ℕ → ℕ → JobError → JobState → Told → Told → Type 0
+abbrev pub Faults : JobState → List ℕ → ℕ → JobError → JobState → SinkLog → SinkLog → Type 0
 Faults old bytes tag error new before after = FaultsBy (λ ending. Stops old bytes tag ending before after) old error new before after
 
 -- The same, whatever bytes may come behind these: none do after the end of input.
-abbrev pub FaultsBefore : JobState → List ℕ → ℕ → JobError → JobState → Told → Told → Type 0
+abbrev pub FaultsBefore : JobState → List ℕ → ℕ → JobError → JobState → SinkLog → SinkLog → Type 0
 FaultsBefore old bytes tag error new before after =
     (more : List ℕ) → (old.held.ended ≡ true → bytes ++ more ≡ []) → Faults old (bytes ++ more) tag error new before after
 
@@ -86,30 +86,30 @@ TakesOf job given =
     ((job.bodies ≢ []) × (given ≡ [])) ⊎ ((command : Token) × IsDue job command × (given ≡ command ∷ []))
 
 -- A table step was taken: the job did an item, whose command has this kind, and all that goes out in it went out.
-pub record RanOne (old : JobState) (tag : ℕ) (kind : Kind) (new : JobState) (before after : Told) : Type 0 where
-  pub item : Run
+pub record RanOne (old : JobState) (tag : ℕ) (kind : Kind) (new : JobState) (before after : SinkLog) : Type 0 where
+  pub item : StepResult
   pub did : Does old item kind new
   pub went : WentOut tag item.outputs Complete before after
 
 -- The item that comes next was begun, and of its outputs so much went out as the ending says.
-abbrev pub StopsAtDue : JobState → ℕ → Ending → Told → Told → Type 0
+abbrev pub StopsAtDue : JobState → ℕ → Ending → SinkLog → SinkLog → Type 0
 StopsAtDue job tag ending before after =
     (given : List Token) × TakesOf job given × StoppedAt given job tag ending before after
 
 -- A step stopped at a fault: so much went out of the item that comes next.
-abbrev pub StepFaults : JobState → ℕ → JobError → JobState → Told → Told → Type 0
+abbrev pub StepFaults : JobState → ℕ → JobError → JobState → SinkLog → SinkLog → Type 0
 StepFaults old tag error new before after = FaultsBy (λ ending. StopsAtDue old tag ending before after) old error new before after
 
 -- A step was taken; or the bytes so far are used up, or no step is left, and nothing changed; or the job stopped at a fault.
-abbrev pub Takes : JobState → ℕ → Result Step JobError → JobState → Told → Told → Type 0
+abbrev pub Takes : JobState → ℕ → Result Step JobError → JobState → SinkLog → SinkLog → Type 0
 Takes old tag (Ok (answers.Ran kind)) new before after = RanOne old tag kind new before after
-Takes old tag (Ok answers.Hungry) new before after = IsHungry old × (new ≡ old) × (after ≡ before)
+Takes old tag (Ok answers.Hungry) new before after = NeedsInput old × (new ≡ old) × (after ≡ before)
 Takes old tag (Ok answers.Ended) new before after = IsOver old × (new ≡ old) × (after ≡ before)
 Takes old tag (Err error) new before after = StepFaults old tag error new before after
 
 -- the job is hungry, or no step is left
 abbrev pub IsIdle : JobState → Type 0
-IsIdle job = IsHungry job ⊎ IsOver job
+IsIdle job = NeedsInput job ⊎ IsOver job
 
 -- what comes next may take memory: the next command of the innermost body that runs, or that of the stream
 abbrev pub WantsMemory : JobState → Type 0
@@ -120,7 +120,7 @@ WantsMemory job =
 -- changed; or memory ran out where what comes next may take some, and the job has failed for good; or it had failed before.
 abbrev pub TakesStep : JobState → Result JobStep JobError → JobState → Type 0
 TakesStep old (Ok (steps.Ran step)) new = DoesStep old step new
-TakesStep old (Ok steps.Hungry) new = IsHungry old × (new ≡ old)
+TakesStep old (Ok steps.Hungry) new = NeedsInput old × (new ≡ old)
 TakesStep old (Ok steps.Ended) new = IsOver old × (new ≡ old)
 TakesStep old (Err errors.NoMemory) new = WantsMemory old × (new.machine ≡ None)
 TakesStep old (Err errors.Failed) new = (old.machine ≡ None) × (new ≡ old)
@@ -130,7 +130,7 @@ TakesStep old (Err errors.ReadFault) new = ⊥
 TakesStep old (Err errors.AfterEnd) new = ⊥
 
 -- How far outputs went out that were handed over, by what is answered.
-abbrev pub HandsOver : ℕ → List Output → Result (Unit {0}) JobError → Told → Told → Type 0
+abbrev pub HandsOver : ℕ → List Output → Result (Unit {0}) JobError → SinkLog → SinkLog → Type 0
 HandsOver tag outputs (Ok _) before after = WentOut tag outputs Complete before after
 HandsOver tag outputs (Err errors.SinkFault) before after = WentOut tag outputs AtSheet before after
 HandsOver tag outputs (Err errors.ReplyFault) before after = WentOut tag outputs AtReply before after
@@ -140,40 +140,40 @@ HandsOver tag outputs (Err errors.ReadFault) before after = ⊥
 HandsOver tag outputs (Err errors.AfterEnd) before after = ⊥
 
 -- The job goes on, by commands that it takes, to where what comes next may take memory.
-abbrev pub ComesToWant : JobState → ℕ → Told → Type 0
+abbrev pub ComesToWant : JobState → ℕ → SinkLog → Type 0
 ComesToWant job tag told =
-    (given : List Token) × (last : JobState) × (between : Told) × Goes job [] given tag last told between × WantsMemory last
+    (given : List Token) × (last : JobState) × (between : SinkLog) × CarriesOut job [] given tag last told between × WantsMemory last
 
 -- A job did what was left of the bodies that run, and took no command of the stream.
-abbrev pub RunsOut : JobState → ℕ → Result (Unit {0}) JobError → JobState → Told → Told → Type 0
+abbrev pub RunsOut : JobState → ℕ → Result (Unit {0}) JobError → JobState → SinkLog → SinkLog → Type 0
 RunsOut old tag (Ok _) new before after =
-    Goes old [] [] tag new before after × (new.bodies ≡ []) × (most_commands new ≤ most_commands old) × (new.held.ended ≡ old.held.ended)
+    CarriesOut old [] [] tag new before after × (new.bodies ≡ []) × (most_commands new ≤ most_commands old) × (new.held.ended ≡ old.held.ended)
 RunsOut old tag (Err error) new before after = FaultsBefore old [] tag error new before after
 
 -- A job in which no body runs took commands of its stream, and nothing goes out in any of them.
 pub record PassesOn (old new : JobState) : Type 0 where
   pub given : List Token
-  pub goes : (tag : ℕ) (told : Told) → Goes old [] given tag new told told
+  pub goes : (tag : ℕ) (told : SinkLog) → CarriesOut old [] given tag new told told
   pub idle : new.bodies ≡ []
   pub fewer : most_commands new ≤ most_commands old
   pub ended : new.held.ended ≡ old.held.ended
 
 -- A job carried out what it holds, until it is hungry or no step is left.
-abbrev pub Drains : JobState → ℕ → Result (Unit {0}) JobError → JobState → Told → Told → Type 0
+abbrev pub Drains : JobState → ℕ → Result (Unit {0}) JobError → JobState → SinkLog → SinkLog → Type 0
 Drains old tag (Ok _) new before after =
-    (given : List Token) × Goes old [] given tag new before after × IsIdle new × (new.held.ended ≡ old.held.ended)
+    (given : List Token) × CarriesOut old [] given tag new before after × IsIdle new × (new.held.ended ≡ old.held.ended)
 Drains old tag (Err error) new before after = FaultsBefore old [] tag error new before after
 
 -- A piece was handed to a job, which carried out the commands so far; or it was refused after the end of input, and nothing
 -- changed.
-abbrev pub Feeds : JobState → List ℕ → ℕ → Result (Unit {0}) JobError → JobState → Told → Told → Type 0
-Feeds old piece tag (Ok _) new before after = (given : List Token) × Goes old piece given tag new before after × IsHungry new
+abbrev pub Feeds : JobState → List ℕ → ℕ → Result (Unit {0}) JobError → JobState → SinkLog → SinkLog → Type 0
+Feeds old piece tag (Ok _) new before after = (given : List Token) × CarriesOut old piece given tag new before after × NeedsInput new
 Feeds old piece tag (Err errors.AfterEnd) new before after = IsAfterEnd old × (new ≡ old) × (after ≡ before)
 Feeds old piece tag (Err error) new before after = FaultsBefore old piece tag error new before after
 
 -- The end of input was given to a job, which carried out all that it owed.
-abbrev pub Finishes : JobState → ℕ → Result (Unit {0}) JobError → JobState → Told → Told → Type 0
-Finishes old tag (Ok _) new before after = (given : List Token) × Goes old [] given tag new before after × IsOver new
+abbrev pub Finishes : JobState → ℕ → Result (Unit {0}) JobError → JobState → SinkLog → SinkLog → Type 0
+Finishes old tag (Ok _) new before after = (given : List Token) × CarriesOut old [] given tag new before after × IsOver new
 Finishes old tag (Err error) new before after = Faults old [] tag error new before after
 
 -- the error that was answered, if one was
@@ -192,7 +192,7 @@ ReplyFaults (Some errors.ReplyFault) before after = after ≡ before + 1
 ReplyFaults error before after = after ≡ before
 
 -- the counts of faults of both sinks
-pub record CountsFaults (error : Option JobError) (before after : Told) : Type 0 where
+pub record CountsFaults (error : Option JobError) (before after : SinkLog) : Type 0 where
   pub sheets : SheetFaults error before.sheets.faults after.sheets.faults
   pub replies : ReplyFaults error before.replies.faults after.replies.faults
 
@@ -204,15 +204,15 @@ pub record Reads (had left : Option (List ℕ)) (error : Option JobError) (bytes
 
 -- Of these bytes that were read so much was carried out, by what was answered: all, and what is owed at their end; or a read
 -- failed, and their commands so far; or as far as a fault allowed; or nothing after the end of input.
-abbrev pub RunsThrough : JobState → List ℕ → ℕ → Result (Unit {0}) JobError → JobState → Told → Told → Type 0
-RunsThrough old bytes tag (Ok _) new before after = (given : List Token) × Goes old bytes given tag new before after × IsOver new
+abbrev pub RunsThrough : JobState → List ℕ → ℕ → Result (Unit {0}) JobError → JobState → SinkLog → SinkLog → Type 0
+RunsThrough old bytes tag (Ok _) new before after = (given : List Token) × CarriesOut old bytes given tag new before after × IsOver new
 RunsThrough old bytes tag (Err errors.ReadFault) new before after =
-    (new.machine ≡ None) × (given : List Token) × (last : JobState) × Goes old bytes given tag last before after × IsHungry last
+    (new.machine ≡ None) × (given : List Token) × (last : JobState) × CarriesOut old bytes given tag last before after × NeedsInput last
 RunsThrough old bytes tag (Err errors.AfterEnd) new before after = IsAfterEnd old × (bytes ≡ []) × (new ≡ old) × (after ≡ before)
 RunsThrough old bytes tag (Err error) new before after = Faults old bytes tag error new before after
 
 -- A job ran a stream that a reader had.
-pub record RunsReader (old : JobState) (had left : Option (List ℕ)) (tag : ℕ) (result : Result (Unit {0}) JobError) (new : JobState) (before after : Told) : Type 0 where
+pub record RunsReader (old : JobState) (had left : Option (List ℕ)) (tag : ℕ) (result : Result (Unit {0}) JobError) (new : JobState) (before after : SinkLog) : Type 0 where
   pub bytes : List ℕ
   pub read : Reads had left (fault_of result) bytes
   pub through : RunsThrough old bytes tag result new before after

@@ -1,14 +1,14 @@
 -- A job as callers see it.
 use Rattle.std.specs.Prelude.{◌≡◌, ◌≤◌, ◌+◌, ℕ, List, [], ◌++◌, Bool, true, false, Option, Some, None, IsSome, length, if◌then◌else◌}
-use Rattle.press_cmd.specs.Mode.{Exit}
+use Rattle.press_cmd.specs.ParserState.{Exit}
 use Rattle.press_cmd.specs.Split.{NoHead}
 use Rattle.press_scan.specs.ScannerState.{ScannerState, buffer_size}
 use Rattle.press_scan.specs.Sequences.{longest_rest}
 use Rattle.press_engine.specs.declared.engine.Engine.{Engine}
-use Rattle.press_engine.specs.declared.frame.Frame.{Frame}
+use Rattle.press_engine.specs.declared.activation.Activation.{Activation}
 use Rattle.press_engine.specs.declared.machine.Machine.{Machine}
 use Rattle.press_engine.specs.Engine as engines
-use Rattle.press_engine.specs.Engine.{live}
+use Rattle.press_engine.specs.Engine.{machine_of}
 use Rattle.press_engine.specs.Machine.{power_on}
 use Rattle.press_stream.specs.declared.phase.Phase.{Phase}
 use Rattle.press_stream.specs.declared.phase.Phase.TheVariants as phases
@@ -18,7 +18,7 @@ use Rattle.press_stream.specs.declared.phase.Phase.TheVariants as phases
 pub record JobState : Type 0 where
   pub held : ScannerState
   pub machine : Option Machine
-  pub bodies : List Frame
+  pub bodies : List Activation
   pub exited : Bool
 
 -- a job at the beginning of a stream
@@ -39,7 +39,7 @@ abbrev pub input_ended : JobState → JobState
 input_ended job = record job { held = record job.held { ended = true } }
 
 -- The commands of the bytes so far are carried out, with the bodies that they start, and more bytes may come.
-pub record IsHungry (job : JobState) : Type 0 where
+pub record NeedsInput (job : JobState) : Type 0 where
   pub running : IsSome job.machine
   pub idle : job.bodies ≡ []
   pub going : job.held.ended ≡ false
@@ -66,11 +66,11 @@ most_commands job = length job.held.bytes + (if job.exited then 0 else 1)
 -- the machine of an engine in a phase
 abbrev pub machine_in : Phase → Engine → Option Machine
 machine_in phases.Failed engine = None
-machine_in phases.Running engine = live engine
-machine_in phases.Exited engine = live engine
+machine_in phases.Running engine = machine_of engine
+machine_in phases.Exited engine = machine_of engine
 
 -- the bodies that run in it
-abbrev pub bodies_in : Phase → Engine → List Frame
+abbrev pub bodies_in : Phase → Engine → List Activation
 bodies_in phases.Failed engine = []
 bodies_in phases.Running engine = engines.bodies engine
 bodies_in phases.Exited engine = engines.bodies engine
@@ -92,5 +92,5 @@ job_state held engine phase = record {
 -- what is true of them
 abbrev pub Fits : ScannerState → Engine → Phase → Type 0
 Fits held engine phases.Failed = Unit {0}
-Fits held engine phases.Running = IsSome (live engine) × (held.room ≡ buffer_size)
-Fits held engine phases.Exited = IsSome (live engine) × (held.ended ≡ true) × (held.bytes ≡ [])
+Fits held engine phases.Running = IsSome (machine_of engine) × (held.room ≡ buffer_size)
+Fits held engine phases.Exited = IsSome (machine_of engine) × (held.ended ≡ true) × (held.bytes ≡ [])

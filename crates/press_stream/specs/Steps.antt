@@ -6,12 +6,12 @@ use Rattle.press_scan.specs.Gives.{Passes, IsDone}
 use Rattle.press_scan.specs.Passing.{PassesEach}
 use Rattle.press_scan.specs.ScannerState.{ScannerState}
 use Rattle.press_engine.specs.declared.effect.StepOutput.{StepOutput}
-use Rattle.press_engine.specs.declared.frame.Frame.{Frame}
+use Rattle.press_engine.specs.declared.activation.Activation.{Activation}
 use Rattle.press_engine.specs.declared.machine.Machine.{Machine}
 use Rattle.press_engine.specs.Engine.{IsOfKind, NeedsMemory, Steps}
-use Rattle.press_engine.specs.Machine.{Run, levels}
+use Rattle.press_engine.specs.Machine.{StepResult, macro_levels}
 use Rattle.press_engine.specs.Outputs.{all_outputs}
-use Rattle.press_engine.specs.Stack.{owed, HasNext}
+use Rattle.press_engine.specs.Stack.{continuation, HasNext}
 use Rattle.press_engine.specs.Trace.{trace_at, run_all}
 use Rattle.press_stream.specs.declared.fault.JobError.{JobError}
 use Rattle.press_stream.specs.declared.fault.JobError.TheVariants as errors
@@ -38,14 +38,14 @@ TakesGiven old given new = TakesNothing old given new ⊎ TakesHeld old given ne
 
 -- A step of a job did this item, whose command has this kind: the first of what was left of the bodies that run and of the
 -- commands that it takes. The others are what the bodies owe then.
-pub record Does (old : JobState) (item : Run) (kind : Kind) (new : JobState) : Type 0 where
+pub record Does (old : JobState) (item : StepResult) (kind : Kind) (new : JobState) : Type 0 where
   pub given : List Token
   pub takes : TakesGiven old given new
   pub from : Machine
   pub starts : old.machine ≡ Some from
   pub ends : new.machine ≡ Some item.machine
   pub is_kind : IsOfKind item.machine.last kind
-  pub are : left given old.bodies from ≡ item ∷ owed new.bodies item.machine
+  pub are : left given old.bodies from ≡ item ∷ continuation new.bodies item.machine
 
 -- The same of a step that answers what goes out in it.
 abbrev pub DoesStep : JobState → StepOutput → JobState → Type 0
@@ -53,16 +53,16 @@ DoesStep old step new =
     (machine : Machine) × Does old (record { machine = machine; outputs = all_outputs step.sent.items }) step.kind new
 
 -- An engine that owed items took a step; or memory ran out where the step needs some, and the engine has failed.
-abbrev pub Carries : Option Machine → (Machine → List Run) → (needs : Type 0) → Result StepOutput JobError → Option Machine → List Frame → Type 0
+abbrev pub Carries : Option Machine → (Machine → List StepResult) → (needs : Type 0) → Result StepOutput JobError → Option Machine → List Activation → Type 0
 Carries old owing needs (Ok step) new still = Steps old owing step new still
 Carries old owing needs (Err error) new still = (error ≡ errors.NoMemory) × needs × (new ≡ None)
 
 -- The same of one command that was handed to an engine in which no body ran.
-abbrev pub CarriesOne : Token → Option Machine → Result StepOutput JobError → Option Machine → List Frame → Type 0
-CarriesOne command old result new still = Carries old (trace_at levels command) (NeedsMemory old command) result new still
+abbrev pub CarriesOne : Token → Option Machine → Result StepOutput JobError → Option Machine → List Activation → Type 0
+CarriesOne command old result new still = Carries old (trace_at macro_levels command) (NeedsMemory old command) result new still
 
 -- The next command that a scanner holds was handed to an engine; or it holds none, and nothing changed.
-abbrev pub CarriesNext : ScannerState → Option Machine → Result (Option StepOutput) JobError → ScannerState → Option Machine → List Frame → Type 0
+abbrev pub CarriesNext : ScannerState → Option Machine → Result (Option StepOutput) JobError → ScannerState → Option Machine → List Activation → Type 0
 CarriesNext held old (Ok (Some step)) next new still = (command : Token) × Passes held command next × CarriesOne command old (Ok step) new still
 CarriesNext held old (Ok None) next new still = IsDone held × (next ≡ held) × (new ≡ old) × (still ≡ [])
 CarriesNext held old (Err error) next new still = (command : Token) × Passes held command next × CarriesOne command old (Err error) new still

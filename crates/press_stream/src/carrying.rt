@@ -3,7 +3,7 @@
 ghost use Rattle.std.specs.Prelude.{◌≡◌, [], IsSome, IsOk};
 ghost use Rattle.press_cmd.specs.View.{token};
 ghost use Rattle.press_scan.specs.ScannerState.{buffer_size};
-ghost use Rattle.press_engine.specs.Engine.{live, bodies};
+ghost use Rattle.press_engine.specs.Engine.{machine_of, bodies};
 ghost use Rattle.press_stream.specs.Answers.{TakesStep, PassesOn};
 ghost use Rattle.press_stream.specs.State.{job_state, Fits};
 ghost use Rattle.press_stream.specs.Steps.{CarriesOne, CarriesNext};
@@ -19,10 +19,10 @@ use press_scan::Scanner;
 /// Hands one command of the stream to an engine that has not failed, and answers what goes out.
 #[inline(always)]
 fn carry(engine: &mut Engine, command: Command<'_>) -> Result<StepOutput, JobError>
-    requires running { IsSome (live engine.old) }
+    requires running { IsSome (machine_of engine.old) }
     requires none { bodies engine.old ≡ [] }
-    ensures carries { CarriesOne (token command.entry) (live engine.old) result
-        (live engine.new) (bodies engine.new) }
+    ensures carries { CarriesOne (token command.entry) (machine_of engine.old) result
+        (machine_of engine.new) (bodies engine.new) }
 {
     Ok(engine.take_step(command)?)
 }
@@ -30,10 +30,10 @@ fn carry(engine: &mut Engine, command: Command<'_>) -> Result<StepOutput, JobErr
 /// Hands the next command that a scanner holds to an engine that has not failed, if it holds one.
 #[inline(always)]
 fn carry_next(scanner: &mut Scanner, engine: &mut Engine) -> Result<Option<StepOutput>, JobError>
-    requires running { IsSome (live engine.old) }
+    requires running { IsSome (machine_of engine.old) }
     requires none { bodies engine.old ≡ [] }
-    ensures carries { CarriesNext scanner.old (live engine.old) result
-        scanner.new (live engine.new) (bodies engine.new) }
+    ensures carries { CarriesNext scanner.old (machine_of engine.old) result
+        scanner.new (machine_of engine.new) (bodies engine.new) }
 {
     match scanner.next()? {
         Some(command) => Ok(Some(carry(engine, command)?)),
@@ -49,7 +49,7 @@ pub fn take(
     engine: &mut Engine,
     phase: &mut Phase,
 ) -> Result<JobStep, JobError>
-    requires running { IsSome (live engine.old) }
+    requires running { IsSome (machine_of engine.old) }
     requires none { bodies engine.old ≡ [] }
     requires phase { phase.old ≡ Running }
     requires room { scanner.old.room ≡ buffer_size }
@@ -71,7 +71,7 @@ pub fn take(
 /// Hands the next commands that a scanner holds to an engine at once, as long as each has one byte and no effect.
 #[inline(always)]
 pub fn pass(scanner: &mut Scanner, engine: &mut Engine)
-    requires running { IsSome (live engine.old) }
+    requires running { IsSome (machine_of engine.old) }
     requires none { bodies engine.old ≡ [] }
     requires room { scanner.old.room ≡ buffer_size }
     ensures passes { PassesOn (job_state scanner.old engine.old Running)

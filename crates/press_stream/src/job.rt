@@ -31,12 +31,12 @@ pub struct Job {
 impl Model for Job {
     ghost use Rattle.press_stream.specs.State.{JobState, job_state, Fits};
     ghost use Rattle.std.specs.Coded.{codes};
-    ghost use Rattle.press_engine.specs.contracts.frame.Frame as frame;
+    ghost use Rattle.press_engine.specs.contracts.activation.Activation as activation;
     ghost use Rattle.press_engine.specs.contracts.machine.Machine as machine;
 
     ghost Value = { JobState };
 
-    ghost coded = { Prim.hlevel (codes, machine.the_row.coded, frame.the_row.coded) };
+    ghost coded = { Prim.hlevel (codes, machine.the_row.coded, activation.the_row.coded) };
 
     ghost view = { λ job. job_state job.scanner job.engine job.phase };
 
@@ -45,13 +45,13 @@ impl Model for Job {
 
 impl Job {
     ghost use Rattle.std.specs.Prelude.{◌≡◌, ◌≢◌, ◌<◌, ◌≤◌, ◌↔◌, ℕ, List, [], length, take, false, None, IfOk, IfErr, OnErr, IfSome, IsTrue, IsSome, IsErrOf, MatchResult, option_map};
-    ghost use Rattle.press_sink.specs.Told.{both, CanCount};
+    ghost use Rattle.press_sink.specs.SinkLog.{logs, HasFaultRoom};
     ghost use Rattle.press_engine.specs.Engine.{view_of};
-    ghost use Rattle.press_engine.specs.Machine.{Run};
+    ghost use Rattle.press_engine.specs.Machine.{StepResult};
     ghost use Rattle.press_engine.specs.Outputs.{all_outputs};
     ghost use Rattle.press_engine.specs.Stack.{IsReady};
     ghost use Rattle.press_stream.specs.Left.{LeftWith};
-    ghost use Rattle.press_stream.specs.State.{opened, with_piece, input_ended, IsHungry, IsOver, IsAfterEnd};
+    ghost use Rattle.press_stream.specs.State.{opened, with_piece, input_ended, NeedsInput, IsOver, IsAfterEnd};
     ghost use Rattle.press_stream.specs.Answers.{Pushes, IsGoing, IsEarly, TakesStep, HandsOver, Takes, WantsMemory, RunsOut, PassesOn, Drains, ComesToWant, Feeds, Finishes, RunsReader, CountsFaults, fault_of};
     ghost use Rattle.press_stream.specs.Pieces.{most_reads, no_reads, HasFault};
 
@@ -157,10 +157,10 @@ impl Job {
         sheets: &mut S,
         replies: &mut P,
     ) -> Result<(), JobError>
-        requires { CanCount (both (S.told sheets.old) (P.told replies.old)) }
+        requires { HasFaultRoom (logs (S.told sheets.old) (P.told replies.old)) }
         ensures hands { HandsOver tag (all_outputs sent.now) result
-            (both (S.told sheets.old) (P.told replies.old))
-            (both (S.told sheets.new) (P.told replies.new)) }
+            (logs (S.told sheets.old) (P.told replies.old))
+            (logs (S.told sheets.new) (P.told replies.new)) }
         ensures left { MatchResult result
             (λ _. self.new ≡ self.old)
             (λ _. self.new.machine ≡ None) }
@@ -195,19 +195,19 @@ impl Job {
         sheets: &mut S,
         replies: &mut P,
     ) -> Result<Step, JobError>
-        requires { CanCount (both (S.told sheets.old) (P.told replies.old)) }
+        requires { HasFaultRoom (logs (S.told sheets.old) (P.told replies.old)) }
         ensures takes { Takes self.old tag result self.new
-            (both (S.told sheets.old) (P.told replies.old))
-            (both (S.told sheets.new) (P.told replies.new)) }
+            (logs (S.told sheets.old) (P.told replies.old))
+            (logs (S.told sheets.new) (P.told replies.new)) }
         ensures memory { IsErrOf result JobError.NoMemory → WantsMemory self.old }
         ensures failed { IsErrOf result JobError.Failed ↔ (self.old.machine ≡ None) }
         ensures unchanged { IsEarly result → (self.new ≡ self.old)
-            × (both (S.told sheets.new) (P.told replies.new)
-            ≡ both (S.told sheets.old) (P.told replies.old)) }
+            × (logs (S.told sheets.new) (P.told replies.new)
+            ≡ logs (S.told sheets.old) (P.told replies.old)) }
         ensures lost { OnErr result (self.new.machine ≡ None) }
         ensures counts { CountsFaults (fault_of result)
-            (both (S.told sheets.old) (P.told replies.old))
-            (both (S.told sheets.new) (P.told replies.new)) }
+            (logs (S.told sheets.old) (P.told replies.old))
+            (logs (S.told sheets.new) (P.told replies.new)) }
     {
         match self.take_step()? {
             JobStep::Ran(step) => {
@@ -223,7 +223,7 @@ impl Job {
     /// Whether no step is left. Before the end of input, and in a job that has failed, it is false.
     pub fn ended(&self) -> bool
         ensures over { IsTrue result ↔ IsOver self.now }
-        ensures left { (bytes : List ℕ) (items : List Run) → LeftWith self.now bytes items
+        ensures left { (bytes : List ℕ) (items : List StepResult) → LeftWith self.now bytes items
             → IsTrue result ↔ (items ≡ []) }
     {
         match self.phase {
@@ -278,20 +278,20 @@ impl Job {
         sheets: &mut S,
         replies: &mut P,
     ) -> Result<(), JobError>
-        requires { CanCount (both (S.told sheets.old) (P.told replies.old)) }
+        requires { HasFaultRoom (logs (S.told sheets.old) (P.told replies.old)) }
         ensures feeds { Feeds self.old piece.now tag result self.new
-            (both (S.told sheets.old) (P.told replies.old))
-            (both (S.told sheets.new) (P.told replies.new)) }
+            (logs (S.told sheets.old) (P.told replies.old))
+            (logs (S.told sheets.new) (P.told replies.new)) }
         ensures refused { IsAfterEnd self.old → IsErrOf result JobError.AfterEnd }
         ensures failed { IsErrOf result JobError.Failed ↔ (self.old.machine ≡ None) }
         ensures unchanged { IsEarly result → (self.new ≡ self.old)
-            × (both (S.told sheets.new) (P.told replies.new)
-            ≡ both (S.told sheets.old) (P.told replies.old)) }
+            × (logs (S.told sheets.new) (P.told replies.new)
+            ≡ logs (S.told sheets.old) (P.told replies.old)) }
         ensures lost { IfErr result
             (λ error. error ≢ JobError.AfterEnd → self.new.machine ≡ None) }
         ensures counts { CountsFaults (fault_of result)
-            (both (S.told sheets.old) (P.told replies.old))
-            (both (S.told sheets.new) (P.told replies.new)) }
+            (logs (S.told sheets.old) (P.told replies.old))
+            (logs (S.told sheets.new) (P.told replies.new)) }
     {
         self.check_going()?;
         self.drain(tag, sheets, replies)?;
@@ -300,7 +300,7 @@ impl Job {
 
     /// Takes the front of a piece into reserved memory: all of it, or as much as there is room for.
     fn take(&mut self, piece: &[u8]) -> usize
-        requires { IsHungry self.old }
+        requires { NeedsInput self.old }
         ensures within { result ≤ length piece.now }
         ensures some { 0 < length piece.now → 0 < result }
         ensures taken { self.new ≡ with_piece (take result piece.now) self.old }
@@ -316,11 +316,11 @@ impl Job {
         sheets: &mut S,
         replies: &mut P,
     ) -> Result<(), JobError>
-        requires hungry { IsHungry self.old }
-        requires can_count { CanCount (both (S.told sheets.old) (P.told replies.old)) }
+        requires hungry { NeedsInput self.old }
+        requires has_fault_room { HasFaultRoom (logs (S.told sheets.old) (P.told replies.old)) }
         ensures { Feeds self.old piece.now tag result self.new
-            (both (S.told sheets.old) (P.told replies.old))
-            (both (S.told sheets.new) (P.told replies.new)) }
+            (logs (S.told sheets.old) (P.told replies.old))
+            (logs (S.told sheets.new) (P.told replies.new)) }
     {
         let mut rest = piece;
         while !rest.is_empty() {
@@ -342,21 +342,21 @@ impl Job {
         sheets: &mut S,
         replies: &mut P,
     ) -> Result<(), JobError>
-        requires { CanCount (both (S.told sheets.old) (P.told replies.old)) }
+        requires { HasFaultRoom (logs (S.told sheets.old) (P.told replies.old)) }
         ensures finishes { Finishes self.old tag result self.new
-            (both (S.told sheets.old) (P.told replies.old))
-            (both (S.told sheets.new) (P.told replies.new)) }
+            (logs (S.told sheets.old) (P.told replies.old))
+            (logs (S.told sheets.new) (P.told replies.new)) }
         ensures memory { IsErrOf result JobError.NoMemory
             → ComesToWant (input_ended self.old) tag
-            (both (S.told sheets.old) (P.told replies.old)) }
+            (logs (S.told sheets.old) (P.told replies.old)) }
         ensures failed { IsErrOf result JobError.Failed ↔ (self.old.machine ≡ None) }
         ensures unchanged { IsEarly result → (self.new ≡ self.old)
-            × (both (S.told sheets.new) (P.told replies.new)
-            ≡ both (S.told sheets.old) (P.told replies.old)) }
+            × (logs (S.told sheets.new) (P.told replies.new)
+            ≡ logs (S.told sheets.old) (P.told replies.old)) }
         ensures lost { OnErr result (self.new.machine ≡ None) }
         ensures counts { CountsFaults (fault_of result)
-            (both (S.told sheets.old) (P.told replies.old))
-            (both (S.told sheets.new) (P.told replies.new)) }
+            (logs (S.told sheets.old) (P.told replies.old))
+            (logs (S.told sheets.new) (P.told replies.new)) }
     {
         if matches!(self.phase, Phase::Failed) {
             return Err(JobError::Failed);
@@ -380,22 +380,22 @@ impl Job {
         sheets: &mut S,
         replies: &mut P,
     ) -> Result<(), JobError>
-        requires { CanCount (both (S.told sheets.old) (P.told replies.old)) }
+        requires { HasFaultRoom (logs (S.told sheets.old) (P.told replies.old)) }
         ensures runs { RunsReader self.old (R.remaining reader.old)
             (R.remaining reader.new) tag result self.new
-            (both (S.told sheets.old) (P.told replies.old))
-            (both (S.told sheets.new) (P.told replies.new)) }
+            (logs (S.told sheets.old) (P.told replies.old))
+            (logs (S.told sheets.new) (P.told replies.new)) }
         ensures unread { IsEarly result → reader.new ≡ reader.old }
         ensures refused { IsAfterEnd self.old → IsErrOf result JobError.AfterEnd }
         ensures failed { IsErrOf result JobError.Failed ↔ (self.old.machine ≡ None) }
         ensures unchanged { IsEarly result → (self.new ≡ self.old)
-            × (both (S.told sheets.new) (P.told replies.new)
-            ≡ both (S.told sheets.old) (P.told replies.old)) }
+            × (logs (S.told sheets.new) (P.told replies.new)
+            ≡ logs (S.told sheets.old) (P.told replies.old)) }
         ensures lost { IfErr result
             (λ error. error ≢ JobError.AfterEnd → self.new.machine ≡ None) }
         ensures counts { CountsFaults (fault_of result)
-            (both (S.told sheets.old) (P.told replies.old))
-            (both (S.told sheets.new) (P.told replies.new)) }
+            (logs (S.told sheets.old) (P.told replies.old))
+            (logs (S.told sheets.new) (P.told replies.new)) }
     {
         self.run_counted(reader, &mut ReadCount::none(), tag, sheets, replies)
     }
@@ -414,22 +414,22 @@ impl Job {
         replies: &mut P,
     ) -> Result<(), JobError>
         requires none { count.old ≡ no_reads }
-        requires can_count { CanCount (both (S.told sheets.old) (P.told replies.old)) }
+        requires has_fault_room { HasFaultRoom (logs (S.told sheets.old) (P.told replies.old)) }
         ensures runs { RunsReader self.old (R.remaining reader.old)
             (R.remaining reader.new) tag result self.new
-            (both (S.told sheets.old) (P.told replies.old))
-            (both (S.told sheets.new) (P.told replies.new)) }
+            (logs (S.told sheets.old) (P.told replies.old))
+            (logs (S.told sheets.new) (P.told replies.new)) }
         ensures unread { IsEarly result → reader.new ≡ reader.old }
         ensures refused { IsAfterEnd self.old → IsErrOf result JobError.AfterEnd }
         ensures failed { IsErrOf result JobError.Failed ↔ (self.old.machine ≡ None) }
         ensures unchanged { IsEarly result → (self.new ≡ self.old)
-            × (both (S.told sheets.new) (P.told replies.new)
-            ≡ both (S.told sheets.old) (P.told replies.old)) }
+            × (logs (S.told sheets.new) (P.told replies.new)
+            ≡ logs (S.told sheets.old) (P.told replies.old)) }
         ensures lost { IfErr result
             (λ error. error ≢ JobError.AfterEnd → self.new.machine ≡ None) }
         ensures counts { CountsFaults (fault_of result)
-            (both (S.told sheets.old) (P.told replies.old))
-            (both (S.told sheets.new) (P.told replies.new)) }
+            (logs (S.told sheets.old) (P.told replies.old))
+            (logs (S.told sheets.new) (P.told replies.new)) }
         ensures bound { count.new.reads ≤ most_reads }
         ensures fault { IsErrOf result JobError.ReadFault → HasFault count.new }
     {
@@ -457,12 +457,12 @@ impl Job {
         replies: &mut P,
     ) -> Result<(), JobError>
         requires running { IsSome self.old.machine }
-        requires can_count { CanCount (both (S.told sheets.old) (P.told replies.old)) }
+        requires has_fault_room { HasFaultRoom (logs (S.told sheets.old) (P.told replies.old)) }
         ensures runs_out { RunsOut self.old tag result self.new
-            (both (S.told sheets.old) (P.told replies.old))
-            (both (S.told sheets.new) (P.told replies.new)) }
+            (logs (S.told sheets.old) (P.told replies.old))
+            (logs (S.told sheets.new) (P.told replies.new)) }
         ensures memory { IsErrOf result JobError.NoMemory
-            → ComesToWant self.old tag (both (S.told sheets.old) (P.told replies.old)) }
+            → ComesToWant self.old tag (logs (S.told sheets.old) (P.told replies.old)) }
     {
         while !self.is_idle() {
             self.step(tag, sheets, replies)?;
@@ -490,12 +490,12 @@ impl Job {
         replies: &mut P,
     ) -> Result<(), JobError>
         requires running { IsSome self.old.machine }
-        requires can_count { CanCount (both (S.told sheets.old) (P.told replies.old)) }
+        requires has_fault_room { HasFaultRoom (logs (S.told sheets.old) (P.told replies.old)) }
         ensures drains { Drains self.old tag result self.new
-            (both (S.told sheets.old) (P.told replies.old))
-            (both (S.told sheets.new) (P.told replies.new)) }
+            (logs (S.told sheets.old) (P.told replies.old))
+            (logs (S.told sheets.new) (P.told replies.new)) }
         ensures memory { IsErrOf result JobError.NoMemory
-            → ComesToWant self.old tag (both (S.told sheets.old) (P.told replies.old)) }
+            → ComesToWant self.old tag (logs (S.told sheets.old) (P.told replies.old)) }
     {
         self.run_out(tag, sheets, replies)?;
         self.pass();
@@ -518,11 +518,11 @@ impl Job {
         requires running { IsSome self.old.machine }
         requires going { self.old.held.ended ≡ false }
         requires none { count.old ≡ no_reads }
-        requires can_count { CanCount (both (S.told sheets.old) (P.told replies.old)) }
+        requires has_fault_room { HasFaultRoom (logs (S.told sheets.old) (P.told replies.old)) }
         ensures runs { RunsReader self.old (R.remaining reader.old)
             (R.remaining reader.new) tag result self.new
-            (both (S.told sheets.old) (P.told replies.old))
-            (both (S.told sheets.new) (P.told replies.new)) }
+            (logs (S.told sheets.old) (P.told replies.old))
+            (logs (S.told sheets.new) (P.told replies.new)) }
         ensures bound { count.new.reads ≤ most_reads }
         ensures fault { IsErrOf result JobError.ReadFault → HasFault count.new }
     {

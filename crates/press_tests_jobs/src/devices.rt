@@ -54,8 +54,8 @@ impl Outcome {
         self.sheets.as_slice() == *sheets && self.replies.as_slice() == *replies
     }
 
-    /// Whether a front of them came.
-    fn is_front(&self, (_, sheets, replies): &Row) -> bool {
+    /// Whether a prefix of them came.
+    fn is_prefix(&self, (_, sheets, replies): &Row) -> bool {
         sheets.starts_with(&self.sheets) && replies.starts_with(&self.replies)
     }
 }
@@ -167,12 +167,12 @@ impl Device {
     }
 }
 
-/// Whether a row whose device fails after so many calls is answered by that device's fault, with a front of its sheets and
+/// Whether a row whose device fails after so many calls is answered by that device's fault, with a prefix of its sheets and
 /// replies, and then by 303.
 fn stops(alloc: Global, row: &Row, device: Device, calls: usize) -> Result<bool, Fail> {
     let outcome = run(alloc, row.0, &device.failing_after(calls))?;
     let answered = outcome.numbers.as_slice() == [device.fault(), 303].as_slice();
-    Ok(answered && outcome.is_front(row) && device.took(calls, &outcome))
+    Ok(answered && outcome.is_prefix(row) && device.took(calls, &outcome))
 }
 
 /// Whether a row whose device would fail at one call more than the row makes is printed whole.

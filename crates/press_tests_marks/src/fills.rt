@@ -2,7 +2,7 @@
 use press_bits::{Bitmap, DotRow, Mode};
 use press_fill::{DotEffect, Rect, dot_rule, fill};
 use press_page::{Defaults, Orientation, PageEnv};
-use press_pattern::{Kind, Pattern, Patterns};
+use press_pattern::{Pattern, PatternKind, Patterns};
 use std::alloc::Global;
 use std::process::Abort;
 use std::test::Fail;
@@ -69,7 +69,7 @@ const WHOLE_PAGE: Rect = Rect {
 #[test]
 fn solid_white_whitens(rt: HostRuntime) -> Result<(), Fail> {
     let white = Pattern {
-        kind: Kind::White,
+        kind: PatternKind::White,
         id: 0,
     };
     let middle = Rect {
@@ -84,7 +84,7 @@ fn solid_white_whitens(rt: HostRuntime) -> Result<(), Fail> {
 #[test]
 fn a_pattern_that_does_not_exist_changes_nothing(rt: HostRuntime) -> Result<(), Fail> {
     let none = Pattern {
-        kind: Kind::User,
+        kind: PatternKind::User,
         id: 9,
     };
     expect_filled(
@@ -110,7 +110,7 @@ fn a_white_fill_makes_no_band(rt: HostRuntime) -> Result<(), Fail> {
     let patterns = Patterns::new(rt.alloc());
     let environment = environment(Orientation::Landscape);
     let mut page = Bitmap::blank(rt.alloc(), 8, 70)?;
-    for (kind, ready) in [(Kind::White, false), (Kind::Black, true)] {
+    for (kind, ready) in [(PatternKind::White, false), (PatternKind::Black, true)] {
         let pattern = Pattern { kind, id: 0 };
         fill(
             &mut page,

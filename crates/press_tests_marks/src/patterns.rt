@@ -1,5 +1,5 @@
 //! The tiles that always exist, and user-defined patterns.
-use press_pattern::{DefineError, Kind, Pattern, Patterns, Tile};
+use press_pattern::{DefineError, Pattern, PatternKind, Patterns, Tile};
 use std::process::Abort;
 use std::test::Fail;
 
@@ -14,7 +14,7 @@ fn expect_line(rt: &impl Abort, patterns: &Patterns, pattern: Pattern, y: u32, l
 fn expect_shading(rt: &impl Abort, patterns: &Patterns, first: u16, last: u16, lines: [u8; 8]) {
     for id in [first, last] {
         let pattern = Pattern {
-            kind: Kind::Shading,
+            kind: PatternKind::Shading,
             id,
         };
         for y in 0..8 {
@@ -52,13 +52,13 @@ fn shadings(rt: HostRuntime) {
         [0x77, 0xff, 0xdd, 0xff, 0x77, 0xff, 0xdd, 0xff],
     );
     expect_shading(&rt, &patterns, 100, 100, [0xff; 8]);
-    assert!(rt; patterns.row_of(Kind::Shading, 0, 0).is_none());
-    assert!(rt; patterns.row_of(Kind::Shading, 101, 0).is_none());
+    assert!(rt; patterns.row_of(PatternKind::Shading, 0, 0).is_none());
+    assert!(rt; patterns.row_of(PatternKind::Shading, 101, 0).is_none());
 }
 
 fn expect_hatch(rt: &impl Abort, patterns: &Patterns, id: u16, lines: [u16; 16]) {
     let pattern = Pattern {
-        kind: Kind::CrossHatch,
+        kind: PatternKind::CrossHatch,
         id,
     };
     for y in 0..16 {
@@ -112,20 +112,20 @@ fn cross_hatches(rt: HostRuntime) {
             0x0810, 0x1008, 0x2004, 0x4002, 0x8001,
         ],
     );
-    assert!(rt; patterns.row_of(Kind::CrossHatch, 0, 0).is_none());
-    assert!(rt; patterns.row_of(Kind::CrossHatch, 7, 0).is_none());
+    assert!(rt; patterns.row_of(PatternKind::CrossHatch, 0, 0).is_none());
+    assert!(rt; patterns.row_of(PatternKind::CrossHatch, 7, 0).is_none());
 }
 
 #[test]
 fn solid_patterns(rt: HostRuntime) {
     let patterns = Patterns::new(rt.alloc());
     let black = Pattern {
-        kind: Kind::Black,
+        kind: PatternKind::Black,
         id: 7,
     };
     expect_line(&rt, &patterns, black, 3, &[0xff]);
     let white = Pattern {
-        kind: Kind::White,
+        kind: PatternKind::White,
         id: 0,
     };
     expect_line(&rt, &patterns, white, 3, &[0]);
@@ -144,7 +144,7 @@ fn a_pattern_of_three_dots(rt: HostRuntime) -> Result<(), Fail> {
     // Two lines, black and white in turn; one byte more than they take.
     patterns.define(9, &[0, 0, 1, 0, 0, 2, 0, 3, 0xa0, 0x40, 0xff])?;
     let pattern = Pattern {
-        kind: Kind::User,
+        kind: PatternKind::User,
         id: 9,
     };
     let tile = patterns.tile(pattern).expect(&rt, "it was defined");
@@ -172,7 +172,7 @@ fn a_short_definition_changes_nothing(rt: HostRuntime) -> Result<(), Fail> {
     let short = define_solid(&rt, &mut patterns, 5, &[0; 7]);
     assert!(rt; matches!(short, Err(DefineError::ShortData)));
     let pattern = Pattern {
-        kind: Kind::User,
+        kind: PatternKind::User,
         id: 5,
     };
     expect_line(&rt, &patterns, pattern, 7, &[0xff]);
@@ -193,7 +193,7 @@ fn bad_headers(rt: HostRuntime) {
     expect_bad_header(&rt, &mut patterns, &[0, 0, 1, 1, 0, 1, 0, 1, 0]);
     expect_bad_header(&rt, &mut patterns, &[0, 0, 1, 0, 0, 0, 0, 1, 0]);
     expect_bad_header(&rt, &mut patterns, &[0, 0, 1, 0, 0, 1, 0, 0, 0]);
-    assert!(rt; patterns.row_of(Kind::User, 1, 0).is_none());
+    assert!(rt; patterns.row_of(PatternKind::User, 1, 0).is_none());
 }
 
 #[test]
@@ -204,7 +204,7 @@ fn faults_tell_their_number(rt: HostRuntime) -> Result<(), Fail> {
 }
 
 fn exists(patterns: &Patterns, id: u16) -> bool {
-    patterns.row_of(Kind::User, id, 0).is_some()
+    patterns.row_of(PatternKind::User, id, 0).is_some()
 }
 
 #[test]

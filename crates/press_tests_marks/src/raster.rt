@@ -3,7 +3,7 @@ use press_bits::{Bitmap, Mode};
 use press_canvas::Canvas;
 use press_cursor::Cursor;
 use press_page::{Defaults, PageEnv};
-use press_pattern::Ink;
+use press_pattern::Brush;
 use press_raster::{Raster, RasterPosition, RasterSettings};
 use press_units::{Pos, Resolution, Value, is_field, read_value};
 use std::alloc::{AllocError, Global};
@@ -44,12 +44,12 @@ fn transfer(
     page: &mut Canvas,
     line: u16,
     settings: RasterSettings,
-    ink: &Ink<'_>,
+    brush: &Brush<'_>,
     data: &[u8],
 ) -> Result<(), Fail> {
     let environment = PageEnv::reset_from(&Defaults::factory());
     let mut cursor = on_line(&environment, line);
-    raster.transfer(page, &environment, &mut cursor, settings, ink, data)?;
+    raster.transfer(page, &environment, &mut cursor, settings, brush, data)?;
     Ok(())
 }
 
@@ -94,9 +94,9 @@ fn expect_lines(
     data: &[u8],
     lines: &[u16],
 ) -> Result<(), Fail> {
-    let ink = Ink::black(TRANSPARENT);
+    let brush = Brush::black(TRANSPARENT);
     let mut page = white_page(rt.alloc(), 91, 8)?;
-    transfer(raster, &mut page, 1, settings, &ink, data)?;
+    transfer(raster, &mut page, 1, settings, &brush, data)?;
     for (line, dots) in (0..8).zip(lines) {
         assert_eq!(rt; dots_of(bitmap_of(rt, &page), line), *dots);
     }
@@ -131,8 +131,8 @@ fn a_row_that_marks_nothing_makes_no_band(rt: HostRuntime) -> Result<(), Fail> {
     raster.start(0);
     let mut page = white_page(rt.alloc(), 91, 4)?;
     for (mode, ready) in [(TRANSPARENT, false), (opaque, true)] {
-        let ink = Ink::black(mode);
-        transfer(&mut raster, &mut page, 1, settings, &ink, &[0; 2])?;
+        let brush = Brush::black(mode);
+        transfer(&mut raster, &mut page, 1, settings, &brush, &[0; 2])?;
         assert_eq!(rt; page.frame().bitmap.bands().are_ready(1, 1), ready);
     }
     Ok(())
@@ -155,9 +155,9 @@ fn the_most_rows_of_one_transfer(rt: HostRuntime) -> Result<(), Fail> {
     raster.start(0);
     let mut page = white_page(rt.alloc(), 91, 3300)?;
     let settings = settings(&rt, b"300", b"8", b"5");
-    let ink = Ink::black(TRANSPARENT);
+    let brush = Brush::black(TRANSPARENT);
     let data = rows_without_end(rt.alloc())?;
-    transfer(&mut raster, &mut page, 1, settings, &ink, &data)?;
+    transfer(&mut raster, &mut page, 1, settings, &brush, &data)?;
     expect_rows(&rt, &raster, 65_535);
     assert_eq!(rt; bitmap_of(&rt, &page).count_black(), 8 * 3299);
     Ok(())

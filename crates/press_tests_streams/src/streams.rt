@@ -72,13 +72,13 @@ fn small(count: u64) -> i64 {
 }
 
 /// The number of a kind of pattern.
-fn kind_number(kind: press_pattern::Kind) -> i64 {
+fn kind_number(kind: press_pattern::PatternKind) -> i64 {
     match kind {
-        press_pattern::Kind::Black => 0,
-        press_pattern::Kind::White => 1,
-        press_pattern::Kind::Shading => 2,
-        press_pattern::Kind::CrossHatch => 3,
-        press_pattern::Kind::User => 4,
+        press_pattern::PatternKind::Black => 0,
+        press_pattern::PatternKind::White => 1,
+        press_pattern::PatternKind::Shading => 2,
+        press_pattern::PatternKind::CrossHatch => 3,
+        press_pattern::PatternKind::User => 4,
     }
 }
 
@@ -100,8 +100,8 @@ fn copies_of(view: &View<'_>) -> [i64; 3] {
     let environment = view.environment;
     [
         i64::from(environment.settings.copies),
-        i64::from(environment.media.duplex),
-        i64::from(environment.media.binding == Binding::LongEdge),
+        i64::from(environment.page_setup.duplex),
+        i64::from(environment.page_setup.binding == Binding::LongEdge),
     ]
 }
 

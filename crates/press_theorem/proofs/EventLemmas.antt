@@ -7,26 +7,26 @@ use Rattle.std.proofs.lemmas.List.{append_assoc, append-nil, map-append, take-ap
 use Rattle.std.specs.declared.alloc.AllocError.{AllocError}
 use Rattle.std.specs.declared.alloc.Global.{Global}
 use Rattle.press_bits.specs.Page.{Page}
-use Rattle.press_pbm.specs.Spelling.{AppendsFront}
+use Rattle.press_pbm.specs.Spelling.{AppendsPrefix}
 use Rattle.press_sink.specs.declared.sheet.Delivery.{Delivery}
-use Rattle.press_sink.specs.Told.{SheetsTold, most_faults}
+use Rattle.press_sink.specs.SinkLog.{SheetLog, most_faults}
 use Rattle.press_core.specs.declared.operator.OperatorCommand.{OperatorCommand}
 use Rattle.press_core.specs.declared.turn.Turn.{Turn}
 use Rattle.press_core.specs.declared.turn.TurnError.{TurnError}
 use Rattle.press_core.specs.declared.turn.TurnError.TheVariants.{NoMemory}
 use Rattle.press_core.specs.Engines.{are_engines}
-use Rattle.press_core.specs.Events.{Event, Message, TurnOn, Operator, EventAnswer, Response, Turned, Nothing, Happening, Happens, IsAnswered, IsRun, Leads, response_to}
+use Rattle.press_core.specs.Events.{Event, Message, TurnOn, Operator, EventAnswer, Response, Turned, Nothing, Transition, Happens, IsAnswered, IsRun, IsExecution, response_to}
 use Rattle.press_core.specs.Laws.{EntriesAreBounded, SheetsAreGiven}
 use Rattle.press_core.specs.Turns.{FaultsAfter, WereHandedOut}
 use Rattle.press_core.specs.World.{World, new_world}
 use Rattle.press_theorem.specs.Events.{FaultLeaves, HappenAll, HappenFromNew, HappenFromNewUpTo, HappenUpTo, line_of}
 
 -- the event of this happening has its answer
-abbrev has_answer : Happening → Type 0
+abbrev has_answer : Transition → Type 0
 has_answer happening = IsAnswered happening.answer
 
-Leads-join : (world middle last : World) (happenings others : List Happening) → Leads world happenings middle → Leads middle others last → Leads world (happenings ++ others) last
-Leads-join world middle last [] others first second = subst (λ (w : World). Leads w others last) first second
+Leads-join : (world middle last : World) (happenings others : List Transition) → IsExecution world happenings middle → IsExecution middle others last → IsExecution world (happenings ++ others) last
+Leads-join world middle last [] others first second = subst (λ (w : World). IsExecution w others last) first second
 Leads-join world middle last (happening ∷ happenings) others first second =
     (first.0, Leads-join happening.next middle last happenings others first.1 second)
 
@@ -40,7 +40,7 @@ took-nothing None = refl
 took-nothing (Some all) = ap Some (sym (append-nil all))
 
 -- nothing happened
-pub HappenAll-none : (world : World) (told : SheetsTold) (bytes : List ℕ) → HappenAll world [] world told told bytes bytes
+pub HappenAll-none : (world : World) (told : SheetLog) (bytes : List ℕ) → HappenAll world [] world told told bytes bytes
 HappenAll-none world told bytes = record {
   happenings = [];
   are = refl;
@@ -52,7 +52,7 @@ HappenAll-none world told bytes = record {
 }
 
 -- one event happened
-HappenAll-one : (world last : World) (event : Event) (answer : EventAnswer) (handed : List Delivery) (before after : SheetsTold) (old new : List ℕ) → Happens world event answer handed last → IsAnswered answer → after.delivered ≡ option_map (λ all. all ++ handed) before.delivered → after.faults ≡ before.faults → new ≡ old ++ line_of answer → HappenAll world (event ∷ []) last before after old new
+HappenAll-one : (world last : World) (event : Event) (answer : EventAnswer) (handed : List Delivery) (before after : SheetLog) (old new : List ℕ) → Happens world event answer handed last → IsAnswered answer → after.delivered ≡ option_map (λ all. all ++ handed) before.delivered → after.faults ≡ before.faults → new ≡ old ++ line_of answer → HappenAll world (event ∷ []) last before after old new
 HappenAll-one world last event answer handed before after old new happens answered told faults responses = record {
   happenings = record { event = event; answer = answer; handed = handed; next = last } ∷ [];
   are = refl;
@@ -64,7 +64,7 @@ HappenAll-one world last event answer handed before after old new happens answer
 }
 
 -- a message was answered
-pub message-happened : (world last : World) (text : List ℕ) (images : List Page) (result : Result (Vec ℕ Global) AllocError) (response : Vec ℕ Global) (told : SheetsTold) (line old new : List ℕ) → result ≡ Ok response → Happens world (Message text images) (response_to result) [] last → line ≡ response.items → new ≡ old ++ (line ++ 10 ∷ []) → HappenAll world (Message text images ∷ []) last told told old new
+pub message-happened : (world last : World) (text : List ℕ) (images : List Page) (result : Result (Vec ℕ Global) AllocError) (response : Vec ℕ Global) (told : SheetLog) (line old new : List ℕ) → result ≡ Ok response → Happens world (Message text images) (response_to result) [] last → line ≡ response.items → new ≡ old ++ (line ++ 10 ∷ []) → HappenAll world (Message text images ∷ []) last told told old new
 message-happened world last text images result response told line old new answer happens is appended =
     HappenAll-one world last (Message text images) (Response (Some response.items)) [] told told old new
     (subst (λ (one : Result (Vec ℕ Global) AllocError). Happens world (Message text images) (response_to one) [] last) answer happens) tt
@@ -72,7 +72,7 @@ message-happened world last text images result response told line old new answer
     (appended ∙ ap (λ (bytes : List ℕ). old ++ (bytes ++ 10 ∷ [])) is)
 
 -- a turn was taken
-pub turn-happened : (world last : World) (engine most : ℕ) (result : Result Turn TurnError) (turn : Turn) (before after : SheetsTold) (bytes : List ℕ) → result ≡ Ok turn → ((handed : List Delivery) × Happens world (TurnOn engine most) (Turned result) handed last × WereHandedOut handed result before after) → HappenAll world (TurnOn engine most ∷ []) last before after bytes bytes
+pub turn-happened : (world last : World) (engine most : ℕ) (result : Result Turn TurnError) (turn : Turn) (before after : SheetLog) (bytes : List ℕ) → result ≡ Ok turn → ((handed : List Delivery) × Happens world (TurnOn engine most) (Turned result) handed last × WereHandedOut handed result before after) → HappenAll world (TurnOn engine most ∷ []) last before after bytes bytes
 turn-happened world last engine most result turn before after bytes answer taken =
     HappenAll-one world last (TurnOn engine most) (Turned result) taken.0 before after bytes bytes taken.1
     (subst (λ (one : Result Turn TurnError). IsAnswered (Turned one)) (sym answer) tt) taken.2.told
@@ -80,30 +80,30 @@ turn-happened world last engine most result turn before after bytes answer taken
     (sym (append-nil bytes))
 
 -- the operator asked for something
-pub operator-happened : (world last : World) (command : OperatorCommand) (told : SheetsTold) (bytes : List ℕ) → Happens world (Operator command) Nothing [] last → HappenAll world (Operator command ∷ []) last told told bytes bytes
+pub operator-happened : (world last : World) (command : OperatorCommand) (told : SheetLog) (bytes : List ℕ) → Happens world (Operator command) Nothing [] last → HappenAll world (Operator command ∷ []) last told told bytes bytes
 operator-happened world last command told bytes happens =
     HappenAll-one world last (Operator command) Nothing [] told told bytes bytes happens tt (took-nothing told.delivered) refl (sym (append-nil bytes))
 
 -- events, and then others
-pub HappenAll-then : (world middle last : World) (events others all : List Event) (before between after : SheetsTold) (old written new : List ℕ) → all ≡ events ++ others → HappenAll world events middle before between old written → HappenAll middle others last between after written new → HappenAll world all last before after old new
+pub HappenAll-then : (world middle last : World) (events others all : List Event) (before between after : SheetLog) (old written new : List ℕ) → all ≡ events ++ others → HappenAll world events middle before between old written → HappenAll middle others last between after written new → HappenAll world all last before after old new
 HappenAll-then world middle last events others all before between after old written new is first second = record {
   happenings = first.happenings ++ second.happenings;
   are =
-      map-append (λ (happening : Happening). happening.event) first.happenings second.happenings
-      ∙ ap (λ (some : List Event). some ++ map (λ (happening : Happening). happening.event) second.happenings) first.are
+      map-append (λ (happening : Transition). happening.event) first.happenings second.happenings
+      ∙ ap (λ (some : List Event). some ++ map (λ (happening : Transition). happening.event) second.happenings) first.are
       ∙ ap (λ (some : List Event). events ++ some) second.are
       ∙ sym is;
   leads = Leads-join world middle last first.happenings second.happenings first.leads second.leads;
   answered = All-append has_answer first.happenings second.happenings first.answered second.answered;
   told =
       took-join before.delivered between.delivered after.delivered _ _ first.told second.told
-      ∙ ap (λ (sheets : List Delivery). option_map (λ all. all ++ sheets) before.delivered) (sym (flat_map-append (λ (happening : Happening). happening.handed) first.happenings second.happenings));
+      ∙ ap (λ (sheets : List Delivery). option_map (λ all. all ++ sheets) before.delivered) (sym (flat_map-append (λ (happening : Transition). happening.handed) first.happenings second.happenings));
   no_fault = second.no_fault ∙ first.no_fault;
   responses =
       second.responses
-      ∙ ap (λ (some : List ℕ). some ++ flat_map (λ (happening : Happening). line_of happening.answer) second.happenings) first.responses
-      ∙ append_assoc old (flat_map (λ (happening : Happening). line_of happening.answer) first.happenings) (flat_map (λ (happening : Happening). line_of happening.answer) second.happenings)
-      ∙ ap (λ (some : List ℕ). old ++ some) (sym (flat_map-append (λ (happening : Happening). line_of happening.answer) first.happenings second.happenings));
+      ∙ ap (λ (some : List ℕ). some ++ flat_map (λ (happening : Transition). line_of happening.answer) second.happenings) first.responses
+      ∙ append_assoc old (flat_map (λ (happening : Transition). line_of happening.answer) first.happenings) (flat_map (λ (happening : Transition). line_of happening.answer) second.happenings)
+      ∙ ap (λ (some : List ℕ). old ++ some) (sym (flat_map-append (λ (happening : Transition). line_of happening.answer) first.happenings second.happenings));
 }
 
 -- the first events, and one more
@@ -115,20 +115,20 @@ events-next {A} f events i event inside is =
 pub events-rest : {A : Type 0} (f : A → Event) (events : List A) (i : ℕ) (event : A) → i < length events → event ≡ get_or events i event → map f events ≡ (map f (take i events) ++ f event ∷ []) ++ map f (drop (i + 1) events)
 events-rest {A} f events i event inside is =
     sym
-    (ap (λ (front : List Event). front ++ map f (drop (i + 1) events)) (sym (events-next f events i event inside is))
+    (ap (λ (prefix : List Event). prefix ++ map f (drop (i + 1) events)) (sym (events-next f events i event inside is))
     ∙ sym (map-append f (take (i + 1) events) (drop (i + 1) events))
     ∙ ap (map f) (take-append-drop (i + 1) events))
 
 -- the sink can count as before
-pub can_count-then : (before after : SheetsTold) → after.faults ≡ before.faults → before.faults < most_faults → after.faults < most_faults
-can_count-then before after is can = subst (λ (n : ℕ). n < most_faults) (sym is) can
+pub has_fault_room-then : (before after : SheetLog) → after.faults ≡ before.faults → before.faults < most_faults → after.faults < most_faults
+has_fault_room-then before after is can = subst (λ (n : ℕ). n < most_faults) (sym is) can
 
 -- ---- up to a fault
 
 -- the fault came at one event
-HappenUpTo-one : (error : TurnError) (world last : World) (event : Event) (answer : EventAnswer) (handed : List Delivery) (before after : SheetsTold) (old new : List ℕ) → Happens world event answer handed last → WereHandedOut {A = Turn} handed (Err error) before after → FaultLeaves answer error old new → HappenUpTo error world (event ∷ []) last before after old new
+HappenUpTo-one : (error : TurnError) (world last : World) (event : Event) (answer : EventAnswer) (handed : List Delivery) (before after : SheetLog) (old new : List ℕ) → Happens world event answer handed last → WereHandedOut {A = Turn} handed (Err error) before after → FaultLeaves answer error old new → HappenUpTo error world (event ∷ []) last before after old new
 HappenUpTo-one error world last event answer handed before after old new happens took leaves = record {
-  front = [];
+  prefix = [];
   stopped = record { event = event; answer = answer; handed = handed; next = last };
   behind = [];
   are = refl;
@@ -142,49 +142,49 @@ HappenUpTo-one error world last event answer handed before after old new happens
 }
 
 -- a message, for which there was no memory
-message-stopped : (world last : World) (text : List ℕ) (images : List Page) (response : Option (List ℕ)) (told : SheetsTold) (old new : List ℕ) → Happens world (Message text images) (Response response) [] last → FaultLeaves (Response response) NoMemory old new → HappenUpTo NoMemory world (Message text images ∷ []) last told told old new
+message-stopped : (world last : World) (text : List ℕ) (images : List Page) (response : Option (List ℕ)) (told : SheetLog) (old new : List ℕ) → Happens world (Message text images) (Response response) [] last → FaultLeaves (Response response) NoMemory old new → HappenUpTo NoMemory world (Message text images ∷ []) last told told old new
 message-stopped world last text images response told old new happens leaves =
     HappenUpTo-one NoMemory world last (Message text images) (Response response) [] told told old new happens
     (record { told = took-nothing told.delivered; faults = refl }) leaves
 
 -- it was not answered
-pub message-unanswered : (world last : World) (text : List ℕ) (images : List Page) (told : SheetsTold) (bytes : List ℕ) → Happens world (Message text images) (Response None) [] last → HappenUpTo NoMemory world (Message text images ∷ []) last told told bytes bytes
+pub message-unanswered : (world last : World) (text : List ℕ) (images : List Page) (told : SheetLog) (bytes : List ℕ) → Happens world (Message text images) (Response None) [] last → HappenUpTo NoMemory world (Message text images ∷ []) last told told bytes bytes
 message-unanswered world last text images told bytes happens =
     message-stopped world last text images None told bytes bytes happens (refl, ([], [], refl, sym (append-nil bytes)))
 
 -- it was answered, and there was no memory for the line
-pub message-cut : (world last : World) (text : List ℕ) (images : List Page) (result : Result (Vec ℕ Global) AllocError) (response : Vec ℕ Global) (told : SheetsTold) (line old new : List ℕ) → result ≡ Ok response → Happens world (Message text images) (response_to result) [] last → line ≡ response.items → AppendsFront (Some old) (Some new) line → HappenUpTo NoMemory world (Message text images ∷ []) last told told old new
+pub message-cut : (world last : World) (text : List ℕ) (images : List Page) (result : Result (Vec ℕ Global) AllocError) (response : Vec ℕ Global) (told : SheetLog) (line old new : List ℕ) → result ≡ Ok response → Happens world (Message text images) (response_to result) [] last → line ≡ response.items → AppendsPrefix (Some old) (Some new) line → HappenUpTo NoMemory world (Message text images ∷ []) last told told old new
 message-cut world last text images result response told line old new answer happens is appends =
     message-stopped world last text images (Some response.items) told old new
     (subst (λ (one : Result (Vec ℕ Global) AllocError). Happens world (Message text images) (response_to one) [] last) answer happens)
-    (refl, subst (λ (bytes : List ℕ). AppendsFront (Some old) (Some new) bytes) is appends)
+    (refl, subst (λ (bytes : List ℕ). AppendsPrefix (Some old) (Some new) bytes) is appends)
 
 -- a turn that was answered by it
-pub turn-stopped : (error : TurnError) (world last : World) (engine most : ℕ) (before after : SheetsTold) (bytes : List ℕ) → ((handed : List Delivery) × Happens world (TurnOn engine most) (Turned (Err error)) handed last × WereHandedOut {A = Turn} handed (Err error) before after) → HappenUpTo error world (TurnOn engine most ∷ []) last before after bytes bytes
+pub turn-stopped : (error : TurnError) (world last : World) (engine most : ℕ) (before after : SheetLog) (bytes : List ℕ) → ((handed : List Delivery) × Happens world (TurnOn engine most) (Turned (Err error)) handed last × WereHandedOut {A = Turn} handed (Err error) before after) → HappenUpTo error world (TurnOn engine most ∷ []) last before after bytes bytes
 turn-stopped error world last engine most before after bytes taken =
     HappenUpTo-one error world last (TurnOn engine most) (Turned (Err error)) taken.0 before after bytes bytes taken.1 taken.2 (refl, refl)
 
 -- three parts of a list, the second with an element in its midst
-append-around : (events front behind others : List Event) (one : Event) → (events ++ (front ++ one ∷ behind)) ++ others ≡ (events ++ front) ++ one ∷ (behind ++ others)
-append-around events front behind others one =
-    append_assoc events (front ++ one ∷ behind) others
-    ∙ ap (λ (some : List Event). events ++ some) (append_assoc front (one ∷ behind) others)
-    ∙ sym (append_assoc events front (one ∷ (behind ++ others)))
+append-around : (events prefix behind others : List Event) (one : Event) → (events ++ (prefix ++ one ∷ behind)) ++ others ≡ (events ++ prefix) ++ one ∷ (behind ++ others)
+append-around events prefix behind others one =
+    append_assoc events (prefix ++ one ∷ behind) others
+    ∙ ap (λ (some : List Event). events ++ some) (append_assoc prefix (one ∷ behind) others)
+    ∙ sym (append_assoc events prefix (one ∷ (behind ++ others)))
 
 -- events, and then others up to a fault, whatever stands behind them
-pub HappenUpTo-behind : (error : TurnError) (world middle last : World) (events others more all : List Event) (before between after : SheetsTold) (old written new : List ℕ) → all ≡ (events ++ others) ++ more → HappenAll world events middle before between old written → HappenUpTo error middle others last between after written new → HappenUpTo error world all last before after old new
+pub HappenUpTo-behind : (error : TurnError) (world middle last : World) (events others more all : List Event) (before between after : SheetLog) (old written new : List ℕ) → all ≡ (events ++ others) ++ more → HappenAll world events middle before between old written → HappenUpTo error middle others last between after written new → HappenUpTo error world all last before after old new
 HappenUpTo-behind error world middle last events others more all before between after old written new is first second = record {
-  front = events ++ second.front;
+  prefix = events ++ second.prefix;
   stopped = second.stopped;
   behind = second.behind ++ more;
   are =
       is
       ∙ ap (λ (some : List Event). (events ++ some) ++ more) second.are
-      ∙ append-around events second.front second.behind more second.stopped.event;
+      ∙ append-around events second.prefix second.behind more second.stopped.event;
   between = second.between;
   told = second.told;
   said = second.said;
-  happened = HappenAll-then world middle second.between events second.front (events ++ second.front) before between second.told old written second.said refl first second.happened;
+  happened = HappenAll-then world middle second.between events second.prefix (events ++ second.prefix) before between second.told old written second.said refl first second.happened;
   leads = second.leads;
   handed = second.handed;
   leaves = second.leaves;
@@ -192,7 +192,7 @@ HappenUpTo-behind error world middle last events others more all before between 
 
 -- ---- from a new press
 
-pub from-new : SheetsAreGiven → EntriesAreBounded → (start : World) (engines : ℕ) (events : List Event) (last : World) (before after : SheetsTold) (old new : List ℕ)
+pub from-new : SheetsAreGiven → EntriesAreBounded → (start : World) (engines : ℕ) (events : List Event) (last : World) (before after : SheetLog) (old new : List ℕ)
     → are_engines engines ≡ true → start ≡ new_world engines → HappenAll start events last before after old new → HappenFromNew engines events last before after old new
 from-new given bounded start engines events last before after old new are is all =
     let happened = subst (λ (w : World). HappenAll w events last before after old new) is all in
@@ -205,11 +205,11 @@ from-new given bounded start engines events last before after old new are is all
       queue = bounded.queue happened.happenings last run;
     }
 
-pub up-to-from-new : SheetsAreGiven → EntriesAreBounded → (start : World) (error : TurnError) (engines : ℕ) (events : List Event) (last : World) (before after : SheetsTold) (old new : List ℕ)
+pub up-to-from-new : SheetsAreGiven → EntriesAreBounded → (start : World) (error : TurnError) (engines : ℕ) (events : List Event) (last : World) (before after : SheetLog) (old new : List ℕ)
     → are_engines engines ≡ true → start ≡ new_world engines → HappenUpTo error start events last before after old new → HappenFromNewUpTo error engines events last before after old new
 up-to-from-new given bounded start error engines events last before after old new are is all =
     let happened = subst (λ (w : World). HappenUpTo error w events last before after old new) is all in
-    let happenings : List Happening = happened.happened.happenings ++ happened.stopped ∷ [] in
+    let happenings : List Transition = happened.happened.happenings ++ happened.stopped ∷ [] in
     let run : IsRun happenings last = record {
       engines = engines;
       are = are;

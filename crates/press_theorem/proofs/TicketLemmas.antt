@@ -5,7 +5,7 @@ use Rattle.press_bits.specs.Page.{Page}
 use Rattle.press_sink.specs.declared.sheet.Delivery.{Delivery}
 use Rattle.press_engine.specs.declared.machine.Machine.{Machine}
 use Rattle.press_sink.specs.Sending.{Output, Deliver, Complete, sheets_of, reply_bytes_of, under_tag}
-use Rattle.press_sink.specs.Told.{Told, both}
+use Rattle.press_sink.specs.SinkLog.{SinkLog, logs}
 use Rattle.press_sink.proofs.SendingLemmas.{sheets_of-delivered, reply_bytes_of-delivered}
 use Rattle.press_stream.specs.Meaning.{meaning_of, with_exit}
 use Rattle.press_stream.specs.Printed.{Prints}
@@ -17,8 +17,8 @@ use Rattle.press_writer.specs.Wanted.{wanted}
 use Rattle.press_theorem.specs.Tickets.{Delivers, IsPrinterOf}
 
 -- what lists tell
-abbrev pub told_by : List Delivery → List ℕ → Told
-told_by sheets replies = both (record { delivered = Some sheets; faults = 0 }) (record { replied = Some replies; faults = 0 })
+abbrev pub told_by : List Delivery → List ℕ → SinkLog
+told_by sheets replies = logs (record { delivered = Some sheets; faults = 0 }) (record { replied = Some replies; faults = 0 })
 
 -- a stream that was printed to lists, which had nothing before
 pub delivers-of : (bytes : List ℕ) (tag : ℕ) (machine : Option Machine) (sheets : List Delivery) (replies : List ℕ) → Prints bytes tag Complete machine (told_by [] []) (told_by sheets replies) → Delivers bytes tag sheets replies

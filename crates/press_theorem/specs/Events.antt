@@ -1,14 +1,14 @@
 -- What happens to a press, one event after another.
 use Rattle.std.specs.Prelude.{◌≡◌, ℕ, List, [], ◌∷◌, ◌++◌, length, Some, map, option_map, unwrap_or, Err}
 use Rattle.std.specs.List.{All, flat_map}
-use Rattle.press_pbm.specs.Spelling.{AppendsFront}
+use Rattle.press_pbm.specs.Spelling.{AppendsPrefix}
 use Rattle.press_queue.specs.EveryQueue.{IsQueue}
-use Rattle.press_sink.specs.Told.{SheetsTold}
+use Rattle.press_sink.specs.SinkLog.{SheetLog}
 use Rattle.press_core.specs.declared.turn.Turn.{Turn}
 use Rattle.press_core.specs.declared.turn.TurnError.{TurnError}
 use Rattle.press_core.specs.declared.turn.TurnError.TheVariants.{NoMemory}
 use Rattle.press_core.specs.Engines.{RunsOnEngines}
-use Rattle.press_core.specs.Events.{Event, Message, TurnOn, Operator, EventAnswer, Response, Turned, Nothing, Happening, IsAnswered, Leads}
+use Rattle.press_core.specs.Events.{Event, Message, TurnOn, Operator, EventAnswer, Response, Turned, Nothing, Transition, IsAnswered, IsExecution}
 use Rattle.press_core.specs.Laws.{GivenUnder}
 use Rattle.press_core.specs.Turns.{WereHandedOut}
 use Rattle.press_core.specs.World.{World, new_world}
@@ -28,10 +28,10 @@ line_of _ = []
 
 -- The events happened one after another, from one world to another, and each has its answer. The sink took all sheets that they handed
 -- out, in order, and had no fault; and their responses were appended, each with a line feed.
-pub record HappenAll (world : World) (events : List Event) (last : World) (before after : SheetsTold) (old new : List ℕ) : Type 0 where
-  pub happenings : List Happening
+pub record HappenAll (world : World) (events : List Event) (last : World) (before after : SheetLog) (old new : List ℕ) : Type 0 where
+  pub happenings : List Transition
   pub are : map (λ happening. happening.event) happenings ≡ events
-  pub leads : Leads world happenings last
+  pub leads : IsExecution world happenings last
   pub answered : All (λ happening. IsAnswered happening.answer) happenings
   pub told : after.delivered ≡ option_map (λ all. all ++ flat_map (λ happening. happening.handed) happenings) before.delivered
   pub no_fault : after.faults ≡ before.faults
@@ -40,7 +40,7 @@ pub record HappenAll (world : World) (events : List Event) (last : World) (befor
 -- They happened one after another to a new press of so many engines. Under each number was handed out what its entry says, as it was
 -- seen last, with the steps that its turns were answered; each entry that runs is on an engine of its own; there are as many engines; and the
 -- queue is as every queue is.
-pub record HappenFromNew (engines : ℕ) (events : List Event) (last : World) (before after : SheetsTold) (old new : List ℕ) : Type 0 where
+pub record HappenFromNew (engines : ℕ) (events : List Event) (last : World) (before after : SheetLog) (old new : List ℕ) : Type 0 where
   pub happened : HappenAll (new_world engines) events last before after old new
   pub given : (number : ℕ) → GivenUnder (new_world engines) happened.happenings last number
   pub on_engines : RunsOnEngines last.queue last.engines
@@ -48,30 +48,30 @@ pub record HappenFromNew (engines : ℕ) (events : List Event) (last : World) (b
   pub queue : IsQueue last.queue
 
 -- What a fault leaves of the answer of its event, and of the responses. A turn is answered by it, and nothing is appended. At a message
--- memory ran out, and a front of its response is appended, without a line feed; nothing where it has none. The operator meets no fault.
+-- memory ran out, and a prefix of its response is appended, without a line feed; nothing where it has none. The operator meets no fault.
 abbrev pub FaultLeaves : EventAnswer → TurnError → (old new : List ℕ) → Type 0
 FaultLeaves (Turned result) error old new = (result ≡ Err error) × (new ≡ old)
-FaultLeaves (Response response) error old new = (error ≡ NoMemory) × AppendsFront (Some old) (Some new) (unwrap_or response [])
+FaultLeaves (Response response) error old new = (error ≡ NoMemory) × AppendsPrefix (Some old) (Some new) (unwrap_or response [])
 FaultLeaves Nothing error old new = ⊥
 
--- The events happened up to a fault. A front of them happened, and had none; then one was stopped by the fault, and those behind it did
+-- The events happened up to a fault. A prefix of them happened, and had none; then one was stopped by the fault, and those behind it did
 -- not happen. Of the one that was stopped the sink took what it handed out, and had a fault exactly where that is answered.
-pub record HappenUpTo (error : TurnError) (world : World) (events : List Event) (last : World) (before after : SheetsTold) (old new : List ℕ) : Type 0 where
-  pub front : List Event
-  pub stopped : Happening
+pub record HappenUpTo (error : TurnError) (world : World) (events : List Event) (last : World) (before after : SheetLog) (old new : List ℕ) : Type 0 where
+  pub prefix : List Event
+  pub stopped : Transition
   pub behind : List Event
-  pub are : events ≡ front ++ stopped.event ∷ behind
+  pub are : events ≡ prefix ++ stopped.event ∷ behind
   pub between : World
-  pub told : SheetsTold
+  pub told : SheetLog
   pub said : List ℕ
-  pub happened : HappenAll world front between before told old said
-  pub leads : Leads between (stopped ∷ []) last
+  pub happened : HappenAll world prefix between before told old said
+  pub leads : IsExecution between (stopped ∷ []) last
   pub handed : WereHandedOut {A = Turn} stopped.handed (Err error) told after
   pub leaves : FaultLeaves stopped.answer error said new
 
 -- They happened up to a fault to a new press of so many engines. What was handed out under each number, the engines and the queue are
 -- as where all happened, with the event that was stopped as the last of the run.
-pub record HappenFromNewUpTo (error : TurnError) (engines : ℕ) (events : List Event) (last : World) (before after : SheetsTold) (old new : List ℕ) : Type 0 where
+pub record HappenFromNewUpTo (error : TurnError) (engines : ℕ) (events : List Event) (last : World) (before after : SheetLog) (old new : List ℕ) : Type 0 where
   pub happened : HappenUpTo error (new_world engines) events last before after old new
   pub given : (number : ℕ) → GivenUnder (new_world engines) (happened.happened.happenings ++ happened.stopped ∷ []) last number
   pub on_engines : RunsOnEngines last.queue last.engines

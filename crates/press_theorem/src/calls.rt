@@ -1,10 +1,10 @@
 //! A stream by any calls of a job, and by a reader behind them.
 ghost use Rattle.std.specs.Prelude.{◌≡◌, List, Some, None, IsSome, false, IfOk, IfErr, OnErr, OnOk};
 ghost use Rattle.std.specs.List.{flat_map};
-ghost use Rattle.press_sink.specs.Told.{both, CanCount};
+ghost use Rattle.press_sink.specs.SinkLog.{logs, HasFaultRoom};
 ghost use Rattle.press_sink.specs.Sending.{Complete};
 ghost use Rattle.press_stream.specs.Answers.{FaultsBefore};
-ghost use Rattle.press_stream.specs.Meaning.{Goes};
+ghost use Rattle.press_stream.specs.Meaning.{CarriesOut};
 ghost use Rattle.press_stream.specs.Printed.{Prints, PrintedTo};
 ghost use Rattle.press_stream.specs.State.{IsOver, opened};
 ghost use Rattle.press_cmd.specs.Token.{Token};
@@ -41,15 +41,15 @@ pub fn print_calls<S: SheetSink, P: ReplySink>(
     sheets: &mut S,
     replies: &mut P,
 ) -> Result<Job, JobError>
-    requires { CanCount (both (S.told sheets.old) (P.told replies.old)) }
+    requires { HasFaultRoom (logs (S.told sheets.old) (P.told replies.old)) }
     ensures ok { IfOk result (λ job. Prints (flat_map bytes_of calls.now) tag Complete job.machine
-        (both (S.told sheets.old) (P.told replies.old))
-        (both (S.told sheets.new) (P.told replies.new))) }
+        (logs (S.told sheets.old) (P.told replies.old))
+        (logs (S.told sheets.new) (P.told replies.new))) }
     ensures over { IfOk result IsOver }
     ensures err { IfErr result (λ error.
         PrintedTo (Some error) (flat_map bytes_of calls.now) tag None
-        (both (S.told sheets.old) (P.told replies.old))
-        (both (S.told sheets.new) (P.told replies.new))) }
+        (logs (S.told sheets.old) (P.told replies.old))
+        (logs (S.told sheets.new) (P.told replies.new))) }
 {
     laws::chain();
     let mut job = Job::open(alloc)?;
@@ -72,7 +72,7 @@ pub struct PrintedStream {
 /// after another, and one more universal exit. No step of the job is left then.
 ///
 /// Where it stopped early, the job has failed, and answers 303 from then on: at `SinkFault` (301) and `ReplyFault` (302) a sink had a
-/// fault, at `ReadFault` (304) a read failed, or memory ran out. What went out by then is a front of what the whole stream prints, at
+/// fault, at `ReadFault` (304) a read failed, or memory ran out. What went out by then is a prefix of what the whole stream prints, at
 /// 304 all of the commands so far.
 ///
 /// # Errors
@@ -86,11 +86,11 @@ pub fn print_stream<R: Read, S: SheetSink, P: ReplySink>(
     sheets: &mut S,
     replies: &mut P,
 ) -> Result<PrintedStream, AllocError>
-    requires { CanCount (both (S.told sheets.old) (P.told replies.old)) }
+    requires { HasFaultRoom (logs (S.told sheets.old) (P.told replies.old)) }
     ensures prints { IfOk result (λ printed. PrintsCalls (flat_map bytes_of calls.now)
         (R.remaining reader.old) (R.remaining reader.new) tag printed.result printed.job
-        (both (S.told sheets.old) (P.told replies.old))
-        (both (S.told sheets.new) (P.told replies.new))) }
+        (logs (S.told sheets.old) (P.told replies.old))
+        (logs (S.told sheets.new) (P.told replies.new))) }
     ensures over { IfOk result (λ printed. OnOk printed.result (IsOver printed.job)) }
     ensures failed { IfOk result (λ printed. OnErr printed.result (printed.job.machine ≡ None)) }
     ensures nothing { OnErr result ((reader.new ≡ reader.old) × (sheets.new ≡ sheets.old)
@@ -111,11 +111,11 @@ fn run_calls<R: Read, S: SheetSink, P: ReplySink>(
     replies: &mut P,
 ) -> Result<(), JobError>
     requires opened { job.old ≡ opened }
-    requires can_count { CanCount (both (S.told sheets.old) (P.told replies.old)) }
+    requires has_fault_room { HasFaultRoom (logs (S.told sheets.old) (P.told replies.old)) }
     ensures prints { PrintsCalls (flat_map bytes_of calls.now)
         (R.remaining reader.old) (R.remaining reader.new) tag result job.new
-        (both (S.told sheets.old) (P.told replies.old))
-        (both (S.told sheets.new) (P.told replies.new)) }
+        (logs (S.told sheets.old) (P.told replies.old))
+        (logs (S.told sheets.new) (P.told replies.new)) }
     ensures over { OnOk result (IsOver job.new) }
     ensures failed { OnErr result (job.new.machine ≡ None) }
 {
@@ -136,17 +136,17 @@ fn make<S: SheetSink, P: ReplySink>(
 ) -> Result<(), JobError>
     requires running { IsSome job.old.machine }
     requires going { job.old.held.ended ≡ false }
-    requires can_count { CanCount (both (S.told sheets.old) (P.told replies.old)) }
+    requires has_fault_room { HasFaultRoom (logs (S.told sheets.old) (P.told replies.old)) }
     ensures goes { OnOk result ((given : List Token)
-        × Goes job.old (bytes_of call.entry) given tag job.new
-        (both (S.told sheets.old) (P.told replies.old))
-        (both (S.told sheets.new) (P.told replies.new))) }
+        × CarriesOut job.old (bytes_of call.entry) given tag job.new
+        (logs (S.told sheets.old) (P.told replies.old))
+        (logs (S.told sheets.new) (P.told replies.new))) }
     ensures going { OnOk result (job.new.held.ended ≡ false) }
     ensures failed { OnErr result (job.new.machine ≡ None) }
     ensures faults { IfErr result (λ error.
         FaultsBefore job.old (bytes_of call.entry) tag error job.new
-        (both (S.told sheets.old) (P.told replies.old))
-        (both (S.told sheets.new) (P.told replies.new))) }
+        (logs (S.told sheets.old) (P.told replies.old))
+        (logs (S.told sheets.new) (P.told replies.new))) }
 {
     laws::chain();
     match call {

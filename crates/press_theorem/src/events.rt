@@ -1,7 +1,7 @@
 //! What happens to a press, one event after another (CIP4 JDF 1.5, the queue and JMF messages).
 ghost use Rattle.std.specs.Prelude.{◌≡◌, ◌<◌, ℕ, [], ◌∷◌, ◌++◌, IsTrue, IfErr, OnErr, OnOk, map};
-ghost use Rattle.press_pbm.specs.Spelling.{AppendsFront};
-ghost use Rattle.press_sink.specs.Told.{most_faults};
+ghost use Rattle.press_pbm.specs.Spelling.{AppendsPrefix};
+ghost use Rattle.press_sink.specs.SinkLog.{most_faults};
 ghost use Rattle.press_core.specs.Engines.{are_engines};
 ghost use Rattle.press_core.specs.World.{new_world};
 ghost use Rattle.press_theorem.specs.Events.{HappenAll, HappenFromNew, HappenFromNewUpTo, HappenUpTo, event_of};
@@ -33,13 +33,13 @@ pub enum PressEvent<'a> {
 /// that are handed out, each under the number of its entry, and nothing else.
 ///
 /// To a new press of one to four engines they happen by the laws of every run: each entry that runs is on an engine of its own; what was handed out under the number of an entry in flight are the sheets of
-/// the steps that were taken of its job, of a completed one all sheets that its ticket wants, of every other one a front of those.
+/// the steps that were taken of its job, of a completed one all sheets that its ticket wants, of every other one a prefix of those.
 ///
 /// # Errors
 ///
 /// `NoEngine` (702), `SinkFault` (301) and `NoMemory`: the events before it happened, and those behind it did not. A turn of an engine
 /// that is not there changed nothing; of a turn that met a fault the entry is aborted, as [`Press::turn_on`] says; a message that met it
-/// changed nothing, or it happened, and a front of its response is appended, without a line feed.
+/// changed nothing, or it happened, and a prefix of its response is appended, without a line feed.
 pub fn carry_out_events<S: SheetSink>(
     press: &mut Press,
     events: &[PressEvent<'_>],
@@ -93,10 +93,10 @@ fn carry_out<S: SheetSink>(
     Ok(())
 }
 
-/// Appends a line with its line feed; where memory runs out, a front of the line without it.
+/// Appends a line with its line feed; where memory runs out, a prefix of the line without it.
 fn append_line(line: &[u8], out: &mut Vec<u8>) -> Result<(), AllocError>
     ensures ok { OnOk result (out.new.items ≡ out.old.items ++ (line.now ++ 10 ∷ [])) }
-    ensures err { OnErr result (AppendsFront (Some out.old.items) (Some out.new.items) line.now) }
+    ensures err { OnErr result (AppendsPrefix (Some out.old.items) (Some out.new.items) line.now) }
 {
     out.extend_from_slice(line)?;
     out.push(b'\n')?;

@@ -1,7 +1,7 @@
 //! A stream in pieces.
 ghost use Rattle.std.specs.Prelude.{Some, None, IfOk, IfErr};
 ghost use Rattle.std.specs.List.{flat_map};
-ghost use Rattle.press_sink.specs.Told.{both, CanCount};
+ghost use Rattle.press_sink.specs.SinkLog.{logs, HasFaultRoom};
 ghost use Rattle.press_sink.specs.Sending.{Complete};
 ghost use Rattle.press_stream.specs.Printed.{Prints, PrintedTo};
 
@@ -24,15 +24,15 @@ pub fn print_pieces<S: SheetSink, P: ReplySink>(
     sheets: &mut S,
     replies: &mut P,
 ) -> Result<Job, JobError>
-    requires { CanCount (both (S.told sheets.old) (P.told replies.old)) }
+    requires { HasFaultRoom (logs (S.told sheets.old) (P.told replies.old)) }
     ensures ok { IfOk result (λ job.
         Prints (flat_map (λ piece. piece.now) pieces.now) tag Complete job.machine
-        (both (S.told sheets.old) (P.told replies.old))
-        (both (S.told sheets.new) (P.told replies.new))) }
+        (logs (S.told sheets.old) (P.told replies.old))
+        (logs (S.told sheets.new) (P.told replies.new))) }
     ensures err { IfErr result (λ error.
         PrintedTo (Some error) (flat_map (λ piece. piece.now) pieces.now) tag None
-        (both (S.told sheets.old) (P.told replies.old))
-        (both (S.told sheets.new) (P.told replies.new))) }
+        (logs (S.told sheets.old) (P.told replies.old))
+        (logs (S.told sheets.new) (P.told replies.new))) }
 {
     laws::chain();
     let mut job = Job::open(alloc)?;

@@ -2,13 +2,13 @@
 use Rattle.std.proofs.Common.{◌≡◌, ◌∙◌, ◌+◌, ℕ, List, [], ◌∷◌, ◌++◌, length, map, refl, sym, ap, subst, arith}
 use Rattle.std.proofs.lemmas.List.{append_assoc, append-nil, map-append, length-append}
 use Rattle.press_cmd.specs.Token.{Token}
-use Rattle.press_cmd.specs.Mode.{Mode}
+use Rattle.press_cmd.specs.ParserState.{ParserState}
 use Rattle.press_engine.specs.declared.machine.Machine.{Machine}
-use Rattle.press_engine.specs.Machine.{Run, levels}
+use Rattle.press_engine.specs.Machine.{StepResult, macro_levels}
 use Rattle.press_engine.specs.Trace.{last_machine, trace_at, trace_each, trace}
 use Rattle.press_engine.proofs.TraceLaws.{last_machine-append}
 use Rattle.press_trace.specs.declared.place.Place.{Place}
-use Rattle.press_trace.specs.Places.{Piece, Placed, Opens, AreFront, placed_at, placed_from, from_on, machine_behind, machine_after, runs_of}
+use Rattle.press_trace.specs.Places.{Piece, Placed, Opens, ArePrefix, placed_at, placed_from, from_on, machine_behind, machine_after, runs_of}
 
 abbrev pub commands_of : List Piece → List Token
 commands_of pieces = map (λ (piece : Piece). piece.command) pieces
@@ -20,39 +20,39 @@ bytes_in (piece ∷ pieces) = length piece.bytes + bytes_in pieces
 
 -- ---- pieces, and one more behind them
 
-pub front-then : (from : Mode) (bytes : List ℕ) (pieces : List Piece) (mode : Mode) (held : List ℕ) (piece : Piece) (left : List ℕ) (next : Mode) → AreFront from bytes pieces mode held → held ≡ piece.bytes ++ left → Opens mode piece left next → AreFront from bytes (pieces ++ piece ∷ []) next left
-front-then from bytes [] mode held piece left next (same, are) cut opens =
-    let P : Mode → Type 0 = λ m. Opens m piece left next in
+pub prefix-then : (from : ParserState) (bytes : List ℕ) (pieces : List Piece) (mode : ParserState) (held : List ℕ) (piece : Piece) (left : List ℕ) (next : ParserState) → ArePrefix from bytes pieces mode held → held ≡ piece.bytes ++ left → Opens mode piece left next → ArePrefix from bytes (pieces ++ piece ∷ []) next left
+prefix-then from bytes [] mode held piece left next (same, are) cut opens =
+    let P : ParserState → Type 0 = λ m. Opens m piece left next in
     (left, next, are ∙ cut, subst P (sym same) opens, (refl, refl))
-front-then from bytes (first ∷ pieces) mode held piece left next (behind, between, cut_first, opens_first, others) cut opens =
-    (behind, between, cut_first, opens_first, front-then between behind pieces mode held piece left next others cut opens)
+prefix-then from bytes (first ∷ pieces) mode held piece left next (behind, between, cut_first, opens_first, others) cut opens =
+    (behind, between, cut_first, opens_first, prefix-then between behind pieces mode held piece left next others cut opens)
 
 -- the pieces and what is left are all the bytes
-pub front-length : (from : Mode) (bytes : List ℕ) (pieces : List Piece) (mode : Mode) (left : List ℕ) → AreFront from bytes pieces mode left → length bytes ≡ bytes_in pieces + length left
-front-length from bytes [] mode left (same, are) = omega (arith, ap length are)
-front-length from bytes (piece ∷ pieces) mode left (behind, next, cut, opens, others) =
-    let more = front-length next behind pieces mode left others in
+pub prefix-length : (from : ParserState) (bytes : List ℕ) (pieces : List Piece) (mode : ParserState) (left : List ℕ) → ArePrefix from bytes pieces mode left → length bytes ≡ bytes_in pieces + length left
+prefix-length from bytes [] mode left (same, are) = omega (arith, ap length are)
+prefix-length from bytes (piece ∷ pieces) mode left (behind, next, cut, opens, others) =
+    let more = prefix-length next behind pieces mode left others in
     omega (arith, ap length cut, length-append piece.bytes behind, more)
 
 -- ---- the items of pieces, and of one more behind them
 
 pub placed-then : (at : ℕ) (pieces : List Piece) (piece : Piece) (machine : Machine) → placed_from at (pieces ++ piece ∷ []) machine
-    ≡ placed_from at pieces machine ++ placed_at (from_on (at + bytes_in pieces) (length piece.bytes)) (trace_at levels piece.command (machine_after pieces machine))
+    ≡ placed_from at pieces machine ++ placed_at (from_on (at + bytes_in pieces) (length piece.bytes)) (trace_at macro_levels piece.command (machine_after pieces machine))
 placed-then at [] piece machine =
     let here : at ≡ at + 0 = omega arith in
-    append-nil (placed_at (from_on at (length piece.bytes)) (trace_at levels piece.command machine))
-    ∙ ap (λ place. placed_at (from_on place (length piece.bytes)) (trace_at levels piece.command machine)) here
+    append-nil (placed_at (from_on at (length piece.bytes)) (trace_at macro_levels piece.command machine))
+    ∙ ap (λ place. placed_at (from_on place (length piece.bytes)) (trace_at macro_levels piece.command machine)) here
 placed-then at (first ∷ pieces) piece machine =
-    let here = placed_at (from_on at (length first.bytes)) (trace_at levels first.command machine) in
+    let here = placed_at (from_on at (length first.bytes)) (trace_at macro_levels first.command machine) in
     let next = machine_behind first.command machine in
     let sum : at + length first.bytes + bytes_in pieces ≡ at + (length first.bytes + bytes_in pieces) = omega arith in
     ap (λ (more : List Placed). here ++ more) (placed-then (at + length first.bytes) pieces piece next)
     ∙ sym (append_assoc here (placed_from (at + length first.bytes) pieces next) _)
-    ∙ (λ i. (here ++ placed_from (at + length first.bytes) pieces next) ++ placed_at (from_on (sum i) (length piece.bytes)) (trace_at levels piece.command (machine_after pieces next)))
+    ∙ (λ i. (here ++ placed_from (at + length first.bytes) pieces next) ++ placed_at (from_on (sum i) (length piece.bytes)) (trace_at macro_levels piece.command (machine_after pieces next)))
 
 -- ---- without places
 
-pub runs-at : (place : Place) (runs : List Run) → runs_of (placed_at place runs) ≡ runs
+pub runs-at : (place : Place) (runs : List StepResult) → runs_of (placed_at place runs) ≡ runs
 runs-at place [] = refl
 runs-at place (run ∷ runs) = ap (λ more. run ∷ more) (runs-at place runs)
 
@@ -64,7 +64,7 @@ unfolding trace_each
 runs-from at [] machine = refl
 runs-from at (piece ∷ pieces) machine =
     let place = from_on at (length piece.bytes) in
-    let here = trace_at levels piece.command machine in
+    let here = trace_at macro_levels piece.command machine in
     let next = machine_behind piece.command machine in
     runs-append (placed_at place here) (placed_from (at + length piece.bytes) pieces next)
     ∙ (λ i. runs-at place here i ++ runs-from (at + length piece.bytes) pieces next i)
@@ -74,10 +74,10 @@ pub last-from : (at : ℕ) (pieces : List Piece) (machine : Machine) → last_ma
 last-from at [] machine = refl
 last-from at (piece ∷ pieces) machine =
     let place = from_on at (length piece.bytes) in
-    let here = trace_at levels piece.command machine in
+    let here = trace_at macro_levels piece.command machine in
     let next = machine_behind piece.command machine in
     let rest = placed_from (at + length piece.bytes) pieces next in
-    ap (last_machine machine) (runs-append (placed_at place here) rest ∙ ap (λ (more : List Run). more ++ runs_of rest) (runs-at place here))
+    ap (last_machine machine) (runs-append (placed_at place here) rest ∙ ap (λ (more : List StepResult). more ++ runs_of rest) (runs-at place here))
     ∙ last_machine-append here (runs_of rest) machine
     ∙ last-from (at + length piece.bytes) pieces next
 

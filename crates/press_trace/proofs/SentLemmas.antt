@@ -3,7 +3,7 @@ use Rattle.std.proofs.Common.{◌≡◌, ◌∙◌, ◌+◌, ℕ, zero, suc, Lis
 use Rattle.std.proofs.lemmas.List.{length-append}
 use Rattle.press_units.specs.Limits.{greatest_of_64_bits}
 use Rattle.press_sink.specs.Sending.{Output, sheets_of}
-use Rattle.press_sink.specs.Sides.{Sides}
+use Rattle.press_sink.specs.PrintedSheet.{PrintedSheet}
 use Rattle.press_sink.proofs.SendingLemmas.{sheets_of-append}
 use Rattle.press_engine.specs.declared.effect.Sent.{Sent}
 use Rattle.press_engine.specs.Outputs.{copies_out, copy_out, next_count, all_outputs, outputs_of}
@@ -11,11 +11,11 @@ use Rattle.press_engine.specs.Outputs.{copies_out, copy_out, next_count, all_out
 sheets-append : (outputs others : List Output) → length (sheets_of (outputs ++ others)) ≡ length (sheets_of outputs) + length (sheets_of others)
 sheets-append outputs others = ap length (sheets_of-append outputs others) ∙ length-append (sheets_of outputs) (sheets_of others)
 
-one-copy : (sheet : Sides) (count : Option ℕ) → length (sheets_of (copy_out sheet count)) ≡ 1
+one-copy : (sheet : PrintedSheet) (count : Option ℕ) → length (sheets_of (copy_out sheet count)) ≡ 1
 one-copy sheet None = refl
 one-copy sheet (Some since_job) = refl
 
-pub count_copies : (sheet : Sides) (copies : ℕ) (count : Option ℕ) → copies ≡ length (sheets_of (copies_out sheet copies count))
+pub count_copies : (sheet : PrintedSheet) (copies : ℕ) (count : Option ℕ) → copies ≡ length (sheets_of (copies_out sheet copies count))
 count_copies sheet zero count = refl
 count_copies sheet (suc copies) count =
     let one = one-copy sheet (next_count count) in

@@ -3,16 +3,16 @@ use Rattle.std.proofs.Common.{◌≡◌, ◌∙◌, ◌⊎◌, ◌+◌, ◌-◌,
 use Rattle.std.proofs.lemmas.Bool.{true≢false}
 use Rattle.std.proofs.lemmas.List.{append_assoc, append-nil, length-append}
 use Rattle.press_cmd.specs.Token.{Token, Uel}
-use Rattle.press_cmd.specs.Mode.{Mode, Exit}
+use Rattle.press_cmd.specs.ParserState.{ParserState, Exit}
 use Rattle.press_cmd.specs.Grammar.{Head, scanned_in}
 use Rattle.press_cmd.specs.Split.{ClosedFrom, NoHead, closing}
 use Rattle.press_cmd.proofs.Splits.{some_split, nothing_closed}
 use Rattle.press_scan.specs.Gives.{ClosesAs}
 use Rattle.press_scan.specs.ScannerState.{ScannerState}
-use Rattle.press_engine.specs.declared.frame.Frame.{Frame}
+use Rattle.press_engine.specs.declared.activation.Activation.{Activation}
 use Rattle.press_engine.specs.declared.machine.Machine.{Machine}
-use Rattle.press_engine.specs.Machine.{Run, power_on, levels}
-use Rattle.press_engine.specs.Stack.{owed}
+use Rattle.press_engine.specs.Machine.{StepResult, power_on, macro_levels}
+use Rattle.press_engine.specs.Stack.{continuation}
 use Rattle.press_engine.specs.Trace.{last_machine, trace_at, trace_each, trace}
 use Rattle.press_engine.proofs.TraceLaws.{last_machine-append, trace_each-append}
 use Rattle.press_stream.specs.Meaning.{left, with_exit}
@@ -24,10 +24,10 @@ use Rattle.press_stream.proofs.Items.{left-none, left-one}
 use Rattle.press_trace.specs.declared.place.Place.{Place}
 use Rattle.press_trace.specs.declared.seen.Seen.{Seen}
 use Rattle.press_trace.specs.declared.tracer.Tracer.{Tracer}
-use Rattle.press_trace.specs.Places.{Piece, Placed, Opens, AreFront, IsPlacedTrace, placed_at, placed_from, placed_exit, from_on, machine_after, runs_of}
+use Rattle.press_trace.specs.Places.{Piece, Placed, Opens, ArePrefix, IsPlacedTrace, placed_at, placed_from, placed_exit, from_on, machine_after, runs_of}
 use Rattle.press_trace.specs.Traced.{AreFirst, last_of}
 use Rattle.press_trace.specs.Tracing.{IsAtStart, TellsOne, place_of, told_before}
-use Rattle.press_trace.proofs.PlaceLemmas.{commands_of, bytes_in, front-then, front-length, placed-then, runs-at, runs-append, runs-from, last-from, commands-then}
+use Rattle.press_trace.proofs.PlaceLemmas.{commands_of, bytes_in, prefix-then, prefix-length, placed-then, runs-at, runs-append, runs-from, last-from, commands-then}
 
 -- the items of the exit, once it was taken
 abbrev exit_if : Bool → (at : ℕ) → Machine → List Placed
@@ -40,13 +40,13 @@ taken_so_far exited long pieces = placed_from 0 pieces power_on ++ exit_if exite
 -- It stands behind these items: they are those of the pieces that were taken, but for what bodies still owe.
 pub record StandsBehind (bytes : List ℕ) (placed : List Placed) (now : Tracer) : Type 0 where
   pub pieces : List Piece
-  pub front : AreFront Exit bytes pieces now.job.held.mode now.job.held.bytes
+  pub prefix : ArePrefix Exit bytes pieces now.job.held.mode now.job.held.bytes
   pub closes : (commands : List Token) → ClosedFrom now.job.held.mode now.job.held.bytes commands → ClosedFrom Exit bytes (commands_of pieces ++ commands)
   pub over : now.job.exited ≡ true → now.job.held.bytes ≡ []
   pub machine : Machine
   pub running : now.job.machine ≡ Some machine
   pub state : machine ≡ last_machine power_on (runs_of placed)
-  pub are : taken_so_far now.job.exited (length bytes) pieces ≡ placed ++ placed_at now.place (owed now.job.bodies machine)
+  pub are : taken_so_far now.job.exited (length bytes) pieces ≡ placed ++ placed_at now.place (continuation now.job.bodies machine)
   pub told : told_before now ≡ last_of None placed
   pub long : now.length ≡ length bytes
 
@@ -63,7 +63,7 @@ none_first bytes =
       pieces = [];
       mode = Exit;
       behind = bytes;
-      front = (refl, refl);
+      prefix = (refl, refl);
       more = placed_exit (length bytes) power_on;
       places = refl;
     }
@@ -71,7 +71,7 @@ none_first bytes =
 pub at_start : (bytes : List ℕ) (tracer : Tracer) → IsAtStart bytes tracer → StandsBehind bytes [] tracer
 at_start bytes tracer start = record {
   pieces = [];
-  front = (sym (ap (λ (job : JobState). job.held.mode) start.job), sym (ap (λ (job : JobState). job.held.bytes) start.job));
+  prefix = (sym (ap (λ (job : JobState). job.held.mode) start.job), sym (ap (λ (job : JobState). job.held.bytes) start.job));
   closes = λ commands closed. subst (λ (job : JobState). ClosedFrom job.held.mode job.held.bytes commands) start.job closed;
   over = λ exited. absurd (true≢false (sym exited ∙ ap (λ (job : JobState). job.exited) start.job));
   machine = power_on;
@@ -79,14 +79,14 @@ at_start bytes tracer start = record {
   state = refl;
   are =
       ap (λ (job : JobState). taken_so_far job.exited (length bytes) []) start.job
-      ∙ sym (ap (λ (job : JobState). placed_at tracer.place (owed job.bodies power_on)) start.job);
+      ∙ sym (ap (λ (job : JobState). placed_at tracer.place (continuation job.bodies power_on)) start.job);
   told = ap (λ (seen : Option Seen). cond (is_some seen) tracer.job.machine None) start.untold;
   long = start.whole;
 }
 
 -- ---- one item more
 
-abbrev pub one_more : List Placed → Place → Run → List Placed
+abbrev pub one_more : List Placed → Place → StepResult → List Placed
 one_more placed place item = placed ++ record { place = place; run = item } ∷ []
 
 last_of-then : (before : Option Machine) (placed : List Placed) (one : Placed) → last_of before (placed ++ one ∷ []) ≡ Some one.run.machine
@@ -114,20 +114,20 @@ module _ (bytes : List ℕ) (placed : List Placed) (old new : Tracer) (line : Li
   from-is : tells.does.from ≡ behind.machine
   from-is = same_some old.job.machine tells.does.from behind.machine tells.does.starts behind.running
 
-  owed-then : (place : Place) (runs : List Run) → new.place ≡ place → placed ++ placed_at place (tells.item ∷ runs) ≡ one_more placed new.place tells.item ++ placed_at new.place runs
-  owed-then place runs is =
+  continuation-then : (place : Place) (runs : List StepResult) → new.place ≡ place → placed ++ placed_at place (tells.item ∷ runs) ≡ one_more placed new.place tells.item ++ placed_at new.place runs
+  continuation-then place runs is =
       (λ i. placed ++ placed_at (sym is i) (tells.item ∷ runs))
       ∙ sym (append_assoc placed (one ∷ []) (placed_at new.place runs))
 
   pub in_body : TakesNothing old.job tells.does.given new.job → StandsBehind bytes (one_more placed new.place tells.item) new
   in_body (running, nothing, held, exited) =
-      let owing : owed old.job.bodies behind.machine ≡ tells.item ∷ owed new.job.bodies tells.item.machine =
-      ap (owed old.job.bodies) (sym from-is) ∙ sym (left-none old.job.bodies tells.does.from)
+      let owing : continuation old.job.bodies behind.machine ≡ tells.item ∷ continuation new.job.bodies tells.item.machine =
+      ap (continuation old.job.bodies) (sym from-is) ∙ sym (left-none old.job.bodies tells.does.from)
       ∙ ap (λ (given : List Token). left given old.job.bodies tells.does.from) (sym nothing) ∙ tells.does.are in
       let stays : new.place ≡ old.place = tells.place ∙ ap (λ (given : List Token). place_of old.length old.place given old.job.held new.job.held) nothing in
       record {
         pieces = behind.pieces;
-        front = subst (λ (now : ScannerState). AreFront Exit bytes behind.pieces now.mode now.bytes) (sym held) behind.front;
+        prefix = subst (λ (now : ScannerState). ArePrefix Exit bytes behind.pieces now.mode now.bytes) (sym held) behind.prefix;
         closes = λ commands closed. behind.closes commands (subst (λ (now : ScannerState). ClosedFrom now.mode now.bytes commands) held closed);
         over = λ is. ap (λ (now : ScannerState). now.bytes) held ∙ behind.over (sym exited ∙ is);
         machine = tells.item.machine;
@@ -136,8 +136,8 @@ module _ (bytes : List ℕ) (placed : List Placed) (old new : Tracer) (line : Li
         are =
             ap (λ (out : Bool). taken_so_far out (length bytes) behind.pieces) exited
             ∙ behind.are
-            ∙ ap (λ (runs : List Run). placed ++ placed_at old.place runs) owing
-            ∙ owed-then old.place (owed new.job.bodies tells.item.machine) stays;
+            ∙ ap (λ (runs : List StepResult). placed ++ placed_at old.place runs) owing
+            ∙ continuation-then old.place (continuation new.job.bodies tells.item.machine) stays;
         told = told-then new tells.item.machine placed one tells.told tells.does.ends;
         long = tells.still ∙ behind.long;
       }
@@ -148,7 +148,7 @@ module _ (bytes : List ℕ) (placed : List Placed) (old new : Tracer) (line : Li
       sym (append-nil (placed_from 0 behind.pieces power_on))
       ∙ ap (λ (out : Bool). taken_so_far out (length bytes) behind.pieces) (sym going)
       ∙ behind.are
-      ∙ ap (λ (bodies : List Frame). placed ++ placed_at old.place (owed bodies behind.machine)) idle
+      ∙ ap (λ (bodies : List Activation). placed ++ placed_at old.place (continuation bodies behind.machine)) idle
       ∙ append-nil placed
 
   after-is : old.job.bodies ≡ [] → old.job.exited ≡ false → machine_after behind.pieces power_on ≡ behind.machine
@@ -158,17 +158,17 @@ module _ (bytes : List ℕ) (placed : List Placed) (old new : Tracer) (line : Li
       ∙ sym behind.state
 
   -- the items of a command of the stream
-  outside-owes : (command : Token) → tells.does.given ≡ command ∷ [] → old.job.bodies ≡ [] → trace_at levels command behind.machine ≡ tells.item ∷ owed new.job.bodies tells.item.machine
+  outside-owes : (command : Token) → tells.does.given ≡ command ∷ [] → old.job.bodies ≡ [] → trace_at macro_levels command behind.machine ≡ tells.item ∷ continuation new.job.bodies tells.item.machine
   outside-owes command is idle =
-      ap (trace_at levels command) (sym from-is) ∙ sym (left-one command tells.does.from)
+      ap (trace_at macro_levels command) (sym from-is) ∙ sym (left-one command tells.does.from)
       ∙ (λ i. left (sym is i) (sym idle i) tells.does.from) ∙ tells.does.are
 
   pub next_command : (ended : old.job.held.ended ≡ true) → TakesHeld old.job tells.does.given new.job → StandsBehind bytes (one_more placed new.place tells.item) new
   next_command ended (command, is, idle, going, still, passes) =
-      let found = passes.front ended in
+      let found = passes.prefix ended in
       let piece : Piece = record { bytes = found.0; command = command } in
       let pieces = behind.pieces in
-      let all = front-length Exit bytes pieces old.job.held.mode old.job.held.bytes behind.front in
+      let all = prefix-length Exit bytes pieces old.job.held.mode old.job.held.bytes behind.prefix in
       let used : length old.job.held.bytes ≡ length found.0 + length new.job.held.bytes = ap length found.1 ∙ length-append found.0 new.job.held.bytes in
       let here : length bytes - length old.job.held.bytes ≡ 0 + bytes_in pieces = omega (arith, all) in
       let size : length old.job.held.bytes - length new.job.held.bytes ≡ length found.0 = omega (arith, used) in
@@ -178,7 +178,7 @@ module _ (bytes : List ℕ) (placed : List Placed) (old new : Tracer) (line : Li
       ∙ (λ i. from_on (here i) (size i)) in
       record {
         pieces = pieces ++ piece ∷ [];
-        front = front-then Exit bytes pieces old.job.held.mode old.job.held.bytes piece new.job.held.bytes new.job.held.mode behind.front found.1 (opens found.0 found.1 found.2);
+        prefix = prefix-then Exit bytes pieces old.job.held.mode old.job.held.bytes piece new.job.held.bytes new.job.held.mode behind.prefix found.1 (opens found.0 found.1 found.2);
         closes = λ commands closed.
             subst (λ these. ClosedFrom Exit bytes these)
             (sym (append_assoc (commands_of pieces) (command ∷ []) commands) ∙ ap (λ (these : List Token). these ++ commands) (sym (commands-then pieces piece)))
@@ -191,9 +191,9 @@ module _ (bytes : List ℕ) (placed : List Placed) (old new : Tracer) (line : Li
             ap (λ (out : Bool). taken_so_far out (length bytes) (pieces ++ piece ∷ [])) still
             ∙ append-nil _
             ∙ placed-then 0 pieces piece power_on
-            ∙ (λ i. whole idle going i ++ placed_at (sym place i) (trace_at levels command (after-is idle going i)))
-            ∙ ap (λ (runs : List Run). placed ++ placed_at new.place runs) (outside-owes command is idle)
-            ∙ owed-then new.place (owed new.job.bodies tells.item.machine) refl;
+            ∙ (λ i. whole idle going i ++ placed_at (sym place i) (trace_at macro_levels command (after-is idle going i)))
+            ∙ ap (λ (runs : List StepResult). placed ++ placed_at new.place runs) (outside-owes command is idle)
+            ∙ continuation-then new.place (continuation new.job.bodies tells.item.machine) refl;
         told = told-then new tells.item.machine placed one tells.told tells.does.ends;
         long = tells.still ∙ behind.long;
       }
@@ -221,7 +221,7 @@ module _ (bytes : List ℕ) (placed : List Placed) (old new : Tracer) (line : Li
       ∙ (λ i. from_on (here i) (size i)) in
       record {
         pieces = pieces;
-        front = subst (λ (now : ScannerState). AreFront Exit bytes pieces now.mode now.bytes) (sym held) behind.front;
+        prefix = subst (λ (now : ScannerState). ArePrefix Exit bytes pieces now.mode now.bytes) (sym held) behind.prefix;
         closes = λ commands closed. behind.closes commands (subst (λ (now : ScannerState). ClosedFrom now.mode now.bytes commands) held closed);
         over = λ _. ap (λ (now : ScannerState). now.bytes) held ∙ nothing;
         machine = tells.item.machine;
@@ -229,9 +229,9 @@ module _ (bytes : List ℕ) (placed : List Placed) (old new : Tracer) (line : Li
         state = state-then placed one;
         are =
             ap (λ (exited : Bool). taken_so_far exited (length bytes) pieces) out
-            ∙ (λ i. whole idle going i ++ placed_at (sym place i) (trace_at levels Uel (after-is idle going i)))
-            ∙ ap (λ (runs : List Run). placed ++ placed_at new.place runs) (outside-owes Uel is idle)
-            ∙ owed-then new.place (owed new.job.bodies tells.item.machine) refl;
+            ∙ (λ i. whole idle going i ++ placed_at (sym place i) (trace_at macro_levels Uel (after-is idle going i)))
+            ∙ ap (λ (runs : List StepResult). placed ++ placed_at new.place runs) (outside-owes Uel is idle)
+            ∙ continuation-then new.place (continuation new.job.bodies tells.item.machine) refl;
         told = told-then new tells.item.machine placed one tells.told tells.does.ends;
         long = tells.still ∙ behind.long;
       }
@@ -245,18 +245,18 @@ module _ (bytes : List ℕ) (placed : List Placed) (old new : Tracer) (line : Li
 
 -- ---- the items so far are the first of the trace
 
-exit_behind : (commands : List Token) (machine : Machine) → machine ≡ last_machine power_on (trace commands power_on) → trace commands power_on ++ trace_at levels Uel machine ≡ trace (with_exit commands) power_on
+exit_behind : (commands : List Token) (machine : Machine) → machine ≡ last_machine power_on (trace commands power_on) → trace commands power_on ++ trace_at macro_levels Uel machine ≡ trace (with_exit commands) power_on
 unfolding trace_each
 exit_behind commands machine is =
-    ap (λ (at : Machine). trace commands power_on ++ trace_at levels Uel at) is
-    ∙ ap (λ (items : List Run). trace commands power_on ++ items) (sym (append-nil (trace_at levels Uel (last_machine power_on (trace commands power_on)))))
-    ∙ sym (trace_each-append (trace_at levels) commands (Uel ∷ []) power_on)
+    ap (λ (at : Machine). trace commands power_on ++ trace_at macro_levels Uel at) is
+    ∙ ap (λ (items : List StepResult). trace commands power_on ++ items) (sym (append-nil (trace_at macro_levels Uel (last_machine power_on (trace commands power_on)))))
+    ∙ sym (trace_each-append (trace_at macro_levels) commands (Uel ∷ []) power_on)
 
 module _ (bytes : List ℕ) (placed : List Placed) (now : Tracer) (behind : StandsBehind bytes placed now) where
   after_commands : machine_after behind.pieces power_on ≡ last_machine power_on (trace (commands_of behind.pieces) power_on)
   after_commands = sym (last-from 0 behind.pieces power_on) ∙ ap (last_machine power_on) (runs-from 0 behind.pieces power_on)
 
-  abbrev held_mode : Mode
+  abbrev held_mode : ParserState
   held_mode = now.job.held.mode
 
   -- what closes what is held
@@ -265,15 +265,15 @@ module _ (bytes : List ℕ) (placed : List Placed) (now : Tracer) (behind : Stan
       let found = some_split held_mode now.job.held.bytes in
       (found.commands ++ closing found.mode found.rest, (found.commands, found.mode, found.rest, found.split, refl))
 
-  items-so-far : (exited : Bool) → now.job.exited ≡ exited → trace (commands_of behind.pieces) power_on ++ runs_of (exit_if exited (length bytes) (machine_after behind.pieces power_on)) ≡ runs_of placed ++ owed now.job.bodies behind.machine
+  items-so-far : (exited : Bool) → now.job.exited ≡ exited → trace (commands_of behind.pieces) power_on ++ runs_of (exit_if exited (length bytes) (machine_after behind.pieces power_on)) ≡ runs_of placed ++ continuation now.job.bodies behind.machine
   items-so-far exited is =
       let exit = exit_if exited (length bytes) (machine_after behind.pieces power_on) in
-      ap (λ (items : List Run). items ++ runs_of exit) (sym (runs-from 0 behind.pieces power_on))
+      ap (λ (items : List StepResult). items ++ runs_of exit) (sym (runs-from 0 behind.pieces power_on))
       ∙ sym (runs-append (placed_from 0 behind.pieces power_on) exit)
       ∙ ap (λ (out : Bool). runs_of (taken_so_far out (length bytes) behind.pieces)) (sym is)
       ∙ ap runs_of behind.are
-      ∙ runs-append placed (placed_at now.place (owed now.job.bodies behind.machine))
-      ∙ ap (λ (items : List Run). runs_of placed ++ items) (runs-at now.place (owed now.job.bodies behind.machine))
+      ∙ runs-append placed (placed_at now.place (continuation now.job.bodies behind.machine))
+      ∙ ap (λ (items : List StepResult). runs_of placed ++ items) (runs-at now.place (continuation now.job.bodies behind.machine))
 
   pub are_first : AreFirst bytes placed
   are_first = by now.job.exited refl where
@@ -282,26 +282,26 @@ module _ (bytes : List ℕ) (placed : List Placed) (now : Tracer) (behind : Stan
         let commands = commands_of behind.pieces in
         let nothing : ClosedFrom held_mode now.job.held.bytes [] = subst (λ (left : List ℕ). ClosedFrom held_mode left []) (sym (behind.over out)) (nothing_closed held_mode) in
         record {
-          others = owed now.job.bodies behind.machine;
+          others = continuation now.job.bodies behind.machine;
           items = (
             commands,
             subst (ClosedFrom Exit bytes) (append-nil commands) (behind.closes [] nothing),
             sym (items-so-far true out)
-                ∙ ap (λ (items : List Run). trace commands power_on ++ items) (runs-at (from_on (length bytes) 0) (trace_at levels Uel (machine_after behind.pieces power_on)))
+                ∙ ap (λ (items : List StepResult). trace commands power_on ++ items) (runs-at (from_on (length bytes) 0) (trace_at macro_levels Uel (machine_after behind.pieces power_on)))
                 ∙ exit_behind commands (machine_after behind.pieces power_on) after_commands,
           );
           pieces = behind.pieces;
           mode = held_mode;
           behind = now.job.held.bytes;
-          front = behind.front;
-          more = placed_at now.place (owed now.job.bodies behind.machine);
+          prefix = behind.prefix;
+          more = placed_at now.place (continuation now.job.bodies behind.machine);
           places = ap (λ (exited : Bool). taken_so_far exited (length bytes) behind.pieces) (sym out) ∙ behind.are;
         }
     by false going =
         let commands = commands_of behind.pieces in
         let closed = some_closed in
         let exit = placed_exit (length bytes) (machine_after behind.pieces power_on) in
-        let owing = owed now.job.bodies behind.machine in
+        let owing = continuation now.job.bodies behind.machine in
         let rest = trace (with_exit closed.0) (last_machine power_on (trace commands power_on)) in
         record {
           others = owing ++ rest;
@@ -309,14 +309,14 @@ module _ (bytes : List ℕ) (placed : List Placed) (now : Tracer) (behind : Stan
             commands ++ closed.0,
             behind.closes closed.0 closed.1,
             sym (append_assoc (runs_of placed) owing rest)
-                ∙ ap (λ (items : List Run). items ++ rest) (sym (items-so-far false going) ∙ append-nil (trace commands power_on))
-                ∙ sym (trace_each-append (trace_at levels) commands (with_exit closed.0) power_on)
+                ∙ ap (λ (items : List StepResult). items ++ rest) (sym (items-so-far false going) ∙ append-nil (trace commands power_on))
+                ∙ sym (trace_each-append (trace_at macro_levels) commands (with_exit closed.0) power_on)
                 ∙ ap (λ (all : List Token). trace all power_on) (sym (append_assoc commands closed.0 (Uel ∷ []))),
           );
           pieces = behind.pieces;
           mode = held_mode;
           behind = now.job.held.bytes;
-          front = behind.front;
+          prefix = behind.prefix;
           more = placed_at now.place owing ++ exit;
           places =
               ap (λ (items : List Placed). items ++ exit)
@@ -328,13 +328,13 @@ module _ (bytes : List ℕ) (placed : List Placed) (now : Tracer) (behind : Stan
   pub at_end : IsOver now.job → IsTraceOf bytes (runs_of placed) × IsPlacedTrace bytes placed
   at_end over =
       let first = are_first in
-      let none : owed now.job.bodies behind.machine ≡ [] = ap (λ (bodies : List Frame). owed bodies behind.machine) over.idle in
+      let none : continuation now.job.bodies behind.machine ≡ [] = ap (λ (bodies : List Activation). continuation bodies behind.machine) over.idle in
       let all : taken_so_far now.job.exited (length bytes) behind.pieces ≡ placed =
-      behind.are ∙ ap (λ (items : List Run). placed ++ placed_at now.place items) none ∙ append-nil placed in (
+      behind.are ∙ ap (λ (items : List StepResult). placed ++ placed_at now.place items) none ∙ append-nil placed in (
         whole_trace,
         (
           behind.pieces,
-          (held_mode, subst (AreFront Exit bytes behind.pieces held_mode) over.nothing behind.front),
+          (held_mode, subst (ArePrefix Exit bytes behind.pieces held_mode) over.nothing behind.prefix),
           sym all ∙ ap (λ (out : Bool). taken_so_far out (length bytes) behind.pieces) over.exited,
         ),
       )
@@ -345,8 +345,8 @@ module _ (bytes : List ℕ) (placed : List Placed) (now : Tracer) (behind : Stan
           let nothing : ClosedFrom held_mode now.job.held.bytes [] = subst (λ (left : List ℕ). ClosedFrom held_mode left []) (sym over.nothing) (nothing_closed held_mode) in (
             commands,
             subst (ClosedFrom Exit bytes) (append-nil commands) (behind.closes [] nothing),
-            sym (append-nil (runs_of placed)) ∙ ap (λ (bodies : List Frame). runs_of placed ++ owed bodies behind.machine) (sym over.idle)
+            sym (append-nil (runs_of placed)) ∙ ap (λ (bodies : List Activation). runs_of placed ++ continuation bodies behind.machine) (sym over.idle)
                 ∙ sym (items-so-far true over.exited)
-                ∙ ap (λ (items : List Run). trace commands power_on ++ items) (runs-at (from_on (length bytes) 0) (trace_at levels Uel (machine_after behind.pieces power_on)))
+                ∙ ap (λ (items : List StepResult). trace commands power_on ++ items) (runs-at (from_on (length bytes) 0) (trace_at macro_levels Uel (machine_after behind.pieces power_on)))
                 ∙ exit_behind commands (machine_after behind.pieces power_on) after_commands,
           )

@@ -14,9 +14,9 @@ use Rattle.press_engine.specs.declared.machine.Last.TheVariants as lasts
 use Rattle.press_engine.specs.declared.machine.Machine.{Machine}
 use Rattle.press_engine.specs.declared.view.View.{View}
 use Rattle.press_engine.specs.Engine.{IsOfKind}
-use Rattle.press_engine.specs.Machine.{Run, last_of, levels}
+use Rattle.press_engine.specs.Machine.{StepResult, last_of, macro_levels}
 use Rattle.press_engine.specs.PageKept.{TakesFirst, OthersKeepThePage, kind_may_change_page}
-use Rattle.press_engine.specs.Stack.{HasNext, owed}
+use Rattle.press_engine.specs.Stack.{HasNext, continuation}
 use Rattle.press_engine.specs.Table.{is_recorded}
 use Rattle.press_engine.specs.Trace.{trace_at}
 use Rattle.press_stream.specs.Meaning.{left}
@@ -100,16 +100,16 @@ pub step_did : (old new : JobState) (answer : JobStep) (step : StepOutput) → a
 step_did old new answer step is takes = subst (λ (one : JobStep). TakesStep old (Ok one) new) is takes
 
 none_runs : (bodies : List _) → HasNext bodies → bodies ≡ [] → ⊥
-none_runs bodies (frame, command, rest, outer, is) none = cc
+none_runs bodies (activation, command, rest, outer, is) none = cc
 
-pub fewer_held : (old new : JobState) (item : Run) (kind : Kind) → Does old item kind new → length new.held.bytes ≤ length old.held.bytes
+pub fewer_held : (old new : JobState) (item : StepResult) (kind : Kind) → Does old item kind new → length new.held.bytes ≤ length old.held.bytes
 fewer_held old new item kind does = by does.takes where
   by : TakesGiven old does.given new → length new.held.bytes ≤ length old.held.bytes
   by (inl (inside, nothing, held, exited)) = omega (arith, ap (λ (now : ScannerState). length now.bytes) held)
   by (inr (inl (command, is, idle, going, still, passes))) = omega (arith, passes.used)
   by (inr (inr (is, idle, going, out, held, ended, done))) = omega (arith, ap (λ (now : ScannerState). length now.bytes) held)
 
-pub ended_still : (old new : JobState) (item : Run) (kind : Kind) → Does old item kind new → old.held.ended ≡ true → new.held.ended ≡ true
+pub ended_still : (old new : JobState) (item : StepResult) (kind : Kind) → Does old item kind new → old.held.ended ≡ true → new.held.ended ≡ true
 ended_still old new item kind does was = by does.takes where
   by : TakesGiven old does.given new → new.held.ended ≡ true
   by (inl (inside, nothing, held, exited)) = ap (λ (now : ScannerState). now.ended) held ∙ was
@@ -117,7 +117,7 @@ ended_still old new item kind does was = by does.takes where
   by (inr (inr (is, idle, going, out, held, ended, done))) = ap (λ (now : ScannerState). now.ended) held ∙ was
 
 -- where its command stands
-pub place_is : (old new : JobState) (item : Run) (kind : Kind) (does : Does old item kind new) (outside : Bool) (long : ℕ) (place : Place) → IsTrue outside ↔ (old.bodies ≡ []) → place_if outside long (length old.held.bytes) (length new.held.bytes) place ≡ place_of long place does.given old.held new.held
+pub place_is : (old new : JobState) (item : StepResult) (kind : Kind) (does : Does old item kind new) (outside : Bool) (long : ℕ) (place : Place) → IsTrue outside ↔ (old.bodies ≡ []) → place_if outside long (length old.held.bytes) (length new.held.bytes) place ≡ place_of long place does.given old.held new.held
 place_is old new item kind does true long place tells = by does.takes where
   idle : old.bodies ≡ []
   idle = tells.0 refl
@@ -137,21 +137,21 @@ kind_taken true command kind is = is
 kind_taken false command kind is = is
 
 -- a command of the stream of a kind that changes no page
-command_keeps : OthersKeepThePage → (old new : JobState) (item : Run) (kind : Kind) (does : Does old item kind new) (command : Token) → does.given ≡ command ∷ [] → old.bodies ≡ [] → kind_may_change_page kind ≡ false → item.machine.state.page ≡ does.from.state.page
+command_keeps : OthersKeepThePage → (old new : JobState) (item : StepResult) (kind : Kind) (does : Does old item kind new) (command : Token) → does.given ≡ command ∷ [] → old.bodies ≡ [] → kind_may_change_page kind ≡ false → item.machine.state.page ≡ does.from.state.page
 command_keeps law old new item kind does command is idle keeps =
-    let owes : trace_at levels command does.from ≡ item ∷ owed new.bodies item.machine =
+    let owes : trace_at macro_levels command does.from ≡ item ∷ continuation new.bodies item.machine =
     sym (left-one command does.from) ∙ (λ i. left (sym is i) (sym idle i) does.from) ∙ does.are in
     let took : item.machine.last ≡ last_of command does.from.state = subst (TakesFirst (last_of command does.from.state)) owes (law.takes command does.from) in
     let same : kind ≡ kind_of command = kind_taken (is_recorded command does.from.state) command kind (subst (λ (last : Last). IsOfKind last kind) took does.is_kind) in
     let only = law.keeps command does.from (ap kind_may_change_page (sym same) ∙ keeps) in
     let first : item ≡ only.0 = cc in
-    ap (λ (one : Run). one.machine.state.page) first ∙ only.2
+    ap (λ (one : StepResult). one.machine.state.page) first ∙ only.2
 
 outside_if : (outside changes : Bool) → not outside || changes ≡ false → (outside ≡ true) × (changes ≡ false)
 outside_if true changes none = (refl, none)
 outside_if false changes none = absurd (true≢false none)
 
-pub page_stays : OthersKeepThePage → (old new : JobState) (item : Run) (kind : Kind) (does : Does old item kind new) (outside : Bool) → IsTrue outside ↔ (old.bodies ≡ []) → not outside || kind_may_change_page kind ≡ false → item.machine.state.page ≡ does.from.state.page
+pub page_stays : OthersKeepThePage → (old new : JobState) (item : StepResult) (kind : Kind) (does : Does old item kind new) (outside : Bool) → IsTrue outside ↔ (old.bodies ≡ []) → not outside || kind_may_change_page kind ≡ false → item.machine.state.page ≡ does.from.state.page
 page_stays law old new item kind does outside tells none = by does.takes where
   where_it_is : (outside ≡ true) × (kind_may_change_page kind ≡ false)
   where_it_is = outside_if outside (kind_may_change_page kind) none

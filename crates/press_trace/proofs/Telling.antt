@@ -3,7 +3,7 @@ use Rattle.std.proofs.Common.{◌∙◌, ℕ, List, [], ◌∷◌, ◌++◌, Opt
 use Rattle.std.proofs.lemmas.List.{append_assoc, append-nil}
 use Rattle.std.specs.Io.KnownBytes.{Appends}
 use Rattle.std.proofs.KnownBytes.{Appends-nil, Appends-trans}
-use Rattle.press_pbm.specs.Spelling.{AppendsFront}
+use Rattle.press_pbm.specs.Spelling.{AppendsPrefix}
 use Rattle.press_engine.specs.declared.machine.Machine.{Machine}
 use Rattle.press_stream.specs.State.{IsOver}
 use Rattle.press_trace.specs.declared.fault.TraceError.TheVariants.{Output, NoMemory}
@@ -17,8 +17,8 @@ use Rattle.press_trace.proofs.Standing.{StandsBehind, at_start, at_end, are_firs
 AreLines-then : (before : Option Machine) (placed : List Placed) (text : List ℕ) (one : Placed) (line : List ℕ) → AreLines before placed text → IsLine (last_of before placed) one line → AreLines before (placed ++ one ∷ []) (text ++ line)
 AreLines-then before [] text one line none is =
     (line, [], is, refl, ap (λ (all : List ℕ). all ++ line) none ∙ sym (append-nil line))
-AreLines-then before (first ∷ placed) text one line (front, rest, here, others, cut) is =
-    (front, rest ++ line, here, AreLines-then (Some first.run.machine) placed rest one line others is, ap (λ (all : List ℕ). all ++ line) cut ∙ append_assoc front rest line)
+AreLines-then before (first ∷ placed) text one line (prefix, rest, here, others, cut) is =
+    (prefix, rest ++ line, here, AreLines-then (Some first.run.machine) placed rest one line others is, ap (λ (all : List ℕ). all ++ line) cut ∙ append_assoc prefix rest line)
 
 -- memory ran out before the first step
 pub nothing_told : (bytes : List ℕ) (out : Option (List ℕ)) → StopsTracing bytes out out NoMemory
@@ -88,13 +88,13 @@ module _ (bytes : List ℕ) (old now : Option (List ℕ)) (tracer : Tracer) (tel
       written = Appends-trans old now after tells.text line tells.written written;
     }
 
-    pub no_output : (after : Option (List ℕ)) (error : _) → AppendsFront now after line → StopsTracing bytes old after (Output error)
-    no_output after error front = record {
+    pub no_output : (after : Option (List ℕ)) (error : _) → AppendsPrefix now after line → StopsTracing bytes old after (Output error)
+    no_output after error prefix = record {
       placed = tells.placed;
       text = tells.text;
       between = now;
       first = are_first bytes tells.placed tracer tells.behind;
       lines = tells.lines;
       written = tells.written;
-      stops = (next, line, are_first bytes (one_more tells.placed new.place one.item) new stands, next-line, front);
+      stops = (next, line, are_first bytes (one_more tells.placed new.place one.item) new stands, next-line, prefix);
     }

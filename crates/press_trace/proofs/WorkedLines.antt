@@ -15,7 +15,7 @@ use Rattle.press_sink.specs.Sending.{sheets_of, reply_bytes_of}
 use Rattle.press_engine.specs.declared.machine.Machine.{Machine}
 use Rattle.press_engine.specs.declared.view.View.{View}
 use Rattle.press_engine.specs.Engine.{view_of}
-use Rattle.press_engine.specs.Machine.{Run, power_on}
+use Rattle.press_engine.specs.Machine.{StepResult, power_on}
 use Rattle.press_engine.specs.Trace.{last_machine, trace_each, trace_at, trace_in_overlay}
 use Rattle.press_engine.proofs.WorkedMacros.{call, called, fed_items, first, first_feed, first_items, form_feed, macro_control, macro_id, sequence, with_overlay}
 use Rattle.press_trace.specs.Lines.{line_members}
@@ -87,7 +87,7 @@ abbrev feed : Piece
 feed = record { bytes = 12 ∷ []; command = Control 12 }
 
 -- The items of the stream, where its call has these.
-abbrev placed_with : List Run → List Placed
+abbrev placed_with : List StepResult → List Placed
 placed_with inner =
     let after = last_machine first inner in
     placed_from 0 defining power_on
@@ -168,7 +168,7 @@ overlay_defined =
     ∷ []
 
 -- The items of the stream, where its form feed has these.
-abbrev overlaid_with : List Run → List Placed
+abbrev overlaid_with : List StepResult → List Placed
 overlaid_with inner =
     placed_from 0 overlay_defined power_on
     ++ (placed_at (from_on 27 1) inner ++ placed_exit 28 (last_machine with_overlay inner))

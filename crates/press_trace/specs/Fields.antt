@@ -2,7 +2,7 @@
 use Rattle.std.specs.Prelude.{List, ℕ, [], ◌∷◌, codes}
 use Rattle.press_units.specs.Measure.{pcl_unit}
 use Rattle.press_units.specs.Position.{dots_per_inch}
-use Rattle.press_page.specs.Media.{size_number, orientation_number}
+use Rattle.press_page.specs.PageSetup.{size_number, orientation_number}
 use Rattle.press_page.specs.declared.defaults.Defaults.{Defaults}
 use Rattle.press_raster.specs.Settings.{raster_dots_per_inch}
 use Rattle.press_engine.specs.declared.view.View.{View}
@@ -95,12 +95,12 @@ told_by fields.Left view = Number view.environment.margins.left
 told_by fields.Right view = Number view.environment.margins.right
 told_by fields.TextLength view = Number view.environment.margins.text_length
 told_by fields.Top view = Number view.environment.margins.top
-told_by fields.Binding view = Number (binding_number view.environment.media.binding)
-told_by fields.Duplex view = Flag view.environment.media.duplex
+told_by fields.Binding view = Number (binding_number view.environment.page_setup.binding)
+told_by fields.Duplex view = Flag view.environment.page_setup.duplex
 told_by fields.Marked view = Flag view.marked
-told_by fields.Orientation view = Number (orientation_number view.environment.media.orientation)
-told_by fields.Resolution view = Number (dots_per_inch view.environment.media.resolution)
-told_by fields.Size view = Number (size_number view.environment.media.size)
+told_by fields.Orientation view = Number (orientation_number view.environment.page_setup.orientation)
+told_by fields.Resolution view = Number (dots_per_inch view.environment.page_setup.resolution)
+told_by fields.Size view = Number (size_number view.environment.page_setup.size)
 told_by fields.RowHeight view = number_in view.drawing.raster.source_height
 told_by fields.RasterLeft view = raster_left view.raster
 told_by fields.Method view = Number (method_number view.drawing.raster.coding)

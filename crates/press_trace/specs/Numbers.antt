@@ -2,8 +2,8 @@
 use Rattle.std.specs.Prelude.{ℕ, Option, Some, None}
 use Rattle.press_page.specs.declared.media.Binding.{Binding}
 use Rattle.press_page.specs.declared.media.Binding.TheVariants.{LongEdge, ShortEdge}
-use Rattle.press_pattern.specs.declared.pattern.Kind.{Kind}
-use Rattle.press_pattern.specs.declared.pattern.Kind.TheVariants as kinds
+use Rattle.press_pattern.specs.declared.pattern.PatternKind.{PatternKind}
+use Rattle.press_pattern.specs.declared.pattern.PatternKind.TheVariants as kinds
 use Rattle.press_raster.specs.declared.raster.RasterPosition.{RasterPosition}
 use Rattle.press_raster.specs.declared.settings.RowCoding.{RowCoding}
 use Rattle.press_raster.specs.declared.settings.RowCoding.TheVariants.{By, Adaptive}
@@ -17,7 +17,7 @@ binding_number LongEdge = 1
 binding_number ShortEdge = 2
 
 -- the kind of a pattern, as the command that selects the current one numbers it
-abbrev pub pattern_number : Kind → ℕ
+abbrev pub pattern_number : PatternKind → ℕ
 pattern_number kinds.Black = 0
 pattern_number kinds.White = 1
 pattern_number kinds.Shading = 2

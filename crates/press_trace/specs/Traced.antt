@@ -1,15 +1,15 @@
 -- A stream whose trace was told.
 use Rattle.std.specs.Prelude.{◌≡◌, ℕ, List, [], ◌∷◌, ◌++◌, length, Option, None, Some}
 use Rattle.std.specs.Io.KnownBytes.{Appends}
-use Rattle.press_pbm.specs.Spelling.{AppendsFront}
-use Rattle.press_cmd.specs.Mode.{Mode, Exit}
+use Rattle.press_pbm.specs.Spelling.{AppendsPrefix}
+use Rattle.press_cmd.specs.ParserState.{ParserState, Exit}
 use Rattle.press_engine.specs.declared.machine.Machine.{Machine}
-use Rattle.press_engine.specs.Machine.{Run, power_on}
+use Rattle.press_engine.specs.Machine.{StepResult, power_on}
 use Rattle.press_stream.specs.Traced.{IsTraceOf}
 use Rattle.press_trace.specs.declared.fault.TraceError.{TraceError}
 use Rattle.press_trace.specs.declared.fault.TraceError.TheVariants.{Output, NoMemory}
 use Rattle.press_trace.specs.Lines.{IsLine, AreLines}
-use Rattle.press_trace.specs.Places.{Piece, Placed, AreFront, IsPlacedTrace, placed_from, placed_exit, machine_after, runs_of}
+use Rattle.press_trace.specs.Places.{Piece, Placed, ArePrefix, IsPlacedTrace, placed_from, placed_exit, machine_after, runs_of}
 
 -- The lines of all items of the trace of these bytes were written, in order, and nothing else.
 pub record Traces (bytes : List ℕ) (old new : Option (List ℕ)) : Type 0 where
@@ -22,12 +22,12 @@ pub record Traces (bytes : List ℕ) (old new : Option (List ℕ)) : Type 0 wher
 
 -- These are the first items of the trace of these bytes, with the places of the commands that stand at the front of the bytes.
 pub record AreFirst (bytes : List ℕ) (placed : List Placed) : Type 0 where
-  pub others : List Run
+  pub others : List StepResult
   pub items : IsTraceOf bytes (runs_of placed ++ others)
   pub pieces : List Piece
-  pub mode : Mode
+  pub mode : ParserState
   pub behind : List ℕ
-  pub front : AreFront Exit bytes pieces mode behind
+  pub prefix : ArePrefix Exit bytes pieces mode behind
   pub more : List Placed
   pub places : placed_from 0 pieces power_on ++ placed_exit (length bytes) (machine_after pieces power_on) ≡ placed ++ more
 
@@ -36,11 +36,11 @@ abbrev pub last_of : Option Machine → List Placed → Option Machine
 last_of before [] = before
 last_of before (placed ∷ others) = last_of (Some placed.run.machine) others
 
--- what was written of the next line: a front of it, where a write failed; else nothing
+-- what was written of the next line: a prefix of it, where a write failed; else nothing
 abbrev pub StopsAtLine : List ℕ → List Placed → (old new : Option (List ℕ)) → TraceError → Type 0
 StopsAtLine bytes placed old new (Output error) =
     (next : Placed) × (line : List ℕ) × AreFirst bytes (placed ++ next ∷ []) × IsLine (last_of None placed) next line
-    × AppendsFront old new line
+    × AppendsPrefix old new line
 StopsAtLine bytes placed old new NoMemory = new ≡ old
 
 -- The lines of the first items were written, and then it stopped, and this is why.

@@ -6,7 +6,7 @@ use Rattle.press_scan.specs.ScannerState.{ScannerState}
 use Rattle.press_bits.specs.Page.{Page}
 use Rattle.press_engine.specs.declared.effect.StepOutput.{StepOutput}
 use Rattle.press_engine.specs.declared.machine.Machine.{Machine}
-use Rattle.press_engine.specs.Machine.{Run}
+use Rattle.press_engine.specs.Machine.{StepResult}
 use Rattle.press_engine.specs.Engine.{view_of}
 use Rattle.press_engine.specs.Outputs.{all_outputs}
 use Rattle.press_stream.specs.State.{IsOver, opened, with_piece, input_ended}
@@ -67,7 +67,7 @@ place_of long place (command ∷ others) held still =
 
 -- A step was taken, and its line was told.
 pub record TellsOne (old : Tracer) (line : List ℕ) (new : Tracer) : Type 0 where
-  pub item : Run
+  pub item : StepResult
   pub kind : Kind
   pub does : Does old.job item kind new.job
   pub place : new.place ≡ place_of old.length old.place does.given old.job.held new.job.held

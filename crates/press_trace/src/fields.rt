@@ -7,7 +7,7 @@ ghost use Rattle.press_trace.specs.Numbers.{binding_number, pattern_number, meth
 use crate::told::{Told, number_in};
 use press_engine::View;
 use press_page::{Binding, Defaults, Numbered};
-use press_pattern::Kind;
+use press_pattern::PatternKind;
 use press_raster::{RasterPosition, RowCoding};
 use press_rows::Method;
 
@@ -323,16 +323,16 @@ impl Field {
             Field::Right => Told::Number(u64::from(view.environment.margins.right)),
             Field::TextLength => Told::Number(u64::from(view.environment.margins.text_length)),
             Field::Top => Told::Number(u64::from(view.environment.margins.top)),
-            Field::Binding => Told::Number(binding_number(view.environment.media.binding)),
-            Field::Duplex => Told::Flag(view.environment.media.duplex),
+            Field::Binding => Told::Number(binding_number(view.environment.page_setup.binding)),
+            Field::Duplex => Told::Flag(view.environment.page_setup.duplex),
             Field::Marked => Told::Flag(view.marked),
             Field::Orientation => Told::Number(u64::from(
-                view.environment.media.orientation.number(),
+                view.environment.page_setup.orientation.number(),
             )),
             Field::Resolution => Told::Number(u64::from(
-                view.environment.media.resolution.dots_per_inch(),
+                view.environment.page_setup.resolution.dots_per_inch(),
             )),
-            Field::Size => Told::Number(u64::from(view.environment.media.size.number())),
+            Field::Size => Told::Number(u64::from(view.environment.page_setup.size.number())),
             Field::RowHeight => number_in(view.drawing.raster.source_height),
             Field::RasterLeft => raster_left(view.raster),
             Field::Method => Told::Number(method_number(view.drawing.raster.coding)),
@@ -379,15 +379,15 @@ fn binding_number(binding: Binding) -> u64
 }
 
 /// The kind of a pattern, as its command numbers it.
-fn pattern_number(kind: Kind) -> u64
+fn pattern_number(kind: PatternKind) -> u64
     ensures { result ≡ pattern_number kind }
 {
     match kind {
-        Kind::Black => 0,
-        Kind::White => 1,
-        Kind::Shading => 2,
-        Kind::CrossHatch => 3,
-        Kind::User => 4,
+        PatternKind::Black => 0,
+        PatternKind::White => 1,
+        PatternKind::Shading => 2,
+        PatternKind::CrossHatch => 3,
+        PatternKind::User => 4,
     }
 }
 

@@ -15,9 +15,9 @@ use std::alloc::{AllocError, Global};
 struct NoSheets;
 
 impl SheetSink for NoSheets {
-    ghost use Rattle.press_sink.specs.Told.{nothing_told};
+    ghost use Rattle.press_sink.specs.SinkLog.{unlisted_log};
 
-    ghost told = { λ _. nothing_told 0 };
+    ghost told = { λ _. unlisted_log 0 };
 
     fn faults(&self) -> u64 {
         0

@@ -14,7 +14,7 @@ use std::io::Write;
 ///
 /// # Errors
 ///
-/// `Output`: a line cannot be written; a front of it may have been. `NoMemory`: the lines of the steps before were written.
+/// `Output`: a line cannot be written; a prefix of it may have been. `NoMemory`: the lines of the steps before were written.
 pub fn trace_lines<W: Write>(alloc: Global, bytes: &[u8], out: &mut W) -> Result<(), TraceError>
     ensures traces { OnOk result (Traces bytes.now (W.contents out.old) (W.contents out.new)) }
     ensures stops { IfErr result

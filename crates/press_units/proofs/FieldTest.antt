@@ -1,4 +1,4 @@
--- The test for a value field says `IsField`, and fronts of value fields are value fields.
+-- The test for a value field says `IsField`, and prefixes of value fields are value fields.
 use Rattle.std.proofs.Common.{◌≡◌, ◌&&◌, ◌||◌, ℕ, List, [], ◌∷◌, ◌++◌, length, Bool, true, false, cond, Option, Some, None, IfSome, option_to_list, refl, sym, ap, subst, arith, length-append}
 use Rattle.std.specs.List.{All, AllByRecursion, list_all}
 use Rattle.std.specs.Char.{IsAsciiDigit, is_ascii_digit}
@@ -22,9 +22,9 @@ digits-from : (bs : List ℕ) → AllByRecursion IsAsciiDigit bs → list_all is
 digits-from [] h = refl
 digits-from (b ∷ bs) h = and_from (is_ascii_digit b) (list_all is_ascii_digit bs) (digit-from b h.0) (digits-from bs h.1)
 
-digits-front : (f z : List ℕ) → list_all is_ascii_digit (f ++ z) ≡ true → list_all is_ascii_digit f ≡ true
-digits-front [] z h = refl
-digits-front (b ∷ f) z h = let p = and_parts (is_ascii_digit b) (list_all is_ascii_digit (f ++ z)) h in and_from _ _ p.0 (digits-front f z p.1)
+digits-prefix : (f z : List ℕ) → list_all is_ascii_digit (f ++ z) ≡ true → list_all is_ascii_digit f ≡ true
+digits-prefix [] z h = refl
+digits-prefix (b ∷ f) z h = let p = and_parts (is_ascii_digit b) (list_all is_ascii_digit (f ++ z)) h in and_from _ _ p.0 (digits-prefix f z p.1)
 
 digits-byte : (f : List ℕ) (b : ℕ) (z : List ℕ) → list_all is_ascii_digit (f ++ (b ∷ z)) ≡ true → is_ascii_digit b ≡ true
 digits-byte [] b z h = (and_parts (is_ascii_digit b) (list_all is_ascii_digit z) h).0
@@ -119,30 +119,30 @@ decides-test bs false to from = at (is_value_field bs) (λ e. from (IsField-from
     at true h = h refl
     at false h = refl
 
--- fronts
+-- prefixes
 
-front-at : (b : ℕ) (f z : List ℕ) (t : Bool) → is_ascii_digit b ≡ t → cond t (is_unsigned_field (f ++ z)) (is_point b && list_all is_ascii_digit (f ++ z)) ≡ true
+prefix-at : (b : ℕ) (f z : List ℕ) (t : Bool) → is_ascii_digit b ≡ t → cond t (is_unsigned_field (f ++ z)) (is_point b && list_all is_ascii_digit (f ++ z)) ≡ true
     → (is_unsigned_field (f ++ z) ≡ true → is_unsigned_field f ≡ true) → cond t (is_unsigned_field f) (is_point b && list_all is_ascii_digit f) ≡ true
-front-at b f z true e h ih = ih h
-front-at b f z false e h ih = let p = and_parts (is_point b) (list_all is_ascii_digit (f ++ z)) h in and_from _ _ p.0 (digits-front f z p.1)
+prefix-at b f z true e h ih = ih h
+prefix-at b f z false e h ih = let p = and_parts (is_point b) (list_all is_ascii_digit (f ++ z)) h in and_from _ _ p.0 (digits-prefix f z p.1)
 
-unsigned-front : (f z : List ℕ) → is_unsigned_field (f ++ z) ≡ true → is_unsigned_field f ≡ true
-unsigned-front [] z h = refl
-unsigned-front (b ∷ f) z h = front-at b f z (is_ascii_digit b) refl h (unsigned-front f z)
+unsigned-prefix : (f z : List ℕ) → is_unsigned_field (f ++ z) ≡ true → is_unsigned_field f ≡ true
+unsigned-prefix [] z h = refl
+unsigned-prefix (b ∷ f) z h = prefix-at b f z (is_ascii_digit b) refl h (unsigned-prefix f z)
 
-text_front-at : (b : ℕ) (f z : List ℕ) (t : Bool) → cond t (is_unsigned_field (f ++ z)) (is_unsigned_field (b ∷ (f ++ z))) ≡ true → cond t (is_unsigned_field f) (is_unsigned_field (b ∷ f)) ≡ true
-text_front-at b f z true h = unsigned-front f z h
-text_front-at b f z false h = unsigned-front (b ∷ f) z h
+text_prefix-at : (b : ℕ) (f z : List ℕ) (t : Bool) → cond t (is_unsigned_field (f ++ z)) (is_unsigned_field (b ∷ (f ++ z))) ≡ true → cond t (is_unsigned_field f) (is_unsigned_field (b ∷ f)) ≡ true
+text_prefix-at b f z true h = unsigned-prefix f z h
+text_prefix-at b f z false h = unsigned-prefix (b ∷ f) z h
 
-text-front : (f z : List ℕ) → is_field_text (f ++ z) ≡ true → is_field_text f ≡ true
-text-front [] z h = refl
-text-front (b ∷ f) z h = text_front-at b f z (is_sign b) h
+text-prefix : (f z : List ℕ) → is_field_text (f ++ z) ≡ true → is_field_text f ≡ true
+text-prefix [] z h = refl
+text-prefix (b ∷ f) z h = text_prefix-at b f z (is_sign b) h
 
--- A front of a value field is a value field.
-pub test-front : (f z : List ℕ) → is_value_field (f ++ z) ≡ true → is_value_field f ≡ true
-test-front f z h =
+-- A prefix of a value field is a value field.
+pub test-prefix : (f z : List ℕ) → is_value_field (f ++ z) ≡ true → is_value_field f ≡ true
+test-prefix f z h =
     let p = and_parts (is_field_text (f ++ z)) _ h in
-    and_from (is_field_text f) _ (text-front f z p.0) (le-leb (length f) longest_field (omega (arith, leb-true (length (f ++ z)) longest_field p.1, length-append f z)))
+    and_from (is_field_text f) _ (text-prefix f z p.0) (le-leb (length f) longest_field (omega (arith, leb-true (length (f ++ z)) longest_field p.1, length-append f z)))
 
 byte-at : (x : ℕ) (f : List ℕ) (b : ℕ) (z : List ℕ) (t : Bool) → cond t (is_unsigned_field (f ++ (b ∷ z))) (is_point x && list_all is_ascii_digit (f ++ (b ∷ z))) ≡ true
     → (is_unsigned_field (f ++ (b ∷ z)) ≡ true → is_field_byte b ≡ true) → is_field_byte b ≡ true

@@ -6,7 +6,7 @@ use Rattle.std.proofs.lemmas.List.{length-map, length-replicate}
 use Rattle.std.proofs.lemmas.List.FromFn.{length-map-range_with_len}
 use Rattle.std.proofs.lemmas.Nat.{mul-le}
 use Rattle.press_bits.specs.Page.{Page}
-use Rattle.press_cmd.specs.Mode.{Exit}
+use Rattle.press_cmd.specs.ParserState.{Exit}
 use Rattle.press_cmd.specs.Split.{Closed}
 use Rattle.press_cmd.specs.Token.{Token}
 use Rattle.press_cmd.proofs.Splits.{closed_once}

@@ -4,7 +4,7 @@ use Rattle.std.specs.List.{flat_map, range_with_len}
 use Rattle.std.proofs.lemmas.Grind.{flat_map-append}
 use Rattle.press_bits.specs.Page.{Page}
 use Rattle.press_cmd.specs.Token.{Token, bytes_of, escape_byte}
-use Rattle.press_page.specs.declared.media.Media.{Media}
+use Rattle.press_page.specs.declared.media.PageSetup.{PageSetup}
 use Rattle.press_pbm.specs.Spelling.{line_bytes}
 use Rattle.press_rows.specs.Encoding.{best_method}
 use Rattle.press_rows.specs.declared.compression.Method.{Method}
@@ -47,7 +47,7 @@ some_bytes commands last some =
     omega (arith, ap length bytes, length-append (written commands) (bytes_of last), some)
 
 -- the head is a byte at least, since it begins with the universal exit
-pub head_some : (medium : Media) → 1 ≤ length (written (head_of medium))
+pub head_some : (medium : PageSetup) → 1 ≤ length (written (head_of medium))
 head_some medium = at_least_one (codes "%-12345X" ++ written (drop 1 (head_of medium)))
   where
     at_least_one : (bytes : List ℕ) → 1 ≤ length (escape_byte ∷ bytes)

@@ -8,9 +8,9 @@ use Rattle.press_units.specs.Position.{dots_per_inch}
 use Rattle.press_units.specs.declared.position.Resolution.{Resolution}
 use Rattle.press_bits.specs.Page.{Page}
 use Rattle.press_cmd.specs.Token.{Token, Escape, Control, Uel, PjlLine}
-use Rattle.press_page.specs.Media.{size_number, orientation_number, sides_number, printed_sides}
+use Rattle.press_page.specs.PageSetup.{size_number, orientation_number, duplex_number, duplex_mode}
 use Rattle.press_page.specs.Settings.{most_copies}
-use Rattle.press_page.specs.declared.media.Media.{Media}
+use Rattle.press_page.specs.declared.media.PageSetup.{PageSetup}
 use Rattle.press_ticket.specs.Ticket.{JobTicket}
 use Rattle.press_writer.specs.declared.part.Part.{Part}
 use Rattle.press_writer.specs.declared.part.Part.TheVariants.{Head, Front, Back, Tail}
@@ -42,11 +42,11 @@ set_resolution resolution =
 -- Before the first page: the universal exit, the resolution, a reset, the medium, no margin at the top, and the raster resolution,
 -- which is that of the pages. The resolution is set also where it is the factory's, since a job before this one may have set
 -- another.
-abbrev pub head_of : Media → List Token
+abbrev pub head_of : PageSetup → List Token
 head_of medium =
     Uel ∷ set_resolution medium.resolution ∷ printer_reset ∷ command PageSize (size_number medium.size)
     ∷ command Orientation (orientation_number medium.orientation)
-    ∷ command SimplexDuplex (sides_number (printed_sides medium)) ∷ command TopMargin 0
+    ∷ command SimplexDuplex (duplex_number (duplex_mode medium)) ∷ command TopMargin 0
     ∷ command RasterResolution (dots_per_inch medium.resolution) ∷ []
 
 abbrev pub head : JobTicket → List Token
@@ -66,7 +66,7 @@ back_of images (Some number) = page (image_of images number)
 back_of images None = command SideSelection front_side ∷ []
 
 -- The commands of a part, by the medium of the job; and by its ticket.
-abbrev pub commands_of_part : Media → List Page → Part → List Token
+abbrev pub commands_of_part : PageSetup → List Page → Part → List Token
 commands_of_part medium images Head = head_of medium
 commands_of_part medium images (Front number copies) = command Copies copies ∷ page (image_of images number)
 commands_of_part medium images (Back number) = back_of images number

@@ -3,7 +3,7 @@ use Rattle.std.specs.Prelude.{◌≡◌, ◌≤◌, ◌<◌, ℕ, List, [], ◌�
 use Rattle.std.specs.List.{flat_map}
 use Rattle.press_bits.specs.Page.{Page}
 use Rattle.press_cmd.specs.Token.{Token}
-use Rattle.press_page.specs.declared.media.Media.{Media}
+use Rattle.press_page.specs.declared.media.PageSetup.{PageSetup}
 use Rattle.press_ticket.specs.Ticket.{JobTicket}
 use Rattle.press_writer.specs.declared.part.PageLeft.{PageLeft}
 use Rattle.press_writer.specs.declared.part.Part.{Part}
@@ -20,7 +20,7 @@ most_job_commands = 4000000000000
 
 -- On what the job prints; what is left of the page that is begun, if one is; and the parts that are not begun.
 pub record JobLeft : Type 0 where
-  pub medium : Media
+  pub medium : PageSetup
   pub begun : Option PageLeft
   pub parts : List Part
 

@@ -21,7 +21,7 @@ use crate::plan::Plan;
 use crate::sequence::Sequence;
 use crate::writing::{push_head, push_tail};
 use press_bits::Bitmap;
-use press_page::Media;
+use press_page::PageSetup;
 use press_rows::Method;
 use press_ticket::Ticket;
 use std::alloc::{AllocError, Global};
@@ -34,7 +34,7 @@ use std::marker::Model;
 #[derive(Drop)]
 pub struct JobWriter {
     alloc: Global,
-    medium: Media,
+    medium: PageSetup,
     plan: Plan,
     /// The page that is begun.
     begun: Option<PageLeft>,
@@ -78,7 +78,7 @@ fn begin_page(
 /// Begins a part of the job, all of it where it has no page.
 fn begin_part(
     out: &mut Vec<u8>,
-    medium: Media,
+    medium: PageSetup,
     images: &[Bitmap],
     part: Part,
 ) -> Result<Option<PageLeft>, AllocError>

@@ -3,7 +3,7 @@
 ghost use Rattle.std.specs.Prelude.{◌≡◌, ◌++◌, ◌⊎◌, [], None, Err, length, OnOk, OnErr, IfSome, IsSome, IfErr};
 ghost use Rattle.std.specs.Io.KnownBytes.{Appends};
 ghost use Rattle.press_cmd.specs.Token.{bytes_of};
-ghost use Rattle.press_pbm.specs.Spelling.{AppendsFront, Writes};
+ghost use Rattle.press_pbm.specs.Spelling.{AppendsPrefix, Writes};
 ghost use Rattle.press_writer.specs.declared.fault.WriterError.TheVariants.{WriteFault, NoMemory};
 ghost use Rattle.press_writer.specs.Fitting.{refusal};
 ghost use Rattle.press_writer.specs.Job.{set_resolution, head_of, tail, job_bytes};
@@ -18,7 +18,7 @@ use crate::sequence::Sequence;
 use itoa::Buffer;
 use press_bits::Bitmap;
 use press_cmd::{ESCAPE, UEL};
-use press_page::{Media, Numbered};
+use press_page::{Numbered, PageSetup};
 use press_pbm::write_whole;
 use press_ticket::Ticket;
 use press_units::Resolution;
@@ -44,7 +44,7 @@ fn push_resolution(out: &mut Vec<u8>, resolution: Resolution) -> Result<(), Allo
 }
 
 /// Appends what stands before the first page.
-pub(crate) fn push_head(out: &mut Vec<u8>, medium: Media) -> Result<(), AllocError>
+pub(crate) fn push_head(out: &mut Vec<u8>, medium: PageSetup) -> Result<(), AllocError>
     ensures { OnOk result (out.new.items ≡ out.old.items ++ written (head_of medium)) }
 {
     out.extend_from_slice(&UEL)?;
@@ -53,7 +53,7 @@ pub(crate) fn push_head(out: &mut Vec<u8>, medium: Media) -> Result<(), AllocErr
     let settings = [
         (Sequence::PageSize, medium.size.number()),
         (Sequence::Orientation, medium.orientation.number()),
-        (Sequence::SimplexDuplex, medium.printed_sides().number()),
+        (Sequence::SimplexDuplex, medium.duplex_mode().number()),
         (Sequence::TopMargin, 0),
         (
             Sequence::RasterResolution,
@@ -72,7 +72,7 @@ pub(crate) fn push_tail(out: &mut Vec<u8>) -> Result<(), AllocError>
     Ok(())
 }
 
-/// Writes all these bytes, or a front of them.
+/// Writes all these bytes, or a prefix of them.
 fn write_bytes<W: Write>(output: &mut W, bytes: &[u8]) -> Result<(), WriterError>
     ensures written { Writes result (W.contents output.old) (W.contents output.new) bytes.now }
     ensures fault { IfErr result (λ error. error ≡ WriteFault) }
@@ -113,8 +113,8 @@ fn write_pieces<W: Write>(
 /// # Errors
 ///
 /// - those of [`check`](crate::check); nothing was written then
-/// - `WriteFault` (614) where a write failed; a front of the job was written
-/// - `NoMemory` where memory ran out; a front of the job was written
+/// - `WriteFault` (614) where a write failed; a prefix of the job was written
+/// - `NoMemory` where memory ran out; a prefix of the job was written
 ///
 /// Source: PCL 5 Printer Language Technical Reference Manual, PJL Technical Reference Manual; which commands a job has is this
 /// profile's.
@@ -126,7 +126,7 @@ pub fn write_job<W: Write>(
 ) -> Result<(), WriterError>
     ensures ok { OnOk result (Appends (W.contents output.old) (W.contents output.new)
         (job_bytes ticket.now images.now)) }
-    ensures err { OnErr result (AppendsFront (W.contents output.old) (W.contents output.new)
+    ensures err { OnErr result (AppendsPrefix (W.contents output.old) (W.contents output.new)
         (job_bytes ticket.now images.now)) }
     ensures prints { refusal ticket.now images.now ≡ None
         → PrintsTheTicket ticket.now images.now (job_bytes ticket.now images.now) }

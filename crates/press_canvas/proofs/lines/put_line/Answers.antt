@@ -6,7 +6,7 @@ use Rattle.press_bits.specs.Page.{Page}
 use Rattle.press_bits.specs.Mark.{Row, painted, row, row_dot, row_mark}
 use Rattle.press_bits.proofs.BandLemmas.{after_ok}
 use Rattle.press_canvas.specs.Turned.{with_line}
-use Rattle.press_canvas.proofs.LineLemmas.{opaque, painted_line, row_dot-front, with_line_alike}
+use Rattle.press_canvas.proofs.LineLemmas.{opaque, painted_line, row_dot-prefix, with_line_alike}
 use Rattle.press_canvas.proofs.lines.put_line.Goals as goal
 
 pub returns : goal.returns
@@ -22,5 +22,5 @@ returns c =
     ∙ with_line_alike before c.args.y (row_dot source.bits) (row_dot c.args.bits.now)
     (λ x left.
     let within : x < 8 * c.div_ceil.result = omega (arith, left, c.width-dots.ensures.width, c.div_ceil.ensures) in
-    row_dot-front c.args.bits.now c.div_ceil.result x within))
+    row_dot-prefix c.args.bits.now c.div_ceil.result x within))
     c.paint_row.ensures.ok

@@ -5,7 +5,7 @@ use Rattle.press_bits.proofs.BandLemmas.{after_ok}
 use Rattle.press_canvas.specs.Strip.{place_at}
 use Rattle.press_canvas.specs.Turned.{with_line}
 use Rattle.press_canvas.proofs.ColumnLemmas.{place_within}
-use Rattle.press_canvas.proofs.LineLemmas.{row_dot-front, white_line, with_line_alike}
+use Rattle.press_canvas.proofs.LineLemmas.{row_dot-prefix, white_line, with_line_alike}
 use Rattle.press_canvas.proofs.lines.put_row.Goals as goal
 
 pub returns-then-not-back-clause-put : goal.returns-then-not-back-clause-put
@@ -25,7 +25,7 @@ returns-then-is_white-clause-put c =
     (λ x left.
     let place : ℕ = place_at c.args.back page.width x in
     let within : place < 8 * c.div_ceil.result = omega (arith, place_within c.args.back page.width x left, c.width-dots.ensures.width, c.div_ceil.ensures) in
-    sym (row_dot-front bits c.div_ceil.result place within) ∙ c.if-is_white.ensures refl place)
+    sym (row_dot-prefix bits c.div_ceil.result place within) ∙ c.if-is_white.ensures refl place)
 
 pub returns-clause-put : goal.returns-clause-put
 returns-clause-put c =

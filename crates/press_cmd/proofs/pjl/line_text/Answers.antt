@@ -6,6 +6,6 @@ use Rattle.press_cmd.proofs.pjl.line_text.Goals as goal
 pub returns : goal.returns
 returns c =
     let text = c.without_end-text.result.now in
-    let front : c.min.result ≡ min 4 (length text) = omega (arith, c.min.ensures) in
-    take_rest text c.min.result ∙ ap (λ n. drop n text) front ∙ drop_min 4 text
+    let prefix : c.min.result ≡ min 4 (length text) = omega (arith, c.min.ensures) in
+    take_rest text c.min.result ∙ ap (λ n. drop n text) prefix ∙ drop_min 4 text
     ∙ ap (drop 4) (c.without_end-text.ensures ∙ ap (without_end 13) c.without_end.ensures)

@@ -1,7 +1,7 @@
 use Rattle.std.proofs.Common.{◌≡◌, ◌<◌, ◌-◌, ℕ, suc, true, replicate, arith, sym, subst}
 use Rattle.std.specs.Prelude.{nat_lt}
 use Rattle.std.proofs.lemmas.Bool.Decides.{nat_tests}
-use Rattle.press_sink.specs.Told.{most_faults}
+use Rattle.press_sink.specs.SinkLog.{most_faults}
 use Rattle.press_core.specs.Handing.{HandsOver}
 use Rattle.press_core.proofs.HandingLemmas.{HandsOver-then}
 use Rattle.press_core.proofs.handing.hand_over_copies.Goals as goal
@@ -18,7 +18,7 @@ loop-left-preserved g c =
     let left : c.loop-left.left ≡ suc (c.loop-left.left - 1) = omega (arith, some) in
     record {
       last = λ _. ((g.S.SheetSink.told c.loop-left.sink).delivered, c.in_ok-deliver.ensures.0);
-      can_count = subst (λ n. n < most_faults) (sym c.in_ok-deliver.ensures.1) c.loop-left.invariant.can_count;
+      has_fault_room = subst (λ n. n < most_faults) (sym c.in_ok-deliver.ensures.1) c.loop-left.invariant.has_fault_room;
       rest = λ result after count hands.
           c.loop-left.invariant.rest result after count
           (subst (λ n. HandsOver c.args.number (replicate n c.args.sheet.now) result (g.S.SheetSink.told c.loop-left.sink) after c.loop-left.delivered count) (sym left)

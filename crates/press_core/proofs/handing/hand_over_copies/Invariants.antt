@@ -1,5 +1,5 @@
 use Rattle.std.proofs.Common.{ℕ, ◌<◌, replicate, Result}
-use Rattle.press_sink.specs.Told.{SheetsTold, TookLast, most_faults}
+use Rattle.press_sink.specs.SinkLog.{SheetLog, TookLast, most_faults}
 use Rattle.press_core.specs.declared.turn.TurnError.{TurnError}
 use Rattle.press_core.specs.Handing.{HandsOver}
 use Rattle.press_core.proofs.handing.hand_over_copies.Given as goal
@@ -8,9 +8,9 @@ use Rattle.press_core.proofs.handing.hand_over_copies.Given as goal
 abbrev pub invariant-loop-left : goal.invariant-loop-left
 invariant-loop-left g l =
     record {
-      can_count : (g.S.SheetSink.told l.sink).faults < most_faults;
+      has_fault_room : (g.S.SheetSink.told l.sink).faults < most_faults;
       last : l.left < l.fn.copies → TookLast (g.S.SheetSink.told l.sink) (record { tag = l.number; sheet = l.sheet });
-      rest : (result : Result (Unit {0}) TurnError) (after : SheetsTold) (count : ℕ)
+      rest : (result : Result (Unit {0}) TurnError) (after : SheetLog) (count : ℕ)
           → HandsOver l.number (replicate l.left l.sheet) result (g.S.SheetSink.told l.sink) after l.delivered count
           → HandsOver l.number (replicate l.fn.copies l.sheet) result (g.S.SheetSink.told l.fn.sink) after l.fn.delivered count;
     }

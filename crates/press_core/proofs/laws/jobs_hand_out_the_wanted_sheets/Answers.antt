@@ -5,12 +5,12 @@ use Rattle.press_cmd.specs.Token.{Token}
 use Rattle.press_engine.specs.Machine.{power_on}
 use Rattle.press_engine.specs.Trace.{joined}
 use Rattle.press_sink.specs.Sending.{Deliver, sheets_of}
-use Rattle.press_sink.specs.Sides.{Sides}
+use Rattle.press_sink.specs.PrintedSheet.{PrintedSheet}
 use Rattle.press_stream.specs.Meaning.{meaning_of, with_exit}
 use Rattle.press_writer.specs.Wanted.{wanted}
 use Rattle.press_core.proofs.laws.jobs_hand_out_the_wanted_sheets.Goals as goal
 
-delivered_sheets : (sheets : List Sides) → sheets_of (map Deliver sheets) ≡ sheets
+delivered_sheets : (sheets : List PrintedSheet) → sheets_of (map Deliver sheets) ≡ sheets
 delivered_sheets [] = refl
 delivered_sheets (sheet ∷ sheets) = ap (λ l. sheet ∷ l) (delivered_sheets sheets)
 

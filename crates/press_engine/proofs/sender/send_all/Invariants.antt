@@ -1,5 +1,5 @@
 use Rattle.std.proofs.Common.{drop, Result}
-use Rattle.press_sink.specs.Told.{Told, both, CanCount}
+use Rattle.press_sink.specs.SinkLog.{SinkLog, logs, HasFaultRoom}
 use Rattle.press_engine.specs.Engine.{Sends}
 use Rattle.press_engine.specs.Outputs.{all_outputs}
 use Rattle.press_engine.specs.declared.fault.EngineError.{EngineError}
@@ -8,6 +8,6 @@ use Rattle.press_engine.proofs.sender.send_all.Given as goal
 -- what goes out of the parts that are left goes out of all
 abbrev pub invariant-loop-part : goal.invariant-loop-part
 invariant-loop-part g l = record {
-  can_count : CanCount (both (g.S.SheetSink.told l.sheets) (g.R.ReplySink.told l.replies));
-  rest : (result : Result (Unit {0}) EngineError) (after : Told) → Sends l.tag (all_outputs (drop l.part-index l.sent)) result (both (g.S.SheetSink.told l.sheets) (g.R.ReplySink.told l.replies)) after → Sends l.tag (all_outputs l.sent) result (both (g.S.SheetSink.told l.fn.sheets) (g.R.ReplySink.told l.fn.replies)) after;
+  has_fault_room : HasFaultRoom (logs (g.S.SheetSink.told l.sheets) (g.R.ReplySink.told l.replies));
+  rest : (result : Result (Unit {0}) EngineError) (after : SinkLog) → Sends l.tag (all_outputs (drop l.part-index l.sent)) result (logs (g.S.SheetSink.told l.sheets) (g.R.ReplySink.told l.replies)) after → Sends l.tag (all_outputs l.sent) result (logs (g.S.SheetSink.told l.fn.sheets) (g.R.ReplySink.told l.fn.replies)) after;
 }

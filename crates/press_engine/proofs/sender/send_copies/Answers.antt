@@ -1,6 +1,6 @@
 use Rattle.std.proofs.Common.{◌∙◌, Err, Ok, sym, ap}
 use Rattle.std.proofs.lemmas.Result.{err_from_is_err_and}
-use Rattle.press_engine.proofs.SendsLemmas.{Sends-copy, Sends-stopped_copy, Sends-no_copy, TookLast-copy, is_later, can_count-then, copies_out-some}
+use Rattle.press_engine.proofs.SendsLemmas.{Sends-copy, Sends-stopped_copy, Sends-no_copy, TookLast-copy, is_later, has_fault_room-then, copies_out-some}
 use Rattle.press_engine.proofs.sender.send_copies.Goals as goal
 
 pub returns-in_err-send_copy-clause-sends : goal.returns-in_err-send_copy-clause-sends
@@ -16,7 +16,7 @@ send_copy-requires-clause-last g c = λ again. c.loop-copy.invariant.last (is_la
 
 pub loop-copy-preserved : goal.loop-copy-preserved
 loop-copy-preserved g c = record {
-  can_count = can_count-then c.args.tag _ _ _ c.in_ok-send_copy.ensures c.loop-copy.invariant.can_count;
+  has_fault_room = has_fault_room-then c.args.tag _ _ _ c.in_ok-send_copy.ensures c.loop-copy.invariant.has_fault_room;
   rest = λ result after sends. c.loop-copy.invariant.rest result after (Sends-copy c.args.finished.now.sheet c.args.tag c.loop-copy.copy c.args.finished.now.copies c.loop-copy.count c.next_count-count.result c.next_count-count.ensures result _ _ after c.loop-copy-test.true c.in_ok-send_copy.ensures sends);
   last = λ _. TookLast-copy c.args.finished.now.sheet c.args.tag c.next_count-count.result _ _ c.in_ok-send_copy.ensures;
 }

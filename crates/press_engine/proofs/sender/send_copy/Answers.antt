@@ -1,7 +1,7 @@
 use Rattle.std.proofs.Common.{◌∙◌, ℕ, Option, [], ◌∷◌, Err, sym, ap, subst}
 use Rattle.std.proofs.lemmas.Result.{err_from_is_err_and}
 use Rattle.press_pjl.specs.Replies.{page_reply}
-use Rattle.press_sink.specs.Told.{both}
+use Rattle.press_sink.specs.SinkLog.{logs}
 use Rattle.press_sink.specs.Sending.{Deliver, Reply}
 use Rattle.press_engine.specs.Engine.{Sends}
 use Rattle.press_engine.specs.Outputs.{copy_out, status_out}
@@ -15,5 +15,5 @@ returns-in_err-deliver g c =
 
 pub returns-in-Some : goal.returns-in-Some
 returns-in-Some g c =
-    let P : Option ℕ → Type 0 = λ count. Sends c.args.tag (copy_out c.args.sheet.now count) c.reply_status.result (both (g.S.SheetSink.told c.args.sheets.now) (g.R.ReplySink.told c.args.replies.now)) (both (g.S.SheetSink.told c.reply_status.new.sheets) (g.R.ReplySink.told c.reply_status.new.replies)) in
+    let P : Option ℕ → Type 0 = λ count. Sends c.args.tag (copy_out c.args.sheet.now count) c.reply_status.result (logs (g.S.SheetSink.told c.args.sheets.now) (g.R.ReplySink.told c.args.replies.now)) (logs (g.S.SheetSink.told c.reply_status.new.sheets) (g.R.ReplySink.told c.reply_status.new.replies)) in
     subst P (sym c.in-Some.is) (Sends-then c.args.tag (Deliver c.args.sheet.now ∷ []) (Reply (page_reply c.in-Some.since_job) ∷ []) c.reply_status.result _ _ _ c.in_ok-deliver.ensures c.reply_status.ensures)

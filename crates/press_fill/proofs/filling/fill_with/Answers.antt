@@ -15,7 +15,7 @@ after_err (Err e) step p = step p
 
 pub returns : goal.returns
 returns c =
-    let mark : Mark = rect_mark c.args.rect c.args.ink.now.tile c.args.ink.now.mode in
+    let mark : Mark = rect_mark c.args.rect c.args.brush.now.tile c.args.brush.now.mode in
     let frame : Page = c.lie_as.new.self.bitmap in
     let o : Orientation = c.lie_as.new.self.orientation in
     let after : Page = c.fill_rect.new.page in

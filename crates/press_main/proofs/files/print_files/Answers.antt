@@ -20,4 +20,4 @@ returns-in-Ok-clause-prints g c =
 pub returns-in-Err-clause-prints : goal.returns-in-Err-clause-prints
 returns-in-Err-clause-prints g c =
     inr (prints-no-files c.in-Err.unopened.error c.args.template.now _ _ _ _ _ _ _ _ _ c.in-Err.ensures.bad
-    (record { answers = c.told.ensures.status; told = c.told.ensures.told; unread = refl; unwritten = refl; unmade = ap g.O.NamedOutputs.made c.in-Err.ensures.back }))
+    (record { answers = c.report.ensures.status; told = c.report.ensures.told; unread = refl; unwritten = refl; unmade = ap g.O.NamedOutputs.made c.in-Err.ensures.back }))

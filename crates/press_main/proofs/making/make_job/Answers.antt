@@ -1,7 +1,7 @@
 use Rattle.std.proofs.Common.{[], sym, refl, inl, inr}
 use Rattle.std.proofs.lemmas.List.{append-nil}
 use Rattle.press_writer.specs.Job.{job_bytes}
-use Rattle.press_sink.proofs.OutputsLemmas.{made_whole, made_front, made_given_up}
+use Rattle.press_sink.proofs.OutputsLemmas.{made_whole, made_prefix, made_given_up}
 use Rattle.press_main.proofs.making.make_job.Goals as goal
 
 pub returns-in-Err-clause-err : goal.returns-in-Err-clause-err
@@ -18,7 +18,7 @@ returns-then-is_err-clause-err g c =
     inr (record {
       fits = c.in_ok-check.ensures.ok;
       told = inl refl;
-      made = made_front c.close.result _ _ _ _ _ _ _ _ refl c.in-Ok.ensures.made c.in-Ok.ensures.empty (bytes, [], sym (append-nil bytes), c.in_default-write_job.ensures.ok) c.close.ensures;
+      made = made_prefix c.close.result _ _ _ _ _ _ _ _ refl c.in-Ok.ensures.made c.in-Ok.ensures.empty (bytes, [], sym (append-nil bytes), c.in_default-write_job.ensures.ok) c.close.ensures;
     })
 
 pub returns-clause-ok : goal.returns-clause-ok

@@ -1,5 +1,5 @@
 use Rattle.std.proofs.Common.{◌≡◌, ◌≤◌, ℕ, subst, sym, arith}
-use Rattle.press_debug.specs.Steps.{Standing}
+use Rattle.press_debug.specs.Steps.{DebuggerState}
 use Rattle.press_main.specs.Paging.{StandsAt}
 use Rattle.press_main.proofs.PagingLemmas.{StandsBehindSo, begins_so, goes_so, stands_at, stands_at_end}
 use Rattle.press_main.proofs.paging.behind_steps.Goals as goal
@@ -16,7 +16,7 @@ pub returns-in-Nothing : goal.returns-in-Nothing
 returns-in-Nothing c =
     let takes = c.in-Nothing.ensures.takes in
     let few : c.loop-step._step ≤ c.args.steps = omega (arith, c.loop-step-test.true) in
-    subst (λ (now : Standing). StandsAt c.args.bytes.now c.args.steps now) (sym takes.1)
+    subst (λ (now : DebuggerState). StandsAt c.args.bytes.now c.args.steps now) (sym takes.1)
     (stands_at_end c.places.ensures c.args.bytes.now c.loop-step._step c.args.steps c.loop-step.stepper few c.loop-step.invariant takes.0)
 
 pub returns : goal.returns

@@ -1,14 +1,14 @@
 use Rattle.std.proofs.Common.{rules, ◌∙◌, List, ℕ, Option, subst, sym}
 use Rattle.press_main.specs.Program.{Debugging}
-use Rattle.press_main.proofs.DefaultsLemmas.{with_front-none, with_front-some}
+use Rattle.press_main.proofs.DefaultsLemmas.{with_prefix-none, with_prefix-some}
 use Rattle.press_main.proofs.program.debug_behind.Goals as goal
 
 pub returns-then-is_empty : goal.returns-then-is_empty
-returns-then-is_empty g c = rw (with_front-none _ _ (sym c.is_empty.ensures ∙ c.if-is_empty.true)) (search rules)
+returns-then-is_empty g c = rw (with_prefix-none _ _ (sym c.is_empty.ensures ∙ c.if-is_empty.true)) (search rules)
 
 pub returns : goal.returns
 returns g c =
     let Holds : Option (List ℕ) → Type 0 = λ stream.
     Debugging c.debug_lines-2.result stream (g.E.Teller.said c.args.err.now) (g.E.Teller.said c.debug_lines-2.new.err) (g.R.Read.remaining c.args.reader.now) (g.R.Read.remaining c.debug_lines-2.new.reader)
     (g.W.Write.contents c.args.out.now) (g.W.Write.contents c.debug_lines-2.new.out) in
-    rw (with_front-some _ _ (sym c.is_empty.ensures ∙ c.if-is_empty.false)) (subst Holds c.chain-stream.ensures.bytes (_, c.debug_lines-2.ensures))
+    rw (with_prefix-some _ _ (sym c.is_empty.ensures ∙ c.if-is_empty.false)) (subst Holds c.chain-stream.ensures.bytes (_, c.debug_lines-2.ensures))

@@ -6,7 +6,7 @@ pub returns-in-Err : goal.returns-in-Err
 returns-in-Err g c = (
   None,
   record {
-    done = λ zero. absurd (omega (arith, c.told.ensures.status, zero));
-    stops = λ other. (c.told.ensures.status, Input c.in-Err.error, c.told.ensures.told, inl (tt, refl, refl));
+    done = λ zero. absurd (omega (arith, c.report.ensures.status, zero));
+    stops = λ other. (c.report.ensures.status, Input c.in-Err.error, c.report.ensures.told, inl (tt, refl, refl));
   },
 )

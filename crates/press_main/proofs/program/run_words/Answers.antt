@@ -1,16 +1,16 @@
 use Rattle.std.proofs.Common.{◌≡◌, ◌∙◌, Bor, List, ℕ, Some, ap, map, refl, sym}
 use Rattle.std.specs.String.{string_bytes}
 use Rattle.press_main.specs.View.{request_seen}
-use Rattle.press_main.specs.Words.{asked}
+use Rattle.press_main.specs.Words.{arguments}
 use Rattle.press_main.proofs.ProgramLemmas.{begins-nothing, runs-nothing, runs-own}
 use Rattle.press_main.proofs.program.run_words.Goals as goal
 
 pub returns-in_default : goal.returns-in_default
 returns-in_default g c =
     let texts : List (List ℕ) = map string_bytes c.args.words.now in
-    runs-nothing texts (asked texts) (g.I.NamedInputs.bytes c.args.inputs.now) (g.I.NamedInputs.missing c.args.inputs.now) c.told.result (g.E.Teller.said c.args.err.now) (g.E.Teller.said c.told.new.err)
+    runs-nothing texts (arguments texts) (g.I.NamedInputs.bytes c.args.inputs.now) (g.I.NamedInputs.missing c.args.inputs.now) c.report.result (g.E.Teller.said c.args.err.now) (g.E.Teller.said c.report.new.err)
     (g.S.Read.remaining c.args.input.now) (g.S.Read.remaining c.args.input.now) (g.W.Write.contents c.args.out) (g.W.Write.contents c.args.out) (g.O.NamedOutputs.made c.args.outputs) (g.O.NamedOutputs.made c.args.outputs)
-    (record { answers = c.told.ensures.status; told = c.told.ensures.told; unread = refl; unwritten = refl; unmade = refl })
+    (record { answers = c.report.ensures.status; told = c.report.ensures.told; unread = refl; unwritten = refl; unmade = refl })
 
 pub returns-in-Ok-request_of : goal.returns-in-Ok-request_of
 returns-in-Ok-request_of g c =
@@ -18,12 +18,12 @@ returns-in-Ok-request_of g c =
     let now : Bor (List ℕ) → List ℕ = λ word. word.now in
     let request = request_seen c.in-Ok-request_of.request in
     let said = g.E.Teller.said c.args.err.now in
-    let says = g.E.Teller.said c.told-in-Err-spare_inputs.new.err in
+    let says = g.E.Teller.said c.report-in-Err-spare_inputs.new.err in
     let had = g.S.Read.remaining c.args.input.now in
     let old = g.W.Write.contents c.args.out in
     let before = g.O.NamedOutputs.made c.args.outputs in
     let after = g.O.NamedOutputs.made c.spare_inputs.new.outputs in
-    let wants : asked texts ≡ Some request = ap asked (sym (ap (map now) c.deref.ensures.value ∙ c.in-Ok.ensures)) ∙ c.in-Ok-request_of.ensures.ok in
-    runs-own texts request (asked texts) (g.I.NamedInputs.bytes c.args.inputs.now) (g.I.NamedInputs.missing c.args.inputs.now) c.told-in-Err-spare_inputs.result said says had had old old before after wants
-    (begins-nothing c.in-Err-spare_inputs.error request c.told-in-Err-spare_inputs.result said says had had old old before after c.in-Err-spare_inputs.ensures.own
-    (record { answers = c.told-in-Err-spare_inputs.ensures.status; told = c.told-in-Err-spare_inputs.ensures.told; unread = refl; unwritten = refl; unmade = c.spare_inputs.ensures.made }))
+    let wants : arguments texts ≡ Some request = ap arguments (sym (ap (map now) c.deref.ensures.value ∙ c.in-Ok.ensures)) ∙ c.in-Ok-request_of.ensures.ok in
+    runs-own texts request (arguments texts) (g.I.NamedInputs.bytes c.args.inputs.now) (g.I.NamedInputs.missing c.args.inputs.now) c.report-in-Err-spare_inputs.result said says had had old old before after wants
+    (begins-nothing c.in-Err-spare_inputs.error request c.report-in-Err-spare_inputs.result said says had had old old before after c.in-Err-spare_inputs.ensures.own
+    (record { answers = c.report-in-Err-spare_inputs.ensures.status; told = c.report-in-Err-spare_inputs.ensures.told; unread = refl; unwritten = refl; unmade = c.spare_inputs.ensures.made }))

@@ -8,8 +8,8 @@ use Rattle.press_main.proofs.program.write_file.Goals as goal
 
 pub returns-in_default : goal.returns-in_default
 returns-in_default g c = record {
-  done = λ zero. absurd (omega (arith, c.told.ensures.status, zero));
-  stops = λ other. (c.told.ensures.status, fault.Ticket ticket_fault.NoMemory, c.told.ensures.told, inl (record { refused = tt; unwritten = refl }));
+  done = λ zero. absurd (omega (arith, c.report.ensures.status, zero));
+  stops = λ other. (c.report.ensures.status, fault.Ticket ticket_fault.NoMemory, c.report.ensures.told, inl (record { refused = tt; unwritten = refl }));
 }
 
 pub returns : goal.returns

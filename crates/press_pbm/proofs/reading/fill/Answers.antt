@@ -8,9 +8,9 @@ use Rattle.press_pbm.proofs.reading.fill.Goals.{in-Ok, in-Err+else-ne}
 use Rattle.press_pbm.proofs.reading.fill.Goals as goal
 
 take_split : (a b : ℕ) (old new : List ℕ) → a ≤ b → take a new ≡ take a old → take a old ++ slice_range new a b ≡ take b new
-take_split a b old new h front =
+take_split a b old new h prefix =
     let same : a + (b - a) ≡ b = omega arith in
-    ap (λ l. l ++ slice_range new a b) (sym front) ∙ sym (take-add a (b - a) new) ∙ ap (λ n. take n new) same
+    ap (λ l. l ++ slice_range new a b) (sym prefix) ∙ sym (take-add a (b - a) new) ∙ ap (λ n. take n new) same
 
 slice_range-put_mid : (a k n : ℕ) (xs ys : List ℕ) → a ≤ length xs → n ≤ length ys → slice_range (put_mid a k xs ys) a (a + n) ≡ take n ys
 slice_range-put_mid a k n xs ys within fits =
@@ -22,11 +22,11 @@ pub returns-in-Ok-eq0-clause-err : goal.returns-in-Ok-eq0-clause-err
 returns-in-Ok-eq0-clause-err g c =
     let filled = c.loop.filled in
     let kept = same_len_mid c.loop.filled (length c.loop.buffer - c.loop.filled) c.loop.buffer c.read.new.buf c.read.auto.buf in
-    let front = length-take-le filled c.loop.buffer c.loop.invariant.1 in
+    let prefix = length-take-le filled c.loop.buffer c.loop.invariant.1 in
     let room : 0 < length c.read.new.buf = omega (arith, kept) in
     let nothing : take c.in-Ok-eq0.field-0 c.read.new.buf ≡ [] = ap (λ n. take n c.read.new.buf) c.in-Ok-eq0.field-0-test in (
       take filled c.loop.buffer,
-      omega (arith, kept, front),
+      omega (arith, kept, prefix),
       subst (Consumes _ _) (ap (λ l. take filled c.loop.buffer ++ l) nothing ∙ append-nil _) (Consumes-trans _ _ _ _ _ c.loop.invariant.2 c.in-Ok-eq0.ensures.bytes.0),
       c.in-Ok-eq0.ensures.bytes.1 c.in-Ok-eq0.field-0-test room,
     )

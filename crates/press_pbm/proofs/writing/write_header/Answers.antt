@@ -1,7 +1,7 @@
 use Rattle.std.proofs.Common.{codes, subst, ap, ◌∙◌}
 use Rattle.std.specs.Fmt.{decimal}
 use Rattle.std.specs.Io.KnownBytes.{Appends}
-use Rattle.press_pbm.specs.Spelling.{AppendsFront}
+use Rattle.press_pbm.specs.Spelling.{AppendsPrefix}
 use Rattle.press_pbm.proofs.WritesLemmas.{Writes-then, Writes-stopped}
 use Rattle.press_pbm.proofs.writing.write_header.Goals as goal
 
@@ -12,7 +12,7 @@ pub returns-in_err-write_bytes-2 : goal.returns-in_err-write_bytes-2
 returns-in_err-write_bytes-2 g c =
     let width = c.as_bytes.ensures.value ∙ c.format.ensures.text ∙ ap decimal c.width.ensures.width in
     Writes-then _ _ _ _ (codes "P4\n") _ c.in_ok-write_bytes.ensures.written
-    (Writes-stopped _ _ _ (decimal c.args.bitmap.now.width) _ c.from_residual-in_err-write_bytes-2.ensures.0 (subst (AppendsFront _ _) width c.in_err-write_bytes-2.ensures.written))
+    (Writes-stopped _ _ _ (decimal c.args.bitmap.now.width) _ c.from_residual-in_err-write_bytes-2.ensures.0 (subst (AppendsPrefix _ _) width c.in_err-write_bytes-2.ensures.written))
 
 pub returns-in_err-write_bytes-3 : goal.returns-in_err-write_bytes-3
 returns-in_err-write_bytes-3 g c =
@@ -28,7 +28,7 @@ returns-in_err-write_bytes-4 g c =
     Writes-then _ _ _ _ (codes "P4\n") _ c.in_ok-write_bytes.ensures.written
     (Writes-then _ _ _ _ (decimal c.args.bitmap.now.width) _ (subst (Appends _ _) width c.in_ok-write_bytes-2.ensures.written)
     (Writes-then _ _ _ _ (codes " ") _ c.in_ok-write_bytes-3.ensures.written
-    (Writes-stopped _ _ _ (decimal c.args.bitmap.now.height) _ c.from_residual-in_err-write_bytes-4.ensures.0 (subst (AppendsFront _ _) height c.in_err-write_bytes-4.ensures.written))))
+    (Writes-stopped _ _ _ (decimal c.args.bitmap.now.height) _ c.from_residual-in_err-write_bytes-4.ensures.0 (subst (AppendsPrefix _ _) height c.in_err-write_bytes-4.ensures.written))))
 
 pub returns : goal.returns
 returns g c =

@@ -1,8 +1,8 @@
 use Rattle.std.proofs.Common.{◌*◌, ◌<◌, ◌++◌, sym, subst, arith}
 use Rattle.std.proofs.KnownBytes.{Appends-trans}
 use Rattle.std.proofs.lemmas.Result.{MatchResult-from_err}
-use Rattle.press_pbm.specs.Spelling.{line_bytes, AppendsFront}
-use Rattle.press_pbm.proofs.WritesLemmas.{front_then, front_more}
+use Rattle.press_pbm.specs.Spelling.{line_bytes, AppendsPrefix}
+use Rattle.press_pbm.proofs.WritesLemmas.{prefix_then, prefix_more}
 use Rattle.press_pbm.proofs.LineLemmas.{ArePageLines-line_bytes, lines_grow}
 use Rattle.press_pbm.proofs.writing.write_lines.Goals as goal
 
@@ -14,7 +14,7 @@ returns-in_err-write_bytes g c =
     let lines = ArePageLines-line_bytes page _ (64 * c.loop-index.index) c.band.result.now c.height.ensures.inside c.write_bytes.ensures.bytes c.band.ensures in
     let whole = lines_grow (line_bytes page) _ done c.band.result.now c.loop-index.index page.height below lines split in
     MatchResult-from_err _ _ _ c.from_residual.ensures.0
-    (λ _. subst (AppendsFront _ _) (sym whole) (front_more _ _ _ _ (front_then _ _ _ _ _ wrote c.in_err-write_bytes.ensures.written)))
+    (λ _. subst (AppendsPrefix _ _) (sym whole) (prefix_more _ _ _ _ (prefix_then _ _ _ _ _ wrote c.in_err-write_bytes.ensures.written)))
 
 pub loop-index-preserved : goal.loop-index-preserved
 loop-index-preserved g c =

@@ -8,5 +8,5 @@ pub loop-run-preserved : goal.loop-run-preserved
 loop-run-preserved c =
     let run = c.in_default-run in
     let others = c.next_run.new.self in
-    sym (ap (list_any is_none) (c.in-Some.ensures.front ∙ ap (λ run. items_of_run (Some run) ++ others) run.is) ∙ none_white-run run.field-2 (run.field-0, run.field-1.now) others)
+    sym (ap (list_any is_none) (c.in-Some.ensures.prefix ∙ ap (λ run. items_of_run (Some run) ++ others) run.is) ∙ none_white-run run.field-2 (run.field-0, run.field-1.now) others)
     ∙ c.loop-run.invariant

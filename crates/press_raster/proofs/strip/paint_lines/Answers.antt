@@ -13,7 +13,7 @@ use Rattle.press_raster.proofs.strip.paint_lines.Goals as goal
 
 pub loop-line-init : goal.loop-line-init
 loop-line-init c =
-    (painted_strip_no_lines Portrait c.args.frame.now.page c.args.corner.x c.args.corner.y c.args.source.dots (row_dot c.args.source.bits.now) c.args.ink.now.tile c.args.ink.now.mode c.height.ensures.inside, refl)
+    (painted_strip_no_lines Portrait c.args.frame.now.page c.args.corner.x c.args.corner.y c.args.source.dots (row_dot c.args.source.bits.now) c.args.brush.now.tile c.args.brush.now.mode c.height.ensures.inside, refl)
 
 pub paint_row-requires-clause-ready : goal.paint_row-requires-clause-ready
 paint_row-requires-clause-ready c =
@@ -38,10 +38,10 @@ loop-line-preserved c =
     let column : to_z w64 (of_z w64 c.from.result) ≡ pos c.args.corner.x = ap (λ (z : ℤ). to_z w64 (of_z w64 z)) c.from.ensures ∙ to_z_pos w64 c.args.corner.x x_small in
     let line : to_z w64 (of_z w64 c.from-in-loop-line.result) ≡ pos y = ap (λ (z : ℤ). to_z w64 (of_z w64 z)) c.from-in-loop-line.ensures ∙ to_z_pos w64 y y_small in (
       painted_strip_line Portrait c.args.frame.now.page c.loop-line.frame.page c.paint_row.new.self.page c.args.corner.x c.args.corner.y c.args.source.dots c.loop-line.line
-          (row_dot c.args.source.bits.now) c.args.ink.now.tile c.args.ink.now.mode c.loop-line.invariant.0
+          (row_dot c.args.source.bits.now) c.args.brush.now.tile c.args.brush.now.mode c.loop-line.invariant.0
           (c.paint_row.ensures.painted
-          ∙ (λ i. painted c.loop-line.frame.page (row_mark (column i) (line i) (row c.args.source) (c.line-pattern.ensures.row i) c.args.ink.now.mode))
-          ∙ painted_row c.loop-line.frame.page c.args.corner.x y (row c.args.source) c.args.ink.now.tile c.args.ink.now.mode),
+          ∙ (λ i. painted c.loop-line.frame.page (row_mark (column i) (line i) (row c.args.source) (c.line-pattern.ensures.row i) c.args.brush.now.mode))
+          ∙ painted_row c.loop-line.frame.page c.args.corner.x y (row c.args.source) c.args.brush.now.tile c.args.brush.now.mode),
       c.paint_row.ensures.ready ∙ c.loop-line.invariant.1,
     )
 
@@ -49,8 +49,8 @@ pub returns : goal.returns
 returns c =
     let frame = c.args.frame.now.page in
     let dots : ℕ → Bool = row_dot c.args.source.bits.now in
-    let tile = c.args.ink.now.tile in
-    let mode = c.args.ink.now.mode in
+    let tile = c.args.brush.now.tile in
+    let mode = c.args.brush.now.mode in
     let lines = c.cut_length-lines.result in
     let last : c.loop-line.line ≡ lines = omega arith in
     record {

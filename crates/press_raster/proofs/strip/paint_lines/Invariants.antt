@@ -9,5 +9,5 @@ abbrev pub invariant-loop-line : goal.invariant-loop-line
 invariant-loop-line l =
     (l.frame.page
     ≡ painted l.fn.frame.page (strip_mark Portrait l.fn.frame.page.width l.fn.frame.page.height l.corner.x l.corner.y l.source.dots l.line
-    (row_dot l.source.bits.now) l.ink.tile l.ink.mode))
+    (row_dot l.source.bits.now) l.brush.tile l.brush.mode))
     × (l.frame.ready ≡ l.fn.frame.ready)

@@ -1,6 +1,6 @@
 use Rattle.std.proofs.Common.{refl, [], sym}
 use Rattle.std.proofs.lemmas.List.{append-nil}
-use Rattle.press_sink.proofs.OutputsLemmas.{ok_whole, made_front, made_given_up, at_err}
+use Rattle.press_sink.proofs.OutputsLemmas.{ok_whole, made_prefix, made_given_up, at_err}
 use Rattle.press_sink.proofs.named_outputs.write_output.Goals as goal
 
 pub returns-in-Ok-clause-made : goal.returns-in-Ok-clause-made
@@ -10,7 +10,7 @@ returns-in-Ok-clause-made g c =
 pub returns-in-Ok-clause-fault : goal.returns-in-Ok-clause-fault
 returns-in-Ok-clause-fault g c =
     at_err c.close.result
-    (made_front c.close.result _ _ _ _ _ _ _ _ refl c.in_ok-output.ensures.made c.in_ok-output.ensures.empty
+    (made_prefix c.close.result _ _ _ _ _ _ _ _ refl c.in_ok-output.ensures.made c.in_ok-output.ensures.empty
     (c.args.bytes.now, [], sym (append-nil c.args.bytes.now), c.in-Ok.ensures) c.close.ensures)
 
 pub returns-in-Err-clause-fault : goal.returns-in-Err-clause-fault

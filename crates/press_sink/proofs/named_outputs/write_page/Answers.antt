@@ -1,7 +1,7 @@
 use Rattle.std.proofs.Common.{rules, refl, [], sym}
 use Rattle.std.proofs.lemmas.List.{append-nil}
 use Rattle.press_pbm.specs.Spelling.{file_of}
-use Rattle.press_sink.proofs.OutputsLemmas.{made_whole, made_front, made_given_up}
+use Rattle.press_sink.proofs.OutputsLemmas.{made_whole, made_prefix, made_given_up}
 use Rattle.press_sink.proofs.named_outputs.write_page.Goals as goal
 
 pub returns-in-Err-clause-fault : goal.returns-in-Err-clause-fault
@@ -15,4 +15,4 @@ returns-in-Ok-close-clause-made g c =
 pub returns-in-Err-close-clause-fault : goal.returns-in-Err-close-clause-fault
 returns-in-Err-close-clause-fault g c =
     let file = file_of c.args.page.now in
-    made_front c.close.result _ _ _ _ _ _ _ _ refl c.in-Ok.ensures.made c.in-Ok.ensures.empty (file, [], sym (append-nil file), c.in_default-write_pbm.ensures.ok) c.close.ensures
+    made_prefix c.close.result _ _ _ _ _ _ _ _ refl c.in-Ok.ensures.made c.in-Ok.ensures.empty (file, [], sym (append-nil file), c.in_default-write_pbm.ensures.ok) c.close.ensures

@@ -1,7 +1,7 @@
 use Rattle.std.proofs.Common.{◌≡◌, ◌∙◌, Option, IsSome, refl, sym, subst}
 use Rattle.press_scan.specs.ScannerState.{ScannerState}
 use Rattle.press_engine.specs.declared.machine.Machine.{Machine}
-use Rattle.press_engine.specs.Engine.{live}
+use Rattle.press_engine.specs.Engine.{machine_of}
 use Rattle.press_stream.specs.declared.phase.Phase.TheVariants.{Running}
 use Rattle.press_stream.specs.Answers.{PassesOn}
 use Rattle.press_stream.specs.State.{job_state}
@@ -22,7 +22,7 @@ pub returns-in-Some-clause-passes : goal.returns-in-Some-clause-passes
 returns-in-Some-clause-passes c =
     let next = c.pass.new.self in
     let new = c.pass-in-Some.new.self in
-    let carries = CarriesIdle-some c.skips_controls.result c.args.scanner.now next (live c.args.engine.now) (live new) c.in-Some.passed c.requires.running
+    let carries = CarriesIdle-some c.skips_controls.result c.args.scanner.now next (machine_of c.args.engine.now) (machine_of new) c.in-Some.passed c.requires.running
     (c.skips_bytes.ensures c.if-not-skips_bytes.false) c.skips_controls.ensures (rw c.in-Some.is at c.pass.ensures) c.pass-in-Some.ensures.passed in
     passes_on (job_state c.args.scanner.now c.args.engine.now Running) (job_state next new Running) refl refl c.requires.none (c.pass-in-Some.ensures.bodies ∙ c.requires.none) carries
 
@@ -30,6 +30,6 @@ pub returns-in-Some-clause-fits : goal.returns-in-Some-clause-fits
 returns-in-Some-clause-fits c =
     let next = c.pass.new.self in
     let new = c.pass-in-Some.new.self in
-    let carries = CarriesIdle-some c.skips_controls.result c.args.scanner.now next (live c.args.engine.now) (live new) c.in-Some.passed c.requires.running
+    let carries = CarriesIdle-some c.skips_controls.result c.args.scanner.now next (machine_of c.args.engine.now) (machine_of new) c.in-Some.passed c.requires.running
     (c.skips_bytes.ensures c.if-not-skips_bytes.false) c.skips_controls.ensures (rw c.in-Some.is at c.pass.ensures) c.pass-in-Some.ensures.passed in
     (subst (λ (machine : Option Machine). IsSome machine) (sym carries.ends) refl, (each-stays carries.given c.args.scanner.now next carries.each).room ∙ c.requires.room)

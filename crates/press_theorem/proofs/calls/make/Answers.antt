@@ -1,6 +1,6 @@
 use Rattle.std.proofs.Common.{[]}
 use Rattle.std.proofs.lemmas.Result.{err_from_is_err_and}
-use Rattle.press_sink.specs.Told.{both}
+use Rattle.press_sink.specs.SinkLog.{logs}
 use Rattle.press_theorem.proofs.ChainLemmas.{fed, fed-faults, fed-going, on_err, on_failed, pushed, pushed-going, pushed-fault, stepped, stepped-going, stepped-fault, stopped-failed}
 use Rattle.press_theorem.proofs.calls.make.Goals as goal
 
@@ -12,7 +12,7 @@ returns-in-Push-clause-going g c = pushed-going c.args.job.now c.push.new.self c
 
 pub returns-in-Push-clause-failed : goal.returns-in-Push-clause-failed
 returns-in-Push-clause-failed g c =
-    let told = both (g.S.SheetSink.told c.args.sheets.now) (g.P.ReplySink.told c.args.replies.now) in
+    let told = logs (g.S.SheetSink.told c.args.sheets.now) (g.P.ReplySink.told c.args.replies.now) in
     on_failed c.args.job.now c.push.new.self c.in-Push.piece.now c.args.tag c.push.result told told c.requires.running c.requires.going
     (pushed-fault c.chain.ensures.calls c.args.job.now c.push.new.self c.in-Push.piece.now c.args.tag c.push.result told c.requires.running c.requires.going c.push.ensures.pushes)
 

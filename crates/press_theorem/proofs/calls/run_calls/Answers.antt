@@ -4,15 +4,15 @@ use Rattle.std.proofs.lemmas.List.{take_all}
 use Rattle.std.proofs.lemmas.Result.{err_from_is_err_and}
 use Rattle.press_theorem.specs.declared.calls.Call.TheVariants.{Push}
 use Rattle.press_theorem.specs.Calls.{bytes_of}
-use Rattle.press_theorem.proofs.ChainLemmas.{opened-going, pieces-next, Goes-opened, Goes-more, can_count-after, pieces-rest, PrintedTo-before, PrintsCalls-read, PrintsCalls-stopped, read-failed, read-over, runs-on}
+use Rattle.press_theorem.proofs.ChainLemmas.{opened-going, pieces-next, CarriesOut-opened, CarriesOut-more, has_fault_room-after, pieces-rest, PrintedTo-before, PrintsCalls-read, PrintsCalls-stopped, read-failed, read-over, runs-on}
 use Rattle.press_theorem.proofs.calls.run_calls.Goals as goal
 
 pub loop-call-init : goal.loop-call-init
 loop-call-init g c = record {
   given = [];
-  goes = Goes-opened c.chain.ensures.calls c.args.job.now c.args.tag _ c.requires.opened;
+  goes = CarriesOut-opened c.chain.ensures.calls c.args.job.now c.args.tag _ c.requires.opened;
   going = opened-going c.args.job.now c.requires.opened;
-  can_count = c.requires.can_count;
+  has_fault_room = c.requires.has_fault_room;
 }
 
 pub make-requires-clause-running : goal.make-requires-clause-running
@@ -31,9 +31,9 @@ loop-call-preserved g c =
     let goes = c.loop-call.invariant.goes in
     record {
       given = _;
-      goes = Goes-more c.chain.ensures.calls (flat_map bytes_of (take i pieces)) (bytes_of call) _ c.loop-call.invariant.given more.0 c.args.tag c.loop-call.job c.make.new.job _ _ _ (pieces-next bytes_of pieces i first c.loop-call-test.true) goes more.1;
+      goes = CarriesOut-more c.chain.ensures.calls (flat_map bytes_of (take i pieces)) (bytes_of call) _ c.loop-call.invariant.given more.0 c.args.tag c.loop-call.job c.make.new.job _ _ _ (pieces-next bytes_of pieces i first c.loop-call-test.true) goes more.1;
       going = c.in_ok-make.ensures.going;
-      can_count = can_count-after c.loop-call.job c.make.new.job (bytes_of call) more.0 c.args.tag _ _ more.1 c.loop-call.invariant.can_count;
+      has_fault_room = has_fault_room-after c.loop-call.job c.make.new.job (bytes_of call) more.0 c.args.tag _ _ more.1 c.loop-call.invariant.has_fault_room;
     }
 
 pub returns-in_err-make-clause-prints : goal.returns-in_err-make-clause-prints

@@ -2,13 +2,13 @@ use Rattle.std.proofs.Common.{◌+◌, [], ◌∷◌, map, take, drop, subst}
 use Rattle.std.proofs.lemmas.List.{take_all}
 use Rattle.std.proofs.lemmas.Result.{err_from_is_err_and}
 use Rattle.press_theorem.specs.Events.{HappenAll, event_of}
-use Rattle.press_theorem.proofs.EventLemmas.{HappenAll-none, HappenAll-then, HappenUpTo-behind, can_count-then, events-next, events-rest, from-new, up-to-from-new}
+use Rattle.press_theorem.proofs.EventLemmas.{HappenAll-none, HappenAll-then, HappenUpTo-behind, has_fault_room-then, events-next, events-rest, from-new, up-to-from-new}
 use Rattle.press_theorem.proofs.events.carry_out_events.Goals as goal
 
 pub loop-event-init : goal.loop-event-init
 loop-event-init g c = record {
   happened = HappenAll-none c.args.press.now _ c.args.responses.now.items;
-  can_count = c.requires;
+  has_fault_room = c.requires;
 }
 
 pub loop-event-preserved : goal.loop-event-preserved
@@ -21,7 +21,7 @@ loop-event-preserved g c =
     let more = c.in_ok-carry_out.ensures.all in
     record {
       happened = HappenAll-then c.args.press.now c.loop-event.press c.carry_out.new.press (map event_of (take i events)) (event_of event ∷ []) (map event_of (take (i + 1) events)) _ _ _ _ c.loop-event.responses.items _ (events-next event_of events i event c.loop-event-test.true c.event-item.is) so_far.happened more;
-      can_count = can_count-then (told c.loop-event.sheets) (told c.carry_out.new.sheets) more.no_fault so_far.can_count;
+      has_fault_room = has_fault_room-then (told c.loop-event.sheets) (told c.carry_out.new.sheets) more.no_fault so_far.has_fault_room;
     }
 
 pub returns-clause-all : goal.returns-clause-all

@@ -2,15 +2,15 @@ use Rattle.std.proofs.Common.{[], ◌+◌, sym, ap, get_or, take, drop}
 use Rattle.std.specs.List.{flat_map}
 use Rattle.std.proofs.lemmas.List.{take_all}
 use Rattle.std.proofs.lemmas.Result.{err_from_is_err_and}
-use Rattle.press_theorem.proofs.ChainLemmas.{opened-going, pieces-next, Goes-opened, Goes-more, can_count-after, Prints-end, pieces-rest, PrintedTo-before, PrintedTo-none, PrintedTo-end, fed-fault}
+use Rattle.press_theorem.proofs.ChainLemmas.{opened-going, pieces-next, CarriesOut-opened, CarriesOut-more, has_fault_room-after, Prints-end, pieces-rest, PrintedTo-before, PrintedTo-none, PrintedTo-end, fed-fault}
 use Rattle.press_theorem.proofs.pieces.print_pieces.Goals as goal
 
 pub loop-piece-init : goal.loop-piece-init
 loop-piece-init g c = record {
   given = [];
-  goes = Goes-opened c.chain.ensures.calls c.in_ok-job.job c.args.tag _ c.in_ok-job.ensures;
+  goes = CarriesOut-opened c.chain.ensures.calls c.in_ok-job.job c.args.tag _ c.in_ok-job.ensures;
   going = opened-going c.in_ok-job.job c.in_ok-job.ensures;
-  can_count = c.requires;
+  has_fault_room = c.requires;
 }
 
 pub loop-piece-preserved : goal.loop-piece-preserved
@@ -21,9 +21,9 @@ loop-piece-preserved g c =
     let goes = c.loop-piece.invariant.goes in
     record {
       given = _;
-      goes = Goes-more c.chain.ensures.calls (flat_map (λ piece. piece.now) (take i pieces)) (get_or pieces i (record { ref_ptr = (0, 0); now = [] })).now _ c.loop-piece.invariant.given more.0 c.args.tag c.loop-piece.job c.feed.new.self _ _ _ (pieces-next (λ piece. piece.now) pieces i (record { ref_ptr = (0, 0); now = [] }) c.loop-piece-test.true) goes more.1;
+      goes = CarriesOut-more c.chain.ensures.calls (flat_map (λ piece. piece.now) (take i pieces)) (get_or pieces i (record { ref_ptr = (0, 0); now = [] })).now _ c.loop-piece.invariant.given more.0 c.args.tag c.loop-piece.job c.feed.new.self _ _ _ (pieces-next (λ piece. piece.now) pieces i (record { ref_ptr = (0, 0); now = [] }) c.loop-piece-test.true) goes more.1;
       going = more.2.going;
-      can_count = can_count-after c.loop-piece.job c.feed.new.self (get_or pieces i (record { ref_ptr = (0, 0); now = [] })).now more.0 c.args.tag _ _ more.1 c.loop-piece.invariant.can_count;
+      has_fault_room = has_fault_room-after c.loop-piece.job c.feed.new.self (get_or pieces i (record { ref_ptr = (0, 0); now = [] })).now more.0 c.args.tag _ _ more.1 c.loop-piece.invariant.has_fault_room;
     }
 
 pub returns-clause-ok : goal.returns-clause-ok

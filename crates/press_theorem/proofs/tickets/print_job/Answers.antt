@@ -1,10 +1,10 @@
 use Rattle.std.proofs.Common.{◌≡◌, ◌++◌, ◌∙◌, ℕ, List, [], refl, sym, ap, subst, append_assoc, append-nil}
 use Rattle.press_sink.specs.Kept.{deliveries, replied}
-use Rattle.press_sink.specs.Told.{Told}
-use Rattle.press_stream.specs.Meaning.{Goes}
+use Rattle.press_sink.specs.SinkLog.{SinkLog}
+use Rattle.press_stream.specs.Meaning.{CarriesOut}
 use Rattle.press_stream.specs.State.{opened}
 use Rattle.press_writer.specs.Left.{bytes_left}
-use Rattle.press_theorem.proofs.ChainLemmas.{Goes-more, Goes-opened, Prints-end, opened-going}
+use Rattle.press_theorem.proofs.ChainLemmas.{CarriesOut-more, CarriesOut-opened, Prints-end, opened-going}
 use Rattle.press_theorem.proofs.TicketLemmas.{delivers-of, told_by}
 use Rattle.press_theorem.proofs.tickets.print_job.Goals as goal
 
@@ -18,7 +18,7 @@ loop-piece-init c =
       left = refl;
       held = c.new-piece.ensures.items;
       given = [];
-      goes = subst (λ (told : Told). Goes opened [] [] c.args.tag c.in_ok-job.job (told_by [] []) told) (sym fresh) (Goes-opened c.chain.ensures.calls c.in_ok-job.job c.args.tag (told_by [] []) c.in_ok-job.ensures);
+      goes = subst (λ (told : SinkLog). CarriesOut opened [] [] c.args.tag c.in_ok-job.job (told_by [] []) told) (sym fresh) (CarriesOut-opened c.chain.ensures.calls c.in_ok-job.job c.args.tag (told_by [] []) c.in_ok-job.ensures);
       going = opened-going c.in_ok-job.job c.in_ok-job.ensures;
     }
 
@@ -36,7 +36,7 @@ loop-piece-preserved c =
       left = inv.left ∙ ap (λ (rest : List ℕ). inv.done ++ rest) gives.next ∙ ap (λ (one : List ℕ). inv.done ++ (one ++ more)) (sym is) ∙ sym (append_assoc inv.done fed more);
       held = c.clear.ensures.items;
       given = _;
-      goes = Goes-more c.chain.ensures.calls inv.done fed (inv.done ++ fed) inv.given goes.0 c.args.tag c.loop-piece.job c.feed.new.self (told_by [] []) (told_by (deliveries c.loop-piece.sheets) (replied c.loop-piece.replies))
+      goes = CarriesOut-more c.chain.ensures.calls inv.done fed (inv.done ++ fed) inv.given goes.0 c.args.tag c.loop-piece.job c.feed.new.self (told_by [] []) (told_by (deliveries c.loop-piece.sheets) (replied c.loop-piece.replies))
           (told_by (deliveries c.feed.new.sheets) (replied c.feed.new.replies)) refl inv.goes goes.1;
       going = goes.2.going;
     }

@@ -1,7 +1,7 @@
 use Rattle.std.proofs.Common.{◌≡◌, ◌++◌, ℕ, List, [], length, false}
 use Rattle.press_cmd.specs.Token.{Token}
 use Rattle.press_sink.specs.Kept.{deliveries, replied}
-use Rattle.press_stream.specs.Meaning.{Goes}
+use Rattle.press_stream.specs.Meaning.{CarriesOut}
 use Rattle.press_stream.specs.State.{opened}
 use Rattle.press_writer.specs.Left.{HasImages, bytes_left}
 use Rattle.press_theorem.proofs.TicketLemmas.{told_by}
@@ -15,7 +15,7 @@ invariant-loop-piece l = record {
   left : bytes_left l.fn.writer l.images ≡ done ++ bytes_left l.writer l.images;
   held : l.piece.items ≡ [];
   given : List Token;
-  goes : Goes opened done given l.tag l.job (told_by [] []) (told_by (deliveries l.sheets) (replied l.replies));
+  goes : CarriesOut opened done given l.tag l.job (told_by [] []) (told_by (deliveries l.sheets) (replied l.replies));
   going : l.job.held.ended ≡ false;
 }
 

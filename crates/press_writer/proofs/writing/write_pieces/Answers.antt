@@ -2,8 +2,8 @@ use Rattle.std.proofs.Common.{◌≡◌, ◌++◌, [], List, ℕ, sym, ap, ◌�
 use Rattle.std.specs.Io.KnownBytes.{Appends}
 use Rattle.std.proofs.KnownBytes.{Appends-trans}
 use Rattle.std.proofs.lemmas.Result.{MatchResult-from_err}
-use Rattle.press_pbm.specs.Spelling.{AppendsFront, Writes}
-use Rattle.press_pbm.proofs.WritesLemmas.{front_more, front_then, Writes-then}
+use Rattle.press_pbm.specs.Spelling.{AppendsPrefix, Writes}
+use Rattle.press_pbm.proofs.WritesLemmas.{prefix_more, prefix_then, Writes-then}
 use Rattle.press_writer.specs.Left.{bytes_left}
 use Rattle.press_writer.proofs.LeftLemmas.{held_more}
 use Rattle.press_writer.proofs.writing.write_pieces.Goals as goal
@@ -16,9 +16,9 @@ returns-in_err-write_bytes-clause-written g c =
     let held = c.piece.new.out.items in
     let left = held_more _ inv.done c.loop-held.held.items held gives.piece _ more inv.left gives.appended gives.next in
     MatchResult-from_err _ _ _ c.from_residual-in_err-write_bytes.ensures.0
-    (λ _. subst (AppendsFront _ _) (sym left)
-    (front_then _ _ _ inv.done (held ++ more) inv.wrote
-    (front_more _ _ held more (subst (AppendsFront _ _) c.deref.ensures.value c.in_err-write_bytes.ensures.written))))
+    (λ _. subst (AppendsPrefix _ _) (sym left)
+    (prefix_then _ _ _ inv.done (held ++ more) inv.wrote
+    (prefix_more _ _ held more (subst (AppendsPrefix _ _) c.deref.ensures.value c.in_err-write_bytes.ensures.written))))
 
 pub loop-held-preserved-then-len-ge-WRITE_SIZE : goal.loop-held-preserved-then-len-ge-WRITE_SIZE
 loop-held-preserved-then-len-ge-WRITE_SIZE g c =

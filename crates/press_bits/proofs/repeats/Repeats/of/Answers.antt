@@ -8,7 +8,7 @@ pub loop-known-init : goal.loop-known-init
 loop-known-init c = record {
   some = c.requires;
   period = IsPeriod-dots (row c.args.pattern);
-  dots = λ j within before. c.word_from-front.ensures j within ∙ ap (row_dot c.args.pattern.bits.now) (omega arith) ∙ repeated-first (row c.args.pattern) j before;
+  dots = λ j within before. c.word_from-prefix.ensures j within ∙ ap (row_dot c.args.pattern.bits.now) (omega arith) ∙ repeated-first (row c.args.pattern) j before;
 }
 
 pub loop-known-preserved : goal.loop-known-preserved
@@ -17,10 +17,10 @@ loop-known-preserved c = record {
   period = IsPeriod-twice (row c.args.pattern) c.loop-known.known c.loop-known.invariant.period;
   dots = λ j within before.
       elim (cases_lt j c.loop-known.known) [
-        | inl front ↦ c.joined-front.ensures.front j front ∙ c.loop-known.invariant.dots j within front
+        | inl prefix ↦ c.joined-prefix.ensures.prefix j prefix ∙ c.loop-known.invariant.dots j within prefix
         | inr rest ↦
-            c.joined-front.ensures.rest j rest within
-            ∙ behind (row c.args.pattern) c.loop-known.front c.loop-known.known (j - c.loop-known.known) j c.loop-known.invariant.period (omega arith)
+            c.joined-prefix.ensures.rest j rest within
+            ∙ behind (row c.args.pattern) c.loop-known.prefix c.loop-known.known (j - c.loop-known.known) j c.loop-known.invariant.period (omega arith)
             (c.loop-known.invariant.dots (j - c.loop-known.known) (omega arith) (omega arith))
       ];
 }

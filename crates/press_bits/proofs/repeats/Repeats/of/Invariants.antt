@@ -8,7 +8,7 @@ abbrev pub invariant-loop-known : goal.invariant-loop-known
 invariant-loop-known l = record {
   some : 1 ≤ l.known;
   period : IsPeriod (row l.fn.pattern) l.known;
-  dots : (j : ℕ) → j < 64 → j < l.known → word_dot l.front j ≡ repeated (row l.fn.pattern) j;
+  dots : (j : ℕ) → j < 64 → j < l.known → word_dot l.prefix j ≡ repeated (row l.fn.pattern) j;
 }
 
 abbrev pub decreases-loop-known : goal.decreases-loop-known

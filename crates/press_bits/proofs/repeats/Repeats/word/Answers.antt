@@ -2,23 +2,23 @@ use Rattle.std.proofs.Common.{◌+◌, ◌-◌, ◌%◌, inl, inr, ap, ◌∙◌
 use Rattle.std.proofs.lemmas.Bool.{cases_lt}
 use Rattle.press_bits.specs.Mark.{row}
 use Rattle.press_bits.specs.Words.{word_dot}
-use Rattle.press_bits.proofs.RepeatLemmas.{repeated-first, repeated-phase, IsPeriod-dots, behind, turned_front}
+use Rattle.press_bits.proofs.RepeatLemmas.{repeated-first, repeated-phase, IsPeriod-dots, behind, turned_prefix}
 use Rattle.press_bits.proofs.repeats.Repeats.word.Goals as goal
 
 pub returns-then-self : goal.returns-then-self
-returns-then-self c = λ j within. ap (λ n. word_dot n j) c.rotate_left.ensures ∙ turned_front (row c.args.self.now.pattern) c.args.self.now.front c.args.first j (search rules) (c.args.self.now.turns c.if-self.true) c.args.self.now.dots within
+returns-then-self c = λ j within. ap (λ n. word_dot n j) c.rotate_left.ensures ∙ turned_prefix (row c.args.self.now.pattern) c.args.self.now.prefix c.args.first j (search rules) (c.args.self.now.turns c.if-self.true) c.args.self.now.dots within
 
 pub returns-then-known-lt64 : goal.returns-then-known-lt64
 returns-then-known-lt64 c = λ j within.
     elim (cases_lt j (c.args.self.now.pattern.dots - c.args.first % c.args.self.now.pattern.dots)) [
-      | inl front ↦
-          c.joined.ensures.front j front
+      | inl prefix ↦
+          c.joined.ensures.prefix j prefix
           ∙ c.word_from-word.ensures j within
           ∙ repeated-first (row c.args.self.now.pattern) (c.args.first % c.args.self.now.pattern.dots + j) (omega arith)
           ∙ repeated-phase (row c.args.self.now.pattern) c.args.first j
       | inr rest ↦
           c.joined.ensures.rest j rest within
-          ∙ behind (row c.args.self.now.pattern) c.args.self.now.front c.args.self.now.pattern.dots (j - (c.args.self.now.pattern.dots - c.args.first % c.args.self.now.pattern.dots)) (c.args.first % c.args.self.now.pattern.dots + j) (IsPeriod-dots (row c.args.self.now.pattern)) (omega arith)
+          ∙ behind (row c.args.self.now.pattern) c.args.self.now.prefix c.args.self.now.pattern.dots (j - (c.args.self.now.pattern.dots - c.args.first % c.args.self.now.pattern.dots)) (c.args.first % c.args.self.now.pattern.dots + j) (IsPeriod-dots (row c.args.self.now.pattern)) (omega arith)
           (c.args.self.now.dots (j - (c.args.self.now.pattern.dots - c.args.first % c.args.self.now.pattern.dots)) (omega arith))
           ∙ repeated-phase (row c.args.self.now.pattern) c.args.first j
     ]

@@ -1,5 +1,5 @@
 use Rattle.std.proofs.Common.{◌≡◌, ◌∙◌, List, Some, subst, sym, ap}
-use Rattle.press_engine.specs.Machine.{Run}
+use Rattle.press_engine.specs.Machine.{StepResult}
 use Rattle.press_core.specs.Inside.{work_of}
 use Rattle.press_core.specs.Jobs.{IsAt}
 use Rattle.press_core.specs.Turns.{IsJobOf}
@@ -16,6 +16,6 @@ invariant_of-self c =
       needed = ap (λ (w : Work). w.kept) c.self.view_is ∙ c.requires;
       stands =
           begins (work_of c.self.inside) running
-          (subst (λ images. (items : List Run) → IsJobOf (new_work c.self.inside.ticket images) items → IsAt items images running)
+          (subst (λ images. (items : List StepResult) → IsJobOf (new_work c.self.inside.ticket images) items → IsAt items images running)
           (c.deref.ensures.value ∙ same_images c.self.inside.images c.in-Some.images (work_of c.self.inside).images c.in-Some.is c.self.invariant.same) c.in_ok-open.ensures.at);
     }

@@ -1,7 +1,7 @@
 use Rattle.std.proofs.Common.{◌≡◌, ◌∙◌, ap}
 use Rattle.press_debug.proofs.Over.{begins, goes_further, ends_back, fewer_steps}
 use Rattle.press_debug.proofs.Refusals.{lost-over}
-use Rattle.press_debug.specs.Steps.{Standing}
+use Rattle.press_debug.specs.Steps.{DebuggerState}
 use Rattle.press_debug.specs.declared.stepper.Taken.{Taken}
 use Rattle.press_debug.specs.declared.stepper.Taken.TheVariants as answers
 use Rattle.press_debug.proofs.stepper.Stepper.over.Goals as goal
@@ -16,7 +16,7 @@ loop-taken-init c = record {
   reaches = begins c.args.self.now c.take-taken.new.self c.take-taken.result c.take-taken.ensures.takes;
   failed = λ none.
       let same = c.take-taken.ensures.failed none in
-      (c.take-taken.ensures.lost.1 (ap (λ (standing : Standing). standing.job.machine) same ∙ none), same);
+      (c.take-taken.ensures.lost.1 (ap (λ (standing : DebuggerState). standing.job.machine) same ∙ none), same);
 }
 
 pub loop-taken-smaller : goal.loop-taken-smaller

@@ -1,5 +1,5 @@
 use Rattle.std.proofs.Common.{subst}
-use Rattle.press_debug.specs.Steps.{Standing, MayFail}
+use Rattle.press_debug.specs.Steps.{DebuggerState, MayFail}
 use Rattle.press_debug.proofs.Faults.{no_machine, may_fail, unchanged-fault}
 use Rattle.press_debug.proofs.Taking.{IsSound-ran, IsSound-fault, takes_one, takes_none, outside_none}
 use Rattle.press_debug.proofs.stepper.Stepper.take.Goals as goal
@@ -34,7 +34,7 @@ returns-in-Err-clause-takes c =
     let job = c.self.inside.job in
     let takes = c.in-Err.ensures.takes in (
       no_machine job c.in-Err.field-0 c.take_step.new.self takes,
-      subst (λ (standing : Standing). MayFail standing.job) c.self.view_is (may_fail job c.in-Err.field-0 c.take_step.new.self takes),
+      subst (λ (standing : DebuggerState). MayFail standing.job) c.self.view_is (may_fail job c.in-Err.field-0 c.take_step.new.self takes),
     )
 
 pub returns-in-Err-clause-failed : goal.returns-in-Err-clause-failed

@@ -1,14 +1,14 @@
 use Rattle.std.proofs.Common.{◌≡◌, length}
-use Rattle.press_engine.specs.Stack.{pops, EndsOverlay}
+use Rattle.press_engine.specs.Stack.{unwind, EndsOverlay}
 use Rattle.press_engine.specs.Stepping.{run_of}
 use Rattle.press_engine.proofs.machine.Machine.end_bodies.Given as goal
 
 -- the bodies that are left end as all of them do
 abbrev pub invariant-loop-alloc : goal.invariant-loop-alloc
 invariant-loop-alloc l = record {
-  ends : pops l.frames.items (run_of l.self l.out.items) ≡ pops l.fn.frames.items (run_of l.fn.self l.fn.out.items);
-  overlay : EndsOverlay l.frames.items → EndsOverlay l.fn.frames.items;
+  ends : unwind l.activations.items (run_of l.self l.out.items) ≡ unwind l.fn.activations.items (run_of l.fn.self l.fn.out.items);
+  overlay : EndsOverlay l.activations.items → EndsOverlay l.fn.activations.items;
 }
 
 abbrev pub decreases-loop-alloc : goal.decreases-loop-alloc
-decreases-loop-alloc l = length l.frames.items
+decreases-loop-alloc l = length l.activations.items

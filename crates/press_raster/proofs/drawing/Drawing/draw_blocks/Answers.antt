@@ -13,8 +13,8 @@ draw_run-requires-clause-ready c =
     let setup = c.args.setup.now in
     let run = c.in-Rows in
     let others = c.next_run.new.self in
-    let front : c.loop-run.blocks ≡ replicate run.count (Some (run.method, run.data.now)) ++ others = c.in-Some.ensures.front ∙ ap (λ run. items_of_run (Some run) ++ others) run.is in
-    let all : count_rows c.loop-run.blocks ≡ run.count + count_rows others = ap count_rows front ∙ count_rows-run run.count (run.method, run.data.now) others in
+    let prefix : c.loop-run.blocks ≡ replicate run.count (Some (run.method, run.data.now)) ++ others = c.in-Some.ensures.prefix ∙ ap (λ run. items_of_run (Some run) ++ others) run.is in
+    let all : count_rows c.loop-run.blocks ≡ run.count + count_rows others = ap count_rows prefix ∙ count_rows-run run.count (run.method, run.data.now) others in
     let some : run.count ≤ count_rows c.loop-run.blocks = omega (arith, all) in
     subst (λ page. RowsReady setup page c.loop-run.cursor.y run.count) (sym c.loop-run.invariant.same_layout)
     (rows_ready-fewer setup (layout c.args.frame.now) c.loop-run.cursor.y run.count (count_rows c.loop-run.blocks) some c.loop-run.invariant.ready)
@@ -22,40 +22,40 @@ draw_run-requires-clause-ready c =
 pub loop-run-preserved : goal.loop-run-preserved
 loop-run-preserved c =
     let setup = c.args.setup.now in
-    let ink = c.args.ink.now in
+    let brush = c.args.brush.now in
     let run = c.in-Rows in
     let item : Item = Some (run.method, run.data.now) in
     let others = c.next_run.new.self in
     let d : Drawn = drawn_by setup c.loop-run.self c.loop-run.frame c.loop-run.cursor in
-    let front : c.loop-run.blocks ≡ replicate run.count item ++ others = c.in-Some.ensures.front ∙ ap (λ run. items_of_run (Some run) ++ others) run.is in
-    let all : count_rows c.loop-run.blocks ≡ run.count + count_rows others = ap count_rows front ∙ count_rows-run run.count (run.method, run.data.now) others in
+    let prefix : c.loop-run.blocks ≡ replicate run.count item ++ others = c.in-Some.ensures.prefix ∙ ap (λ run. items_of_run (Some run) ++ others) run.is in
+    let all : count_rows c.loop-run.blocks ≡ run.count + count_rows others = ap count_rows prefix ∙ count_rows-run run.count (run.method, run.data.now) others in
     record {
       items =
-          ap (with_items setup.environment setup.settings ink others) c.draw_run.ensures.items
-          ∙ sym (with_items-append setup.environment setup.settings ink (replicate run.count item) others d)
-          ∙ ap (λ xs. with_items setup.environment setup.settings ink xs d) (sym front)
+          ap (with_items setup.environment setup.settings brush others) c.draw_run.ensures.items
+          ∙ sym (with_items-append setup.environment setup.settings brush (replicate run.count item) others d)
+          ∙ ap (λ xs. with_items setup.environment setup.settings brush xs d) (sym prefix)
           ∙ c.loop-run.invariant.items;
       same_layout = c.draw_run.ensures.layout ∙ c.loop-run.invariant.same_layout;
       setup = subst (λ page. IsSetUp setup page c.draw_run.new.self) c.loop-run.invariant.same_layout c.draw_run.ensures.setup;
       ready = subst (λ (e : Drawn). RowsReady setup (layout c.args.frame.now) e.cursor.y (count_rows others)) (sym c.draw_run.ensures.items)
-          (rows_ready-after setup ink (layout c.args.frame.now) d item run.count (count_rows others) (count_rows c.loop-run.blocks) all c.loop-run.invariant.ready);
+          (rows_ready-after setup brush (layout c.args.frame.now) d item run.count (count_rows others) (count_rows c.loop-run.blocks) all c.loop-run.invariant.ready);
     }
 
 pub loop-run-preserved-in-WhiteSeed : goal.loop-run-preserved-in-WhiteSeed
 loop-run-preserved-in-WhiteSeed c =
     let setup = c.args.setup.now in
-    let ink = c.args.ink.now in
+    let brush = c.args.brush.now in
     let others = c.next_run.new.self in
     let frame = c.loop-run.frame in
     let cursor = c.loop-run.cursor in
-    let front : c.loop-run.blocks ≡ None ∷ others = c.in-Some.ensures.front ∙ ap (λ run. items_of_run (Some run) ++ others) c.in-WhiteSeed.is in
-    let page = page_of_frame setup.environment.media.orientation frame.page in
+    let prefix : c.loop-run.blocks ≡ None ∷ others = c.in-Some.ensures.prefix ∙ ap (λ run. items_of_run (Some run) ++ others) c.in-WhiteSeed.is in
+    let page = page_of_frame setup.environment.page_setup.orientation frame.page in
     let white = whitened-graphics (Some c.loop-run.self.position) c.loop-run.self.seed.items c.fill.new.self.items _ (c.fill.ensures.items (λ y same. same)) in
-    let same : count_rows c.loop-run.blocks ≡ count_rows others = ap count_rows front in
+    let same : count_rows c.loop-run.blocks ≡ count_rows others = ap count_rows prefix in
     record {
       items =
-          ap (λ g. with_items setup.environment setup.settings ink others (drawn g page cursor)) white
-          ∙ ap (λ xs. with_items setup.environment setup.settings ink xs (drawn_by setup c.loop-run.self frame cursor)) (sym front)
+          ap (λ g. with_items setup.environment setup.settings brush others (drawn g page cursor)) white
+          ∙ ap (λ xs. with_items setup.environment setup.settings brush xs (drawn_by setup c.loop-run.self frame cursor)) (sym prefix)
           ∙ c.loop-run.invariant.items;
       same_layout = c.loop-run.invariant.same_layout;
       setup = record {

@@ -7,8 +7,8 @@ use Rattle.press_raster.proofs.drawing.Drawing.draw_blocks.Given as goal
 -- the items that are left give what all of them give
 abbrev pub invariant-loop-run : goal.invariant-loop-run
 invariant-loop-run l = record {
-  items : with_items l.setup.environment l.setup.settings l.ink l.blocks (drawn_by l.setup l.self l.frame l.cursor)
-      ≡ with_items l.setup.environment l.setup.settings l.ink l.fn.blocks (drawn_by l.setup l.fn.self l.fn.frame l.fn.cursor);
+  items : with_items l.setup.environment l.setup.settings l.brush l.blocks (drawn_by l.setup l.self l.frame l.cursor)
+      ≡ with_items l.setup.environment l.setup.settings l.brush l.fn.blocks (drawn_by l.setup l.fn.self l.fn.frame l.fn.cursor);
   same_layout : layout l.frame ≡ layout l.fn.frame;
   setup : IsSetUp l.setup (layout l.fn.frame) l.self;
   ready : RowsReady l.setup (layout l.fn.frame) l.cursor.y (count_rows l.blocks);

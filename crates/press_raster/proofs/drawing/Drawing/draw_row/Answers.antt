@@ -14,7 +14,7 @@ use Rattle.press_raster.proofs.drawing.Drawing.draw_row.Goals as goal
 pub paint_across-requires-clause-size : goal.paint_across-requires-clause-size
 paint_across-requires-clause-size c =
     let setup = c.args.setup.now in
-    subst IsDotSize (sym (ap (λ (s : RowSetup). s.across.size) c.requires.same)) (size_is setup.settings.resolution setup.environment.media.resolution)
+    subst IsDotSize (sym (ap (λ (s : RowSetup). s.across.size) c.requires.same)) (size_is setup.settings.resolution setup.environment.page_setup.resolution)
 
 pub returns-in_err-painted-clause-takes_none : goal.returns-in_err-painted-clause-takes_none
 returns-in_err-painted-clause-takes_none c = λ ready.
@@ -35,7 +35,7 @@ returns-clause-item c =
     let drawing : Drawing = c.args.self.now in
     let written = with_items_is drawing.row c.decode.new.out (c.decode.auto.out ∙ c.deref_mut.ensures.len) in
     let long : length c.deref_mut.result.now ≡ bytes_per_line setup.dots = ap length c.deref_mut.ensures.value ∙ c.requires.row in
-    row_drawn setup c.args.ink.now drawing c.args.frame.now c.paint_across.new.frame c.args.cursor.now c.move_down-moved.new.cursor (c.args.row.method, c.args.row.bytes.now) c.line-line.result
+    row_drawn setup c.args.brush.now drawing c.args.frame.now c.paint_across.new.frame c.args.cursor.now c.move_down-moved.new.cursor (c.args.row.method, c.args.row.bytes.now) c.line-line.result
     c.deref-2.result.now c.decode.new.out c.take_row-taken.new.self.seed.items c.take_row-taken.new.self.position
     c.requires (sym c.takes_row.ensures ∙ c.if-not-takes_row.false)
     (c.decode.ensures.row ∙ (λ i. raster_row c.args.row.method c.args.row.bytes.now (c.deref.ensures.value i) (long i)))

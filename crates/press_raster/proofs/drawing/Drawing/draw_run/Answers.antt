@@ -27,26 +27,26 @@ returns-then-not-branch-clause-layout c =
 pub returns-then-not-branch-clause-items : goal.returns-then-not-branch-clause-items
 returns-then-not-branch-clause-items c =
     let setup = c.args.setup.now in
-    let ink = c.args.ink.now in
+    let brush = c.args.brush.now in
     let item : Item = Some (c.args.row.method, c.args.row.bytes.now) in
     let d : Drawn = drawn_by setup c.loop-drawn.self c.loop-drawn.frame c.loop-drawn.cursor in
     let same = c.in_ok-draw_row.ensures.same (ap Ok c.if-not-branch.true) in
     same
-    ∙ sym (with_items-settled setup.environment setup.settings ink (c.args.count - c.loop-drawn.drawn) item d (sym c.in_ok-draw_row.ensures.item ∙ same))
+    ∙ sym (with_items-settled setup.environment setup.settings brush (c.args.count - c.loop-drawn.drawn) item d (sym c.in_ok-draw_row.ensures.item ∙ same))
     ∙ c.loop-drawn.invariant.items
 
 pub loop-drawn-preserved : goal.loop-drawn-preserved
 loop-drawn-preserved c =
     let setup = c.args.setup.now in
-    let ink = c.args.ink.now in
+    let brush = c.args.brush.now in
     let item : Item = Some (c.args.row.method, c.args.row.bytes.now) in
     let d : Drawn = drawn_by setup c.loop-drawn.self c.loop-drawn.frame c.loop-drawn.cursor in
     let m : ℕ = c.args.count - (c.loop-drawn.drawn + 1) in
     let left : suc m ≡ c.args.count - c.loop-drawn.drawn = omega (arith, c.loop-drawn-test.true) in
     record {
       items =
-          ap (with_items setup.environment setup.settings ink (replicate m item)) c.in_ok-draw_row.ensures.item
-          ∙ ap (λ n. with_items setup.environment setup.settings ink (replicate n item) d) left
+          ap (with_items setup.environment setup.settings brush (replicate m item)) c.in_ok-draw_row.ensures.item
+          ∙ ap (λ n. with_items setup.environment setup.settings brush (replicate n item) d) left
           ∙ c.loop-drawn.invariant.items;
       same_layout =
           c.draw_row.ensures.layout (next_ready setup (layout c.args.frame.now) (layout c.loop-drawn.frame) c.loop-drawn.cursor.y c.args.count c.loop-drawn.drawn
@@ -54,6 +54,6 @@ loop-drawn-preserved c =
           ∙ c.loop-drawn.invariant.same_layout;
       setup = subst (λ page. IsSetUp setup page c.draw_row.new.self) c.loop-drawn.invariant.same_layout c.draw_row.ensures.setup;
       ready = subst (λ (e : Drawn). RowsReady setup (layout c.args.frame.now) e.cursor.y m) (sym c.in_ok-draw_row.ensures.item)
-          (rows_ready-next setup ink (layout c.args.frame.now) d item m
+          (rows_ready-next setup brush (layout c.args.frame.now) d item m
           (subst (RowsReady setup (layout c.args.frame.now) c.loop-drawn.cursor.y) (sym left) c.loop-drawn.invariant.ready));
     }

@@ -22,21 +22,21 @@ pub returns-clause-rows : goal.returns-clause-rows
 returns-clause-rows c =
     let environment = c.args.environment.now in
     let settings = c.args.settings in
-    let ink = c.args.ink.now in
+    let brush = c.args.brush.now in
     let position = c.in-Some.position in
     let seed = c.self.inside.seed.items in
     let setup : RowSetup = c.new-setup.result in
     let bands : BandedPage = c.bands-bands.result.now in
     let cursor = c.args.cursor.now in
-    let o = environment.media.orientation in
+    let o = environment.page_setup.orientation in
     let page : Page = page_of_frame o c.args.frame.now in
     let on : graphics (Some position) seed ≡ c.args.self.now = ap (λ place. graphics place seed) (sym c.in-Some.is) ∙ c.self.view_is in
     let taken = second (takes_row settings c.args.self.now) (list_any is_some (items_of settings.coding c.args.data.now)) c.requires in
-    let lies = ap (λ (s : RowSetup). s.environment.media.orientation) c.new-setup.ensures.setup in
+    let lies = ap (λ (s : RowSetup). s.environment.page_setup.orientation) c.new-setup.ensures.setup in
     (λ i. drawn (graphics (Some c.draw.new.self.position) (c.swap.ensures.x_after i).items) (page_of_frame (sym lies i) c.draw.new.frame.page) c.draw.new.cursor)
     ∙ c.in_ok-draw.ensures.items
-    ∙ ap (λ coding. with_items setup.environment setup.settings ink (items_of coding c.args.data.now) (drawn_by setup c.begin.new.self bands cursor)) (ap (λ (s : RowSetup). s.settings.coding) c.new-setup.ensures.setup)
-    ∙ drawn-fitted setup environment settings ink bands.page.width position seed c.begin.new.self bands page cursor (items_of settings.coding c.args.data.now)
+    ∙ ap (λ coding. with_items setup.environment setup.settings brush (items_of coding c.args.data.now) (drawn_by setup c.begin.new.self bands cursor)) (ap (λ (s : RowSetup). s.settings.coding) c.new-setup.ensures.setup)
+    ∙ drawn-fitted setup environment settings brush bands.page.width position seed c.begin.new.self bands page cursor (items_of settings.coding c.args.data.now)
     c.new-setup.ensures.setup c.in_ok-begin.ensures.position (c.in_ok-begin.ensures.seed ∙ ap (fitted (bytes_per_line setup.dots)) c.deref.ensures.value) (ap (page_of_frame o) c.bands-bands.ensures.value)
     (ap (takes_row settings) on ∙ taken.0) taken.1
-    ∙ ap (λ g. with_items environment settings ink (items_of settings.coding c.args.data.now) (drawn g page cursor)) on
+    ∙ ap (λ g. with_items environment settings brush (items_of settings.coding c.args.data.now) (drawn g page cursor)) on

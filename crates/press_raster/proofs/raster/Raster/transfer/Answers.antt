@@ -15,7 +15,7 @@ returns-then-not-takes_rows-clause-rows c =
     let page = c.args.page.now in
     let cursor = c.args.cursor.now in
     ap (λ g. drawn g page cursor) c.pass.ensures
-    ∙ sym (with_items-idle c.args.environment.now c.args.settings c.args.ink.now (items_of c.args.settings.coding c.args.data.now) (drawn c.args.self.now page cursor)
+    ∙ sym (with_items-idle c.args.environment.now c.args.settings c.args.brush.now (items_of c.args.settings.coding c.args.data.now) (drawn c.args.self.now page cursor)
     (sym c.takes_rows.ensures ∙ c.if-not-takes_rows.true))
 
 after_err : {X : Type 0} {P Q : Type 0} (result : Result X AllocError) → (P → Q) → OnErr result P → OnErr result Q
@@ -26,11 +26,11 @@ pub returns : goal.returns
 returns c =
     let environment = c.args.environment.now in
     let settings = c.args.settings in
-    let o = environment.media.orientation in
+    let o = environment.page_setup.orientation in
     let frame : Frame = c.lie_as.new.self in
     let before : Page = frame.bitmap in
     let after : Page = c.draw_rows.new.frame in
-    let all : Page → Drawn = λ page. drawn_rows environment settings c.args.ink.now c.args.data.now (drawn c.args.self.now page c.args.cursor.now) in
+    let all : Page → Drawn = λ page. drawn_rows environment settings c.args.brush.now c.args.data.now (drawn c.args.self.now page c.args.cursor.now) in
     let lies = c.in_ok-lie_as.ensures.lies in
     let same : page_of_frame frame.orientation before ≡ c.args.page.now = c.in_ok-lie_as.ensures.same ∙ c.frame-frame.ensures.value in
     record {

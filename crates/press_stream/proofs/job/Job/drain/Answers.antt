@@ -2,8 +2,8 @@ use Rattle.std.proofs.Common.{[], ◌++◌, ◌∙◌, Err, refl, ap, arith}
 use Rattle.std.proofs.lemmas.Result.{err_from_is_err_and}
 use Rattle.press_stream.specs.declared.fault.JobError.{JobError}
 use Rattle.press_stream.proofs.Carries.{same_fault}
-use Rattle.press_stream.proofs.Going.{can_count-then, Goes-ran, taken-of, taken-fewer, taken-ended}
-use Rattle.press_stream.proofs.Faults.{FaultsBefore-after, FaultsBefore-step, Goes-after}
+use Rattle.press_stream.proofs.Going.{has_fault_room-then, CarriesOut-ran, taken-of, taken-fewer, taken-ended}
+use Rattle.press_stream.proofs.Faults.{FaultsBefore-after, FaultsBefore-step, CarriesOut-after}
 use Rattle.press_stream.proofs.RunningOut.{one_taken, Wants-after}
 use Rattle.press_stream.proofs.job.Job.drain.Goals as goal
 
@@ -18,9 +18,9 @@ loop-self-init g c =
     let over = c.pass.ensures in
     record {
       given = over.given;
-      goes = Goes-after c.args.self.now c.run_out.new.self c.pass.new.self [] [] over.given c.args.tag _ _ _ out.0 (over.goes c.args.tag _);
+      goes = CarriesOut-after c.args.self.now c.run_out.new.self c.pass.new.self [] [] over.given c.args.tag _ _ _ out.0 (over.goes c.args.tag _);
       still = over.ended ∙ out.3;
-      can_count = can_count-then [] out.0.items c.args.self.now c.run_out.new.self c.args.tag _ _ out.0.carried c.requires.can_count;
+      has_fault_room = has_fault_room-then [] out.0.items c.args.self.now c.run_out.new.self c.args.tag _ _ out.0.carried c.requires.has_fault_room;
       idle = over.idle;
     }
 
@@ -39,9 +39,9 @@ returns-in_err-run_out-2-clause-drains g c =
     let p = err_from_is_err_and c.from_residual-in_err-run_out-2.result c.from_residual-in_err-run_out-2.ensures.1 in
     let ran = rw (c.in_ok-step.was, c.in-Ran.is) at c.step.ensures.takes in
     let did = ran.did in
-    let one = Goes-ran c.loop-self.self c.step.new.self c.args.tag _ _ _ ran in
+    let one = CarriesOut-ran c.loop-self.self c.step.new.self c.args.tag _ _ _ ran in
     let so_far = c.loop-self.invariant in
-    let goes = Goes-after c.args.self.now c.loop-self.self c.step.new.self [] so_far.given did.given c.args.tag _ _ _ so_far.goes one in
+    let goes = CarriesOut-after c.args.self.now c.loop-self.self c.step.new.self [] so_far.given did.given c.args.tag _ _ _ so_far.goes one in
     rw (p.1, p.2) (FaultsBefore-after c.args.self.now c.step.new.self c.run_out-in-Ran.new.self [] (so_far.given ++ did.given) c.args.tag _ _ _ _ (taken-ended c.loop-self.self c.step.new.self did.given did.takes ∙ so_far.still) goes (rw c.in_err-run_out-2.was at c.run_out-in-Ran.ensures.runs_out))
 
 pub returns-in_err-run_out-2-clause-memory : goal.returns-in_err-run_out-2-clause-memory
@@ -49,27 +49,27 @@ returns-in_err-run_out-2-clause-memory g c =
     let p = err_from_is_err_and c.from_residual-in_err-run_out-2.result c.from_residual-in_err-run_out-2.ensures.1 in
     let ran = rw (c.in_ok-step.was, c.in-Ran.is) at c.step.ensures.takes in
     let did = ran.did in
-    let one = Goes-ran c.loop-self.self c.step.new.self c.args.tag _ _ _ ran in
+    let one = CarriesOut-ran c.loop-self.self c.step.new.self c.args.tag _ _ _ ran in
     let so_far = c.loop-self.invariant in
-    let goes = Goes-after c.args.self.now c.loop-self.self c.step.new.self [] so_far.given did.given c.args.tag _ _ _ so_far.goes one in
+    let goes = CarriesOut-after c.args.self.now c.loop-self.self c.step.new.self [] so_far.given did.given c.args.tag _ _ _ so_far.goes one in
     rw (p.1, p.2) (λ e. Wants-after c.args.self.now c.step.new.self (so_far.given ++ did.given) c.args.tag _ _ goes (c.run_out-in-Ran.ensures.memory (c.in_err-run_out-2.was ∙ ap (λ (fault : JobError). Err fault) (same_fault _ _ _ refl e))))
 
 pub loop-self-preserved : goal.loop-self-preserved
 loop-self-preserved g c =
     let ran = rw (c.in_ok-step.was, c.in-Ran.is) at c.step.ensures.takes in
     let did = ran.did in
-    let one = Goes-ran c.loop-self.self c.step.new.self c.args.tag _ _ _ ran in
+    let one = CarriesOut-ran c.loop-self.self c.step.new.self c.args.tag _ _ _ ran in
     let out = rw c.in_ok-run_out-2.was at c.run_out-in-Ran.ensures.runs_out in
     let so_far = c.loop-self.invariant in
-    let goes = Goes-after c.args.self.now c.loop-self.self c.step.new.self [] so_far.given did.given c.args.tag _ _ _ so_far.goes one in
-    let can = can_count-then did.given one.items c.loop-self.self c.step.new.self c.args.tag _ _ one.carried so_far.can_count in
+    let goes = CarriesOut-after c.args.self.now c.loop-self.self c.step.new.self [] so_far.given did.given c.args.tag _ _ _ so_far.goes one in
+    let can = has_fault_room-then did.given one.items c.loop-self.self c.step.new.self c.args.tag _ _ one.carried so_far.has_fault_room in
     let over = c.pass-in-Ran.ensures in
-    let then = Goes-after c.args.self.now c.step.new.self c.run_out-in-Ran.new.self [] (so_far.given ++ did.given) [] c.args.tag _ _ _ goes out.0 in
+    let then = CarriesOut-after c.args.self.now c.step.new.self c.run_out-in-Ran.new.self [] (so_far.given ++ did.given) [] c.args.tag _ _ _ goes out.0 in
     record {
       given = ((so_far.given ++ did.given) ++ []) ++ over.given;
-      goes = Goes-after c.args.self.now c.run_out-in-Ran.new.self c.pass-in-Ran.new.self [] ((so_far.given ++ did.given) ++ []) over.given c.args.tag _ _ _ then (over.goes c.args.tag _);
+      goes = CarriesOut-after c.args.self.now c.run_out-in-Ran.new.self c.pass-in-Ran.new.self [] ((so_far.given ++ did.given) ++ []) over.given c.args.tag _ _ _ then (over.goes c.args.tag _);
       still = over.ended ∙ out.3 ∙ taken-ended c.loop-self.self c.step.new.self did.given did.takes ∙ so_far.still;
-      can_count = can_count-then [] out.0.items c.step.new.self c.run_out-in-Ran.new.self c.args.tag _ _ out.0.carried can;
+      has_fault_room = has_fault_room-then [] out.0.items c.step.new.self c.run_out-in-Ran.new.self c.args.tag _ _ out.0.carried can;
       idle = over.idle;
     }
 

@@ -1,7 +1,7 @@
 use Rattle.std.proofs.Common.{◌∙◌, ℕ, List, [], ◌++◌, take, drop, refl, sym, ap, append_assoc}
 use Rattle.std.proofs.lemmas.List.{take-append-drop, take_rest}
 use Rattle.std.proofs.lemmas.Result.{err_from_is_err_and}
-use Rattle.press_stream.proofs.Going.{Goes-none, Goes-then, can_count-then}
+use Rattle.press_stream.proofs.Going.{CarriesOut-none, CarriesOut-then, has_fault_room-then}
 use Rattle.press_stream.proofs.Faults.{Takes-part, Feeds-part}
 use Rattle.press_stream.proofs.job.Job.feed_by_parts.Goals as goal
 
@@ -10,9 +10,9 @@ loop-rest-init g c = record {
   fed = [];
   given = [];
   piece = refl;
-  goes = Goes-none c.args.self.now c.args.tag _ c.requires.hungry.running;
+  goes = CarriesOut-none c.args.self.now c.args.tag _ c.requires.hungry.running;
   hungry = c.requires.hungry;
-  can_count = c.requires.can_count;
+  has_fault_room = c.requires.has_fault_room;
 }
 
 pub loop-rest-preserved : goal.loop-rest-preserved
@@ -29,9 +29,9 @@ loop-rest-preserved g c =
           ∙ ap (λ (xs : List ℕ). so_far.fed ++ xs) (sym (take-append-drop c.take-count.result c.loop-rest.rest.now))
           ∙ sym (append_assoc so_far.fed (take c.take-count.result c.loop-rest.rest.now) (drop c.take-count.result c.loop-rest.rest.now))
           ∙ ap (λ (xs : List ℕ). (so_far.fed ++ take c.take-count.result c.loop-rest.rest.now) ++ xs) (sym (take_rest c.loop-rest.rest.now c.take-count.result));
-      goes = Goes-then c.args.self.now c.loop-rest.self c.drain.new.self so_far.fed (take c.take-count.result c.loop-rest.rest.now) so_far.given taken.0 c.args.tag _ _ _ so_far.goes taken.1;
+      goes = CarriesOut-then c.args.self.now c.loop-rest.self c.drain.new.self so_far.fed (take c.take-count.result c.loop-rest.rest.now) so_far.given taken.0 c.args.tag _ _ _ so_far.goes taken.1;
       hungry = taken.2;
-      can_count = can_count-then taken.0 taken.1.items c.loop-rest.self c.drain.new.self c.args.tag _ _ taken.1.carried so_far.can_count;
+      has_fault_room = has_fault_room-then taken.0 taken.1.items c.loop-rest.self c.drain.new.self c.args.tag _ _ taken.1.carried so_far.has_fault_room;
     }
 
 pub returns-in_err-drain : goal.returns-in_err-drain

@@ -1,5 +1,5 @@
 use Rattle.std.proofs.Common.{◌∙◌, Err, sym, ap, subst}
-use Rattle.press_sink.specs.Told.{both}
+use Rattle.press_sink.specs.SinkLog.{logs}
 use Rattle.press_engine.specs.declared.engine.Engine.{Engine}
 use Rattle.press_engine.specs.Outputs.{all_outputs}
 use Rattle.press_stream.specs.declared.fault.JobError.{JobError}
@@ -16,5 +16,5 @@ returns-in-Ok-clause-left g c = ap (λ (engine : Engine). job_state c.self.insid
 
 pub returns-in-Err-clause-hands : goal.returns-in-Err-clause-hands
 returns-in-Err-clause-hands g c =
-    let P : JobError → Type 0 = λ error. HandsOver c.args.tag (all_outputs c.args.sent.now) (Err error) (both (g.S.SheetSink.told c.args.sheets.now) (g.P.ReplySink.told c.args.replies.now)) (both (g.S.SheetSink.told c.hand_over.new.sheets) (g.P.ReplySink.told c.hand_over.new.replies)) in
+    let P : JobError → Type 0 = λ error. HandsOver c.args.tag (all_outputs c.args.sent.now) (Err error) (logs (g.S.SheetSink.told c.args.sheets.now) (g.P.ReplySink.told c.args.replies.now)) (logs (g.S.SheetSink.told c.hand_over.new.sheets) (g.P.ReplySink.told c.hand_over.new.replies)) in
     subst P (sym c.from.ensures) (HandsOver-err c.args.tag (all_outputs c.args.sent.now) c.in-Err.fault _ _ c.in-Err.ensures.sends)

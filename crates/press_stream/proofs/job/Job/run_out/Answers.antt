@@ -2,18 +2,18 @@ use Rattle.std.proofs.Common.{[], ◌∙◌, Err, refl, ap, arith}
 use Rattle.std.proofs.lemmas.Result.{err_from_is_err_and}
 use Rattle.press_stream.specs.declared.fault.JobError.{JobError}
 use Rattle.press_stream.proofs.Carries.{same_fault}
-use Rattle.press_stream.proofs.Going.{Goes-none, can_count-then, Goes-ran, taken-fewer, taken-ended}
+use Rattle.press_stream.proofs.Going.{CarriesOut-none, has_fault_room-then, CarriesOut-ran, taken-fewer, taken-ended}
 use Rattle.press_stream.proofs.Faults.{FaultsBefore-after, FaultsBefore-step}
 use Rattle.press_stream.proofs.Inside.{not_idle}
-use Rattle.press_stream.proofs.RunningOut.{ran_inside, one_fewer, Goes-more}
+use Rattle.press_stream.proofs.RunningOut.{ran_inside, one_fewer, CarriesOut-more}
 use Rattle.press_stream.proofs.job.Job.run_out.Goals as goal
 
 pub loop-self-init : goal.loop-self-init
 loop-self-init g c = record {
-  goes = Goes-none c.args.self.now c.args.tag _ c.requires.running;
+  goes = CarriesOut-none c.args.self.now c.args.tag _ c.requires.running;
   fewer = omega arith;
   still = refl;
-  can_count = c.requires.can_count;
+  has_fault_room = c.requires.has_fault_room;
 }
 
 pub returns-in_err-step-clause-runs_out : goal.returns-in_err-step-clause-runs_out
@@ -31,13 +31,13 @@ loop-self-preserved g c =
     let takes = rw c.in_ok-step.was at c.step.ensures.takes in
     let inside = not_idle c.is_idle.result _ c.is_idle.ensures.none c.loop-self-test.true in
     let (kind, ran) = ran_inside c.loop-self.self c.step.new.self c.args.tag _ _ _ inside takes in
-    let goes = Goes-ran c.loop-self.self c.step.new.self c.args.tag kind _ _ ran in
+    let goes = CarriesOut-ran c.loop-self.self c.step.new.self c.args.tag kind _ _ ran in
     let fewer = taken-fewer c.loop-self.self c.step.new.self ran.did.given ran.did.takes in
     record {
-      goes = Goes-more c.args.self.now c.loop-self.self c.step.new.self c.args.tag _ _ _ _ inside c.loop-self.invariant.goes takes;
+      goes = CarriesOut-more c.args.self.now c.loop-self.self c.step.new.self c.args.tag _ _ _ _ inside c.loop-self.invariant.goes takes;
       fewer = omega (arith, fewer, c.loop-self.invariant.fewer);
       still = taken-ended c.loop-self.self c.step.new.self ran.did.given ran.did.takes ∙ c.loop-self.invariant.still;
-      can_count = can_count-then ran.did.given goes.items c.loop-self.self c.step.new.self c.args.tag _ _ goes.carried c.loop-self.invariant.can_count;
+      has_fault_room = has_fault_room-then ran.did.given goes.items c.loop-self.self c.step.new.self c.args.tag _ _ goes.carried c.loop-self.invariant.has_fault_room;
     }
 
 pub loop-self-smaller : goal.loop-self-smaller

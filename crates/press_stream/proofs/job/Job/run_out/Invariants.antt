@@ -1,7 +1,7 @@
 use Rattle.std.proofs.Common.{◌≡◌, ◌≤◌, [], length}
-use Rattle.press_sink.specs.Told.{both, CanCount}
+use Rattle.press_sink.specs.SinkLog.{logs, HasFaultRoom}
 use Rattle.press_stream.specs.State.{most_commands}
-use Rattle.press_stream.specs.Meaning.{Goes}
+use Rattle.press_stream.specs.Meaning.{CarriesOut}
 use Rattle.press_stream.proofs.RunningOut.{still_owed}
 use Rattle.press_stream.proofs.job.Job.run_out.Given as goal
 
@@ -9,10 +9,10 @@ use Rattle.press_stream.proofs.job.Job.run_out.Given as goal
 abbrev pub invariant-loop-self : goal.invariant-loop-self
 invariant-loop-self g l =
     record {
-      goes : Goes l.initial.self [] [] l.tag l.self (both (g.S.SheetSink.told l.initial.sheets) (g.P.ReplySink.told l.initial.replies)) (both (g.S.SheetSink.told l.sheets) (g.P.ReplySink.told l.replies));
+      goes : CarriesOut l.initial.self [] [] l.tag l.self (logs (g.S.SheetSink.told l.initial.sheets) (g.P.ReplySink.told l.initial.replies)) (logs (g.S.SheetSink.told l.sheets) (g.P.ReplySink.told l.replies));
       fewer : most_commands l.self ≤ most_commands l.initial.self;
       still : l.self.held.ended ≡ l.initial.self.held.ended;
-      can_count : CanCount (both (g.S.SheetSink.told l.sheets) (g.P.ReplySink.told l.replies));
+      has_fault_room : HasFaultRoom (logs (g.S.SheetSink.told l.sheets) (g.P.ReplySink.told l.replies));
     }
 
 -- so many items are left of them

@@ -1,6 +1,6 @@
 use Rattle.std.proofs.Common.{◌≡◌, ◌∙◌, IsSome, length, refl, sym, ap, subst, arith}
 use Rattle.press_engine.specs.declared.machine.Machine.{Machine}
-use Rattle.press_engine.specs.Machine.{Run}
+use Rattle.press_engine.specs.Machine.{StepResult}
 use Rattle.press_engine.specs.Outputs.{all_outputs}
 use Rattle.press_engine.proofs.StepLaws.{others_keep_the_page}
 use Rattle.press_stream.proofs.Going.{same_some}
@@ -21,7 +21,7 @@ returns-in_ok-line-in-Ok-Ran-clause-tells c =
     let step = c.in-Ok-Ran.step in
     let outside = c.is_idle-outside.result in
     let did = step_did old.job job c.in-Ok-Ran.field-0 step c.in-Ok-Ran.field-0-is c.in-Ok-Ran.ensures.takes in
-    let item : Run = record { machine = did.0; outputs = all_outputs step.sent.items } in
+    let item : StepResult = record { machine = did.0; outputs = all_outputs step.sent.items } in
     let taken : Tracer = record old { job = job; place = c.place_behind-self.result } in
     let kept : old.page ≡ did.1.from.state.page = c.requires.shown did.1.from did.1.starts in
     let shows : Shows taken c.may_change.result did.0 = record {
@@ -50,7 +50,7 @@ returns-in_ok-line-in-Ok-Ran-clause-sound c =
     let step = c.in-Ok-Ran.step in
     let outside = c.is_idle-outside.result in
     let did = step_did old.job job c.in-Ok-Ran.field-0 step c.in-Ok-Ran.field-0-is c.in-Ok-Ran.ensures.takes in
-    let item : Run = record { machine = did.0; outputs = all_outputs step.sent.items } in
+    let item : StepResult = record { machine = did.0; outputs = all_outputs step.sent.items } in
     let taken : Tracer = record old { job = job; place = c.place_behind-self.result } in
     let kept : old.page ≡ did.1.from.state.page = c.requires.shown did.1.from did.1.starts in
     let shows : Shows taken c.may_change.result did.0 = record {

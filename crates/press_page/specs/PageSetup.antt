@@ -14,9 +14,9 @@ use Rattle.press_page.specs.declared.media.Orientation.{Orientation}
 use Rattle.press_page.specs.declared.media.Orientation.TheVariants.{Portrait, Landscape, ReversePortrait, ReverseLandscape}
 use Rattle.press_page.specs.declared.media.PageSize.{PageSize}
 use Rattle.press_page.specs.declared.media.PageSize.TheVariants.{Executive, Letter, Legal, Ledger, A4, A3}
-use Rattle.press_page.specs.declared.media.Media.{Media}
-use Rattle.press_page.specs.declared.media.Sides.{Sides}
-use Rattle.press_page.specs.declared.media.Sides.TheVariants.{OneSided, TwoSidedLongEdge, TwoSidedShortEdge}
+use Rattle.press_page.specs.declared.media.PageSetup.{PageSetup}
+use Rattle.press_page.specs.declared.media.DuplexMode.{DuplexMode}
+use Rattle.press_page.specs.declared.media.DuplexMode.TheVariants.{OneSided, TwoSidedLongEdge, TwoSidedShortEdge}
 use Rattle.press_page.specs.declared.place.Extent.{Extent}
 
 -- ESC&l#A, the number of a page size, and the page size of a number
@@ -48,16 +48,16 @@ abbrev pub orientation_of : ℤ → Option Orientation
 orientation_of = numbered orientation_number orientations
 
 -- ESC&l#S, the number of simplex or duplex print, and what a number asks for
-abbrev pub sides_number : Sides → ℕ
-sides_number OneSided = 0
-sides_number TwoSidedLongEdge = 1
-sides_number TwoSidedShortEdge = 2
+abbrev pub duplex_number : DuplexMode → ℕ
+duplex_number OneSided = 0
+duplex_number TwoSidedLongEdge = 1
+duplex_number TwoSidedShortEdge = 2
 
-abbrev pub all_sides : List Sides
-all_sides = OneSided ∷ TwoSidedLongEdge ∷ TwoSidedShortEdge ∷ []
+abbrev pub all_duplex_modes : List DuplexMode
+all_duplex_modes = OneSided ∷ TwoSidedLongEdge ∷ TwoSidedShortEdge ∷ []
 
-abbrev pub sides_of : ℤ → Option Sides
-sides_of = numbered sides_number all_sides
+abbrev pub duplex_of : ℤ → Option DuplexMode
+duplex_of = numbered duplex_number all_duplex_modes
 
 -- width, height, and how far the logical page begins right of the page's left edge in portrait and in landscape
 abbrev pub sized : (width height portrait_offset landscape_offset : ℕ) → Dimensions
@@ -92,13 +92,13 @@ offset_of ReversePortrait size = size.portrait_offset
 offset_of ReverseLandscape size = size.landscape_offset
 
 -- the frame and the offset of the logical page, in dots of the table
-abbrev pub table_frame : Media → Extent
-table_frame media =
-    let size = dimensions_of media.size in
-    turned media.orientation (record { width = size.width; height = size.height })
+abbrev pub table_frame : PageSetup → Extent
+table_frame page_setup =
+    let size = dimensions_of page_setup.size in
+    turned page_setup.orientation (record { width = size.width; height = size.height })
 
-abbrev pub table_offset : Media → ℕ
-table_offset media = offset_of media.orientation (dimensions_of media.size)
+abbrev pub table_offset : PageSetup → ℕ
+table_offset page_setup = offset_of page_setup.orientation (dimensions_of page_setup.size)
 
 -- how many dots of a page a dot of the table is, along a line
 abbrev pub scale : Resolution → ℕ
@@ -106,45 +106,45 @@ scale Dpi300 = 1
 scale Dpi600 = 2
 
 -- the physical page, the frame, and the offset of the logical page, in dots of the page
-abbrev pub physical_page : Media → Extent
-physical_page media = record {
-  width = (dimensions_of media.size).width * scale media.resolution;
-  height = (dimensions_of media.size).height * scale media.resolution;
+abbrev pub physical_page : PageSetup → Extent
+physical_page page_setup = record {
+  width = (dimensions_of page_setup.size).width * scale page_setup.resolution;
+  height = (dimensions_of page_setup.size).height * scale page_setup.resolution;
 }
 
-abbrev pub frame : Media → Extent
-frame media = turned media.orientation (physical_page media)
+abbrev pub frame : PageSetup → Extent
+frame page_setup = turned page_setup.orientation (physical_page page_setup)
 
-abbrev pub offset : Media → ℕ
-offset media = table_offset media * scale media.resolution
+abbrev pub offset : PageSetup → ℕ
+offset page_setup = table_offset page_setup * scale page_setup.resolution
 
 -- positions of a dot of the table
 abbrev pub table_dot : ℕ
 table_dot = positions_per_inch / 300
 
 -- width and length of the logical page, in positions: they are the same at each resolution
-abbrev pub logical_width : Media → ℕ
-logical_width media = table_dot * ((table_frame media).width - 2 * table_offset media)
+abbrev pub logical_width : PageSetup → ℕ
+logical_width page_setup = table_dot * ((table_frame page_setup).width - 2 * table_offset page_setup)
 
-abbrev pub logical_length : Media → ℕ
-logical_length media = table_dot * (table_frame media).height
+abbrev pub logical_length : PageSetup → ℕ
+logical_length page_setup = table_dot * (table_frame page_setup).height
 
 -- the logical page under a top margin
-abbrev pub logical_page : Media → (top_margin : ℕ) → LogicalPage
-logical_page media top_margin =
-    record { width = logical_width media; length = logical_length media; top_margin = top_margin }
+abbrev pub logical_page : PageSetup → (top_margin : ℕ) → LogicalPage
+logical_page page_setup top_margin =
+    record { width = logical_width page_setup; length = logical_length page_setup; top_margin = top_margin }
 
 -- The media after ESC&l#S: simplex leaves the binding.
-abbrev pub with_sides : Sides → Media → Media
-with_sides OneSided media = record media { duplex = false }
-with_sides TwoSidedLongEdge media = record media { duplex = true; binding = bindings.LongEdge }
-with_sides TwoSidedShortEdge media = record media { duplex = true; binding = bindings.ShortEdge }
+abbrev pub with_duplex : DuplexMode → PageSetup → PageSetup
+with_duplex OneSided page_setup = record page_setup { duplex = false }
+with_duplex TwoSidedLongEdge page_setup = record page_setup { duplex = true; binding = bindings.LongEdge }
+with_duplex TwoSidedShortEdge page_setup = record page_setup { duplex = true; binding = bindings.ShortEdge }
 
 -- both sides, bound along an edge
-abbrev pub two_sided : Binding → Sides
+abbrev pub two_sided : Binding → DuplexMode
 two_sided bindings.LongEdge = TwoSidedLongEdge
 two_sided bindings.ShortEdge = TwoSidedShortEdge
 
 -- The sides that are printed on the media.
-abbrev pub printed_sides : Media → Sides
-printed_sides media = if media.duplex then two_sided media.binding else OneSided
+abbrev pub duplex_mode : PageSetup → DuplexMode
+duplex_mode page_setup = if page_setup.duplex then two_sided page_setup.binding else OneSided

@@ -2,10 +2,10 @@
 
 ghost use Rattle.std.specs.Prelude.{◌≡◌};
 ghost use Rattle.press_bits.specs.DotRule.{solid_white_mode};
-ghost use Rattle.press_pattern.specs.Ink.{ink_mode, black_ink};
+ghost use Rattle.press_pattern.specs.Brush.{brush_mode, black_brush};
 
 use crate::fixed;
-use crate::pattern::Kind;
+use crate::pattern::PatternKind;
 use crate::tile::Tile;
 use press_bits::Mode;
 
@@ -13,30 +13,31 @@ use press_bits::Mode;
 ///
 /// Source: PCL 5 Printer Language Technical Reference Manual, The PCL Print Model.
 #[derive(Drop)]
-pub struct Ink<'a> {
+pub struct Brush<'a> {
     pub tile: Tile<'a>,
     pub mode: Mode,
 }
 
 /// The mode in which a pattern of a kind meets the page: the white dots of solid white are opaque.
-pub(crate) fn mode_of(kind: Kind, mode: Mode) -> Mode
-    ensures { result ≡ ink_mode kind mode }
+pub(crate) fn mode_of(kind: PatternKind, mode: Mode) -> Mode
+    ensures { result ≡ brush_mode kind mode }
 {
     match kind {
-        Kind::White => Mode {
+        PatternKind::White => Mode {
             pattern_opaque: true,
             ..mode
         },
-        Kind::Black | Kind::Shading | Kind::CrossHatch | Kind::User => mode,
+        PatternKind::Black | PatternKind::Shading | PatternKind::CrossHatch | PatternKind::User =>
+            mode,
     }
 }
 
-impl Ink<'static> {
+impl Brush<'static> {
     /// Solid black.
     pub fn black(mode: Mode) -> Self
-        ensures { result ≡ black_ink mode }
+        ensures { result ≡ black_brush mode }
     {
-        Ink {
+        Brush {
             tile: fixed::black(),
             mode,
         }
