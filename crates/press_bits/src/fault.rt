@@ -3,14 +3,14 @@ ghost use Rattle.std.specs.Prelude.{◌≡◌};
 ghost use Rattle.press_bits.specs.Faults.{blank_number};
 
 use press_units::ToldFault;
-use std::error::Error;
-use std::fmt;
+use thiserror::Error;
 
 /// The number of [`BlankError::BadSize`].
 const BAD_SIZE: u16 = 101;
 
 /// Why no blank bitmap was made.
-#[derive(Debug, Drop)]
+#[derive(Debug, Drop, Error)]
+#[error("{}", ToldFault(self.number()))]
 pub enum BlankError {
     /// A side is 0 or above [`crate::MAX_SIDE`].
     BadSize,
@@ -29,16 +29,3 @@ impl BlankError {
         }
     }
 }
-
-impl fmt::Display for BlankError {
-    ghost use Rattle.std.specs.Prelude.{Some};
-    ghost use Rattle.press_units.specs.Faults.{fault_text};
-
-    ghost output = { λ error. Some (fault_text (blank_number error)) };
-
-    fn fmt<W: fmt::Write>(&self, f: &mut fmt::Formatter<W>) -> fmt::Result {
-        write!(f, "{}", ToldFault(self.number()))
-    }
-}
-
-impl Error for BlankError {}

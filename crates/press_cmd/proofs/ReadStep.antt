@@ -9,7 +9,7 @@ use Rattle.std.specs.Char.{is_ascii_digit}
 use Rattle.press_cmd.specs.Token.{Token, Grouped, Broken, uel, escape_byte}
 use Rattle.press_cmd.specs.ParserState.{ParserState, Exit, OverlongLine, OtherLanguage, Pcl, Open}
 use Rattle.press_cmd.specs.Carried.{data_count, count_of}
-use Rattle.press_cmd.specs.Grammar.{Whole, IsPair, Ends, IsEnd, IsGroup, IsCharacter, begins_pair}
+use Rattle.press_cmd.specs.Grammar.{Whole, IsPair, Ends, IsEnd, IsGroup, IsCharacter, begins_pair, value_pair}
 use Rattle.press_cmd.proofs.Reading.{State, Start, Escaped, Single, Pair, SingleData, PairData, Step, Goes, Gives, Stops, Nothing, extends, is_end, is_earlier_end, is_escape_end, is_character, is_control, is_text, is_escape, is_exit, single_with, pair_with, group_or_break, step}
 use Rattle.press_units.proofs.FieldTest.{IsField-from_test}
 use Rattle.press_cmd.proofs.ByteTests.{is_end-true, is_earlier_end-true, is_escape_end-true, is_character-true, is_text-true, is_escape-true, is_escape-false, is_control-true, extends-true}
@@ -155,13 +155,13 @@ wraps-same : (m : ParserState) (c g : ℕ) (u w v : List ℕ) → w ≡ v → Wr
 wraps-same m c g u w v e h = subst (λ (x : List ℕ). Wraps m c g u x) e h
 
 -- a pair that is wrapped and whole is a command
-pub whole-pair : (m : ParserState) (c g : ℕ) (u w f : List ℕ) (e : ℕ) (d : List ℕ) (next : ParserState) → Wraps m c g u w → IsPair c g w f e d next → Whole m u (Grouped c g f e d) next
+pub whole-pair : (m : ParserState) (c g : ℕ) (u w f : List ℕ) (e : ℕ) (d : List ℕ) (next : ParserState) → Wraps m c g u w → IsPair c g w (value_pair f e d) next → Whole m u (Grouped c g f e d) next
 whole-pair Pcl c g u w f e d next h p = record { pair = w; spelled = h.2; character_class = h.0; group_class = h.1; is_pair = p }
 whole-pair (Open c' g') c g u w f e d next h p = (
   h.0,
   h.1,
-  subst (λ (x : List ℕ). IsPair c' g' x f e d next) (sym h.2)
-      (subst (λ (x : ℕ). IsPair x g' w f e d next) h.0 (subst (λ (y : ℕ). IsPair c y w f e d next) h.1 p)),
+  subst (λ (x : List ℕ). IsPair c' g' x (value_pair f e d) next) (sym h.2)
+      (subst (λ (x : ℕ). IsPair x g' w (value_pair f e d) next) h.0 (subst (λ (y : ℕ). IsPair c y w (value_pair f e d) next) h.1 p)),
 )
 whole-pair Exit c g u w f e d next h p = absurd h
 whole-pair OverlongLine c g u w f e d next h p = absurd h

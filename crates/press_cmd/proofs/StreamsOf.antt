@@ -211,4 +211,4 @@ of_some_stream commands.Uel = ∣ one_command uel Uel Exit (refl, refl) ∣₁
 of_some_stream (commands.PjlLine line) =
     let is = IsPjlLine-known line.bytes.now line.line in
     ∣ one_command line.bytes.now (PjlLine line.bytes.now) (mode_after line.bytes.now) (line-Head line.bytes.now is []) ∣₁
-of_some_stream (commands.OtherLanguage b) = ∣ foreign-IsCommand b ∣₁
+of_some_stream (commands.Foreign b) = ∣ foreign-IsCommand b ∣₁

@@ -45,21 +45,30 @@ abbrev pub Ends : ℕ → ℕ → ℕ → ℕ → ParserState → Type 0
 Ends character group byte end next =
     (IsEnd byte × (end ≡ byte) × (next ≡ Pcl)) ⊎ (IsEarlierEnd byte × (end + 32 ≡ byte) × (next ≡ Open character group))
 
+-- a value field, the parameter or termination character behind it in upper case, and the data that the value announces
+pub record ValuePair : Type 0 where
+  pub field : List ℕ
+  pub end : ℕ
+  pub payload : List ℕ
+
+abbrev pub value_pair : (field : List ℕ) (end : ℕ) (payload : List ℕ) → ValuePair
+value_pair field end payload = record { field = field; end = end; payload = payload }
+
 -- These bytes are a pair of a value field and its ending byte, with the data that the value announces.
-pub record IsPair (character group : ℕ) (bytes field : List ℕ) (end : ℕ) (payload : List ℕ) (next : ParserState) : Type 0 where
+pub record IsPair (character group : ℕ) (bytes : List ℕ) (pair : ValuePair) (next : ParserState) : Type 0 where
   pub byte : ℕ
-  pub spelled : bytes ≡ field ++ (byte ∷ payload)
-  pub value_field : IsField field
-  pub ends : Ends character group byte end next
-  pub count : length payload ≡ data_count character (Some group) field end
+  pub spelled : bytes ≡ pair.field ++ (byte ∷ pair.payload)
+  pub value_field : IsField pair.field
+  pub ends : Ends character group byte pair.end next
+  pub count : length pair.payload ≡ data_count character (Some group) pair.field pair.end
 
 -- These bytes are a sequence with a group, up to the end of its first pair.
-pub record IsGrouped (bytes : List ℕ) (character group : ℕ) (field : List ℕ) (end : ℕ) (payload : List ℕ) (next : ParserState) : Type 0 where
+pub record IsGrouped (bytes : List ℕ) (character group : ℕ) (first : ValuePair) (next : ParserState) : Type 0 where
   pub pair : List ℕ
   pub spelled : bytes ≡ escape_byte ∷ character ∷ group ∷ pair
   pub character_class : IsCharacter character
   pub group_class : IsGroup group
-  pub is_pair : IsPair character group pair field end payload next
+  pub is_pair : IsPair character group pair first next
 
 -- These bytes are a sequence without a group: one value field, and one ending byte in upper case. A universal exit is none.
 pub record IsUngrouped (bytes : List ℕ) (character : ℕ) (field : List ℕ) (end : ℕ) (payload : List ℕ) : Type 0 where
@@ -73,12 +82,12 @@ pub record IsUngrouped (bytes : List ℕ) (character : ℕ) (field : List ℕ) (
 -- Whole commands of PCL: in which mode which bytes are which command, and the mode after it. What is not listed cannot be.
 abbrev pub Whole : ParserState → List ℕ → Token → ParserState → Type 0
 Whole Pcl bytes (Escape byte) next = IsEscapeEnd byte × (bytes ≡ escape_byte ∷ byte ∷ []) × (next ≡ Pcl)
-Whole Pcl bytes (Grouped character group field end payload) next = IsGrouped bytes character group field end payload next
+Whole Pcl bytes (Grouped character group field end payload) next = IsGrouped bytes character group (value_pair field end payload) next
 Whole Pcl bytes (Ungrouped character field end payload) next = IsUngrouped bytes character field end payload × (next ≡ Pcl)
 Whole Pcl bytes (Control byte) next = IsControl byte × (bytes ≡ byte ∷ []) × (next ≡ Pcl)
 Whole Pcl bytes (Text byte) next = IsText byte × (bytes ≡ byte ∷ []) × (next ≡ Pcl)
 Whole Pcl bytes Uel next = (bytes ≡ uel) × (next ≡ Exit)
-Whole (Open character group) bytes (Grouped c g field end payload) next = (c ≡ character) × (g ≡ group) × IsPair character group bytes field end payload next
+Whole (Open character group) bytes (Grouped c g field end payload) next = (c ≡ character) × (g ≡ group) × IsPair character group bytes (value_pair field end payload) next
 Whole _ _ _ _ = ⊥
 
 -- What stands is the beginning of a whole command, and not yet one.

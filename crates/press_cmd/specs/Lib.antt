@@ -1,5 +1,5 @@
 pub mod Token
-pub mod Mode
+pub mod ParserState
 pub mod Carried
 pub mod Language
 pub mod Grammar

@@ -99,19 +99,19 @@ flag-becomes law flags.Open world whole =
 flag-becomes law flags.Close world whole =
     record { queue = law.close_queue world.queue whole.numbers.queue_is; on_engines = on_engines-kept world.queue (table.flagged flags.Close world.queue) world.engines (λ n. refl) whole.on_engines; each = λ n. Stays refl idle }
 
-answered-becomes : EachRowKeepsTheQueue → (message_type : MessageType) (message : Data) (images : List Page) (world : World) → IsWholeWorld world
+response_row-becomes : EachRowKeepsTheQueue → (message_type : MessageType) (message : Data) (images : List Page) (world : World) → IsWholeWorld world
     → IfSome (table.ticket_of_type message_type message images) (λ ticket. IsPrintable ticket images)
     → Becomes (submits_in images (table.ticket_of_type message_type message images)) world (table.response_row message_type message images world).1
-answered-becomes law types.SubmitQueueEntry message images world whole printable = submit-becomes law images (table.submission message images) world whole printable
-answered-becomes law types.HoldQueueEntry message images world whole printable =
+response_row-becomes law types.SubmitQueueEntry message images world whole printable = submit-becomes law images (table.submission message images) world whole printable
+response_row-becomes law types.HoldQueueEntry message images world whole printable =
     named-becomes None (table.named_entry message world.queue) world _ whole (λ number _.
     queue-becomes None (rows.hold number world.queue) world whole (law.hold number world.queue whole.numbers.queue_is) (hold-runs number world.queue)
     (hold-changes None world.queue world.works number whole.numbers))
-answered-becomes law types.ResumeQueueEntry message images world whole printable =
+response_row-becomes law types.ResumeQueueEntry message images world whole printable =
     named-becomes None (table.named_entry message world.queue) world _ whole (λ number _.
     queue-becomes None (rows.resume number world.queue) world whole (law.resume number world.queue whole.numbers.queue_is) (resume-runs number world.queue)
     (resume-changes None world.queue world.works number whole.numbers))
-answered-becomes law types.SuspendQueueEntry message images world whole printable =
+response_row-becomes law types.SuspendQueueEntry message images world whole printable =
     named-becomes None (table.named_entry message world.queue) world _ whole (λ number _.
     row-becomes None (rows.suspend number world.queue) world _ whole (λ a queue is.
     record {
@@ -119,7 +119,7 @@ answered-becomes law types.SuspendQueueEntry message images world whole printabl
       on_engines = on_engines-left number world.queue queue world.engines (suspend-but number world.queue queue (sym is)) whole.on_engines;
       each = subst (λ (q : QueueState). QueueChanges None world.queue world.works q) (ap (λ r. r.0) is) (suspend-changes None world.queue world.works number whole.numbers);
     }))
-answered-becomes law types.AbortQueueEntry message images world whole printable =
+response_row-becomes law types.AbortQueueEntry message images world whole printable =
     named-becomes None (table.named_entry message world.queue) world _ whole (λ number _.
     row-becomes None (rows.abort number world.queue) world _ whole (λ a queue is.
     record {
@@ -127,7 +127,7 @@ answered-becomes law types.AbortQueueEntry message images world whole printable 
       on_engines = on_engines-left number world.queue queue world.engines (abort-but number world.queue queue (sym is)) whole.on_engines;
       each = abort-changes None number world.queue queue world.works whole.numbers is;
     }))
-answered-becomes law types.RemoveQueueEntry message images world whole printable =
+response_row-becomes law types.RemoveQueueEntry message images world whole printable =
     named-becomes None (table.named_entry message world.queue) world _ whole (λ number _.
     row-becomes None (rows.remove number world.queue) world _ whole (λ a queue is.
     record {
@@ -137,26 +137,26 @@ answered-becomes law types.RemoveQueueEntry message images world whole printable
           (subst (RunsAsBefore world.queue) (ap (λ r. r.0) is) (remove-runs number world.queue whole.numbers.queue_is.distinct)) whole.on_engines;
       each = remove-changes None number world.queue queue world.works whole.numbers is;
     }))
-answered-becomes law types.SetQueueEntryPriority message images world whole printable =
+response_row-becomes law types.SetQueueEntryPriority message images world whole printable =
     named-becomes None (table.named_entry_with (codes "Priority") message world.queue) world _ whole (λ both _.
     queue-becomes None (rows.set_priority both.0 both.1 world.queue) world whole (law.set_priority both.0 both.1 world.queue whole.numbers.queue_is)
     (set_priority-runs both.0 both.1 world.queue whole.numbers.queue_is.distinct) (set_priority-changes None world.queue world.works both.0 both.1 whole.numbers))
-answered-becomes law types.SetQueueEntryPosition message images world whole printable =
+response_row-becomes law types.SetQueueEntryPosition message images world whole printable =
     named-becomes None (table.named_entry_with (codes "Position") message world.queue) world _ whole (λ both _.
     queue-becomes None (rows.set_position both.0 both.1 world.queue) world whole (law.set_position both.0 both.1 world.queue whole.numbers.queue_is)
     (set_position-runs both.0 both.1 world.queue whole.numbers.queue_is.distinct) (set_position-changes None world.queue world.works both.0 both.1 whole.numbers))
-answered-becomes law types.HoldQueue message images world whole printable = flag-becomes law flags.Hold world whole
-answered-becomes law types.ResumeQueue message images world whole printable = flag-becomes law flags.Resume world whole
-answered-becomes law types.OpenQueue message images world whole printable = flag-becomes law flags.Open world whole
-answered-becomes law types.CloseQueue message images world whole printable = flag-becomes law flags.Close world whole
-answered-becomes law types.FlushQueue message images world whole printable =
+response_row-becomes law types.HoldQueue message images world whole printable = flag-becomes law flags.Hold world whole
+response_row-becomes law types.ResumeQueue message images world whole printable = flag-becomes law flags.Resume world whole
+response_row-becomes law types.OpenQueue message images world whole printable = flag-becomes law flags.Open world whole
+response_row-becomes law types.CloseQueue message images world whole printable = flag-becomes law flags.Close world whole
+response_row-becomes law types.FlushQueue message images world whole printable =
     record {
       queue = law.flush world.queue whole.numbers.queue_is;
       on_engines = on_engines-kept world.queue (rows.flush world.queue) world.engines (flush-runs world.queue whole.numbers.queue_is.distinct) whole.on_engines;
       each = flush-changes None world.queue world.works whole.numbers;
     }
-answered-becomes law types.QueueStatus message images world whole printable = becomes_same None world whole
-answered-becomes law types.Status message images world whole printable = becomes_same None world whole
+response_row-becomes law types.QueueStatus message images world whole printable = becomes_same None world whole
+response_row-becomes law types.Status message images world whole printable = becomes_same None world whole
 
 -- ---- the response
 
@@ -170,7 +170,7 @@ headed-becomes : EachRowKeepsTheQueue → (message : Data) (found : Headed) (ima
 headed-becomes law message (Err stopped) images world whole printable = becomes_same None world whole
 headed-becomes law message (Ok headed) images world whole printable =
     subst (Becomes (submits_in images (table.ticket_of_type headed.1 message images)) world) (sym (responding-world headed.0 (table.response_row headed.1 message images world)))
-    (answered-becomes law headed.1 message images world whole printable)
+    (response_row-becomes law headed.1 message images world whole printable)
 
 in-becomes : EachRowKeepsTheQueue → (found : Option Data) (images : List Page) (world : World) → IsWholeWorld world
     → IfSome (option_and_then (λ message. table.ticket_of_headed (heading_of message) message images) found) (λ ticket. IsPrintable ticket images)

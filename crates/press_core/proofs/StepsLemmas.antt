@@ -3,6 +3,7 @@ use Rattle.std.proofs.Common.{◌≡◌, ◌∙◌, ◌+◌, ◌-◌, ◌<◌, �
 use Rattle.std.proofs.Math.Seq.{take-add}
 use Rattle.std.proofs.lemmas.List.{append_assoc, append-nil, drop-drop, map-append}
 use Rattle.press_engine.specs.Machine.{StepResult}
+use Rattle.press_engine.proofs.TraceLaws.{joined-append}
 use Rattle.press_engine.specs.Trace.{joined}
 use Rattle.press_sink.specs.Sending.{sheets_of, under_tag}
 use Rattle.press_sink.specs.PrintedSheet.{PrintedSheet}
@@ -10,7 +11,7 @@ use Rattle.press_sink.specs.SinkLog.{SheetLog}
 use Rattle.press_sink.proofs.SendingLemmas.{sheets_of-append, told-nothing}
 use Rattle.press_core.specs.declared.turn.TurnError.{TurnError}
 use Rattle.press_core.specs.declared.turn.TurnError.TheVariants as errors
-use Rattle.press_core.specs.Handing.{HandsOver, TakesSteps}
+use Rattle.press_core.specs.Handing.{HandsOver, TakesSteps, handing}
 use Rattle.press_core.specs.Jobs.{Advances}
 use Rattle.press_core.specs.Turns.{IsJobOf, WereHandedOut, progress_in_job, sheets_from, steps_from}
 use Rattle.press_core.specs.Work.{Work, at_progress, counting, with_delivered, without_job}
@@ -18,11 +19,6 @@ use Rattle.press_core.proofs.HandingLemmas.{counting-append, handed_twice}
 use Rattle.press_core.proofs.JobLemmas.{IsJobOf-some}
 
 -- ---- the sheets of steps
-
-joined-append : (items others : List StepResult) → joined (items ++ others) ≡ joined items ++ joined others
-joined-append [] others = refl
-joined-append (item ∷ items) others =
-    ap (λ more. item.outputs ++ more) (joined-append items others) ∙ sym (append_assoc item.outputs (joined items) (joined others))
 
 -- steps, and then others
 pub sheets_from-more : (progress steps more : ℕ) (items : List StepResult)
@@ -39,7 +35,7 @@ no_sheets progress items = refl
 
 -- ---- no step
 
-pub no_steps : (number : ℕ) (work : Work) (told : SheetLog) → IsSome work.progress → TakesSteps number 0 work (Ok 0) work told told
+pub no_steps : (number : ℕ) (work : Work) (told : SheetLog) → IsSome work.progress → TakesSteps 0 work (Ok 0) work (handing number told told)
 no_steps number work told begun = record {
   sheets = [];
   steps = λ items job. (omega arith, sym (no_sheets (progress_in_job work) items));
@@ -55,15 +51,15 @@ no_steps number work told begun = record {
 -- ---- a step
 
 -- where a work is that took so many steps
-pub placed_at : (number taken : ℕ) (old now : Work) (before after : SheetLog) → TakesSteps number taken old (Ok taken) now before after → progress_in_job now ≡ progress_in_job old + taken
+pub placed_at : (number taken : ℕ) (old now : Work) (before after : SheetLog) → TakesSteps taken old (Ok taken) now (handing number before after) → progress_in_job now ≡ progress_in_job old + taken
 placed_at number taken old now before after took = ap progress_in_job took.left
 
-same_job : (number taken : ℕ) (old now : Work) (before after : SheetLog) (items : List StepResult) → TakesSteps number taken old (Ok taken) now before after
+same_job : (number taken : ℕ) (old now : Work) (before after : SheetLog) (items : List StepResult) → TakesSteps taken old (Ok taken) now (handing number before after)
     → IsJobOf old items → IsJobOf now items
 same_job number taken old now before after items took job = subst (λ (w : Work). IsJobOf w items) (sym took.left) job
 
 -- its job has begun
-pub still_begun : (number taken : ℕ) (old now : Work) (before after : SheetLog) → TakesSteps number taken old (Ok taken) now before after → IsSome now.progress
+pub still_begun : (number taken : ℕ) (old now : Work) (before after : SheetLog) → TakesSteps taken old (Ok taken) now (handing number before after) → IsSome now.progress
 still_begun number taken old now before after took = ap (λ (w : Work). is_some w.progress) took.left
 
 -- a work that is not over is before the end of its job
@@ -82,8 +78,8 @@ record OneStep (number : ℕ) (old now next : Work) (taken : ℕ) (handed others
   pub next_is : next ≡ at_progress (progress_in_job old + taken + 1) now
 
 one_step : (number taken : ℕ) (old now next : Work) (sheets : List PrintedSheet) (result : Result (Unit {0}) TurnError) (before between after : SheetLog) (count : ℕ)
-    → TakesSteps number taken old (Ok taken) now before between → Advances now next sheets
-    → (hands : HandsOver number sheets result between after next.delivered count)
+    → TakesSteps taken old (Ok taken) now (handing number before between) → Advances now next sheets
+    → (hands : HandsOver sheets result (handing number between after) next.delivered count)
     → ((items : List StepResult) → IsJobOf now items → progress_in_job now < length items)
     → OneStep number old now next taken hands.handed hands.others
 one_step number taken old now next sheets result before between after count took advances hands going =
@@ -114,7 +110,7 @@ handed_on number sheets handed done result before between after first second =
 
 -- the count after the sheets so far and those of a step
 counts_on : (number taken : ℕ) (old now next : Work) (sheets : List PrintedSheet) (result : Result (Unit {0}) TurnError) (before between after : SheetLog) (count : ℕ)
-    → (took : TakesSteps number taken old (Ok taken) now before between) → (hands : HandsOver number sheets result between after next.delivered count)
+    → (took : TakesSteps taken old (Ok taken) now (handing number before between)) → (hands : HandsOver sheets result (handing number between after) next.delivered count)
     → next ≡ at_progress (progress_in_job old + taken + 1) now → count ≡ counting (took.sheets ++ hands.handed) old.delivered
 counts_on number taken old now next sheets result before between after count took hands is =
     hands.count_is ∙ ap (λ (w : Work). counting hands.handed w.delivered) is ∙ ap (λ (w : Work). counting hands.handed w.delivered) took.left
@@ -122,10 +118,10 @@ counts_on number taken old now next sheets result before between after count too
 
 -- a step more
 pub one_more : (number taken : ℕ) (old now next : Work) (sheets : List PrintedSheet) (before between after : SheetLog) (count : ℕ)
-    → TakesSteps number taken old (Ok taken) now before between → Advances now next sheets
-    → HandsOver number sheets (Ok tt) between after next.delivered count
+    → TakesSteps taken old (Ok taken) now (handing number before between) → Advances now next sheets
+    → HandsOver sheets (Ok tt) (handing number between after) next.delivered count
     → ((items : List StepResult) → IsJobOf now items → progress_in_job now < length items)
-    → TakesSteps number (taken + 1) old (Ok (taken + 1)) (record next { delivered = count }) before after
+    → TakesSteps (taken + 1) old (Ok (taken + 1)) (record next { delivered = count }) (handing number before after)
 one_more number taken old now next sheets before between after count took advances hands going =
     let step = one_step number taken old now next sheets (Ok tt) before between after count took advances hands going in
     let were = handed_on number took.sheets hands.handed taken (Ok tt) before between after took.were hands.were in
@@ -159,10 +155,10 @@ prefixes progress taken most items sheets others within are =
     )
 
 pub stopped_in_step : (number taken most : ℕ) (old now next : Work) (sheets : List PrintedSheet) (error : TurnError) (before between after : SheetLog) (count : ℕ)
-    → TakesSteps number taken old (Ok taken) now before between → Advances now next sheets
-    → HandsOver number sheets (Err error) between after next.delivered count
+    → TakesSteps taken old (Ok taken) now (handing number before between) → Advances now next sheets
+    → HandsOver sheets (Err error) (handing number between after) next.delivered count
     → ((items : List StepResult) → IsJobOf now items → progress_in_job now < length items) → taken < most
-    → TakesSteps number most old (Err error) (record next { delivered = count }) before after
+    → TakesSteps most old (Err error) (record next { delivered = count }) (handing number before after)
 stopped_in_step number taken most old now next sheets error before between after count took advances hands going below =
     let step = one_step number taken old now next sheets (Err error) before between after count took advances hands going in
     let were = handed_on number took.sheets hands.handed taken (Err error) before between after took.were hands.were in
@@ -181,8 +177,8 @@ stopped_in_step number taken most old now next sheets error before between after
     }
 
 -- memory ran out before a step
-pub stopped_before_step : (number taken most : ℕ) (old now next : Work) (before after : SheetLog) → TakesSteps number taken old (Ok taken) now before after
-    → next ≡ without_job now → taken < most → TakesSteps number most old (Err errors.NoMemory) next before after
+pub stopped_before_step : (number taken most : ℕ) (old now next : Work) (before after : SheetLog) → TakesSteps taken old (Ok taken) now (handing number before after)
+    → next ≡ without_job now → taken < most → TakesSteps most old (Err errors.NoMemory) next (handing number before after)
 stopped_before_step number taken most old now next before after took is below = record {
   sheets = took.sheets;
   steps = λ items job.
@@ -196,8 +192,8 @@ stopped_before_step number taken most old now next before after took is below = 
 -- ---- the last step
 
 -- so many steps were asked for, or no step is left
-pub took_all : (number taken most : ℕ) (old now : Work) (before after : SheetLog) → TakesSteps number taken old (Ok taken) now before after → taken ≤ most
-    → ((items : List StepResult) → IsJobOf now items → (most ≤ taken) ⊎ (progress_in_job now ≡ length items)) → TakesSteps number most old (Ok taken) now before after
+pub took_all : (number taken most : ℕ) (old now : Work) (before after : SheetLog) → TakesSteps taken old (Ok taken) now (handing number before after) → taken ≤ most
+    → ((items : List StepResult) → IsJobOf now items → (most ≤ taken) ⊎ (progress_in_job now ≡ length items)) → TakesSteps most old (Ok taken) now (handing number before after)
 took_all number taken most old now before after took below ends = record {
   sheets = took.sheets;
   steps = λ items job.

@@ -26,7 +26,7 @@ use Rattle.press_core.specs.declared.turn.Turn.{Turn}
 use Rattle.press_core.specs.declared.turn.TurnError.{TurnError}
 use Rattle.press_core.specs.declared.turn.TurnError.TheVariants.{NoEngine, SinkFault, NoMemory}
 use Rattle.press_core.specs.Engines.{are_engines, left_by}
-use Rattle.press_core.specs.Handing.{IsAfterSteps, TakesSteps}
+use Rattle.press_core.specs.Handing.{IsAfterSteps, TakesSteps, handing}
 use Rattle.press_core.specs.Inside.{AreTogether, Begins, HasProgress, IsSound, begun_work, begun_works, with_begun}
 use Rattle.press_core.specs.Turns.{EntrySteps, FaultsAfter, IsJobOf, NamesEntry, StepsTo, TakesTurn, TakesTurnOn, TurnAt, WereHandedOut, aborted, after_steps, completed, is_idle, is_fault, no_turn, progress_in_job, sheets_from, steps_from, steps_of, at_turn, at_turn_with, with_turn}
 use Rattle.press_core.specs.Work.{Work, at_progress, with_delivered, without_job}
@@ -278,7 +278,7 @@ ended_world world number end old new queue works engines there ends lands leaves
 
 -- the steps of an entry, from those of its work
 pub entry_steps : (world : World) (number most : ℕ) (old new : Work) (result : Result ℕ TurnError) (before after : SheetLog) (next : World) → work_numbered number world ≡ Some old
-    → (took : TakesSteps number most old result new before after)
+    → (took : TakesSteps most old result new (handing number before after))
     → ((items : List StepResult) → IsJobOf old items → next ≡ after_steps number old items result took.sheets world)
     → (handed : List Delivery) × EntrySteps world number most result handed next × WereHandedOut handed result before after
 entry_steps world number most old new result before after next is took leaves =

@@ -12,7 +12,7 @@ most_engines = 4
 abbrev pub are_engines : (count : ℕ) → Bool
 are_engines count = nat_le 1 count && nat_le count most_engines
 
--- whether this is the number
+-- whether an engine runs the entry of this number
 abbrev pub is_number : (number : ℕ) → Option ℕ → Bool
 is_number number other = option_map_or (λ it. it == number) other false
 

@@ -45,10 +45,10 @@ pub record AreFirst (steps : ℕ) (work : Work) (sheets : List PrintedSheet) : T
   pub within : steps ≤ length items
   pub sheets_are : sheets ≡ sheets_from 0 steps items
 
--- What was handed out for an entry, of whose job its turns took so many steps, and perhaps met a fault: where it is in flight, the sheets of
--- these steps, behind which it stands in its job; and where no turn met a fault, whatever became of it, the sheets of these steps. Where it is
--- completed, all sheets that are wanted. In each case they are the first of those, and there are none where it never began; the work counts
--- them; and its images are kept until it ends.
+-- What was handed out for an entry, of whose job its turns took so many steps, and perhaps met a fault.
+-- in_flight: its progress is these steps, and what was handed out is their sheets. counted: where no turn met a fault, whatever became of
+-- the entry, it is the sheets of these steps. completed: it is all sheets that are wanted. prefix: in each case it is the first of those.
+-- unbegun: nothing was, where the entry never began. delivered: the work counts the sheets. kept: its images are kept until it ends.
 pub record AreGiven (entry : Entry) (work : Work) (steps : ℕ) (failed : Bool) (sheets : List PrintedSheet) : Type 0 where
   pub in_flight : is_in_flight entry ≡ true → (work.progress ≡ Some steps) × AreFirst steps work sheets
   pub counted : failed ≡ false → AreFirst steps work sheets

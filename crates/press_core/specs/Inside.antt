@@ -84,7 +84,7 @@ Begins engine old (Err error) new =
 pub record IsSound (queue : QueueState) (works : List (ℕ × Work)) : Type 0 where
   pub together : (number : ℕ) → GoTogether (entry_numbered number queue.entries) (lookup (nat_eq number) works)
 
--- So it is of a press, and each entry that runs is on an engine of its own.
+-- What holds of a press between calls: its queue and works are sound, and each entry that runs is on an engine of its own.
 pub record IsPress (queue : QueueState) (works : List (ℕ × Work)) (engines : List (Option ℕ)) : Type 0 where
   pub sound : IsSound queue works
   pub on_engines : RunsOnEngines queue engines

@@ -34,10 +34,12 @@ pub record JobsAreShort : Type 0 where
   pub steps : (work : Work) (items : List StepResult) → IsPrintable work.ticket work.images → IsJobOf work items → length items ≤ most_steps
   pub sheets : (ticket : JobTicket) (images : List Page) → IsPrintable ticket images → length (wanted ticket images) ≤ most_sheets
 
--- In a run of events from a first world what was handed out under a number is what its entry says, as it was seen last, with the steps that
--- the answers to its turns tell in all, and whether one of them met a fault: an entry of the list as it stands there, one that left it as it
--- stood before. It has the ticket and the images with which it entered, and its job has at most so many steps. An entry of the list has its
--- work. Under a number that was never seen nothing was handed out, and no step was taken.
+-- What was handed out under a number in a run of events. The entry of that number is taken as it was seen last: as it stands in the list,
+-- or as it stood before it left it.
+-- given: what was handed out is what that entry says, with the steps that the answers to its turns tell in all, and whether one of them
+-- met a fault. entered: it has the ticket and the images with which it entered. listed: an entry of the list was seen last there.
+-- has_work: an entry of the list has its work. few: its job has at most most_steps steps. never: under a number that was never seen
+-- nothing was handed out, and no step was taken.
 pub record GivenUnder (first : World) (happenings : List Transition) (last : World) (number : ℕ) : Type 0 where
   pub given : (seen : Seen) → last_seen number happenings ≡ Some seen
       → AreGiven seen.entry seen.work (steps_in number happenings) (met_fault number first happenings) (handed_under number happenings)
@@ -61,9 +63,9 @@ pub record SheetsAreGiven : Type 0 where
   pub gone : (before after : List Transition) (mid last : World) (number : ℕ) → IsRun before mid → IsExecution mid after last
       → number ≤ mid.queue.last → is_listed number mid.queue ≡ false → StaysGone after last number
 
--- The law of no interference: two entries, each of a run of its own, that have the same ticket and images, met no fault in their
--- own turns and took as many steps in all, were handed out alike, whatever else came in the two runs: the sheets of so many steps
--- of the job.
+-- The law of no interference. Two entries of two runs have the same ticket and images. Neither met a fault in its own turns, and their
+-- turns took as many steps in all.
+-- alike: they were handed out alike, whatever else came in the two runs. sheets: that is the sheets of so many steps of the job.
 pub record EntriesDoNotInterfere : Type 0 where
   pub alike : (ticket : JobTicket) (images : List Page) (steps one other : ℕ) (first second : List Transition)
       → TakesInAll one steps ticket images first → TakesInAll other steps ticket images second
@@ -72,9 +74,11 @@ pub record EntriesDoNotInterfere : Type 0 where
       → TakesInAll number steps ticket images happenings → IsJobOf (new_work ticket images) items
       → handed_under number happenings ≡ sheets_from 0 steps items
 
--- The law of bounds: in every run of events each entry that runs is on an engine of its own, one of one to four, so that at most as
--- many run as there are engines, and these are as many as in the beginning; and the queue is as every queue is: at most eight are in
--- flight, at most 64 are in the list, under numbers that differ; and a number that was given is not given again.
+-- The law of bounds, of every run of events.
+-- on_engines: each entry that runs is on an engine of its own, one of one to four. count: the press has
+-- as many engines as in the beginning. running: at most as many entries run as there are engines.
+-- queue: at most eight entries are in flight, and at most 64 are in the list, under numbers that differ. once: a number that was given is
+-- not given again.
 pub record EntriesAreBounded : Type 0 where
   pub on_engines : (happenings : List Transition) (last : World) → IsRun happenings last → RunsOnEngines last.queue last.engines
   pub count : (happenings : List Transition) (last : World) → (run : IsRun happenings last) → length last.engines ≡ run.engines

@@ -34,8 +34,8 @@ pub record Heading : Type 0 where
 abbrev pub headed : (type_name id : List ℕ) → Heading
 headed type_name id = record { type_name = type_name; id = id }
 
--- The return codes of messages that are not carried out: of no type that there is; that say what they may not; that lack what
--- they have to have. Those of the queue are its own.
+-- The return codes of messages that are not carried out. unknown: there is no such type of message. wrong: the message, one of its members,
+-- its ticket or its images are none that may be. absent: a member that is required is missing. The queue has return codes of its own.
 abbrev pub unknown_code : ℕ
 unknown_code = 5
 

@@ -6,7 +6,7 @@ ghost use Rattle.press_engine.specs.Outputs.{all_outputs};
 ghost use Rattle.press_sink.specs.Sending.{sheets_of};
 ghost use Rattle.press_sink.specs.SinkLog.{most_faults};
 ghost use Rattle.press_writer.specs.Fitting.{refusal};
-ghost use Rattle.press_core.specs.Handing.{TakesSteps};
+ghost use Rattle.press_core.specs.Handing.{TakesSteps, handing};
 ghost use Rattle.press_core.specs.Inside.{begun_work};
 ghost use Rattle.press_core.specs.Jobs.{IsAt, IsSupplied, JobGoesOn, Advances};
 ghost use Rattle.press_core.specs.Turns.{IsJobOf, progress_in_job};
@@ -183,7 +183,8 @@ impl Work {
     pub fn is_over(&self) -> bool
         ensures over { IsSome self.now.progress → (items : List StepResult) → IsJobOf self.now items
             → result ≡ nat_eq (progress_in_job self.now) (length items) }
-        ensures within { IsSome self.now.progress → (items : List StepResult) → IsJobOf self.now items
+        ensures within { IsSome self.now.progress → (items : List StepResult) → IsJobOf self.now
+            items
             → progress_in_job self.now ≤ length items }
     {
         match &self.running {
@@ -224,8 +225,8 @@ impl Work {
     ) -> Result<u64, TurnError>
         requires begun { IsSome self.old.progress }
         requires has_fault_room { (S.told sink.old).faults < most_faults }
-        ensures { TakesSteps number most self.old result self.new
-            (S.told sink.old) (S.told sink.new) }
+        ensures { TakesSteps most self.old result self.new
+            (handing number (S.told sink.old) (S.told sink.new)) }
     {
         let mut taken = 0;
         while taken < most && !self.is_over() {

@@ -9,7 +9,7 @@ use Rattle.std.proofs.lemmas.Bool.{eqb-true, ne_eqb}
 use Rattle.std.proofs.lemmas.List.{append_cancel_right}
 use Rattle.press_cmd.specs.Token.{Token, Escape, Grouped, Ungrouped, Control, Text, Broken, Uel, PjlLine, ForeignByte, pjl_mark, escape_byte, bytes_of}
 use Rattle.press_cmd.specs.ParserState.{ParserState, Exit, OverlongLine, OtherLanguage, Pcl, Open}
-use Rattle.press_cmd.specs.Grammar.{IsGrouped, IsUngrouped, IsPjlLine, longest_line, Ends, IsEnd, IsCharacter, IsGroup, Breaks, BeginsLine, differs, begins_pair, scanned_in, scanned_after_exit, Stands, Head}
+use Rattle.press_cmd.specs.Grammar.{IsGrouped, IsUngrouped, IsPjlLine, longest_line, Ends, IsEnd, IsCharacter, IsGroup, Breaks, BeginsLine, differs, begins_pair, scanned_in, scanned_after_exit, Stands, Head, value_pair}
 use Rattle.press_cmd.specs.Language.{mode_after, enters_language}
 use Rattle.press_cmd.specs.Split.{Steps, NoHead, closing_in, closing, ClosedFrom, Closed}
 use Rattle.press_cmd.proofs.Reading.{Reading, Short, Found, reading, reading_in, read_on, Start, Pair}
@@ -277,8 +277,8 @@ shut_end : (c g byte e : ℕ) (n : ParserState) → Ends c g byte e n → shut n
 shut_end c g byte e n (inl h) = ap shut h.2
 shut_end c g byte e n (inr h) = ap shut h.2
 
-grouped_again : (u : List ℕ) (c g : ℕ) (f : List ℕ) (e : ℕ) (d : List ℕ) (n : ParserState) → IsGrouped u c g f e d n
-    → IsGrouped (bytes_of (Grouped c g f e d)) c g f e d (shut n)
+grouped_again : (u : List ℕ) (c g : ℕ) (f : List ℕ) (e : ℕ) (d : List ℕ) (n : ParserState) → IsGrouped u c g (value_pair f e d) n
+    → IsGrouped (bytes_of (Grouped c g f e d)) c g (value_pair f e d) (shut n)
 grouped_again u c g f e d n h =
     let p = h.is_pair in
     record {

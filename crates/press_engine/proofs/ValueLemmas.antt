@@ -3,7 +3,7 @@ use Rattle.std.proofs.Common.{◌≡◌, ◌≢◌, ◌⊎◌, ◌∙◌, ℕ, L
 use Rattle.press_cmd.specs.Token.{Token}
 use Rattle.press_cmd.specs.declared.variant.Kind.{Kind}
 use Rattle.press_sink.specs.Sending.{Output}
-use Rattle.press_sink.specs.SinkLog.{SinkLog}
+use Rattle.press_sink.specs.SinkLog.{SinkLog, under}
 use Rattle.press_sink.proofs.SendingLemmas.{TookAll-none}
 use Rattle.press_engine.specs.declared.effect.StepOutput.{StepOutput}
 use Rattle.press_engine.specs.declared.fault.EngineError.{EngineError}
@@ -27,9 +27,9 @@ first_outputs [] = []
 first_outputs (item ∷ items) = item.outputs
 
 -- the engine's step, whose outputs all went out
-pub takes-ok : (old : Option Machine) (owing : Machine → List StepResult) (step : StepOutput) (new : Option Machine) (still : List Activation) (tag : ℕ) (before after : SinkLog) → Steps old owing step new still → Sends tag (all_outputs step.sent.items) (Ok tt) before after → TakesNext old owing tag (Ok step.kind) new still before after
+pub takes-ok : (old : Option Machine) (owing : Machine → List StepResult) (step : StepOutput) (new : Option Machine) (still : List Activation) (tag : ℕ) (before after : SinkLog) → Steps old owing step new still → Sends tag (all_outputs step.sent.items) (Ok tt) before after → TakesNext old owing (Ok step.kind) new still (under tag before after)
 takes-ok old owing step new still tag before after s sends =
-    let P : Option Machine → Type 0 = λ from. TakesNext from owing tag (Ok step.kind) new still before after in
+    let P : Option Machine → Type 0 = λ from. TakesNext from owing (Ok step.kind) new still (under tag before after) in
     subst P (sym s.was) (record {
       item = record { machine = s.after; outputs = all_outputs step.sent.items };
       others = continuation still s.after;
@@ -39,10 +39,10 @@ takes-ok old owing step new still tag before after s sends =
     })
 
 -- and one at whose outputs a sink had a fault
-pub takes-stopped : (old : Option Machine) (owing : Machine → List StepResult) (step : StepOutput) (between new : Option Machine) (held still : List Activation) (tag : ℕ) (sent : Result (Unit {0}) EngineError) (result : Result Kind EngineError) (error : EngineError) (before after : SinkLog) → Steps old owing step between held → Sends tag (all_outputs step.sent.items) sent before after → sent ≡ Err error → result ≡ Err error → new ≡ None → still ≡ [] → TakesNext old owing tag result new still before after
+pub takes-stopped : (old : Option Machine) (owing : Machine → List StepResult) (step : StepOutput) (between new : Option Machine) (held still : List Activation) (tag : ℕ) (sent : Result (Unit {0}) EngineError) (result : Result Kind EngineError) (error : EngineError) (before after : SinkLog) → Steps old owing step between held → Sends tag (all_outputs step.sent.items) sent before after → sent ≡ Err error → result ≡ Err error → new ≡ None → still ≡ [] → TakesNext old owing result new still (under tag before after)
 takes-stopped old owing step between new held still tag sent result error before after s sends stops exits fails none =
-    let P : Option Machine → Type 0 = λ from. TakesNext from owing tag (Err error) new still before after in
-    let Q : Result Kind EngineError → Type 0 = λ answer. TakesNext old owing tag answer new still before after in
+    let P : Option Machine → Type 0 = λ from. TakesNext from owing (Err error) new still (under tag before after) in
+    let Q : Result Kind EngineError → Type 0 = λ answer. TakesNext old owing answer new still (under tag before after) in
     let R : Result (Unit {0}) EngineError → Type 0 = λ answer. Sends tag (all_outputs step.sent.items) answer before after in
     subst Q (sym exits) (subst P (sym s.was) (record {
       item = record { machine = s.after; outputs = all_outputs step.sent.items };
@@ -56,7 +56,7 @@ pub some-items : (owing : List StepResult) → owing ≢ [] → (item : StepResu
 some-items [] some = absurd (some refl)
 some-items (item ∷ others) some = (item, others, refl)
 
-stopped-at : (owing : List StepResult) (tag : ℕ) (new : Option Machine) (still : List Activation) (told : SinkLog) → owing ≢ [] → new ≡ None → still ≡ [] → TakesItem owing tag (Err engine_errors.NoMemory) new still told told
+stopped-at : (owing : List StepResult) (tag : ℕ) (new : Option Machine) (still : List Activation) (told : SinkLog) → owing ≢ [] → new ≡ None → still ≡ [] → TakesItem owing (Err engine_errors.NoMemory) new still (under tag told told)
 stopped-at owing tag new still told some fails none =
     let (item, others, is) = some-items owing some in
     record {
@@ -67,17 +67,17 @@ stopped-at owing tag new still told some fails none =
       sends = record { taken = []; others = item.outputs; outputs_are = refl; took = TookAll-none tag told };
     }
 
-takes-failed : (old : Option Machine) (owing : Machine → List StepResult) (tag : ℕ) (error : EngineError) (new : Option Machine) (still : List Activation) (told : SinkLog) → ((machine : Machine) → owing machine ≢ []) → (error ≡ engine_errors.Failed) ⊎ (error ≡ engine_errors.NoMemory) → (error ≡ engine_errors.Failed → old ≡ None) → new ≡ None → still ≡ [] → TakesNext old owing tag (Err error) new still told told
+takes-failed : (old : Option Machine) (owing : Machine → List StepResult) (tag : ℕ) (error : EngineError) (new : Option Machine) (still : List Activation) (told : SinkLog) → ((machine : Machine) → owing machine ≢ []) → (error ≡ engine_errors.Failed) ⊎ (error ≡ engine_errors.NoMemory) → (error ≡ engine_errors.Failed → old ≡ None) → new ≡ None → still ≡ [] → TakesNext old owing (Err error) new still (under tag told told)
 takes-failed None owing tag error new still told some refused failed fails none = (fails, refl)
 takes-failed (Some machine) owing tag error new still told some (inl is) failed fails none = absurd (let no : Some machine ≡ None = failed is in cc)
 takes-failed (Some machine) owing tag error new still told some (inr is) failed fails none =
-    let P : EngineError → Type 0 = λ one. TakesItem (owing machine) tag (Err one) new still told told in
+    let P : EngineError → Type 0 = λ one. TakesItem (owing machine) (Err one) new still (under tag told told) in
     subst P (sym is) (stopped-at (owing machine) tag new still told (some machine) fails none)
 
 -- and one for which memory ran out, or which an engine refused that had failed before
-pub takes-none : (old : Option Machine) (owing : Machine → List StepResult) (tag : ℕ) (result : Result Kind EngineError) (error : EngineError) (new : Option Machine) (still : List Activation) (told : SinkLog) → ((machine : Machine) → owing machine ≢ []) → (error ≡ engine_errors.Failed) ⊎ (error ≡ engine_errors.NoMemory) → (error ≡ engine_errors.Failed → old ≡ None) → result ≡ Err error → new ≡ None → still ≡ [] → TakesNext old owing tag result new still told told
+pub takes-none : (old : Option Machine) (owing : Machine → List StepResult) (tag : ℕ) (result : Result Kind EngineError) (error : EngineError) (new : Option Machine) (still : List Activation) (told : SinkLog) → ((machine : Machine) → owing machine ≢ []) → (error ≡ engine_errors.Failed) ⊎ (error ≡ engine_errors.NoMemory) → (error ≡ engine_errors.Failed → old ≡ None) → result ≡ Err error → new ≡ None → still ≡ [] → TakesNext old owing result new still (under tag told told)
 takes-none old owing tag result error new still told some refused failed exits fails none =
-    let Q : Result Kind EngineError → Type 0 = λ answer. TakesNext old owing tag answer new still told told in
+    let Q : Result Kind EngineError → Type 0 = λ answer. TakesNext old owing answer new still (under tag told told) in
     subst Q (sym exits) (takes-failed old owing tag error new still told some refused failed fails none)
 
 -- a step is owed

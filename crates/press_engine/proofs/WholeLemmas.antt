@@ -2,7 +2,7 @@
 use Rattle.std.proofs.Common.{◌≡◌, ◌≢◌, ◌∙◌, ◌<◌, arith, ℕ, List, [], ◌∷◌, length, Option, Some, None, Bool, true, false, if◌then◌else◌, Result, Ok, Err, MatchResult, inr, refl, sym, ap, subst}
 use Rattle.press_cmd.specs.Token.{Token}
 use Rattle.press_cmd.specs.declared.variant.Kind.{Kind}
-use Rattle.press_sink.specs.SinkLog.{SinkLog, HasFaultRoom}
+use Rattle.press_sink.specs.SinkLog.{SinkLog, HasFaultRoom, under}
 use Rattle.press_sink.proofs.SendingLemmas.{TookAll-none}
 use Rattle.press_engine.specs.declared.fault.EngineError.{EngineError}
 use Rattle.press_engine.specs.declared.activation.Activation.{Activation}
@@ -29,7 +29,7 @@ LeavesAll (Some machine) owing tag result new before after = Leaves (told_by (ow
 
 module _ (owing : Machine → List StepResult) (tag : ℕ) where
   -- a step, and then the others
-  next-item : (machine : Machine) (mid : Option Machine) (kind : Kind) (still : List Activation) (result : Result (Unit {0}) EngineError) (new : Option Machine) (before between after : SinkLog) → TakesItem (owing machine) tag (Ok kind) mid still before between → LeavesAll mid (continuation still) tag result new between after → Leaves (told_by (owing machine) machine) tag result new before after
+  next-item : (machine : Machine) (mid : Option Machine) (kind : Kind) (still : List Activation) (result : Result (Unit {0}) EngineError) (new : Option Machine) (before between after : SinkLog) → TakesItem (owing machine) (Ok kind) mid still (under tag before between) → LeavesAll mid (continuation still) tag result new between after → Leaves (told_by (owing machine) machine) tag result new before after
   next-item machine mid kind still result new before between after t rest =
       let P : Option Machine → Type 0 = λ at. LeavesAll at (continuation still) tag result new between after in
       let Q : List StepResult → Type 0 = λ items. Leaves (told_by items machine) tag result new before after in
@@ -38,22 +38,22 @@ module _ (owing : Machine → List StepResult) (tag : ℕ) where
       subst Q (ap (λ (items : List StepResult). t.item ∷ items) (sym t.left.2) ∙ sym t.due)
       (record { left = there.left; sends = Sends-then tag t.item.outputs (joined others) result before between after t.sends there.sends })
 
-  pub next-leaves : (old mid : Option Machine) (kind : Kind) (still : List Activation) (result : Result (Unit {0}) EngineError) (new : Option Machine) (before between after : SinkLog) → TakesNext old owing tag (Ok kind) mid still before between → LeavesAll mid (continuation still) tag result new between after → LeavesAll old owing tag result new before after
+  pub next-leaves : (old mid : Option Machine) (kind : Kind) (still : List Activation) (result : Result (Unit {0}) EngineError) (new : Option Machine) (before between after : SinkLog) → TakesNext old owing (Ok kind) mid still (under tag before between) → LeavesAll mid (continuation still) tag result new between after → LeavesAll old owing tag result new before after
   next-leaves None mid kind still result new before between after takes rest =
       let P : Option Machine → Type 0 = λ at. LeavesAll at (continuation still) tag result new between after in
       subst P takes.0 rest
   next-leaves (Some machine) mid kind still result new before between after takes rest = next-item machine mid kind still result new before between after takes rest
 
   -- a step at which it stopped
-  stop-item : (machine : Machine) (error : EngineError) (new : Option Machine) (still : List Activation) (before after : SinkLog) → TakesItem (owing machine) tag (Err error) new still before after → Leaves (told_by (owing machine) machine) tag (Err error) new before after
+  stop-item : (machine : Machine) (error : EngineError) (new : Option Machine) (still : List Activation) (before after : SinkLog) → TakesItem (owing machine) (Err error) new still (under tag before after) → Leaves (told_by (owing machine) machine) tag (Err error) new before after
   stop-item machine error new still before after t =
       let Q : List StepResult → Type 0 = λ items. Leaves (told_by items machine) tag (Err error) new before after in
       subst Q (sym t.due) (record { left = t.left.0; sends = Sends-exit tag t.item.outputs (joined t.others) (Err error) (Err error) error before after t.sends refl refl })
 
-  pub stop-leaves : (old : Option Machine) (result : Result Kind EngineError) (exit : Result (Unit {0}) EngineError) (error : EngineError) (new : Option Machine) (still : List Activation) (before after : SinkLog) → old ≢ None → TakesNext old owing tag result new still before after → result ≡ Err error → exit ≡ Err error → LeavesAll old owing tag exit new before after
+  pub stop-leaves : (old : Option Machine) (result : Result Kind EngineError) (exit : Result (Unit {0}) EngineError) (error : EngineError) (new : Option Machine) (still : List Activation) (before after : SinkLog) → old ≢ None → TakesNext old owing result new still (under tag before after) → result ≡ Err error → exit ≡ Err error → LeavesAll old owing tag exit new before after
   stop-leaves None result exit error new still before after alive takes is exits = absurd (alive refl)
   stop-leaves (Some machine) result exit error new still before after alive takes is exits =
-      let P : Result Kind EngineError → Type 0 = λ answer. TakesItem (owing machine) tag answer new still before after in
+      let P : Result Kind EngineError → Type 0 = λ answer. TakesItem (owing machine) answer new still (under tag before after) in
       let Q : Result (Unit {0}) EngineError → Type 0 = λ answer. Leaves (told_by (owing machine) machine) tag answer new before after in
       subst Q (sym exits) (stop-item machine error new still before after (subst P is takes))
 
@@ -65,13 +65,13 @@ none-leaves (Some machine) still tag told alive none =
     subst P (sym none) (record { left = refl; sends = TookAll-none tag told })
 
 -- the items of a whole command
-pub runs-of : (old : Option Machine) (command : Token) (tag : ℕ) (result : Result (Unit {0}) EngineError) (new : Option Machine) (before after : SinkLog) → LeavesAll old (trace_at macro_levels command) tag result new before after → Runs old command tag result new before after
+pub runs-of : (old : Option Machine) (command : Token) (tag : ℕ) (result : Result (Unit {0}) EngineError) (new : Option Machine) (before after : SinkLog) → LeavesAll old (trace_at macro_levels command) tag result new before after → Runs old command result new (under tag before after)
 runs-of None command tag result new before after leaves = absurd leaves
 runs-of (Some machine) command tag result new before after leaves =
     record { left = leaves.left; sends = leaves.sends }
 
 -- the first step stopped
-pub runs-stopped : (old : Option Machine) (command : Token) (tag : ℕ) (result : Result Kind EngineError) (exit : Result (Unit {0}) EngineError) (error : EngineError) (new : Option Machine) (still : List Activation) (before after : SinkLog) → TakesNext old (trace_at macro_levels command) tag result new still before after → result ≡ Err error → exit ≡ Err error → Runs old command tag exit new before after
+pub runs-stopped : (old : Option Machine) (command : Token) (tag : ℕ) (result : Result Kind EngineError) (exit : Result (Unit {0}) EngineError) (error : EngineError) (new : Option Machine) (still : List Activation) (before after : SinkLog) → TakesNext old (trace_at macro_levels command) result new still (under tag before after) → result ≡ Err error → exit ≡ Err error → Runs old command exit new (under tag before after)
 runs-stopped None command tag result exit error new still before after takes is exits = takes
 runs-stopped (Some machine) command tag result exit error new still before after takes is exits =
     runs-of (Some machine) command tag exit new before after (stop-leaves (trace_at macro_levels command) tag (Some machine) result exit error new still before after (λ (none : Some machine ≡ None). cc) takes is exits)
@@ -83,15 +83,15 @@ steps_owed (Some machine) owing = length (owing machine)
 
 -- after a step that was taken
 module _ (owing : Machine → List StepResult) (tag : ℕ) (mid : Option Machine) (kind : Kind) (still : List Activation) (before after : SinkLog) where
-  pub alive-then : (old : Option Machine) → old ≢ None → TakesNext old owing tag (Ok kind) mid still before after → mid ≢ None
+  pub alive-then : (old : Option Machine) → old ≢ None → TakesNext old owing (Ok kind) mid still (under tag before after) → mid ≢ None
   alive-then None alive takes none = alive refl
   alive-then (Some machine) alive takes none = let no : Some takes.item.machine ≡ None = sym takes.left.1 ∙ none in cc
 
-  pub counts-then : (old : Option Machine) → old ≢ None → TakesNext old owing tag (Ok kind) mid still before after → HasFaultRoom before → HasFaultRoom after
+  pub counts-then : (old : Option Machine) → old ≢ None → TakesNext old owing (Ok kind) mid still (under tag before after) → HasFaultRoom before → HasFaultRoom after
   counts-then None alive takes can = absurd (alive refl)
   counts-then (Some machine) alive takes can = has_fault_room-then tag takes.item.outputs before after takes.sends can
 
-  pub fewer-steps : (old : Option Machine) → old ≢ None → TakesNext old owing tag (Ok kind) mid still before after → steps_owed mid (continuation still) < steps_owed old owing
+  pub fewer-steps : (old : Option Machine) → old ≢ None → TakesNext old owing (Ok kind) mid still (under tag before after) → steps_owed mid (continuation still) < steps_owed old owing
   fewer-steps None alive takes = absurd (alive refl)
   fewer-steps (Some machine) alive takes =
       let now : steps_owed mid (continuation still) ≡ length takes.others = ap (λ (at : Option Machine). steps_owed at (continuation still)) takes.left.1 ∙ ap length (sym takes.left.2) in
@@ -103,7 +103,7 @@ other_items [] = []
 other_items (item ∷ items) = items
 
 -- where a body was started, the command takes memory
-pub wants-more : (old : Option Machine) (command : Token) (tag : ℕ) (mid : Option Machine) (kind : Kind) (still : List Activation) (before after : SinkLog) → old ≢ None → TakesNext old (trace_at macro_levels command) tag (Ok kind) mid still before after → HasNext still → NeedsMemory old command
+pub wants-more : (old : Option Machine) (command : Token) (tag : ℕ) (mid : Option Machine) (kind : Kind) (still : List Activation) (before after : SinkLog) → old ≢ None → TakesNext old (trace_at macro_levels command) (Ok kind) mid still (under tag before after) → HasNext still → NeedsMemory old command
 wants-more None command tag mid kind still before after alive takes next = absurd (alive refl)
 wants-more (Some machine) command tag mid kind still before after alive takes next =
     let begin = begins false macro_levels command machine in
@@ -119,8 +119,8 @@ pub failed-none : (engine : Engine) → machine_of engine ≡ None → bodies en
 failed-none engine is = none-if engine.failed engine.machine.value engine.bodies is
 
 -- an engine whose step stopped has failed
-pub stopped-none : (old : Option Machine) (owing : Machine → List StepResult) (tag : ℕ) (result : Result Kind EngineError) (error : EngineError) (new : Option Machine) (still : List Activation) (before after : SinkLog) → TakesNext old owing tag result new still before after → result ≡ Err error → new ≡ None
+pub stopped-none : (old : Option Machine) (owing : Machine → List StepResult) (tag : ℕ) (result : Result Kind EngineError) (error : EngineError) (new : Option Machine) (still : List Activation) (before after : SinkLog) → TakesNext old owing result new still (under tag before after) → result ≡ Err error → new ≡ None
 stopped-none None owing tag result error new still before after takes is = takes.0
 stopped-none (Some machine) owing tag result error new still before after takes is =
-    let P : Result Kind EngineError → Type 0 = λ answer. TakesItem (owing machine) tag answer new still before after in
+    let P : Result Kind EngineError → Type 0 = λ answer. TakesItem (owing machine) answer new still (under tag before after) in
     (subst P is takes).left.0

@@ -206,7 +206,7 @@ abbrev letter : Page
 letter = blank 2550 3300
 
 abbrev sheet_of : Page → Output
-sheet_of page = Deliver (record { prefix = page; back = None })
+sheet_of page = Deliver (record { front = page; back = None })
 
 -- The trace with FF and the universal exit: ten steps of the stream, the call and four of the macro's, the call in it and four
 -- more, the call that has no effect and ends both, and two of the stream.

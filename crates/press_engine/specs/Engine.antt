@@ -6,7 +6,7 @@ use Rattle.press_cmd.specs.declared.variant.Kind.{Kind}
 use Rattle.press_cursor.specs.declared.stack.CursorPosition.{CursorPosition}
 use Rattle.press_macros.specs.Macros.{defining}
 use Rattle.press_raster.specs.Graphics.{raster_position}
-use Rattle.press_sink.specs.SinkLog.{SinkLog}
+use Rattle.press_sink.specs.SinkLog.{SinkLog, SinkUse}
 use Rattle.press_sink.specs.Sending.{Output, Complete, AtSheet, AtReply, ForMemory, WentOut}
 use Rattle.press_engine.specs.declared.effect.StepOutput.{StepOutput}
 use Rattle.press_engine.specs.declared.engine.Engine.{Engine}
@@ -45,14 +45,14 @@ Sends tag outputs (Err engine_errors.Failed) before after = ⊥
 
 -- A command was handed to an engine with this machine. Where all went well, the new machine is the command's, and its
 -- outputs went out; else the engine has failed, and the outputs went out as far as the answer says.
-pub record Carries (machine : Machine) (command : Token) (tag : ℕ) (result : Result (Unit {0}) EngineError) (new : Option Machine) (before after : SinkLog) : Type 0 where
+pub record Carries (machine : Machine) (command : Token) (result : Result (Unit {0}) EngineError) (new : Option Machine) (sinks : SinkUse) : Type 0 where
   pub left : MatchResult result (λ _. new ≡ Some (run command machine).machine) (λ _. new ≡ None)
-  pub sends : Sends tag (run command machine).outputs result before after
+  pub sends : Sends sinks.tag (run command machine).outputs result sinks.before sinks.after
 
 -- the same for any engine: one that has failed changes nothing, and nothing goes out
-abbrev pub Runs : Option Machine → Token → ℕ → Result (Unit {0}) EngineError → Option Machine → SinkLog → SinkLog → Type 0
-Runs (Some machine) command tag result new before after = Carries machine command tag result new before after
-Runs None command tag result new before after = (new ≡ None) × (after ≡ before)
+abbrev pub Runs : Option Machine → Token → Result (Unit {0}) EngineError → Option Machine → SinkUse → Type 0
+Runs (Some machine) command result new sinks = Carries machine command result new sinks
+Runs None command result new sinks = (new ≡ None) × (sinks.after ≡ sinks.before)
 
 -- a step that took a command of this kind
 abbrev pub IsOfKind : Last → Kind → Type 0
@@ -68,27 +68,26 @@ whether (Err error) = Err error
 -- An engine that owed these items took a step. Where all went well, its machine is that of the first of them, what it still
 -- owes are the others, and the answer is the command's kind; else the engine has failed, and no body runs. The outputs of
 -- that item went out as far as the answer says.
-pub record TakesItem (owing : List StepResult) (tag : ℕ) (result : Result Kind EngineError) (new : Option Machine) (still : List Activation) (before after : SinkLog) : Type 0 where
+pub record TakesItem (owing : List StepResult) (result : Result Kind EngineError) (new : Option Machine) (still : List Activation) (sinks : SinkUse) : Type 0 where
   pub item : StepResult
   pub others : List StepResult
   pub due : owing ≡ item ∷ others
   pub left : MatchResult result
       (λ kind. IsOfKind item.machine.last kind × (new ≡ Some item.machine) × (others ≡ continuation still item.machine))
       (λ _. (new ≡ None) × (still ≡ []))
-  pub sends : Sends tag item.outputs (whether result) before after
+  pub sends : Sends sinks.tag item.outputs (whether result) sinks.before sinks.after
 
 -- the same for any engine: one that has failed changes nothing, and nothing goes out
-abbrev pub TakesNext : Option Machine → (Machine → List StepResult) → ℕ → Result Kind EngineError → Option Machine → List Activation → SinkLog → SinkLog → Type 0
-TakesNext (Some machine) owing tag result new still before after = TakesItem (owing machine) tag result new still before after
-TakesNext None owing tag result new still before after = (new ≡ None) × (after ≡ before)
+abbrev pub TakesNext : Option Machine → (Machine → List StepResult) → Result Kind EngineError → Option Machine → List Activation → SinkUse → Type 0
+TakesNext (Some machine) owing result new still sinks = TakesItem (owing machine) result new still sinks
+TakesNext None owing result new still sinks = (new ≡ None) × (sinks.after ≡ sinks.before)
 
 -- whether something goes out, or the front that waits changes
 abbrev pub Shows : (before : State) → Outcome → Type 0
 Shows before outcome = (outcome.outputs ≢ []) ⊎ (outcome.state.pending ≢ before.pending)
 
--- Memory may be taken where a mark is made, a pattern defined or a macro recorded, where a reply goes out, where the page
--- closes, where, in the place of a close, something goes out or a front begins to wait, and where a body starts; and nowhere
--- else.
+-- Whether an effect may take memory. A plain change takes none. A mark, a pattern, a recorded command, a reply, a page that closes and a
+-- body that starts may. Where a page without a mark stays, memory may be taken if something goes out or the front that waits changes.
 abbrev pub TakesMemory : Effect → Type 0
 TakesMemory (Changes state) = ⊥
 TakesMemory (MayAllocate state) = Unit {0}

@@ -31,9 +31,10 @@ done state = record { state = state; outputs = [] }
 abbrev pub after_outputs : List Output → Outcome → Outcome
 after_outputs outputs outcome = record { state = outcome.state; outputs = outputs ++ outcome.outputs }
 
--- What a row gives: a state, and nothing goes out; the same where a mark is made on the page, a pattern is defined or a macro is
--- recorded; the same, and a reply goes out; that a page without a mark stays, and the command does at once what it does after a
--- close; that the page closes; or that the body of a macro starts, with what comes at its end.
+-- What a row of the table gives.
+-- Changes: a state. MayAllocate: a state, and memory may be taken, for a mark, a pattern or a recorded command. GivesReply: a state, and a
+-- reply goes out. Stays: a page without a mark stays, and the command does at once what it does after a close. Closes: the page closes.
+-- Starts: the body of a macro starts; the last part is what comes at its end.
 pub data Effect : Type 0 where
   Changes : State → Effect
   MayAllocate : State → Effect

@@ -1,7 +1,7 @@
 -- The trace of commands: the machine after each table step, with what went out in that step. A step takes one command, of the
 -- stream or of the innermost body that runs. In the same step each innermost body that is used up ends, and a page close
--- that waited for its overlay is finished: that falls into the last item of the body, or, where the body is empty, into the
--- item that started it. A whole command is its items.
+-- that waited for its overlay is finished. That falls into the last item of the body. Where the body is empty, it falls into the item
+-- that started it. A whole command is its items.
 use Rattle.std.specs.Prelude.{ℕ, zero, suc, List, [], ◌∷◌, ◌++◌, Option, Some, None}
 use Rattle.press_cmd.specs.Token.{Token}
 use Rattle.press_sink.specs.Sending.{Output}

@@ -29,7 +29,7 @@ pub struct Engine {
 
 impl Engine {
     ghost use Rattle.std.specs.Prelude.{◌≡◌, ◌≢◌, ◌≤◌, ◌⊎◌, ◌↔◌, [], length, IsTrue, IfOk, IfErr, IfSome, IsErrOf, MatchResult, Some, None, option_map};
-    ghost use Rattle.press_sink.specs.SinkLog.{logs, HasFaultRoom};
+    ghost use Rattle.press_sink.specs.SinkLog.{logs, HasFaultRoom, under};
     ghost use Rattle.press_cmd.specs.View.{token};
     ghost use Rattle.press_engine.specs.Machine.{power_on, macro_levels};
     ghost use Rattle.press_cmd.specs.Kinds.{kind_of};
@@ -136,7 +136,8 @@ impl Engine {
     /// Whether text bytes of the stream, and bytes of another language, have no effect now.
     #[inline(always)]
     pub fn skips_bytes(&self) -> bool
-        ensures { IsTrue result → IfSome (machine_of self.now) (λ machine. SkipsBytes machine.state) }
+        ensures { IsTrue result → IfSome (machine_of self.now) (λ machine. SkipsBytes
+            machine.state) }
     {
         self.machine.state.skips_bytes()
     }
@@ -144,7 +145,8 @@ impl Engine {
     /// Whether control bytes of the stream have no effect now.
     #[inline(always)]
     pub fn skips_controls(&self) -> bool
-        ensures { IsTrue result → IfSome (machine_of self.now) (λ machine. SkipsControls machine.state) }
+        ensures { IsTrue result → IfSome (machine_of self.now) (λ machine. SkipsControls
+            machine.state) }
     {
         self.machine.state.skips_controls()
     }
@@ -153,7 +155,8 @@ impl Engine {
     /// have no effect.
     #[inline(always)]
     pub fn pass(&mut self, count: usize, kind: Kind)
-        ensures passed { machine_of self.new ≡ option_map (passed count kind) (machine_of self.old) }
+        ensures passed { machine_of self.new
+            ≡ option_map (passed count kind) (machine_of self.old) }
         ensures bodies { bodies self.new ≡ bodies self.old }
     {
         self.machine.pass(count, kind);
@@ -214,10 +217,10 @@ impl Engine {
     ) -> Result<Kind, EngineError>
         requires none { bodies self.old ≡ [] }
         requires has_fault_room { HasFaultRoom (logs (S.told sheets.old) (R.told replies.old)) }
-        ensures takes { TakesNext (machine_of self.old) (trace_at macro_levels (token command.entry))
-            tag result (machine_of self.new) (bodies self.new)
-            (logs (S.told sheets.old) (R.told replies.old))
-            (logs (S.told sheets.new) (R.told replies.new)) }
+        ensures takes { TakesNext (machine_of self.old) (trace_at macro_levels (token
+            command.entry)) result (machine_of self.new) (bodies self.new)
+            (under tag (logs (S.told sheets.old) (R.told replies.old))
+            (logs (S.told sheets.new) (R.told replies.new))) }
         ensures kind { IfOk result (λ kind. kind ≡ kind_of (token command.entry)) }
         ensures failed { IsErrOf result EngineError.Failed ↔ (machine_of self.old ≡ None) }
         ensures memory { IsErrOf result EngineError.NoMemory →
@@ -245,10 +248,10 @@ impl Engine {
     ) -> Result<Kind, EngineError>
         requires running { bodies self.old ≢ [] }
         requires has_fault_room { HasFaultRoom (logs (S.told sheets.old) (R.told replies.old)) }
-        ensures takes { TakesNext (machine_of self.old) (continuation (bodies self.old))
-            tag result (machine_of self.new) (bodies self.new)
-            (logs (S.told sheets.old) (R.told replies.old))
-            (logs (S.told sheets.new) (R.told replies.new)) }
+        ensures takes { TakesNext (machine_of self.old) (continuation (bodies self.old)) result
+            (machine_of self.new) (bodies self.new)
+            (under tag (logs (S.told sheets.old) (R.told replies.old))
+            (logs (S.told sheets.new) (R.told replies.new))) }
         ensures failed { IsErrOf result EngineError.Failed ↔ (machine_of self.old ≡ None) }
         ensures memory { IsErrOf result EngineError.NoMemory →
             InnerNeedsMemory (machine_of self.old) (bodies self.old) }
@@ -277,9 +280,9 @@ impl Engine {
     ) -> Result<(), EngineError>
         requires none { bodies self.old ≡ [] }
         requires has_fault_room { HasFaultRoom (logs (S.told sheets.old) (R.told replies.old)) }
-        ensures runs { Runs (machine_of self.old) (token command.entry) tag result (machine_of self.new)
-            (logs (S.told sheets.old) (R.told replies.old))
-            (logs (S.told sheets.new) (R.told replies.new)) }
+        ensures runs { Runs (machine_of self.old) (token command.entry) result (machine_of self.new)
+            (under tag (logs (S.told sheets.old) (R.told replies.old))
+            (logs (S.told sheets.new) (R.told replies.new))) }
         ensures failed { IsErrOf result EngineError.Failed ↔ (machine_of self.old ≡ None) }
         ensures memory { IsErrOf result EngineError.NoMemory →
             NeedsMemory (machine_of self.old) (token command.entry) }

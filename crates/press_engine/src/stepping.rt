@@ -66,7 +66,8 @@ fn push_started(
     activations: &mut Vec<Activation>,
     started: Option<Activation>,
 ) -> Result<(), AllocError>
-    ensures ok { OnOk result (activations.new.items ≡ option_to_list started ++ activations.old.items) }
+    ensures ok { OnOk result (activations.new.items ≡ option_to_list started ++
+        activations.old.items) }
     ensures some { IsErr result → IsSome started }
 {
     if let Some(activation) = started {
@@ -354,7 +355,8 @@ impl Machine {
     ) -> Result<Vec<Sent>, AllocError>
         requires running { HasNext activations.old.items }
         ensures steps { IfOk result (λ out.
-            (activation : Activation) (command : Token) (rest : List Token) (outer : List Activation)
+            (activation : Activation) (command : Token) (rest : List Token) (outer : List
+            Activation)
             → activations.old.items ≡ record activation { body = command ∷ rest } ∷ outer
             → stepped_of self.new out.items activations.new.items
             ≡ step_inner activation command rest outer self.old) }

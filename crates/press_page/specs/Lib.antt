@@ -1,6 +1,6 @@
 pub mod Environment
 pub mod Margins
-pub mod Media
+pub mod PageSetup
 pub mod Numbers
 pub mod Place
 pub mod Settings

@@ -4,8 +4,7 @@ ghost use Rattle.press_pattern.specs.Faults.{define_number};
 
 use press_units::ToldFault;
 use std::alloc::AllocError;
-use std::error::Error;
-use std::fmt;
+use thiserror::Error;
 
 /// The number of [`DefineError::BadHeader`].
 const BAD_HEADER: u16 = 201;
@@ -13,7 +12,8 @@ const BAD_HEADER: u16 = 201;
 const SHORT_DATA: u16 = 202;
 
 /// Why no pattern was defined. The store is as it was.
-#[derive(Debug, Drop)]
+#[derive(Debug, Drop, Error)]
+#[error("{}", ToldFault(self.number()))]
 pub enum DefineError {
     /// The data has fewer than 8 bytes, or does not begin with the header of a pattern of one bit a dot,
     /// with a height and a width above 0.
@@ -36,19 +36,6 @@ impl DefineError {
         }
     }
 }
-
-impl fmt::Display for DefineError {
-    ghost use Rattle.std.specs.Prelude.{Some};
-    ghost use Rattle.press_units.specs.Faults.{fault_text};
-
-    ghost output = { λ error. Some (fault_text (define_number error)) };
-
-    fn fmt<W: fmt::Write>(&self, f: &mut fmt::Formatter<W>) -> fmt::Result {
-        write!(f, "{}", ToldFault(self.number()))
-    }
-}
-
-impl Error for DefineError {}
 
 impl From<AllocError> for DefineError {
     ghost use Rattle.press_pattern.specs.declared.fault.DefineError.TheVariants.{NoMemory};

@@ -128,11 +128,11 @@ MakesOutputs-stopped (Err NoMemory) SinkFault outputs others old new told is mad
 MakesOutputs-stopped (Err error) NoMemory outputs others old new told is made = cc
 
 -- the outputs of a front and of a back
-pub sheet_outputs-both : (parts : NameParts) (number next : ℕ) (prefix back : MadeOutput) (inside sheet : PrintedSheet) (page : Page) → inside ≡ sheet → inside.back ≡ Some page → next ≡ number_after 1 number → prefix ≡ side_output parts number inside.prefix → back ≡ side_output parts next page → (prefix ∷ []) ++ (back ∷ []) ≡ sheet_outputs parts number sheet
-sheet_outputs-both parts number next prefix back inside sheet page seen has is first second =
+pub sheet_outputs-both : (parts : NameParts) (number next : ℕ) (front back : MadeOutput) (inside sheet : PrintedSheet) (page : Page) → inside ≡ sheet → inside.back ≡ Some page → next ≡ number_after 1 number → front ≡ side_output parts number inside.front → back ≡ side_output parts next page → (front ∷ []) ++ (back ∷ []) ≡ sheet_outputs parts number sheet
+sheet_outputs-both parts number next front back inside sheet page seen has is first second =
     ap (λ (one : MadeOutput). one ∷ back ∷ []) first
-    ∙ ap (λ (one : MadeOutput). side_output parts number inside.prefix ∷ one ∷ []) (second ∙ ap (λ n. side_output parts n page) is)
-    ∙ ap (λ (more : Option Page). side_output parts number inside.prefix ∷ back_output parts (number_after 1 number) more) (sym has)
+    ∙ ap (λ (one : MadeOutput). side_output parts number inside.front ∷ one ∷ []) (second ∙ ap (λ n. side_output parts n page) is)
+    ∙ ap (λ (more : Option Page). side_output parts number inside.front ∷ back_output parts (number_after 1 number) more) (sym has)
     ∙ ap (sheet_outputs parts number) seen
 
 -- the last of listed outputs is another, which differs in what it holds

@@ -2,7 +2,7 @@ pub mod Faults
 pub mod Kept
 pub mod Outputs
 pub mod Sending
-pub mod Sides
+pub mod PrintedSheet
 pub mod Template
-pub mod Told
+pub mod SinkLog
 pub use Rattle.press_bits.specs.Page

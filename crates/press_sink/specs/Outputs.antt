@@ -75,7 +75,7 @@ back_output parts number (Some back) = side_output parts number back ∷ []
 
 -- Those of a sheet, whose front has this number: the front's before the back's.
 abbrev pub sheet_outputs : NameParts → ℕ → PrintedSheet → List MadeOutput
-sheet_outputs parts number sheet = side_output parts number sheet.prefix ∷ back_output parts (number_after 1 number) sheet.back
+sheet_outputs parts number sheet = side_output parts number sheet.front ∷ back_output parts (number_after 1 number) sheet.back
 
 -- What was made of these outputs, by the answer: all of them; a prefix of them after a fault; nothing for want of memory.
 abbrev pub MakesOutputs : Result (Unit {0}) SinkError → (outputs : List MadeOutput) (old new : Option (List MadeOutput)) → Type 0

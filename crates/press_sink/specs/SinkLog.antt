@@ -26,6 +26,15 @@ pub record SinkLog : Type 0 where
 abbrev pub logs : SheetLog → ReplyLog → SinkLog
 logs sheets replies = record { sheets = sheets; replies = replies }
 
+-- What a call makes of both sinks: the tag of the sheets that it delivers, and what they tell before and after it.
+pub record SinkUse : Type 0 where
+  pub tag : ℕ
+  pub before : SinkLog
+  pub after : SinkLog
+
+abbrev pub under : (tag : ℕ) (before after : SinkLog) → SinkUse
+under tag before after = record { tag = tag; before = before; after = after }
+
 -- the most faults that a sink can count
 abbrev pub most_faults : ℕ
 most_faults = greatest_of_64_bits

@@ -14,7 +14,7 @@ use press_bits::Bitmap;
 use std::alloc::Global;
 
 /// A sheet sink that makes an output of its own for each side, a P4 file, whose name is a template with the number of the side,
-/// from 1 on, prefixes before backs. It tells no list of sheets.
+/// from 1 on, fronts before backs. It tells no list of sheets.
 ///
 /// Source: Netpbm, the raw form of the PBM format; the names are this profile's.
 #[derive(Drop)]

@@ -9,7 +9,7 @@ use Rattle.press_cmd.proofs.Splits.{some_split, steps-more, steps-then}
 use Rattle.press_cmd.specs.declared.variant.Kind.{Kind}
 use Rattle.press_scan.specs.Gives.{Passes, IsDone}
 use Rattle.press_scan.specs.ScannerState.{ScannerState}
-use Rattle.press_sink.specs.SinkLog.{SinkLog, HasFaultRoom, most_faults}
+use Rattle.press_sink.specs.SinkLog.{SinkLog, HasFaultRoom, most_faults, under}
 use Rattle.press_sink.specs.Sending.{Output, Ending, Complete, ForMemory, WentOut}
 use Rattle.press_sink.proofs.SendingLemmas.{TookAll-none, WentOut-then, WentOut-stopped}
 use Rattle.press_engine.specs.declared.activation.Activation.{Activation}
@@ -21,7 +21,8 @@ use Rattle.press_stream.specs.State.{JobState, with_piece, input_ended, most_com
 use Rattle.press_stream.specs.Steps.{TakesGiven, Does}
 use Rattle.press_stream.specs.Meaning.{with_exit, left, Carried, Stopped, StoppedAt, Owes, CarriesOut, Stops}
 use Rattle.press_stream.specs.Answers.{TakesOf, RanOne, StopsAtDue}
-use Rattle.press_stream.proofs.Items.{joined-one, joined-append, left-none, left-append, left-then, last-append}
+use Rattle.press_engine.proofs.TraceLaws.{joined-append}
+use Rattle.press_stream.proofs.Items.{joined-one, left-none, left-append, left-then, last-append}
 
 -- the value of an option that has one
 pub some_of : {X : Type 0} (option : Option X) → IsSome option → (value : X) × (option ≡ Some value)
@@ -33,7 +34,7 @@ pub same_some : {X : Type 0} (option : Option X) (one other : X) → option ≡ 
 same_some option one other p q = cc
 
 -- no command changes nothing
-pub Carried-none : (old new : JobState) (tag : ℕ) (told : SinkLog) → IsSome old.machine → new.machine ≡ old.machine → new.bodies ≡ old.bodies → Carried [] [] old new tag told told
+pub Carried-none : (old new : JobState) (tag : ℕ) (told : SinkLog) → IsSome old.machine → new.machine ≡ old.machine → new.bodies ≡ old.bodies → Carried [] [] old new (under tag told told)
 Carried-none old new tag told running same still =
     let some = some_of old.machine running in
     record {
@@ -45,7 +46,7 @@ Carried-none old new tag told running same still =
     }
 
 -- commands, and then others
-pub Carried-then : (commands others : List Token) (items more : List StepResult) (old between new : JobState) (tag : ℕ) (before middle after : SinkLog) → Carried commands items old between tag before middle → Carried others more between new tag middle after → Carried (commands ++ others) (items ++ more) old new tag before after
+pub Carried-then : (commands others : List Token) (items more : List StepResult) (old between new : JobState) (tag : ℕ) (before middle after : SinkLog) → Carried commands items old between (under tag before middle) → Carried others more between new (under tag middle after) → Carried (commands ++ others) (items ++ more) old new (under tag before after)
 Carried-then commands others items more old between new tag before middle after first second =
     let from = first.from in
     let at = last_machine from items in
@@ -66,7 +67,7 @@ Carried-then commands others items more old between new tag before middle after 
     }
 
 -- commands, and then others that stopped
-pub Stopped-then : (commands others : List Token) (items : List StepResult) (old between : JobState) (tag : ℕ) (ending : Ending) (before middle after : SinkLog) → Carried commands items old between tag before middle → Stopped others between tag ending middle after → Stopped (commands ++ others) old tag ending before after
+pub Stopped-then : (commands others : List Token) (items : List StepResult) (old between : JobState) (tag : ℕ) (ending : Ending) (before middle after : SinkLog) → Carried commands items old between (under tag before middle) → Stopped others between tag ending middle after → Stopped (commands ++ others) old tag ending before after
 Stopped-then commands others items old between tag ending before middle after first second =
     let from = first.from in
     let at = last_machine from items in
@@ -97,7 +98,7 @@ Stopped-more given others job tag ending before after stops stopped =
     }
 
 -- where all went out, the sinks can count as before
-pub has_fault_room-then : (commands : List Token) (items : List StepResult) (old new : JobState) (tag : ℕ) (before after : SinkLog) → Carried commands items old new tag before after → HasFaultRoom before → HasFaultRoom after
+pub has_fault_room-then : (commands : List Token) (items : List StepResult) (old new : JobState) (tag : ℕ) (before after : SinkLog) → Carried commands items old new (under tag before after) → HasFaultRoom before → HasFaultRoom after
 has_fault_room-then commands items old new tag before after carried can = record {
   sheets = subst (λ (n : ℕ). n < most_faults) (sym carried.went.sheet_faults) can.sheets;
   replies = subst (λ (n : ℕ). n < most_faults) (sym carried.went.reply_faults) can.replies;
@@ -127,7 +128,7 @@ closed-then from bytes commands closed mode rest steps ends = (
 
 -- ---- from one call to the next
 
-pub CarriesOut-none : (job : JobState) (tag : ℕ) (told : SinkLog) → IsSome job.machine → CarriesOut job [] [] tag job told told
+pub CarriesOut-none : (job : JobState) (tag : ℕ) (told : SinkLog) → IsSome job.machine → CarriesOut job [] [] job (under tag told told)
 CarriesOut-none job tag told running = record {
   items = [];
   so_far = λ going. (going, (refl, append-nil job.held.bytes));
@@ -135,7 +136,7 @@ CarriesOut-none job tag told running = record {
   carried = Carried-none job job tag told running refl refl;
 }
 
-pub CarriesOut-push : (job : JobState) (piece : List ℕ) (tag : ℕ) (told : SinkLog) → IsSome job.machine → job.held.ended ≡ false → CarriesOut job piece [] tag (with_piece piece job) told told
+pub CarriesOut-push : (job : JobState) (piece : List ℕ) (tag : ℕ) (told : SinkLog) → IsSome job.machine → job.held.ended ≡ false → CarriesOut job piece [] (with_piece piece job) (under tag told told)
 CarriesOut-push job piece tag told running going = record {
   items = [];
   so_far = λ _. (going, (refl, refl));
@@ -148,7 +149,7 @@ CarriesOut-push job piece tag told running going = record {
       let P : List ℕ → Type 0 = λ all. ClosedFrom job.held.mode all some.0 in
       (some.0, subst P (append_assoc job.held.bytes piece more) some.1, some.2)
 
-pub CarriesOut-ends : (job : JobState) (tag : ℕ) (told : SinkLog) → IsSome job.machine → CarriesOut job [] [] tag (input_ended job) told told
+pub CarriesOut-ends : (job : JobState) (tag : ℕ) (told : SinkLog) → IsSome job.machine → CarriesOut job [] [] (input_ended job) (under tag told told)
 CarriesOut-ends job tag told running = record {
   items = [];
   so_far = λ going. absurd (true≢false going);
@@ -156,7 +157,7 @@ CarriesOut-ends job tag told running = record {
   carried = Carried-none job (input_ended job) tag told running refl refl;
 }
 
-pub CarriesOut-then : (old between new : JobState) (bytes more : List ℕ) (given others : List Token) (tag : ℕ) (before middle after : SinkLog) → CarriesOut old bytes given tag between before middle → CarriesOut between more others tag new middle after → CarriesOut old (bytes ++ more) (given ++ others) tag new before after
+pub CarriesOut-then : (old between new : JobState) (bytes more : List ℕ) (given others : List Token) (tag : ℕ) (before middle after : SinkLog) → CarriesOut old bytes given between (under tag before middle) → CarriesOut between more others new (under tag middle after) → CarriesOut old (bytes ++ more) (given ++ others) new (under tag before after)
 CarriesOut-then old between new bytes more given others tag before middle after first second = record {
   items = first.items ++ second.items;
   so_far = λ going.
@@ -174,8 +175,8 @@ CarriesOut-then old between new bytes more given others tag before middle after 
 
 -- the items of both, one after the other
 pub CarriesOut-items : (old between new : JobState) (bytes more : List ℕ) (given others : List Token) (tag : ℕ) (before middle after : SinkLog)
-    → (first : CarriesOut old bytes given tag between before middle) (second : CarriesOut between more others tag new middle after)
-    → (all : CarriesOut old (bytes ++ more) (given ++ others) tag new before after) × (all.items ≡ first.items ++ second.items)
+    → (first : CarriesOut old bytes given between (under tag before middle)) (second : CarriesOut between more others new (under tag middle after))
+    → (all : CarriesOut old (bytes ++ more) (given ++ others) new (under tag before after)) × (all.items ≡ first.items ++ second.items)
 unfolding CarriesOut-then
 CarriesOut-items old between new bytes more given others tag before middle after first second =
     (CarriesOut-then old between new bytes more given others tag before middle after first second, refl)
@@ -262,7 +263,7 @@ taken-of old new given (inr (inl (command, is, idle, going, _, passes))) = inr (
 taken-of old new given (inr (inr (is, idle, going, _, _, ended, done))) = inr (Uel, (idle, going, inr (ended, done, refl)), is)
 
 -- A step that did an item, all of whose outputs went out.
-pub CarriesOut-one : (old new : JobState) (item : StepResult) (kind : Kind) (tag : ℕ) (before after : SinkLog) → (did : Does old item kind new) → WentOut tag item.outputs Complete before after → CarriesOut old [] did.given tag new before after
+pub CarriesOut-one : (old new : JobState) (item : StepResult) (kind : Kind) (tag : ℕ) (before after : SinkLog) → (did : Does old item kind new) → WentOut tag item.outputs Complete before after → CarriesOut old [] did.given new (under tag before after)
 CarriesOut-one old new item kind tag before after did went =
     let P : List Output → Type 0 = λ outputs. WentOut tag outputs Complete before after in
     record {
@@ -272,11 +273,11 @@ CarriesOut-one old new item kind tag before after did went =
       carried = record { from = did.from; starts = did.starts; ends = did.ends; are = did.are; went = subst P (sym (joined-one item)) went };
     }
 
-pub CarriesOut-ran : (old new : JobState) (tag : ℕ) (kind : Kind) (before after : SinkLog) → (ran : RanOne old tag kind new before after) → CarriesOut old [] ran.did.given tag new before after
+pub CarriesOut-ran : (old new : JobState) (tag : ℕ) (kind : Kind) (before after : SinkLog) → (ran : RanOne old tag kind new before after) → CarriesOut old [] ran.did.given new (under tag before after)
 CarriesOut-ran old new tag kind before after ran = CarriesOut-one old new ran.item kind tag before after ran.did ran.went
 
 pub CarriesOut-took : (old new : JobState) (tag : ℕ) (kind : Kind) (before after : SinkLog) → (ran : RanOne old tag kind new before after)
-    → (given : List Token) × TakesOf old given × (goes : CarriesOut old [] given tag new before after) × (goes.items ≡ ran.item ∷ [])
+    → (given : List Token) × TakesOf old given × (goes : CarriesOut old [] given new (under tag before after)) × (goes.items ≡ ran.item ∷ [])
 unfolding CarriesOut-one
 CarriesOut-took old new tag kind before after ran =
     let did = ran.did in
@@ -306,7 +307,7 @@ Stops-due job bytes tag ending before after stops none_after (given, takes, stop
     (given ++ continuation.0, continuation.1, Stopped-more given continuation.0 job tag ending before after stops stopped)
 
 -- a job that stopped after it had gone on
-pub Stops-then : (old between : JobState) (bytes more : List ℕ) (given : List Token) (tag : ℕ) (ending : Ending) (before middle after : SinkLog) → CarriesOut old bytes given tag between before middle → Stops between more tag ending middle after → Stops old (bytes ++ more) tag ending before after
+pub Stops-then : (old between : JobState) (bytes more : List ℕ) (given : List Token) (tag : ℕ) (ending : Ending) (before middle after : SinkLog) → CarriesOut old bytes given between (under tag before middle) → Stops between more tag ending middle after → Stops old (bytes ++ more) tag ending before after
 Stops-then old between bytes more given tag ending before middle after goes stops = (
   given ++ stops.0,
   goes.to_end more stops.0 stops.1,

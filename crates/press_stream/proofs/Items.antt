@@ -10,11 +10,6 @@ use Rattle.press_engine.specs.Trace.{last_machine, joined, trace_each, trace_at,
 use Rattle.press_engine.proofs.TraceLaws.{last_machine-append, trace_each-append}
 use Rattle.press_stream.specs.Meaning.{left}
 
-pub joined-append : (items others : List StepResult) → joined (items ++ others) ≡ joined items ++ joined others
-joined-append [] others = refl
-joined-append (item ∷ items) others =
-    ap (λ more. item.outputs ++ more) (joined-append items others) ∙ sym (append_assoc item.outputs (joined items) (joined others))
-
 pub joined-one : (item : StepResult) → joined (item ∷ []) ≡ item.outputs
 joined-one item = append-nil item.outputs
 

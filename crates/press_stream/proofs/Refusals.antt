@@ -2,21 +2,14 @@
 use Rattle.std.proofs.Common.{◌≡◌, ◌≢◌, ◌↔◌, ◌∙◌, ℕ, List, [], ◌++◌, Option, Some, None, IsSome, IsErrOf, IfErr, OnErr, Result, Ok, Err, true, false, refl, sym, ap}
 use Rattle.std.proofs.lemmas.Bool.{true≢false}
 use Rattle.press_cmd.specs.Token.{Token}
-use Rattle.press_sink.specs.SinkLog.{SinkLog}
+use Rattle.press_sink.specs.SinkLog.{SinkLog, under}
 use Rattle.press_sink.specs.Sending.{Output, Ending, AtSheet, AtReply, ForMemory, WentOut}
 use Rattle.press_engine.specs.declared.machine.Machine.{Machine}
 use Rattle.press_stream.specs.declared.fault.JobError.{JobError}
 use Rattle.press_stream.specs.declared.fault.JobError.TheVariants as errors
 use Rattle.press_stream.specs.State.{JobState}
 use Rattle.press_stream.specs.Meaning.{CarriesOut, Stops}
-use Rattle.press_stream.specs.Answers.{FaultsBy, Faults, FaultsBefore, Feeds, Finishes, RunsThrough, IsEarly, CountsFaults, fault_of}
-
--- What a call promises of its refusals, and of the counts of faults.
-pub record Answered (old : JobState) (result : Result (Unit {0}) JobError) (new : JobState) (before after : SinkLog) : Type 0 where
-  pub failed : IsErrOf result errors.Failed ↔ (old.machine ≡ None)
-  pub unchanged : IsEarly result → (new ≡ old) × (after ≡ before)
-  pub lost : IfErr result (λ error. error ≢ errors.AfterEnd → new.machine ≡ None)
-  pub counts : CountsFaults (fault_of result) before after
+use Rattle.press_stream.specs.Answers.{FaultsBy, Faults, FaultsBefore, Feeds, Finishes, RunsThrough, Answered}
 
 -- Outputs went out from a machine as far as an ending says.
 record Sent (old : JobState) (ending : Ending) (before after : SinkLog) : Type 0 where
@@ -31,7 +24,7 @@ runs : (machine : Option Machine) (from : Machine) → machine ≡ Some from →
 runs machine from some none = cc
 
 -- a job went on
-went_on : (old new : JobState) (value : Unit {0}) (bytes : List ℕ) (given : List Token) (tag : ℕ) (before after : SinkLog) → CarriesOut old bytes given tag new before after → Answered old (Ok value) new before after
+went_on : (old new : JobState) (value : Unit {0}) (bytes : List ℕ) (given : List Token) (tag : ℕ) (before after : SinkLog) → CarriesOut old bytes given new (under tag before after) → Answered old (Ok value) new before after
 went_on old new value bytes given tag before after goes = record {
   failed = (λ is. absurd (cc), λ none. absurd (runs old.machine _ goes.carried.starts none));
   unchanged = λ early. absurd early;
@@ -40,7 +33,7 @@ went_on old new value bytes given tag before after goes = record {
 }
 
 -- a job stopped at a fault
-stopped_by : (stops : Ending → Type 0) (old new : JobState) (error : JobError) (before after : SinkLog) → ((ending : Ending) → stops ending → Sent old ending before after) → FaultsBy stops old error new before after → Answered old (Err error) new before after
+stopped_by : (stops : Ending → Type 0) (old new : JobState) (error : JobError) (before after : SinkLog) → ((ending : Ending) → stops ending → Sent old ending before after) → FaultsBy stops old error new before after → Answered {X = Unit {0}} old (Err error) new before after
 stopped_by stops old new errors.SinkFault before after sent faults =
     let one = sent AtSheet faults.1 in
     record {
@@ -84,7 +77,7 @@ gone stops old new errors.ReadFault before after faults = absurd faults
 gone stops old new errors.AfterEnd before after faults = absurd faults
 
 -- the end of input was given before
-after_end : (old new : JobState) (before after : SinkLog) → IsSome old.machine → new ≡ old → after ≡ before → Answered old (Err errors.AfterEnd) new before after
+after_end : (old new : JobState) (before after : SinkLog) → IsSome old.machine → new ≡ old → after ≡ before → Answered {X = Unit {0}} old (Err errors.AfterEnd) new before after
 after_end old new before after running same told = record {
   failed = (λ is. absurd (cc), λ none. absurd (cc));
   unchanged = λ _. (same, told);
@@ -102,7 +95,7 @@ sent_of_stops old bytes tag before after ending (commands, owes, stopped) = reco
 }
 
 -- a job that had these bytes behind what it held
-stopped_with : (old new : JobState) (bytes : List ℕ) (tag : ℕ) (error : JobError) (before after : SinkLog) → Faults old bytes tag error new before after → Answered old (Err error) new before after
+stopped_with : (old new : JobState) (bytes : List ℕ) (tag : ℕ) (error : JobError) (before after : SinkLog) → Faults old bytes error new (under tag before after) → Answered {X = Unit {0}} old (Err error) new before after
 stopped_with old new bytes tag error before after faults =
     stopped_by (λ ending. Stops old bytes tag ending before after) old new error before after (sent_of_stops old bytes tag before after) faults
 
@@ -115,13 +108,13 @@ lost-finish old new tag (Ok done) before after finishes = tt
 lost-finish old new tag (Err error) before after faults = gone (λ ending. Stops old [] tag ending before after) old new error before after faults
 
 -- a job that takes more bytes was fed
-pub Answered-feed : (old new : JobState) (piece : List ℕ) (tag : ℕ) (result : Result (Unit {0}) JobError) (before after : SinkLog) → old.held.ended ≡ false → Feeds old piece tag result new before after → Answered old result new before after
+pub Answered-feed : (old new : JobState) (piece : List ℕ) (tag : ℕ) (result : Result (Unit {0}) JobError) (before after : SinkLog) → old.held.ended ≡ false → Feeds old piece result new (under tag before after) → Answered old result new before after
 Answered-feed old new piece tag (Ok done) before after going (given, goes, _) = went_on old new done piece given tag before after goes
 Answered-feed old new piece tag (Err error) before after going feeds = by error feeds where
-  now : (error : JobError) → FaultsBefore old piece tag error new before after → Answered old (Err error) new before after
+  now : (error : JobError) → FaultsBefore old piece error new (under tag before after) → Answered {X = Unit {0}} old (Err error) new before after
   now error faults = stopped_with old new (piece ++ []) tag error before after (faults [] (λ ended. absurd (true≢false (sym ended ∙ going))))
 
-  by : (error : JobError) → Feeds old piece tag (Err error) new before after → Answered old (Err error) new before after
+  by : (error : JobError) → Feeds old piece (Err error) new (under tag before after) → Answered {X = Unit {0}} old (Err error) new before after
   by errors.SinkFault feeds = now errors.SinkFault feeds
   by errors.ReplyFault feeds = now errors.ReplyFault feeds
   by errors.NoMemory feeds = now errors.NoMemory feeds
@@ -130,7 +123,7 @@ Answered-feed old new piece tag (Err error) before after going feeds = by error 
   by errors.AfterEnd feeds = absurd (true≢false (sym feeds.0.1 ∙ going))
 
 -- a job ran the bytes of a reader
-pub Answered-run : (old new : JobState) (bytes : List ℕ) (tag : ℕ) (result : Result (Unit {0}) JobError) (before after : SinkLog) → RunsThrough old bytes tag result new before after → Answered old result new before after
+pub Answered-run : (old new : JobState) (bytes : List ℕ) (tag : ℕ) (result : Result (Unit {0}) JobError) (before after : SinkLog) → RunsThrough old bytes result new (under tag before after) → Answered old result new before after
 Answered-run old new bytes tag (Ok done) before after (given, goes, _) = went_on old new done bytes given tag before after goes
 Answered-run old new bytes tag (Err errors.ReadFault) before after (gone, given, last, goes, _) = record {
   failed = (λ is. absurd (cc), λ none. absurd (runs old.machine _ goes.carried.starts none));

@@ -1,6 +1,6 @@
 -- Bodies that run, until none does.
 use Rattle.std.proofs.Common.{◌≡◌, ◌≢◌, ◌∙◌, ◌<◌, ◌≤◌, ℕ, List, [], ◌∷◌, ◌++◌, length, Option, Some, None, Ok, sym, ap, subst, inl, inr, arith}
-use Rattle.press_sink.specs.SinkLog.{SinkLog}
+use Rattle.press_sink.specs.SinkLog.{SinkLog, under}
 use Rattle.press_cmd.specs.Token.{Token}
 use Rattle.press_cmd.specs.declared.variant.Kind.{Kind}
 use Rattle.press_engine.specs.declared.activation.Activation.{Activation}
@@ -58,10 +58,10 @@ one_fewer old new tag step before after inside takes =
     rw (here, there, all) (omega arith)
 
 -- the job goes on by it
-pub CarriesOut-more : (first old new : JobState) (tag : ℕ) (step : Step) (begin before after : SinkLog) → old.bodies ≢ [] → CarriesOut first [] [] tag old begin before → Takes old tag (Ok step) new before after → CarriesOut first [] [] tag new begin after
+pub CarriesOut-more : (first old new : JobState) (tag : ℕ) (step : Step) (begin before after : SinkLog) → old.bodies ≢ [] → CarriesOut first [] [] old (under tag begin before) → Takes old tag (Ok step) new before after → CarriesOut first [] [] new (under tag begin after)
 CarriesOut-more first old new tag step begin before after inside goes takes =
     let (kind, ran) = ran_inside old new tag step before after inside takes in
-    let P : List Token → Type 0 = λ commands. CarriesOut first [] commands tag new begin after in
+    let P : List Token → Type 0 = λ commands. CarriesOut first [] commands new (under tag begin after) in
     subst P (none_given old new ran.item kind inside ran.did) (CarriesOut-after first old new [] [] ran.did.given tag begin before after goes (CarriesOut-ran old new tag kind before after ran))
 
 -- No body runs, so a step takes a command of the stream.
@@ -70,6 +70,6 @@ one_taken job given idle (inl (inside, _)) = absurd (inside idle)
 one_taken job given idle (inr (command, due, is)) = rw is (omega arith)
 
 -- what a job comes to after it went on
-pub Wants-after : (old between : JobState) (given : List Token) (tag : ℕ) (before middle : SinkLog) → CarriesOut old [] given tag between before middle → ComesToWant between tag middle → ComesToWant old tag before
+pub Wants-after : (old between : JobState) (given : List Token) (tag : ℕ) (before middle : SinkLog) → CarriesOut old [] given between (under tag before middle) → ComesToWant between tag middle → ComesToWant old tag before
 Wants-after old between given tag before middle goes (more, last, told, then, wants) =
     (given ++ more, last, told, CarriesOut-after old between last [] given more tag before middle told goes then, wants)

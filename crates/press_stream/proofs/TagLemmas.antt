@@ -6,7 +6,7 @@ use Rattle.std.specs.Io.KnownBytes.{Appends}
 use Rattle.press_cmd.specs.Token.{Token}
 use Rattle.press_sink.specs.PrintedSheet.{PrintedSheet}
 use Rattle.press_sink.specs.declared.sheet.Delivery.{Delivery}
-use Rattle.press_sink.specs.SinkLog.{SinkLog, ReplyLog}
+use Rattle.press_sink.specs.SinkLog.{SinkLog, ReplyLog, under}
 use Rattle.press_sink.specs.Sending.{Output, Ending, Complete, AtSheet, AtReply, ForMemory, sheets_of, reply_bytes_of, sheets_in, under_tag, TookAll, WentOut}
 use Rattle.press_sink.proofs.SendingLemmas.{sheets_in-tagged}
 use Rattle.press_stream.specs.State.{JobState}
@@ -27,14 +27,14 @@ sheets_told tag other sheets (Some one) (Some two) same =
     ap Some (sheets_in-behind tag one sheets ∙ ap (λ all. all ++ sheets) (same_Some (sheets_in one) (sheets_in two) same) ∙ sym (sheets_in-behind other two sheets))
 
 -- what is told after sheets under another tag
-abbrev under : (other : ℕ) (sheets : List PrintedSheet) (after from : SinkLog) → SinkLog
-under other sheets after from = record {
+abbrev log_under : (other : ℕ) (sheets : List PrintedSheet) (after from : SinkLog) → SinkLog
+log_under other sheets after from = record {
   sheets = record { delivered = option_map (λ all. all ++ under_tag other sheets) from.sheets.delivered; faults = after.sheets.faults };
   replies = after.replies;
 }
 
 same_under : (tag other : ℕ) (sheets : List PrintedSheet) (before after from : SinkLog) → after.sheets.delivered ≡ option_map (λ all. all ++ under_tag tag sheets) before.sheets.delivered
-    → SameButTags before from → SameButTags after (under other sheets after from)
+    → SameButTags before from → SameButTags after (log_under other sheets after from)
 same_under tag other sheets before after from delivered same = record {
   sheets = ap (option_map sheets_in) delivered ∙ sheets_told tag other sheets before.sheets.delivered from.sheets.delivered same.sheets;
   sheet_faults = refl;
@@ -45,7 +45,7 @@ same_under tag other sheets before after from delivered same = record {
 took-under : (tag other : ℕ) (outputs : List Output) (before after from : SinkLog) → TookAll tag outputs before after → SameButTags before from
     → (to : SinkLog) × SameButTags after to × TookAll other outputs from to
 took-under tag other outputs before after from took same = (
-  under other (sheets_of outputs) after from,
+  log_under other (sheets_of outputs) after from,
   same_under tag other (sheets_of outputs) before after from took.delivered same,
   record {
     delivered = refl;
@@ -60,7 +60,7 @@ pub WentOut-under : (tag other : ℕ) (outputs : List Output) (ending : Ending) 
     → (to : SinkLog) × SameButTags after to × WentOut other outputs ending from to
 WentOut-under tag other outputs Complete before after from went same = took-under tag other outputs before after from went same
 WentOut-under tag other outputs AtSheet before after from went same = (
-  under other (sheets_of went.taken) after from,
+  log_under other (sheets_of went.taken) after from,
   same_under tag other (sheets_of went.taken) before after from went.delivered same,
   record {
     taken = went.taken;
@@ -74,7 +74,7 @@ WentOut-under tag other outputs AtSheet before after from went same = (
   },
 )
 WentOut-under tag other outputs AtReply before after from went same = (
-  under other (sheets_of went.taken) after from,
+  log_under other (sheets_of went.taken) after from,
   same_under tag other (sheets_of went.taken) before after from went.delivered same,
   record {
     taken = went.taken;
@@ -93,8 +93,8 @@ WentOut-under tag other outputs ForMemory before after from went same =
     (all.0, all.1, record { taken = went.taken; others = went.others; outputs_are = went.outputs_are; took = all.2 })
 
 -- a job that went under a tag
-pub CarriesOut-under : (old new : JobState) (bytes : List ℕ) (given : List Token) (tag other : ℕ) (before after from : SinkLog) → CarriesOut old bytes given tag new before after → SameButTags before from
-    → (to : SinkLog) × SameButTags after to × CarriesOut old bytes given other new from to
+pub CarriesOut-under : (old new : JobState) (bytes : List ℕ) (given : List Token) (tag other : ℕ) (before after from : SinkLog) → CarriesOut old bytes given new (under tag before after) → SameButTags before from
+    → (to : SinkLog) × SameButTags after to × CarriesOut old bytes given new (under other from to)
 CarriesOut-under old new bytes given tag other before after from goes same =
     let told = WentOut-under tag other _ Complete before after from goes.carried.went same in (
       told.0,

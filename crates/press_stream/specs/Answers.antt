@@ -1,10 +1,10 @@
 -- What a job answers.
-use Rattle.std.specs.Prelude.{◌≡◌, ◌≢◌, ◌≤◌, ◌+◌, ℕ, List, [], ◌∷◌, ◌++◌, Option, Some, None, IsSome, Result, Ok, Err, true, false, ◌⊎◌, ⊤}
+use Rattle.std.specs.Prelude.{◌≡◌, ◌≢◌, ◌≤◌, ◌+◌, ℕ, List, [], ◌∷◌, ◌++◌, Option, Some, None, IsSome, Result, Ok, Err, true, false, ◌⊎◌, ⊤, ◌↔◌, IsErrOf, IfErr}
 use Rattle.std.specs.Io.KnownBytes.{Consumes, IsAtEnd}
 use Rattle.press_cmd.specs.Token.{Token, Uel}
 use Rattle.press_cmd.specs.declared.variant.Kind.{Kind}
 use Rattle.press_scan.specs.Gives.{IsDone, IsNext}
-use Rattle.press_sink.specs.SinkLog.{SinkLog}
+use Rattle.press_sink.specs.SinkLog.{SinkLog, SinkUse, under}
 use Rattle.press_sink.specs.Sending.{Output, Ending, Complete, AtSheet, AtReply, ForMemory, WentOut}
 use Rattle.press_engine.specs.Engine.{NeedsMemory, InnerNeedsMemory}
 use Rattle.press_engine.specs.Machine.{StepResult}
@@ -38,13 +38,14 @@ FaultsBy stops old errors.ReadFault new before after = ⊥
 FaultsBy stops old errors.AfterEnd new before after = ⊥
 
 -- The same of a job with these bytes behind what it held: it is so much of what it owed.
-abbrev pub Faults : JobState → List ℕ → ℕ → JobError → JobState → SinkLog → SinkLog → Type 0
-Faults old bytes tag error new before after = FaultsBy (λ ending. Stops old bytes tag ending before after) old error new before after
+abbrev pub Faults : JobState → List ℕ → JobError → JobState → SinkUse → Type 0
+Faults old bytes error new sinks =
+    FaultsBy (λ ending. Stops old bytes sinks.tag ending sinks.before sinks.after) old error new sinks.before sinks.after
 
 -- The same, whatever bytes may come behind these: none do after the end of input.
-abbrev pub FaultsBefore : JobState → List ℕ → ℕ → JobError → JobState → SinkLog → SinkLog → Type 0
-FaultsBefore old bytes tag error new before after =
-    (more : List ℕ) → (old.held.ended ≡ true → bytes ++ more ≡ []) → Faults old (bytes ++ more) tag error new before after
+abbrev pub FaultsBefore : JobState → List ℕ → JobError → JobState → SinkUse → Type 0
+FaultsBefore old bytes error new sinks =
+    (more : List ℕ) → (old.held.ended ≡ true → bytes ++ more ≡ []) → Faults old (bytes ++ more) error new sinks
 
 -- A piece was pushed: it stands behind what was held; or memory ran out, and the job has failed for good; or it was refused,
 -- and nothing changed.
@@ -116,8 +117,8 @@ abbrev pub WantsMemory : JobState → Type 0
 WantsMemory job =
     InnerNeedsMemory job.machine job.bodies ⊎ ((command : Token) × IsDue job command × NeedsMemory job.machine command)
 
--- A table step was taken, and what goes out in it is answered; or the bytes so far are used up, or no step is left, and nothing
--- changed; or memory ran out where what comes next may take some, and the job has failed for good; or it had failed before.
+-- Ran: a table step was taken, and what goes out in it is answered. Hungry: the bytes so far are used up. Ended: no step is left. Both
+-- change nothing. NoMemory: memory ran out where what comes next may take some, and the job has failed for good. Failed: it had before.
 abbrev pub TakesStep : JobState → Result JobStep JobError → JobState → Type 0
 TakesStep old (Ok (steps.Ran step)) new = DoesStep old step new
 TakesStep old (Ok steps.Hungry) new = NeedsInput old × (new ≡ old)
@@ -142,18 +143,18 @@ HandsOver tag outputs (Err errors.AfterEnd) before after = ⊥
 -- The job goes on, by commands that it takes, to where what comes next may take memory.
 abbrev pub ComesToWant : JobState → ℕ → SinkLog → Type 0
 ComesToWant job tag told =
-    (given : List Token) × (last : JobState) × (between : SinkLog) × CarriesOut job [] given tag last told between × WantsMemory last
+    (given : List Token) × (last : JobState) × (between : SinkLog) × CarriesOut job [] given last (under tag told between) × WantsMemory last
 
 -- A job did what was left of the bodies that run, and took no command of the stream.
 abbrev pub RunsOut : JobState → ℕ → Result (Unit {0}) JobError → JobState → SinkLog → SinkLog → Type 0
 RunsOut old tag (Ok _) new before after =
-    CarriesOut old [] [] tag new before after × (new.bodies ≡ []) × (most_commands new ≤ most_commands old) × (new.held.ended ≡ old.held.ended)
-RunsOut old tag (Err error) new before after = FaultsBefore old [] tag error new before after
+    CarriesOut old [] [] new (under tag before after) × (new.bodies ≡ []) × (most_commands new ≤ most_commands old) × (new.held.ended ≡ old.held.ended)
+RunsOut old tag (Err error) new before after = FaultsBefore old [] error new (under tag before after)
 
 -- A job in which no body runs took commands of its stream, and nothing goes out in any of them.
 pub record PassesOn (old new : JobState) : Type 0 where
   pub given : List Token
-  pub goes : (tag : ℕ) (told : SinkLog) → CarriesOut old [] given tag new told told
+  pub goes : (tag : ℕ) (told : SinkLog) → CarriesOut old [] given new (under tag told told)
   pub idle : new.bodies ≡ []
   pub fewer : most_commands new ≤ most_commands old
   pub ended : new.held.ended ≡ old.held.ended
@@ -161,20 +162,20 @@ pub record PassesOn (old new : JobState) : Type 0 where
 -- A job carried out what it holds, until it is hungry or no step is left.
 abbrev pub Drains : JobState → ℕ → Result (Unit {0}) JobError → JobState → SinkLog → SinkLog → Type 0
 Drains old tag (Ok _) new before after =
-    (given : List Token) × CarriesOut old [] given tag new before after × IsIdle new × (new.held.ended ≡ old.held.ended)
-Drains old tag (Err error) new before after = FaultsBefore old [] tag error new before after
+    (given : List Token) × CarriesOut old [] given new (under tag before after) × IsIdle new × (new.held.ended ≡ old.held.ended)
+Drains old tag (Err error) new before after = FaultsBefore old [] error new (under tag before after)
 
 -- A piece was handed to a job, which carried out the commands so far; or it was refused after the end of input, and nothing
 -- changed.
-abbrev pub Feeds : JobState → List ℕ → ℕ → Result (Unit {0}) JobError → JobState → SinkLog → SinkLog → Type 0
-Feeds old piece tag (Ok _) new before after = (given : List Token) × CarriesOut old piece given tag new before after × NeedsInput new
-Feeds old piece tag (Err errors.AfterEnd) new before after = IsAfterEnd old × (new ≡ old) × (after ≡ before)
-Feeds old piece tag (Err error) new before after = FaultsBefore old piece tag error new before after
+abbrev pub Feeds : JobState → List ℕ → Result (Unit {0}) JobError → JobState → SinkUse → Type 0
+Feeds old piece (Ok _) new sinks = (given : List Token) × CarriesOut old piece given new sinks × NeedsInput new
+Feeds old piece (Err errors.AfterEnd) new sinks = IsAfterEnd old × (new ≡ old) × (sinks.after ≡ sinks.before)
+Feeds old piece (Err error) new sinks = FaultsBefore old piece error new sinks
 
 -- The end of input was given to a job, which carried out all that it owed.
 abbrev pub Finishes : JobState → ℕ → Result (Unit {0}) JobError → JobState → SinkLog → SinkLog → Type 0
-Finishes old tag (Ok _) new before after = (given : List Token) × CarriesOut old [] given tag new before after × IsOver new
-Finishes old tag (Err error) new before after = Faults old [] tag error new before after
+Finishes old tag (Ok _) new before after = (given : List Token) × CarriesOut old [] given new (under tag before after) × IsOver new
+Finishes old tag (Err error) new before after = Faults old [] error new (under tag before after)
 
 -- the error that was answered, if one was
 abbrev pub fault_of : {X : Type 0} → Result X JobError → Option JobError
@@ -196,23 +197,32 @@ pub record CountsFaults (error : Option JobError) (before after : SinkLog) : Typ
   pub sheets : SheetFaults error before.sheets.faults after.sheets.faults
   pub replies : ReplyFaults error before.replies.faults after.replies.faults
 
+-- What else a call answers, whatever it does.
+-- failed: it is 303 exactly where the job had failed. unchanged: where a call is refused before anything is read or done, the job and
+-- what the sinks tell stay. lost: any error but 305 leaves a job that has failed. counts: the sinks count the fault that is answered.
+pub record Answered {X : Type 0} (old : JobState) (result : Result X JobError) (new : JobState) (before after : SinkLog) : Type 0 where
+  pub failed : IsErrOf result errors.Failed ↔ (old.machine ≡ None)
+  pub unchanged : IsEarly result → (new ≡ old) × (after ≡ before)
+  pub lost : IfErr result (λ error. error ≢ errors.AfterEnd → new.machine ≡ None)
+  pub counts : CountsFaults (fault_of result) before after
+
 -- These bytes were read of a reader and handed to a job, by what the reader had and what it has left: all that it had, where
 -- there was no error.
 pub record Reads (had left : Option (List ℕ)) (error : Option JobError) (bytes : List ℕ) : Type 0 where
   pub lost : Consumes had left bytes
   pub at_end : error ≡ None → IsAtEnd left
 
--- Of these bytes that were read so much was carried out, by what was answered: all, and what is owed at their end; or a read
--- failed, and their commands so far; or as far as a fault allowed; or nothing after the end of input.
-abbrev pub RunsThrough : JobState → List ℕ → ℕ → Result (Unit {0}) JobError → JobState → SinkLog → SinkLog → Type 0
-RunsThrough old bytes tag (Ok _) new before after = (given : List Token) × CarriesOut old bytes given tag new before after × IsOver new
-RunsThrough old bytes tag (Err errors.ReadFault) new before after =
-    (new.machine ≡ None) × (given : List Token) × (last : JobState) × CarriesOut old bytes given tag last before after × NeedsInput last
-RunsThrough old bytes tag (Err errors.AfterEnd) new before after = IsAfterEnd old × (bytes ≡ []) × (new ≡ old) × (after ≡ before)
-RunsThrough old bytes tag (Err error) new before after = Faults old bytes tag error new before after
+-- How far the bytes that were read were carried out. Ok: all of them, to the end of input. ReadFault: their commands so far, and the job
+-- has failed. AfterEnd: nothing, since the end of input had been given. Any other fault: as far as it says.
+abbrev pub RunsThrough : JobState → List ℕ → Result (Unit {0}) JobError → JobState → SinkUse → Type 0
+RunsThrough old bytes (Ok _) new sinks = (given : List Token) × CarriesOut old bytes given new sinks × IsOver new
+RunsThrough old bytes (Err errors.ReadFault) new sinks =
+    (new.machine ≡ None) × (given : List Token) × (last : JobState) × CarriesOut old bytes given last sinks × NeedsInput last
+RunsThrough old bytes (Err errors.AfterEnd) new sinks = IsAfterEnd old × (bytes ≡ []) × (new ≡ old) × (sinks.after ≡ sinks.before)
+RunsThrough old bytes (Err error) new sinks = Faults old bytes error new sinks
 
 -- A job ran a stream that a reader had.
-pub record RunsReader (old : JobState) (had left : Option (List ℕ)) (tag : ℕ) (result : Result (Unit {0}) JobError) (new : JobState) (before after : SinkLog) : Type 0 where
+pub record RunsReader (old : JobState) (had left : Option (List ℕ)) (result : Result (Unit {0}) JobError) (new : JobState) (sinks : SinkUse) : Type 0 where
   pub bytes : List ℕ
   pub read : Reads had left (fault_of result) bytes
-  pub through : RunsThrough old bytes tag result new before after
+  pub through : RunsThrough old bytes result new sinks

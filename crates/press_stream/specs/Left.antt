@@ -31,9 +31,10 @@ pub record StepsOn (new : JobState) (bytes : List ℕ) (items : List StepResult)
   pub are : items ≡ item ∷ others
   pub still : LeftWith new bytes others
 
--- What is left of a job, from call to call: at the beginning the items of all bytes that come; a piece that is pushed and the end
--- of input leave what was left; a step does the first item, whether it answers what goes out in it or hands that to sinks; and
--- nothing is left of a job that is over.
+-- What is left of a job, from call to call.
+-- opens: at the beginning, the items of all bytes that come. pushes, ends: a piece that is pushed, and the end of input, leave what was
+-- left. does, steps: a step does the first item, whether it answers what goes out or hands that to sinks. over: nothing is left of a job
+-- that is over.
 pub record LeftGoesOn : Type 0 where
   pub opens : (bytes : List ℕ) (closed : List Token) → Closed bytes closed → LeftWith opened bytes (trace (with_exit closed) power_on)
   pub pushes : (job : JobState) (piece more : List ℕ) (items : List StepResult)

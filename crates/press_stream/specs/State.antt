@@ -89,7 +89,8 @@ job_state held engine phase = record {
   exited = is_exited phase;
 }
 
--- what is true of them
+-- A job that runs has a machine, and its scanner a buffer of the full size. After the added universal exit it has a machine, nothing is
+-- held, and the end of input was given. Of a job that has failed nothing is said.
 abbrev pub Fits : ScannerState → Engine → Phase → Type 0
 Fits held engine phases.Failed = Unit {0}
 Fits held engine phases.Running = IsSome (machine_of engine) × (held.room ≡ buffer_size)

@@ -45,14 +45,14 @@ impl Model for Job {
 
 impl Job {
     ghost use Rattle.std.specs.Prelude.{◌≡◌, ◌≢◌, ◌<◌, ◌≤◌, ◌↔◌, ℕ, List, [], length, take, false, None, IfOk, IfErr, OnErr, IfSome, IsTrue, IsSome, IsErrOf, MatchResult, option_map};
-    ghost use Rattle.press_sink.specs.SinkLog.{logs, HasFaultRoom};
+    ghost use Rattle.press_sink.specs.SinkLog.{logs, HasFaultRoom, under};
     ghost use Rattle.press_engine.specs.Engine.{view_of};
     ghost use Rattle.press_engine.specs.Machine.{StepResult};
     ghost use Rattle.press_engine.specs.Outputs.{all_outputs};
     ghost use Rattle.press_engine.specs.Stack.{IsReady};
     ghost use Rattle.press_stream.specs.Left.{LeftWith};
     ghost use Rattle.press_stream.specs.State.{opened, with_piece, input_ended, NeedsInput, IsOver, IsAfterEnd};
-    ghost use Rattle.press_stream.specs.Answers.{Pushes, IsGoing, IsEarly, TakesStep, HandsOver, Takes, WantsMemory, RunsOut, PassesOn, Drains, ComesToWant, Feeds, Finishes, RunsReader, CountsFaults, fault_of};
+    ghost use Rattle.press_stream.specs.Answers.{Pushes, IsGoing, IsEarly, TakesStep, HandsOver, Takes, WantsMemory, RunsOut, PassesOn, Drains, ComesToWant, Feeds, Finishes, RunsReader, Answered};
     ghost use Rattle.press_stream.specs.Pieces.{most_reads, no_reads, HasFault};
 
     /// A job at the beginning of a stream, with an engine after power on.
@@ -200,14 +200,10 @@ impl Job {
             (logs (S.told sheets.old) (P.told replies.old))
             (logs (S.told sheets.new) (P.told replies.new)) }
         ensures memory { IsErrOf result JobError.NoMemory → WantsMemory self.old }
-        ensures failed { IsErrOf result JobError.Failed ↔ (self.old.machine ≡ None) }
-        ensures unchanged { IsEarly result → (self.new ≡ self.old)
-            × (logs (S.told sheets.new) (P.told replies.new)
-            ≡ logs (S.told sheets.old) (P.told replies.old)) }
-        ensures lost { OnErr result (self.new.machine ≡ None) }
-        ensures counts { CountsFaults (fault_of result)
+        ensures answered { Answered self.old result self.new
             (logs (S.told sheets.old) (P.told replies.old))
             (logs (S.told sheets.new) (P.told replies.new)) }
+        ensures lost { OnErr result (self.new.machine ≡ None) }
     {
         match self.take_step()? {
             JobStep::Ran(step) => {
@@ -279,17 +275,11 @@ impl Job {
         replies: &mut P,
     ) -> Result<(), JobError>
         requires { HasFaultRoom (logs (S.told sheets.old) (P.told replies.old)) }
-        ensures feeds { Feeds self.old piece.now tag result self.new
-            (logs (S.told sheets.old) (P.told replies.old))
-            (logs (S.told sheets.new) (P.told replies.new)) }
+        ensures feeds { Feeds self.old piece.now result self.new
+            (under tag (logs (S.told sheets.old) (P.told replies.old))
+            (logs (S.told sheets.new) (P.told replies.new))) }
         ensures refused { IsAfterEnd self.old → IsErrOf result JobError.AfterEnd }
-        ensures failed { IsErrOf result JobError.Failed ↔ (self.old.machine ≡ None) }
-        ensures unchanged { IsEarly result → (self.new ≡ self.old)
-            × (logs (S.told sheets.new) (P.told replies.new)
-            ≡ logs (S.told sheets.old) (P.told replies.old)) }
-        ensures lost { IfErr result
-            (λ error. error ≢ JobError.AfterEnd → self.new.machine ≡ None) }
-        ensures counts { CountsFaults (fault_of result)
+        ensures answered { Answered self.old result self.new
             (logs (S.told sheets.old) (P.told replies.old))
             (logs (S.told sheets.new) (P.told replies.new)) }
     {
@@ -318,9 +308,9 @@ impl Job {
     ) -> Result<(), JobError>
         requires hungry { NeedsInput self.old }
         requires has_fault_room { HasFaultRoom (logs (S.told sheets.old) (P.told replies.old)) }
-        ensures { Feeds self.old piece.now tag result self.new
-            (logs (S.told sheets.old) (P.told replies.old))
-            (logs (S.told sheets.new) (P.told replies.new)) }
+        ensures { Feeds self.old piece.now result self.new
+            (under tag (logs (S.told sheets.old) (P.told replies.old))
+            (logs (S.told sheets.new) (P.told replies.new))) }
     {
         let mut rest = piece;
         while !rest.is_empty() {
@@ -349,14 +339,10 @@ impl Job {
         ensures memory { IsErrOf result JobError.NoMemory
             → ComesToWant (input_ended self.old) tag
             (logs (S.told sheets.old) (P.told replies.old)) }
-        ensures failed { IsErrOf result JobError.Failed ↔ (self.old.machine ≡ None) }
-        ensures unchanged { IsEarly result → (self.new ≡ self.old)
-            × (logs (S.told sheets.new) (P.told replies.new)
-            ≡ logs (S.told sheets.old) (P.told replies.old)) }
-        ensures lost { OnErr result (self.new.machine ≡ None) }
-        ensures counts { CountsFaults (fault_of result)
+        ensures answered { Answered self.old result self.new
             (logs (S.told sheets.old) (P.told replies.old))
             (logs (S.told sheets.new) (P.told replies.new)) }
+        ensures lost { OnErr result (self.new.machine ≡ None) }
     {
         if matches!(self.phase, Phase::Failed) {
             return Err(JobError::Failed);
@@ -381,19 +367,13 @@ impl Job {
         replies: &mut P,
     ) -> Result<(), JobError>
         requires { HasFaultRoom (logs (S.told sheets.old) (P.told replies.old)) }
-        ensures runs { RunsReader self.old (R.remaining reader.old)
-            (R.remaining reader.new) tag result self.new
-            (logs (S.told sheets.old) (P.told replies.old))
-            (logs (S.told sheets.new) (P.told replies.new)) }
+        ensures runs { RunsReader self.old (R.remaining reader.old) (R.remaining reader.new) result
+            self.new
+            (under tag (logs (S.told sheets.old) (P.told replies.old))
+            (logs (S.told sheets.new) (P.told replies.new))) }
         ensures unread { IsEarly result → reader.new ≡ reader.old }
         ensures refused { IsAfterEnd self.old → IsErrOf result JobError.AfterEnd }
-        ensures failed { IsErrOf result JobError.Failed ↔ (self.old.machine ≡ None) }
-        ensures unchanged { IsEarly result → (self.new ≡ self.old)
-            × (logs (S.told sheets.new) (P.told replies.new)
-            ≡ logs (S.told sheets.old) (P.told replies.old)) }
-        ensures lost { IfErr result
-            (λ error. error ≢ JobError.AfterEnd → self.new.machine ≡ None) }
-        ensures counts { CountsFaults (fault_of result)
+        ensures answered { Answered self.old result self.new
             (logs (S.told sheets.old) (P.told replies.old))
             (logs (S.told sheets.new) (P.told replies.new)) }
     {
@@ -415,19 +395,13 @@ impl Job {
     ) -> Result<(), JobError>
         requires none { count.old ≡ no_reads }
         requires has_fault_room { HasFaultRoom (logs (S.told sheets.old) (P.told replies.old)) }
-        ensures runs { RunsReader self.old (R.remaining reader.old)
-            (R.remaining reader.new) tag result self.new
-            (logs (S.told sheets.old) (P.told replies.old))
-            (logs (S.told sheets.new) (P.told replies.new)) }
+        ensures runs { RunsReader self.old (R.remaining reader.old) (R.remaining reader.new) result
+            self.new
+            (under tag (logs (S.told sheets.old) (P.told replies.old))
+            (logs (S.told sheets.new) (P.told replies.new))) }
         ensures unread { IsEarly result → reader.new ≡ reader.old }
         ensures refused { IsAfterEnd self.old → IsErrOf result JobError.AfterEnd }
-        ensures failed { IsErrOf result JobError.Failed ↔ (self.old.machine ≡ None) }
-        ensures unchanged { IsEarly result → (self.new ≡ self.old)
-            × (logs (S.told sheets.new) (P.told replies.new)
-            ≡ logs (S.told sheets.old) (P.told replies.old)) }
-        ensures lost { IfErr result
-            (λ error. error ≢ JobError.AfterEnd → self.new.machine ≡ None) }
-        ensures counts { CountsFaults (fault_of result)
+        ensures answered { Answered self.old result self.new
             (logs (S.told sheets.old) (P.told replies.old))
             (logs (S.told sheets.new) (P.told replies.new)) }
         ensures bound { count.new.reads ≤ most_reads }
@@ -519,10 +493,10 @@ impl Job {
         requires going { self.old.held.ended ≡ false }
         requires none { count.old ≡ no_reads }
         requires has_fault_room { HasFaultRoom (logs (S.told sheets.old) (P.told replies.old)) }
-        ensures runs { RunsReader self.old (R.remaining reader.old)
-            (R.remaining reader.new) tag result self.new
-            (logs (S.told sheets.old) (P.told replies.old))
-            (logs (S.told sheets.new) (P.told replies.new)) }
+        ensures runs { RunsReader self.old (R.remaining reader.old) (R.remaining reader.new) result
+            self.new
+            (under tag (logs (S.told sheets.old) (P.told replies.old))
+            (logs (S.told sheets.new) (P.told replies.new))) }
         ensures bound { count.new.reads ≤ most_reads }
         ensures fault { IsErrOf result JobError.ReadFault → HasFault count.new }
     {

@@ -81,7 +81,7 @@ pub const SOUND: Fuses = Fuses {
 };
 
 /// A stream, read byte by byte; and what the job answers to one piece more.
-pub fn run(alloc: Global, stream: &[u8], fuses: &Fuses) -> Result<Outcome, Fail> {
+pub(crate) fn run(alloc: Global, stream: &[u8], fuses: &Fuses) -> Result<Outcome, Fail> {
     let mut sheets = FuseSink::new(ListSink::new(alloc), fuses.sheets);
     let mut replies = FuseReplies::new(ListReplies::new(alloc), fuses.replies, fuses.front);
     let bytes = Reluctant {

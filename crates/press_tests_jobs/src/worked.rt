@@ -2,7 +2,7 @@
 use press_bits::Bitmap;
 
 /// A page's width, and a digit for each of three dots: 1 where it is black.
-pub fn note(page: &Bitmap) -> u32 {
+pub(crate) fn note(page: &Bitmap) -> u32 {
     let mut digits: u32 = 0;
     for (x, y) in [(75, 150), (85, 170), (75, 187)] {
         digits = u32::saturating_add(u32::saturating_mul(digits, 10), u32::from(page.get(x, y)));

@@ -61,7 +61,7 @@ fn row_of(alloc: Global, line: &str) -> Result<Row<'_>, Fail> {
 /// # Errors
 ///
 /// Where a line is none of a table, or memory ran out.
-pub fn rows_of(alloc: Global, table: &str) -> Result<Vec<Row<'_>>, Fail> {
+pub(crate) fn rows_of(alloc: Global, table: &str) -> Result<Vec<Row<'_>>, Fail> {
     let mut rows = Vec::new(alloc);
     for line in table.lines() {
         rows.push(row_of(alloc, line)?)?;

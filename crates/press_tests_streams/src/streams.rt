@@ -21,7 +21,7 @@ pub struct CarriedOut {
 }
 
 /// Carries the commands of a stream out, and keeps the sheets that go out.
-pub fn carry_into(
+pub(crate) fn carry_into(
     rt: &HostRuntime,
     engine: &mut Engine,
     stream: &[u8],
@@ -52,7 +52,7 @@ fn carry_out(rt: &HostRuntime, engine: &mut Engine, stream: &[u8]) -> Result<usi
 }
 
 /// What a stream leaves of an engine after power on.
-pub fn carried_out(rt: &HostRuntime, stream: &[u8]) -> Result<CarriedOut, Fail> {
+pub(crate) fn carried_out(rt: &HostRuntime, stream: &[u8]) -> Result<CarriedOut, Fail> {
     let mut engine = Engine::power_on(rt.alloc())?;
     let sheets = carry_out(rt, &mut engine, stream)?;
     Ok(CarriedOut { engine, sheets })

@@ -6,7 +6,7 @@ use Rattle.std.proofs.lemmas.Grind.{flat_map-append}
 use Rattle.std.proofs.lemmas.Bool.{true≢false}
 use Rattle.std.proofs.lemmas.List.{append-nil, take_more, take-append-drop}
 use Rattle.press_cmd.specs.Token.{Token}
-use Rattle.press_sink.specs.SinkLog.{SinkLog, HasFaultRoom, most_faults}
+use Rattle.press_sink.specs.SinkLog.{SinkLog, HasFaultRoom, most_faults, under}
 use Rattle.press_sink.specs.Sending.{Complete, AtSheet, AtReply, ForMemory}
 use Rattle.press_engine.specs.declared.machine.Machine.{Machine}
 use Rattle.press_stream.specs.declared.fault.JobError.{JobError}
@@ -29,27 +29,27 @@ pieces-next f pieces i other inside =
     ∙ ap (λ (rest : List ℕ). flat_map f (take i pieces) ++ rest) (append-nil (f (get_or pieces i other)))
 
 -- a job that was opened
-pub CarriesOut-opened : CallsGo → (job : JobState) (tag : ℕ) (told : SinkLog) → job ≡ opened → CarriesOut opened [] [] tag job told told
+pub CarriesOut-opened : CallsGo → (job : JobState) (tag : ℕ) (told : SinkLog) → job ≡ opened → CarriesOut opened [] [] job (under tag told told)
 CarriesOut-opened calls job tag told is =
-    subst (λ (one : JobState). CarriesOut opened [] [] tag one told told) (sym is) (calls.begins opened tag told refl)
+    subst (λ (one : JobState). CarriesOut opened [] [] one (under tag told told)) (sym is) (calls.begins opened tag told refl)
 
 pub opened-going : (job : JobState) → job ≡ opened → job.held.ended ≡ false
 opened-going job is = ap (λ (one : JobState). one.held.ended) is
 
 -- one call more
-pub CarriesOut-more : CallsGo → (bytes more all : List ℕ) (given others : List Token) (tag : ℕ) (job new : JobState) (before middle after : SinkLog) → all ≡ bytes ++ more → CarriesOut opened bytes given tag job before middle → CarriesOut job more others tag new middle after → CarriesOut opened all (given ++ others) tag new before after
+pub CarriesOut-more : CallsGo → (bytes more all : List ℕ) (given others : List Token) (tag : ℕ) (job new : JobState) (before middle after : SinkLog) → all ≡ bytes ++ more → CarriesOut opened bytes given job (under tag before middle) → CarriesOut job more others new (under tag middle after) → CarriesOut opened all (given ++ others) new (under tag before after)
 CarriesOut-more calls bytes more all given others tag job new before middle after is first second =
-    subst (λ (handed : List ℕ). CarriesOut opened handed (given ++ others) tag new before after) (sym is) (calls.then opened job new bytes more given others tag before middle after first second)
+    subst (λ (handed : List ℕ). CarriesOut opened handed (given ++ others) new (under tag before after)) (sym is) (calls.then opened job new bytes more given others tag before middle after first second)
 
 -- where all went out, the sinks can count as before
-pub has_fault_room-after : (old new : JobState) (bytes : List ℕ) (given : List Token) (tag : ℕ) (before after : SinkLog) → CarriesOut old bytes given tag new before after → HasFaultRoom before → HasFaultRoom after
+pub has_fault_room-after : (old new : JobState) (bytes : List ℕ) (given : List Token) (tag : ℕ) (before after : SinkLog) → CarriesOut old bytes given new (under tag before after) → HasFaultRoom before → HasFaultRoom after
 has_fault_room-after old new bytes given tag before after goes can = record {
   sheets = subst (λ (n : ℕ). n < most_faults) (sym goes.carried.went.sheet_faults) can.sheets;
   replies = subst (λ (n : ℕ). n < most_faults) (sym goes.carried.went.reply_faults) can.replies;
 }
 
 -- a stream to its end
-pub Prints-end : CallsGo → PrintsAll → (bytes all : List ℕ) (given : List Token) (tag : ℕ) (job new : JobState) (result : Result (Unit {0}) JobError) (done : Unit {0}) (before middle after : SinkLog) → result ≡ Ok done → all ≡ bytes → CarriesOut opened bytes given tag job before middle → Finishes job tag result new middle after → Prints all tag Complete new.machine before after
+pub Prints-end : CallsGo → PrintsAll → (bytes all : List ℕ) (given : List Token) (tag : ℕ) (job new : JobState) (result : Result (Unit {0}) JobError) (done : Unit {0}) (before middle after : SinkLog) → result ≡ Ok done → all ≡ bytes → CarriesOut opened bytes given job (under tag before middle) → Finishes job tag result new middle after → Prints all tag Complete new.machine before after
 Prints-end calls prints bytes all given tag job new result done before middle after answer is first finishes =
     let P : Result (Unit {0}) JobError → Type 0 = λ one. Finishes job tag one new middle after in
     let last = subst P answer finishes in
@@ -62,20 +62,20 @@ finish-over job new tag result done before after answer finishes =
     (subst P answer finishes).2
 
 -- a piece that was pushed
-pub pushed : CallsGo → (old new : JobState) (piece : List ℕ) (tag : ℕ) (result : Result (Unit {0}) JobError) (told : SinkLog) → Pushes old piece result new → OnOk result ((given : List Token) × CarriesOut old piece given tag new told told)
+pub pushed : CallsGo → (old new : JobState) (piece : List ℕ) (tag : ℕ) (result : Result (Unit {0}) JobError) (told : SinkLog) → Pushes old piece result new → OnOk result ((given : List Token) × CarriesOut old piece given new (under tag told told))
 pushed calls old new piece tag (Ok done) told pushes =
-    ([], subst (λ (one : JobState). CarriesOut old piece [] tag one told told) (sym pushes.2) (calls.pushes old piece tag told pushes.0 pushes.1))
+    ([], subst (λ (one : JobState). CarriesOut old piece [] one (under tag told told)) (sym pushes.2) (calls.pushes old piece tag told pushes.0 pushes.1))
 pushed calls old new piece tag (Err error) told pushes = tt
 
 -- nothing changed
-still : CallsGo → (old new : JobState) (tag : ℕ) (before after : SinkLog) → IsSome old.machine → new ≡ old → after ≡ before → (given : List Token) × CarriesOut old [] given tag new before after
+still : CallsGo → (old new : JobState) (tag : ℕ) (before after : SinkLog) → IsSome old.machine → new ≡ old → after ≡ before → (given : List Token) × CarriesOut old [] given new (under tag before after)
 still calls old new tag before after running same quiet =
-    ([], subst (λ (told : SinkLog). CarriesOut old [] [] tag new before told) (sym quiet) (subst (λ (one : JobState). CarriesOut old [] [] tag one before before) (sym same) (calls.begins old tag before running)))
+    ([], subst (λ (told : SinkLog). CarriesOut old [] [] new (under tag before told)) (sym quiet) (subst (λ (one : JobState). CarriesOut old [] [] one (under tag before before)) (sym same) (calls.begins old tag before running)))
 
 -- a step that was taken, or found nothing to take
-pub stepped : CallsGo → (old new : JobState) (tag : ℕ) (result : Result Step JobError) (step : Step) (before after : SinkLog) → IsSome old.machine → result ≡ Ok step → Takes old tag result new before after → (given : List Token) × CarriesOut old [] given tag new before after
+pub stepped : CallsGo → (old new : JobState) (tag : ℕ) (result : Result Step JobError) (step : Step) (before after : SinkLog) → IsSome old.machine → result ≡ Ok step → Takes old tag result new before after → (given : List Token) × CarriesOut old [] given new (under tag before after)
 stepped calls old new tag result step before after running answer takes = by step (subst (λ (one : Result Step JobError). Takes old tag one new before after) answer takes) where
-  by : (step : Step) → Takes old tag (Ok step) new before after → (given : List Token) × CarriesOut old [] given tag new before after
+  by : (step : Step) → Takes old tag (Ok step) new before after → (given : List Token) × CarriesOut old [] given new (under tag before after)
   by (steps.Ran kind) ran = (ran.did.given, CarriesOut-ran old new tag kind before after ran)
   by steps.Hungry quiet = still calls old new tag before after running quiet.1 quiet.2
   by steps.Ended quiet = still calls old new tag before after running quiet.1 quiet.2
@@ -105,7 +105,7 @@ has_failed : (machine : Option Machine) (one : Machine) → machine ≡ None →
 has_failed machine one none some = cc
 
 -- A job that went on stopped at a fault: the bytes are printed as far as the answer says.
-pub PrintedTo-fault : PrintsAll → (bytes more : List ℕ) (given : List Token) (tag : ℕ) (error : JobError) (job new : JobState) (before middle after : SinkLog) → CarriesOut opened bytes given tag job before middle → Faults job more tag error new middle after → PrintedTo (Some error) (bytes ++ more) tag None before after
+pub PrintedTo-fault : PrintsAll → (bytes more : List ℕ) (given : List Token) (tag : ℕ) (error : JobError) (job new : JobState) (before middle after : SinkLog) → CarriesOut opened bytes given job (under tag before middle) → Faults job more error new (under tag middle after) → PrintedTo (Some error) (bytes ++ more) tag None before after
 PrintedTo-fault prints bytes more given tag errors.SinkFault job new before middle after goes faults = prints.stopped bytes more given tag AtSheet job before middle after (λ e. cc) goes faults.1 None
 PrintedTo-fault prints bytes more given tag errors.ReplyFault job new before middle after goes faults = prints.stopped bytes more given tag AtReply job before middle after (λ e. cc) goes faults.1 None
 PrintedTo-fault prints bytes more given tag errors.NoMemory job new before middle after goes faults = prints.stopped bytes more given tag ForMemory job before middle after (λ e. cc) goes faults.1 None
@@ -114,7 +114,7 @@ PrintedTo-fault prints bytes more given tag errors.ReadFault job new before midd
 PrintedTo-fault prints bytes more given tag errors.AfterEnd job new before middle after goes faults = absurd faults
 
 -- the same of a fault whatever bytes come behind the piece, in the midst of all bytes
-pub PrintedTo-before : PrintsAll → (bytes piece more all : List ℕ) (given : List Token) (tag : ℕ) (error : JobError) (job new : JobState) (before middle after : SinkLog) → job.held.ended ≡ false → (bytes ++ piece) ++ more ≡ all → CarriesOut opened bytes given tag job before middle → FaultsBefore job piece tag error new middle after → PrintedTo (Some error) all tag None before after
+pub PrintedTo-before : PrintsAll → (bytes piece more all : List ℕ) (given : List Token) (tag : ℕ) (error : JobError) (job new : JobState) (before middle after : SinkLog) → job.held.ended ≡ false → (bytes ++ piece) ++ more ≡ all → CarriesOut opened bytes given job (under tag before middle) → FaultsBefore job piece error new (under tag middle after) → PrintedTo (Some error) all tag None before after
 PrintedTo-before prints bytes piece more all given tag error job new before middle after going is goes faults =
     let P : List ℕ → Type 0 = λ handed. PrintedTo (Some error) handed tag None before after in
     subst P (sym (append_assoc bytes piece more) ∙ is)
@@ -122,7 +122,7 @@ PrintedTo-before prints bytes piece more all given tag error job new before midd
     (faults more (λ ended. absurd (true≢false (sym ended ∙ going)))))
 
 -- a fault of a piece that was fed before the end of input
-pub fed-fault : (old new : JobState) (piece : List ℕ) (tag : ℕ) (error : JobError) (before after : SinkLog) → old.held.ended ≡ false → Feeds old piece tag (Err error) new before after → FaultsBefore old piece tag error new before after
+pub fed-fault : (old new : JobState) (piece : List ℕ) (tag : ℕ) (error : JobError) (before after : SinkLog) → old.held.ended ≡ false → Feeds old piece (Err error) new (under tag before after) → FaultsBefore old piece error new (under tag before after)
 fed-fault old new piece tag errors.SinkFault before after going feeds = feeds
 fed-fault old new piece tag errors.ReplyFault before after going feeds = feeds
 fed-fault old new piece tag errors.NoMemory before after going feeds = feeds
@@ -136,20 +136,20 @@ on_err (Ok a) p = tt
 on_err (Err e) p = p
 
 -- a piece that was fed
-pub fed : (old new : JobState) (piece : List ℕ) (tag : ℕ) (result : Result (Unit {0}) JobError) (before after : SinkLog) → Feeds old piece tag result new before after → OnOk result ((given : List Token) × CarriesOut old piece given tag new before after)
+pub fed : (old new : JobState) (piece : List ℕ) (tag : ℕ) (result : Result (Unit {0}) JobError) (before after : SinkLog) → Feeds old piece result new (under tag before after) → OnOk result ((given : List Token) × CarriesOut old piece given new (under tag before after))
 fed old new piece tag (Ok done) before after feeds = (feeds.0, feeds.1)
 fed old new piece tag (Err error) before after feeds = tt
 
-pub fed-going : (old new : JobState) (piece : List ℕ) (tag : ℕ) (result : Result (Unit {0}) JobError) (before after : SinkLog) → Feeds old piece tag result new before after → OnOk result (new.held.ended ≡ false)
+pub fed-going : (old new : JobState) (piece : List ℕ) (tag : ℕ) (result : Result (Unit {0}) JobError) (before after : SinkLog) → Feeds old piece result new (under tag before after) → OnOk result (new.held.ended ≡ false)
 fed-going old new piece tag (Ok done) before after feeds = feeds.2.going
 fed-going old new piece tag (Err error) before after feeds = tt
 
-pub fed-faults : (old new : JobState) (piece : List ℕ) (tag : ℕ) (result : Result (Unit {0}) JobError) (before after : SinkLog) → old.held.ended ≡ false → Feeds old piece tag result new before after → IfErr result (λ error. FaultsBefore old piece tag error new before after)
+pub fed-faults : (old new : JobState) (piece : List ℕ) (tag : ℕ) (result : Result (Unit {0}) JobError) (before after : SinkLog) → old.held.ended ≡ false → Feeds old piece result new (under tag before after) → IfErr result (λ error. FaultsBefore old piece error new (under tag before after))
 fed-faults old new piece tag (Ok done) before after going feeds = tt
 fed-faults old new piece tag (Err error) before after going feeds = fed-fault old new piece tag error before after going feeds
 
 -- of a piece that was pushed
-pub pushed-fault : CallsGo → (old new : JobState) (piece : List ℕ) (tag : ℕ) (result : Result (Unit {0}) JobError) (told : SinkLog) → IsSome old.machine → old.held.ended ≡ false → Pushes old piece result new → IfErr result (λ error. FaultsBefore old piece tag error new told told)
+pub pushed-fault : CallsGo → (old new : JobState) (piece : List ℕ) (tag : ℕ) (result : Result (Unit {0}) JobError) (told : SinkLog) → IsSome old.machine → old.held.ended ≡ false → Pushes old piece result new → IfErr result (λ error. FaultsBefore old piece error new (under tag told told))
 pushed-fault calls old new piece tag (Ok done) told running going pushes = tt
 pushed-fault calls old new piece tag (Err errors.NoMemory) told running going pushes = λ more none_after. (pushes.2, calls.wants old (piece ++ more) tag told running none_after)
 pushed-fault calls old new piece tag (Err errors.Failed) told running going pushes = absurd (no_machine old.machine running pushes.0) where
@@ -161,7 +161,7 @@ pushed-fault calls old new piece tag (Err errors.ReplyFault) told running going 
 pushed-fault calls old new piece tag (Err errors.ReadFault) told running going pushes = absurd pushes
 
 -- of a step
-pub stepped-fault : CallsGo → (old new : JobState) (tag : ℕ) (error : JobError) (before after : SinkLog) → StepFaults old tag error new before after → FaultsBefore old [] tag error new before after
+pub stepped-fault : CallsGo → (old new : JobState) (tag : ℕ) (error : JobError) (before after : SinkLog) → StepFaults old tag error new before after → FaultsBefore old [] error new (under tag before after)
 stepped-fault calls old new tag errors.SinkFault before after faults = λ more none_after. (faults.0, calls.stops old more tag AtSheet before after (λ e. cc) none_after faults.1)
 stepped-fault calls old new tag errors.ReplyFault before after faults = λ more none_after. (faults.0, calls.stops old more tag AtReply before after (λ e. cc) none_after faults.1)
 stepped-fault calls old new tag errors.NoMemory before after faults = λ more none_after. (faults.0, calls.stops old more tag ForMemory before after (λ e. cc) none_after faults.1)
@@ -173,7 +173,7 @@ stepped-fault calls old new tag errors.AfterEnd before after faults = absurd fau
 none_runs : (machine : Option Machine) → IsSome machine → machine ≡ None → ⊥
 none_runs machine some none = cc
 
-stopped-by : (job new : JobState) (bytes : List ℕ) (tag : ℕ) (error : JobError) (before after : SinkLog) → IsSome job.machine → Faults job bytes tag error new before after → new.machine ≡ None
+stopped-by : (job new : JobState) (bytes : List ℕ) (tag : ℕ) (error : JobError) (before after : SinkLog) → IsSome job.machine → Faults job bytes error new (under tag before after) → new.machine ≡ None
 stopped-by job new bytes tag errors.SinkFault before after runs faults = faults.0
 stopped-by job new bytes tag errors.ReplyFault before after runs faults = faults.0
 stopped-by job new bytes tag errors.NoMemory before after runs faults = faults.0
@@ -181,11 +181,11 @@ stopped-by job new bytes tag errors.Failed before after runs faults = absurd (no
 stopped-by job new bytes tag errors.ReadFault before after runs faults = absurd faults
 stopped-by job new bytes tag errors.AfterEnd before after runs faults = absurd faults
 
-pub stopped-failed : (job new : JobState) (piece : List ℕ) (tag : ℕ) (error : JobError) (before after : SinkLog) → IsSome job.machine → job.held.ended ≡ false → FaultsBefore job piece tag error new before after → new.machine ≡ None
+pub stopped-failed : (job new : JobState) (piece : List ℕ) (tag : ℕ) (error : JobError) (before after : SinkLog) → IsSome job.machine → job.held.ended ≡ false → FaultsBefore job piece error new (under tag before after) → new.machine ≡ None
 stopped-failed job new piece tag error before after runs going faults =
     stopped-by job new (piece ++ []) tag error before after runs (faults [] (λ ended. absurd (true≢false (sym ended ∙ going))))
 
-pub on_failed : (job new : JobState) (piece : List ℕ) (tag : ℕ) (result : Result (Unit {0}) JobError) (before after : SinkLog) → IsSome job.machine → job.held.ended ≡ false → IfErr result (λ error. FaultsBefore job piece tag error new before after) → OnErr result (new.machine ≡ None)
+pub on_failed : (job new : JobState) (piece : List ℕ) (tag : ℕ) (result : Result (Unit {0}) JobError) (before after : SinkLog) → IsSome job.machine → job.held.ended ≡ false → IfErr result (λ error. FaultsBefore job piece error new (under tag before after)) → OnErr result (new.machine ≡ None)
 on_failed job new piece tag (Ok done) before after runs going faults = tt
 on_failed job new piece tag (Err error) before after runs going faults = stopped-failed job new piece tag error before after runs going faults
 
@@ -199,7 +199,7 @@ PrintedTo-any errors.ReadFault bytes tag one other before after printed = printe
 PrintedTo-any errors.AfterEnd bytes tag one other before after printed = absurd printed
 
 -- a call stopped, and nothing was read
-pub PrintsCalls-stopped : (bytes : List ℕ) (had : Option (List ℕ)) (tag : ℕ) (error : JobError) (job : JobState) (before after : SinkLog) → PrintedTo (Some error) bytes tag None before after → PrintsCalls bytes had had tag (Err error) job before after
+pub PrintsCalls-stopped : (bytes : List ℕ) (had : Option (List ℕ)) (tag : ℕ) (error : JobError) (job : JobState) (before after : SinkLog) → PrintedTo (Some error) bytes tag None before after → PrintsCalls bytes had had (Err error) job (under tag before after)
 PrintsCalls-stopped bytes had tag error job before after printed = record {
   read = [];
   reads = record { lost = Consumes-nil had; at_end = λ none. absurd (cc) };
@@ -207,7 +207,7 @@ PrintsCalls-stopped bytes had tag error job before after printed = record {
 }
 
 -- what a reader has behind the calls
-pub PrintsCalls-read : PrintsAll → (bytes all : List ℕ) (given : List Token) (had left : Option (List ℕ)) (tag : ℕ) (result : Result (Unit {0}) JobError) (job new : JobState) (before middle after : SinkLog) → all ≡ bytes → CarriesOut opened bytes given tag job before middle → job.held.ended ≡ false → RunsReader job had left tag result new middle after → PrintsCalls all had left tag result new before after
+pub PrintsCalls-read : PrintsAll → (bytes all : List ℕ) (given : List Token) (had left : Option (List ℕ)) (tag : ℕ) (result : Result (Unit {0}) JobError) (job new : JobState) (before middle after : SinkLog) → all ≡ bytes → CarriesOut opened bytes given job (under tag before middle) → job.held.ended ≡ false → RunsReader job had left result new (under tag middle after) → PrintsCalls all had left result new (under tag before after)
 PrintsCalls-read prints bytes all given had left tag result job new before middle after is goes going runs = record {
   read = runs.bytes;
   reads = runs.read;
@@ -215,11 +215,11 @@ PrintsCalls-read prints bytes all given had left tag result job new before middl
 }
 
 -- it is over then, or has failed
-pub read-over : (job new : JobState) (bytes : List ℕ) (tag : ℕ) (result : Result (Unit {0}) JobError) (before after : SinkLog) → RunsThrough job bytes tag result new before after → OnOk result (IsOver new)
+pub read-over : (job new : JobState) (bytes : List ℕ) (tag : ℕ) (result : Result (Unit {0}) JobError) (before after : SinkLog) → RunsThrough job bytes result new (under tag before after) → OnOk result (IsOver new)
 read-over job new bytes tag (Ok done) before after runs = runs.2
 read-over job new bytes tag (Err error) before after runs = tt
 
-pub read-failed : (job new : JobState) (bytes : List ℕ) (tag : ℕ) (result : Result (Unit {0}) JobError) (before after : SinkLog) → IsSome job.machine → job.held.ended ≡ false → RunsThrough job bytes tag result new before after → OnErr result (new.machine ≡ None)
+pub read-failed : (job new : JobState) (bytes : List ℕ) (tag : ℕ) (result : Result (Unit {0}) JobError) (before after : SinkLog) → IsSome job.machine → job.held.ended ≡ false → RunsThrough job bytes result new (under tag before after) → OnErr result (new.machine ≡ None)
 read-failed job new bytes tag (Ok done) before after some going runs = tt
 read-failed job new bytes tag (Err errors.ReadFault) before after some going runs = runs.0
 read-failed job new bytes tag (Err errors.AfterEnd) before after some going runs = absurd (true≢false (sym runs.0.1 ∙ going))
@@ -229,7 +229,7 @@ read-failed job new bytes tag (Err errors.NoMemory) before after some going runs
 read-failed job new bytes tag (Err errors.Failed) before after some going runs = stopped-by job new bytes tag errors.Failed before after some runs
 
 -- a job that goes on runs
-pub runs-on : (bytes : List ℕ) (given : List Token) (tag : ℕ) (job : JobState) (before after : SinkLog) → CarriesOut opened bytes given tag job before after → IsSome job.machine
+pub runs-on : (bytes : List ℕ) (given : List Token) (tag : ℕ) (job : JobState) (before after : SinkLog) → CarriesOut opened bytes given job (under tag before after) → IsSome job.machine
 runs-on bytes given tag job before after goes = some job.machine _ goes.carried.ends where
   some : (machine : Option Machine) (one : Machine) → machine ≡ Some one → IsSome machine
   some machine one is = ap is_some is
@@ -240,7 +240,7 @@ PrintedTo-none calls prints all tag told =
     prints.stopped [] all [] tag ForMemory opened told told told (λ e. cc) (calls.begins opened tag told refl) (calls.wants opened all tag told refl (λ ended. absurd (true≢false (sym ended)))) None
 
 -- the fault of the end of a stream
-pub PrintedTo-end : PrintsAll → (bytes all : List ℕ) (given : List Token) (tag : ℕ) (error : JobError) (job new : JobState) (before middle after : SinkLog) → all ≡ bytes → CarriesOut opened bytes given tag job before middle → Faults job [] tag error new middle after → PrintedTo (Some error) all tag None before after
+pub PrintedTo-end : PrintsAll → (bytes all : List ℕ) (given : List Token) (tag : ℕ) (error : JobError) (job new : JobState) (before middle after : SinkLog) → all ≡ bytes → CarriesOut opened bytes given job (under tag before middle) → Faults job [] error new (under tag middle after) → PrintedTo (Some error) all tag None before after
 PrintedTo-end prints bytes all given tag error job new before middle after is goes faults =
     let P : List ℕ → Type 0 = λ handed. PrintedTo (Some error) handed tag None before after in
     subst P (append-nil bytes ∙ sym is) (PrintedTo-fault prints bytes [] given tag error job new before middle after goes faults)

@@ -1,6 +1,6 @@
 -- The calls of a job while its stream comes, and what a stream prints by them.
 use Rattle.std.specs.Prelude.{ℕ, List, [], ◌++◌, Option, Result}
-use Rattle.press_sink.specs.SinkLog.{SinkLog}
+use Rattle.press_sink.specs.SinkLog.{SinkLog, SinkUse}
 use Rattle.press_stream.specs.declared.fault.JobError.{JobError}
 use Rattle.press_stream.specs.Answers.{Reads, fault_of}
 use Rattle.press_stream.specs.Printed.{PrintedTo}
@@ -16,7 +16,7 @@ bytes_of Step = []
 
 -- These bytes were handed in by calls, and others read of a reader behind them, all that it had where nothing stopped: so much of both
 -- went out as the answer says, and the machine is that of all where nothing stopped.
-pub record PrintsCalls (bytes : List ℕ) (had left : Option (List ℕ)) (tag : ℕ) (result : Result (Unit {0}) JobError) (job : JobState) (before after : SinkLog) : Type 0 where
+pub record PrintsCalls (bytes : List ℕ) (had left : Option (List ℕ)) (result : Result (Unit {0}) JobError) (job : JobState) (sinks : SinkUse) : Type 0 where
   pub read : List ℕ
   pub reads : Reads had left (fault_of result) read
-  pub printed : PrintedTo (fault_of result) (bytes ++ read) tag job.machine before after
+  pub printed : PrintedTo (fault_of result) (bytes ++ read) sinks.tag job.machine sinks.before sinks.after

@@ -26,22 +26,33 @@ abbrev pub line_of : EventAnswer → List ℕ
 line_of (Response (Some bytes)) = bytes ++ 10 ∷ []
 line_of _ = []
 
+-- What a call makes of the sink of its sheets, and of the responses: what both are before and after it.
+pub record EventOutputs : Type 0 where
+  pub before : SheetLog
+  pub after : SheetLog
+  pub old : List ℕ
+  pub new : List ℕ
+
+abbrev pub handing : (before after : SheetLog) (old new : List ℕ) → EventOutputs
+handing before after old new = record { before = before; after = after; old = old; new = new }
+
 -- The events happened one after another, from one world to another, and each has its answer. The sink took all sheets that they handed
 -- out, in order, and had no fault; and their responses were appended, each with a line feed.
-pub record HappenAll (world : World) (events : List Event) (last : World) (before after : SheetLog) (old new : List ℕ) : Type 0 where
+pub record HappenAll (world : World) (events : List Event) (last : World) (outputs : EventOutputs) : Type 0 where
   pub happenings : List Transition
   pub are : map (λ happening. happening.event) happenings ≡ events
   pub leads : IsExecution world happenings last
   pub answered : All (λ happening. IsAnswered happening.answer) happenings
-  pub told : after.delivered ≡ option_map (λ all. all ++ flat_map (λ happening. happening.handed) happenings) before.delivered
-  pub no_fault : after.faults ≡ before.faults
-  pub responses : new ≡ old ++ flat_map (λ happening. line_of happening.answer) happenings
+  pub told : outputs.after.delivered
+      ≡ option_map (λ all. all ++ flat_map (λ happening. happening.handed) happenings) outputs.before.delivered
+  pub no_fault : outputs.after.faults ≡ outputs.before.faults
+  pub responses : outputs.new ≡ outputs.old ++ flat_map (λ happening. line_of happening.answer) happenings
 
 -- They happened one after another to a new press of so many engines. Under each number was handed out what its entry says, as it was
--- seen last, with the steps that its turns were answered; each entry that runs is on an engine of its own; there are as many engines; and the
+-- seen last, with the steps that its turns were answered. Each entry that runs is on an engine of its own, there are as many engines, and the
 -- queue is as every queue is.
-pub record HappenFromNew (engines : ℕ) (events : List Event) (last : World) (before after : SheetLog) (old new : List ℕ) : Type 0 where
-  pub happened : HappenAll (new_world engines) events last before after old new
+pub record HappenFromNew (engines : ℕ) (events : List Event) (last : World) (outputs : EventOutputs) : Type 0 where
+  pub happened : HappenAll (new_world engines) events last outputs
   pub given : (number : ℕ) → GivenUnder (new_world engines) happened.happenings last number
   pub on_engines : RunsOnEngines last.queue last.engines
   pub count : length last.engines ≡ engines
@@ -56,7 +67,7 @@ FaultLeaves Nothing error old new = ⊥
 
 -- The events happened up to a fault. A prefix of them happened, and had none; then one was stopped by the fault, and those behind it did
 -- not happen. Of the one that was stopped the sink took what it handed out, and had a fault exactly where that is answered.
-pub record HappenUpTo (error : TurnError) (world : World) (events : List Event) (last : World) (before after : SheetLog) (old new : List ℕ) : Type 0 where
+pub record HappenUpTo (error : TurnError) (world : World) (events : List Event) (last : World) (outputs : EventOutputs) : Type 0 where
   pub prefix : List Event
   pub stopped : Transition
   pub behind : List Event
@@ -64,15 +75,15 @@ pub record HappenUpTo (error : TurnError) (world : World) (events : List Event) 
   pub between : World
   pub told : SheetLog
   pub said : List ℕ
-  pub happened : HappenAll world prefix between before told old said
+  pub happened : HappenAll world prefix between (handing outputs.before told outputs.old said)
   pub leads : IsExecution between (stopped ∷ []) last
-  pub handed : WereHandedOut {A = Turn} stopped.handed (Err error) told after
-  pub leaves : FaultLeaves stopped.answer error said new
+  pub handed : WereHandedOut {A = Turn} stopped.handed (Err error) told outputs.after
+  pub leaves : FaultLeaves stopped.answer error said outputs.new
 
 -- They happened up to a fault to a new press of so many engines. What was handed out under each number, the engines and the queue are
 -- as where all happened, with the event that was stopped as the last of the run.
-pub record HappenFromNewUpTo (error : TurnError) (engines : ℕ) (events : List Event) (last : World) (before after : SheetLog) (old new : List ℕ) : Type 0 where
-  pub happened : HappenUpTo error (new_world engines) events last before after old new
+pub record HappenFromNewUpTo (error : TurnError) (engines : ℕ) (events : List Event) (last : World) (outputs : EventOutputs) : Type 0 where
+  pub happened : HappenUpTo error (new_world engines) events last outputs
   pub given : (number : ℕ) → GivenUnder (new_world engines) (happened.happened.happenings ++ happened.stopped ∷ []) last number
   pub on_engines : RunsOnEngines last.queue last.engines
   pub count : length last.engines ≡ engines

@@ -1,7 +1,7 @@
 //! A stream by any calls of a job, and by a reader behind them.
 ghost use Rattle.std.specs.Prelude.{◌≡◌, List, Some, None, IsSome, false, IfOk, IfErr, OnErr, OnOk};
 ghost use Rattle.std.specs.List.{flat_map};
-ghost use Rattle.press_sink.specs.SinkLog.{logs, HasFaultRoom};
+ghost use Rattle.press_sink.specs.SinkLog.{logs, HasFaultRoom, under};
 ghost use Rattle.press_sink.specs.Sending.{Complete};
 ghost use Rattle.press_stream.specs.Answers.{FaultsBefore};
 ghost use Rattle.press_stream.specs.Meaning.{CarriesOut};
@@ -87,10 +87,10 @@ pub fn print_stream<R: Read, S: SheetSink, P: ReplySink>(
     replies: &mut P,
 ) -> Result<PrintedStream, AllocError>
     requires { HasFaultRoom (logs (S.told sheets.old) (P.told replies.old)) }
-    ensures prints { IfOk result (λ printed. PrintsCalls (flat_map bytes_of calls.now)
-        (R.remaining reader.old) (R.remaining reader.new) tag printed.result printed.job
-        (logs (S.told sheets.old) (P.told replies.old))
-        (logs (S.told sheets.new) (P.told replies.new))) }
+    ensures prints { IfOk result (λ printed. PrintsCalls (flat_map bytes_of calls.now) (R.remaining
+        reader.old) (R.remaining reader.new) printed.result printed.job
+        (under tag (logs (S.told sheets.old) (P.told replies.old))
+        (logs (S.told sheets.new) (P.told replies.new)))) }
     ensures over { IfOk result (λ printed. OnOk printed.result (IsOver printed.job)) }
     ensures failed { IfOk result (λ printed. OnErr printed.result (printed.job.machine ≡ None)) }
     ensures nothing { OnErr result ((reader.new ≡ reader.old) × (sheets.new ≡ sheets.old)
@@ -112,10 +112,10 @@ fn run_calls<R: Read, S: SheetSink, P: ReplySink>(
 ) -> Result<(), JobError>
     requires opened { job.old ≡ opened }
     requires has_fault_room { HasFaultRoom (logs (S.told sheets.old) (P.told replies.old)) }
-    ensures prints { PrintsCalls (flat_map bytes_of calls.now)
-        (R.remaining reader.old) (R.remaining reader.new) tag result job.new
-        (logs (S.told sheets.old) (P.told replies.old))
-        (logs (S.told sheets.new) (P.told replies.new)) }
+    ensures prints { PrintsCalls (flat_map bytes_of calls.now) (R.remaining reader.old)
+        (R.remaining reader.new) result job.new
+        (under tag (logs (S.told sheets.old) (P.told replies.old))
+        (logs (S.told sheets.new) (P.told replies.new))) }
     ensures over { OnOk result (IsOver job.new) }
     ensures failed { OnErr result (job.new.machine ≡ None) }
 {
@@ -138,15 +138,15 @@ fn make<S: SheetSink, P: ReplySink>(
     requires going { job.old.held.ended ≡ false }
     requires has_fault_room { HasFaultRoom (logs (S.told sheets.old) (P.told replies.old)) }
     ensures goes { OnOk result ((given : List Token)
-        × CarriesOut job.old (bytes_of call.entry) given tag job.new
-        (logs (S.told sheets.old) (P.told replies.old))
-        (logs (S.told sheets.new) (P.told replies.new))) }
+        × CarriesOut job.old (bytes_of call.entry) given job.new
+        (under tag (logs (S.told sheets.old) (P.told replies.old))
+        (logs (S.told sheets.new) (P.told replies.new)))) }
     ensures going { OnOk result (job.new.held.ended ≡ false) }
     ensures failed { OnErr result (job.new.machine ≡ None) }
     ensures faults { IfErr result (λ error.
-        FaultsBefore job.old (bytes_of call.entry) tag error job.new
-        (logs (S.told sheets.old) (P.told replies.old))
-        (logs (S.told sheets.new) (P.told replies.new))) }
+        FaultsBefore job.old (bytes_of call.entry) error job.new
+        (under tag (logs (S.told sheets.old) (P.told replies.old))
+        (logs (S.told sheets.new) (P.told replies.new)))) }
 {
     laws::chain();
     match call {

@@ -4,7 +4,7 @@ ghost use Rattle.press_pbm.specs.Spelling.{AppendsPrefix};
 ghost use Rattle.press_sink.specs.SinkLog.{most_faults};
 ghost use Rattle.press_core.specs.Engines.{are_engines};
 ghost use Rattle.press_core.specs.World.{new_world};
-ghost use Rattle.press_theorem.specs.Events.{HappenAll, HappenFromNew, HappenFromNewUpTo, HappenUpTo, event_of};
+ghost use Rattle.press_theorem.specs.Events.{HappenAll, HappenFromNew, HappenFromNewUpTo, HappenUpTo, event_of, handing};
 
 use press_bits::Bitmap;
 use press_core::{OperatorCommand, Press, TurnError, laws};
@@ -48,16 +48,19 @@ pub fn carry_out_events<S: SheetSink>(
 ) -> Result<(), TurnError>
     requires { (S.told sheets.old).faults < most_faults }
     ensures all { OnOk result (HappenAll press.old (map event_of events.now) press.new
-        (S.told sheets.old) (S.told sheets.new) responses.old.items responses.new.items) }
+        (handing (S.told sheets.old) (S.told sheets.new) responses.old.items responses.new.items)) }
     ensures from_new { OnOk result ((engines : ℕ) → IsTrue (are_engines engines)
         → press.old ≡ new_world engines → HappenFromNew engines (map event_of events.now) press.new
-        (S.told sheets.old) (S.told sheets.new) responses.old.items responses.new.items) }
+        (handing (S.told sheets.old) (S.told sheets.new) responses.old.items
+        responses.new.items)) }
     ensures err { IfErr result (λ error. HappenUpTo error press.old (map event_of events.now)
-        press.new (S.told sheets.old) (S.told sheets.new) responses.old.items responses.new.items) }
+        press.new
+        (handing (S.told sheets.old) (S.told sheets.new) responses.old.items responses.new.items)) }
     ensures err_from_new { IfErr result (λ error. (engines : ℕ) → IsTrue (are_engines engines)
         → press.old ≡ new_world engines
         → HappenFromNewUpTo error engines (map event_of events.now) press.new
-        (S.told sheets.old) (S.told sheets.new) responses.old.items responses.new.items) }
+        (handing (S.told sheets.old) (S.told sheets.new) responses.old.items
+        responses.new.items)) }
 {
     laws::sheets_are_given();
     laws::entries_are_bounded();
@@ -76,9 +79,10 @@ fn carry_out<S: SheetSink>(
 ) -> Result<(), TurnError>
     requires { (S.told sheets.old).faults < most_faults }
     ensures all { OnOk result (HappenAll press.old (event_of event.entry ∷ []) press.new
-        (S.told sheets.old) (S.told sheets.new) responses.old.items responses.new.items) }
+        (handing (S.told sheets.old) (S.told sheets.new) responses.old.items responses.new.items)) }
     ensures err { IfErr result (λ error. HappenUpTo error press.old (event_of event.entry ∷ [])
-        press.new (S.told sheets.old) (S.told sheets.new) responses.old.items responses.new.items) }
+        press.new
+        (handing (S.told sheets.old) (S.told sheets.new) responses.old.items responses.new.items)) }
 {
     match event {
         PressEvent::Message { text, images } => {

@@ -39,8 +39,8 @@ reply_told replies = if length replies == 0 then None else Some (string (text_of
 abbrev pub view_object : Option View → View → Option Data
 view_object before now = object_if (view_told before now)
 
--- Where a step stands: the command of the stream to which it belongs, by its first byte and how many it has; how many bodies run,
--- how many sheets were handed out, how many steps were taken, and the cursor in 1/7200 inch.
+-- Where a step stands. It tells the command of the stream to which the step belongs, by its first byte and how many bytes it has. It tells
+-- how many bodies run, how many sheets were handed out, how many steps were taken, and the cursor in 1/7200 inch.
 abbrev pub where_members : Place → View → Members → Members
 where_members place now members =
     put (codes "y") (number (of_integer now.y.0))

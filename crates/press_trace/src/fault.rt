@@ -5,7 +5,7 @@ use std::alloc::AllocError;
 use std::error::Error;
 use std::{fmt, io};
 
-/// What is told where an answer, a line or a listing cannot be written: it has no number.
+/// What is told where an answer, a text, a line or a listing cannot be written: it has no number.
 pub const NO_OUTPUT: &str = "fault output";
 
 /// Why the telling of a trace ended early.

@@ -5,7 +5,7 @@ use Rattle.press_asm.proofs.form.form_of.Goals as goal
 
 pub returns : goal.returns
 returns c =
-    let name = c.split_at.ensures.prefix ∙ take_least c.min.result c.args.line.now c.min.ensures in
+    let name = c.split_at.ensures.front ∙ take_least c.min.result c.args.line.now c.min.ensures in
     let rest = c.split_at.ensures.back ∙ drop_least c.min.result c.args.line.now c.min.ensures in
     let text : c.as_slice.result.now ≡ codes "uel" = search rules in
     let other : bytes_eq c.args.line.now (codes "uel") ≡ false = ap (bytes_eq c.args.line.now) (sym text) ∙ sym c.if-eq.ensures in

@@ -2,7 +2,7 @@ use Rattle.std.proofs.Common.{◌≡◌, ◌<◌, ◌-◌, ℕ, suc, true, repli
 use Rattle.std.specs.Prelude.{nat_lt}
 use Rattle.std.proofs.lemmas.Bool.Decides.{nat_tests}
 use Rattle.press_sink.specs.SinkLog.{most_faults}
-use Rattle.press_core.specs.Handing.{HandsOver}
+use Rattle.press_core.specs.Handing.{HandsOver, handing}
 use Rattle.press_core.proofs.HandingLemmas.{HandsOver-then}
 use Rattle.press_core.proofs.handing.hand_over_copies.Goals as goal
 
@@ -21,6 +21,6 @@ loop-left-preserved g c =
       has_fault_room = subst (λ n. n < most_faults) (sym c.in_ok-deliver.ensures.1) c.loop-left.invariant.has_fault_room;
       rest = λ result after count hands.
           c.loop-left.invariant.rest result after count
-          (subst (λ n. HandsOver c.args.number (replicate n c.args.sheet.now) result (g.S.SheetSink.told c.loop-left.sink) after c.loop-left.delivered count) (sym left)
+          (subst (λ n. HandsOver (replicate n c.args.sheet.now) result (handing c.args.number (g.S.SheetSink.told c.loop-left.sink) after) c.loop-left.delivered count) (sym left)
           (HandsOver-then c.args.number c.args.sheet.now (replicate (c.loop-left.left - 1) c.args.sheet.now) result _ _ after c.loop-left.delivered c.saturating_add.result count c.in_ok-deliver.ensures c.saturating_add.ensures hands));
     }

@@ -1,7 +1,7 @@
 use Rattle.std.proofs.Common.{◌+◌, [], ◌∷◌, map, take, drop, subst}
 use Rattle.std.proofs.lemmas.List.{take_all}
 use Rattle.std.proofs.lemmas.Result.{err_from_is_err_and}
-use Rattle.press_theorem.specs.Events.{HappenAll, event_of}
+use Rattle.press_theorem.specs.Events.{HappenAll, event_of, handing}
 use Rattle.press_theorem.proofs.EventLemmas.{HappenAll-none, HappenAll-then, HappenUpTo-behind, has_fault_room-then, events-next, events-rest, from-new, up-to-from-new}
 use Rattle.press_theorem.proofs.events.carry_out_events.Goals as goal
 
@@ -29,7 +29,7 @@ returns-clause-all g c =
     let told = g.S.SheetSink.told in
     let events = c.args.events.now in
     let i = c.loop-event.event-index in
-    subst (λ (some : _). HappenAll c.args.press.now (map event_of some) c.loop-event.press (told c.args.sheets.now) (told c.loop-event.sheets) c.args.responses.now.items c.loop-event.responses.items) (take_all i events c.loop-event-test.false) c.loop-event.invariant.happened
+    subst (λ (some : _). HappenAll c.args.press.now (map event_of some) c.loop-event.press (handing (told c.args.sheets.now) (told c.loop-event.sheets) c.args.responses.now.items c.loop-event.responses.items)) (take_all i events c.loop-event-test.false) c.loop-event.invariant.happened
 
 pub returns-clause-from_new : goal.returns-clause-from_new
 returns-clause-from_new g c = λ engines are new.
@@ -37,7 +37,7 @@ returns-clause-from_new g c = λ engines are new.
     let events = c.args.events.now in
     let i = c.loop-event.event-index in
     from-new c.sheets_are_given.ensures c.entries_are_bounded.ensures c.args.press.now engines (map event_of events) c.loop-event.press (told c.args.sheets.now) (told c.loop-event.sheets) c.args.responses.now.items c.loop-event.responses.items are new
-    (subst (λ (some : _). HappenAll c.args.press.now (map event_of some) c.loop-event.press (told c.args.sheets.now) (told c.loop-event.sheets) c.args.responses.now.items c.loop-event.responses.items) (take_all i events c.loop-event-test.false) c.loop-event.invariant.happened)
+    (subst (λ (some : _). HappenAll c.args.press.now (map event_of some) c.loop-event.press (handing (told c.args.sheets.now) (told c.loop-event.sheets) c.args.responses.now.items c.loop-event.responses.items)) (take_all i events c.loop-event-test.false) c.loop-event.invariant.happened)
 
 pub returns-in_err-carry_out-clause-err : goal.returns-in_err-carry_out-clause-err
 returns-in_err-carry_out-clause-err g c =

@@ -1,6 +1,6 @@
 use Rattle.std.proofs.Common.{◌≡◌, ◌++◌, ◌∙◌, ℕ, List, [], refl, sym, ap, subst, append_assoc, append-nil}
 use Rattle.press_sink.specs.Kept.{deliveries, replied}
-use Rattle.press_sink.specs.SinkLog.{SinkLog}
+use Rattle.press_sink.specs.SinkLog.{SinkLog, under}
 use Rattle.press_stream.specs.Meaning.{CarriesOut}
 use Rattle.press_stream.specs.State.{opened}
 use Rattle.press_writer.specs.Left.{bytes_left}
@@ -18,7 +18,7 @@ loop-piece-init c =
       left = refl;
       held = c.new-piece.ensures.items;
       given = [];
-      goes = subst (λ (told : SinkLog). CarriesOut opened [] [] c.args.tag c.in_ok-job.job (told_by [] []) told) (sym fresh) (CarriesOut-opened c.chain.ensures.calls c.in_ok-job.job c.args.tag (told_by [] []) c.in_ok-job.ensures);
+      goes = subst (λ (told : SinkLog). CarriesOut opened [] [] c.in_ok-job.job (under c.args.tag (told_by [] []) told)) (sym fresh) (CarriesOut-opened c.chain.ensures.calls c.in_ok-job.job c.args.tag (told_by [] []) c.in_ok-job.ensures);
       going = opened-going c.in_ok-job.job c.in_ok-job.ensures;
     }
 

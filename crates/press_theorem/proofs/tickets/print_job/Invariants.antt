@@ -1,4 +1,5 @@
 use Rattle.std.proofs.Common.{◌≡◌, ◌++◌, ℕ, List, [], length, false}
+use Rattle.press_sink.specs.SinkLog.{under}
 use Rattle.press_cmd.specs.Token.{Token}
 use Rattle.press_sink.specs.Kept.{deliveries, replied}
 use Rattle.press_stream.specs.Meaning.{CarriesOut}
@@ -15,7 +16,7 @@ invariant-loop-piece l = record {
   left : bytes_left l.fn.writer l.images ≡ done ++ bytes_left l.writer l.images;
   held : l.piece.items ≡ [];
   given : List Token;
-  goes : CarriesOut opened done given l.tag l.job (told_by [] []) (told_by (deliveries l.sheets) (replied l.replies));
+  goes : CarriesOut opened done given l.job (under l.tag (told_by [] []) (told_by (deliveries l.sheets) (replied l.replies)));
   going : l.job.held.ended ≡ false;
 }
 

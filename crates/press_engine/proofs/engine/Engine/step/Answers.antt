@@ -1,7 +1,7 @@
 use Rattle.std.proofs.Common.{◌≢◌, ◌∙◌, List, [], Ok, Err, sym, ap, subst}
 use Rattle.std.proofs.lemmas.Result.{err_from_is_err_and}
 use Rattle.press_cmd.specs.View.{token}
-use Rattle.press_sink.specs.SinkLog.{logs}
+use Rattle.press_sink.specs.SinkLog.{logs, under}
 use Rattle.press_engine.specs.declared.effect.Sent.{Sent}
 use Rattle.press_engine.specs.declared.engine.Engine.{Engine}
 use Rattle.press_engine.specs.Engine.{machine_of, bodies, Sends, TakesNext}
@@ -35,7 +35,7 @@ returns-in_err-hand_over-clause-memory g c stops =
 
 pub returns-clause-takes : goal.returns-clause-takes
 returns-clause-takes g c =
-    let Q : Engine → Type 0 = λ engine. TakesNext (machine_of c.args.self.now) (trace_at macro_levels (token c.args.command)) c.args.tag (Ok c.in_ok-step.step.kind) (machine_of engine) (bodies engine) (logs (g.S.SheetSink.told c.args.sheets.now) (g.R.ReplySink.told c.args.replies.now)) (logs (g.S.SheetSink.told c.hand_over.new.sheets) (g.R.ReplySink.told c.hand_over.new.replies)) in
+    let Q : Engine → Type 0 = λ engine. TakesNext (machine_of c.args.self.now) (trace_at macro_levels (token c.args.command)) (Ok c.in_ok-step.step.kind) (machine_of engine) (bodies engine) (under c.args.tag (logs (g.S.SheetSink.told c.args.sheets.now) (g.R.ReplySink.told c.args.replies.now)) (logs (g.S.SheetSink.told c.hand_over.new.sheets) (g.R.ReplySink.told c.hand_over.new.replies))) in
     let P : List Sent → Type 0 = λ sent. Sends c.args.tag (all_outputs sent) (Ok tt) (logs (g.S.SheetSink.told c.args.sheets.now) (g.R.ReplySink.told c.args.replies.now)) (logs (g.S.SheetSink.told c.hand_over.new.sheets) (g.R.ReplySink.told c.hand_over.new.replies)) in
     subst Q (sym (c.reuse.ensures ∙ c.in_ok-hand_over.ensures.left))
     (takes-ok (machine_of c.args.self.now) (trace_at macro_levels (token c.args.command)) c.in_ok-step.step (machine_of c.take_step.new.self) (bodies c.take_step.new.self) c.args.tag _ _ c.in_ok-step.ensures.steps (subst P c.deref.ensures.value c.in_ok-hand_over.ensures.sends))

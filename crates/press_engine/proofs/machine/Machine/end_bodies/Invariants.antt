@@ -3,7 +3,8 @@ use Rattle.press_engine.specs.Stack.{unwind, EndsOverlay}
 use Rattle.press_engine.specs.Stepping.{run_of}
 use Rattle.press_engine.proofs.machine.Machine.end_bodies.Given as goal
 
--- the bodies that are left end as all of them do
+-- Where the bodies that are left unwind from what went out so far, all of them unwind from what had gone out at first. An overlay that
+-- ends among those that are left ends among all.
 abbrev pub invariant-loop-alloc : goal.invariant-loop-alloc
 invariant-loop-alloc l = record {
   ends : unwind l.activations.items (run_of l.self l.out.items) ≡ unwind l.fn.activations.items (run_of l.fn.self l.fn.out.items);

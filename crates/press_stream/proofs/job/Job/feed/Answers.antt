@@ -14,42 +14,12 @@ returns-clause-feeds g c =
     let drains = rw c.in_ok-drain.was at c.drain.ensures.drains in
     Feeds-then c.args.self.now c.drain.new.self c.feed_by_parts.new.self c.args.piece.now drains.0 c.args.tag c.feed_by_parts.result _ _ _ going drains.1 (hungry_of c.args.self.now c.drain.new.self c.args.tag _ _ _ going drains) c.feed_by_parts.ensures
 
-pub returns-in_err-drain-clause-failed : goal.returns-in_err-drain-clause-failed
-returns-in_err-drain-clause-failed g c =
+pub returns-in_err-drain-clause-answered : goal.returns-in_err-drain-clause-answered
+returns-in_err-drain-clause-answered g c =
     let going = (rw c.in_ok-check_going.was at c.check_going.ensures).1 in
-    (Answered-feed c.args.self.now c.drain.new.self c.args.piece.now c.args.tag c.from_residual-in_err-drain.result _ _ going (returns-in_err-drain-clause-feeds g c)).failed
+    Answered-feed c.args.self.now c.drain.new.self c.args.piece.now c.args.tag c.from_residual-in_err-drain.result _ _ going (returns-in_err-drain-clause-feeds g c)
 
-pub returns-in_err-drain-clause-unchanged : goal.returns-in_err-drain-clause-unchanged
-returns-in_err-drain-clause-unchanged g c =
+pub returns-clause-answered : goal.returns-clause-answered
+returns-clause-answered g c =
     let going = (rw c.in_ok-check_going.was at c.check_going.ensures).1 in
-    (Answered-feed c.args.self.now c.drain.new.self c.args.piece.now c.args.tag c.from_residual-in_err-drain.result _ _ going (returns-in_err-drain-clause-feeds g c)).unchanged
-
-pub returns-in_err-drain-clause-lost : goal.returns-in_err-drain-clause-lost
-returns-in_err-drain-clause-lost g c =
-    let going = (rw c.in_ok-check_going.was at c.check_going.ensures).1 in
-    (Answered-feed c.args.self.now c.drain.new.self c.args.piece.now c.args.tag c.from_residual-in_err-drain.result _ _ going (returns-in_err-drain-clause-feeds g c)).lost
-
-pub returns-in_err-drain-clause-counts : goal.returns-in_err-drain-clause-counts
-returns-in_err-drain-clause-counts g c =
-    let going = (rw c.in_ok-check_going.was at c.check_going.ensures).1 in
-    (Answered-feed c.args.self.now c.drain.new.self c.args.piece.now c.args.tag c.from_residual-in_err-drain.result _ _ going (returns-in_err-drain-clause-feeds g c)).counts
-
-pub returns-clause-failed : goal.returns-clause-failed
-returns-clause-failed g c =
-    let going = (rw c.in_ok-check_going.was at c.check_going.ensures).1 in
-    (Answered-feed c.args.self.now c.feed_by_parts.new.self c.args.piece.now c.args.tag c.feed_by_parts.result _ _ going (returns-clause-feeds g c)).failed
-
-pub returns-clause-unchanged : goal.returns-clause-unchanged
-returns-clause-unchanged g c =
-    let going = (rw c.in_ok-check_going.was at c.check_going.ensures).1 in
-    (Answered-feed c.args.self.now c.feed_by_parts.new.self c.args.piece.now c.args.tag c.feed_by_parts.result _ _ going (returns-clause-feeds g c)).unchanged
-
-pub returns-clause-lost : goal.returns-clause-lost
-returns-clause-lost g c =
-    let going = (rw c.in_ok-check_going.was at c.check_going.ensures).1 in
-    (Answered-feed c.args.self.now c.feed_by_parts.new.self c.args.piece.now c.args.tag c.feed_by_parts.result _ _ going (returns-clause-feeds g c)).lost
-
-pub returns-clause-counts : goal.returns-clause-counts
-returns-clause-counts g c =
-    let going = (rw c.in_ok-check_going.was at c.check_going.ensures).1 in
-    (Answered-feed c.args.self.now c.feed_by_parts.new.self c.args.piece.now c.args.tag c.feed_by_parts.result _ _ going (returns-clause-feeds g c)).counts
+    Answered-feed c.args.self.now c.feed_by_parts.new.self c.args.piece.now c.args.tag c.feed_by_parts.result _ _ going (returns-clause-feeds g c)

@@ -1,21 +1,9 @@
 use Rattle.press_stream.proofs.Refusals.{Answered-run, not_after_end}
 use Rattle.press_stream.proofs.job.Job.run_counted.Goals as goal
 
-pub returns-clause-failed : goal.returns-clause-failed
-returns-clause-failed g c =
-    (Answered-run c.args.self.now c.read_through.new.self c.read_through.ensures.runs.bytes c.args.tag c.read_through.result _ _ c.read_through.ensures.runs.through).failed
-
-pub returns-clause-unchanged : goal.returns-clause-unchanged
-returns-clause-unchanged g c =
-    (Answered-run c.args.self.now c.read_through.new.self c.read_through.ensures.runs.bytes c.args.tag c.read_through.result _ _ c.read_through.ensures.runs.through).unchanged
-
-pub returns-clause-lost : goal.returns-clause-lost
-returns-clause-lost g c =
-    (Answered-run c.args.self.now c.read_through.new.self c.read_through.ensures.runs.bytes c.args.tag c.read_through.result _ _ c.read_through.ensures.runs.through).lost
-
-pub returns-clause-counts : goal.returns-clause-counts
-returns-clause-counts g c =
-    (Answered-run c.args.self.now c.read_through.new.self c.read_through.ensures.runs.bytes c.args.tag c.read_through.result _ _ c.read_through.ensures.runs.through).counts
+pub returns-clause-answered : goal.returns-clause-answered
+returns-clause-answered g c =
+    Answered-run c.args.self.now c.read_through.new.self c.read_through.ensures.runs.bytes c.args.tag c.read_through.result _ _ c.read_through.ensures.runs.through
 
 pub returns-clause-refused : goal.returns-clause-refused
 returns-clause-refused g c = λ after.
