@@ -1,5 +1,6 @@
 -- Lines of a debugger, some after others.
 use Rattle.std.proofs.Common.{◌≡◌, ◌∙◌, ℕ, List, [], ◌∷◌, ◌++◌, true, false, Option, Ok, Err, refl, sym, ap, subst, inl, inr}
+use Rattle.press_main.specs.Change.{change}
 use Rattle.std.specs.Io.KnownBytes.{Consumes, Appends}
 use Rattle.std.proofs.KnownBytes.{Appends-nil, Appends-trans, Consumes-nil, Consumes-trans}
 use Rattle.std.proofs.lemmas.List.{append_assoc, append-nil}
@@ -98,7 +99,7 @@ module _ (bytes : List ℕ) (at : Seat) (had old : Option (List ℕ)) where
         }
 
     -- no line was read
-    pub IsAnswered-unread : (error : InputError) (why : DebugError) → why ≡ Input error → GivesLine (Err error) held holds left rest line → AnswersSome bytes at had rest old written why
+    pub IsAnswered-unread : (error : InputError) (why : DebugError) → why ≡ Input error → GivesLine (Err error) held holds left rest line → AnswersSome bytes at had rest (change old written) why
     IsAnswered-unread error why is given =
         let last = reads-no-more error held holds left rest line so_far.text so_far.lines so_far.cut given in
         record {
@@ -114,7 +115,7 @@ module _ (bytes : List ℕ) (at : Seat) (had old : Option (List ℕ)) where
         }
 
     -- a line was not answered
-    pub IsAnswered-stops : (out : Option (List ℕ)) (why : DebugError) → GivesLine (Ok true) held holds left rest line → StopsAtLine line mid written out why → AnswersSome bytes at had rest old out why
+    pub IsAnswered-stops : (out : Option (List ℕ)) (why : DebugError) → GivesLine (Ok true) held holds left rest line → StopsAtLine line mid written out why → AnswersSome bytes at had rest (change old out) why
     IsAnswered-stops out why given stops =
         let read = given.0 in
         record {
@@ -130,7 +131,7 @@ module _ (bytes : List ℕ) (at : Seat) (had old : Option (List ℕ)) where
         }
 
     -- the last line was not answered
-    pub IsAnswered-stops_last : (out : Option (List ℕ)) (why : DebugError) → GivesLine (Ok false) held holds left rest line → lines_of line ≡ line ∷ [] → StopsAtLine line mid written out why → AnswersSome bytes at had rest old out why
+    pub IsAnswered-stops_last : (out : Option (List ℕ)) (why : DebugError) → GivesLine (Ok false) held holds left rest line → lines_of line ≡ line ∷ [] → StopsAtLine line mid written out why → AnswersSome bytes at had rest (change old out) why
     IsAnswered-stops_last out why given one stops =
         record {
           text = so_far.text ++ given.0;
@@ -156,5 +157,5 @@ module _ (stream rest had left old new : Option (List ℕ)) (bytes : List ℕ) (
   pub Debugs-all : ((all : List ℕ) → StandsIn all steps → AnswersAll all (seat steps breaks) had left old new) → Debugs stream rest had left old new
   Debugs-all answers = (bytes, read, subst (λ (at : Seat). AnswersAll bytes at had left old new) same_seat (answers bytes stands))
 
-  pub StopsDebugging-some : (why : DebugError) → ((all : List ℕ) → StandsIn all steps → AnswersSome all (seat steps breaks) had left old new why) → StopsDebugging stream rest had left old new why
-  StopsDebugging-some why answers = inr (bytes, read, subst (λ (at : Seat). AnswersSome bytes at had left old new why) same_seat (answers bytes stands))
+  pub StopsDebugging-some : (why : DebugError) → ((all : List ℕ) → StandsIn all steps → AnswersSome all (seat steps breaks) had left (change old new) why) → StopsDebugging stream rest had left (change old new) why
+  StopsDebugging-some why answers = inr (bytes, read, subst (λ (at : Seat). AnswersSome bytes at had left (change old new) why) same_seat (answers bytes stands))

@@ -6,7 +6,7 @@ use Rattle.std.proofs.lemmas.Option.{same_Some}
 use Rattle.press_cmd.specs.Split.{Closed}
 use Rattle.press_sink.specs.PrintedSheet.{PrintedSheet}
 use Rattle.press_sink.specs.declared.sheet.Delivery.{Delivery}
-use Rattle.press_sink.specs.SinkLog.{SinkLog}
+use Rattle.press_sink.specs.SinkLog.{SinkLog, under}
 use Rattle.press_sink.specs.Sending.{sheets_of, sheets_in, under_tag, reply_bytes_of}
 use Rattle.press_sink.proofs.SendingLemmas.{sheets_in-tagged}
 use Rattle.press_stream.specs.declared.fault.JobError.{JobError}
@@ -78,9 +78,9 @@ lists-printed (Ok job) true (Some bytes) left old new stream zero =
     (commands, subst S (read_all bytes left stream.prints.bytes stream.prints.read) stream.prints.printed.closed, subst R (ap (λ (all : List PrintedSheet). lines_from 1 all ++ stream.replies) all_sheets ∙ ap (λ (all : List ℕ). lines_from 1 sheets ++ all) all_replies) (stream.lists refl))
 
 -- what the sinks tell, and what is listed of it
-pub lists-stream : (printed : Result JobState JobError) (written : Bool) (had left old new : Option (List ℕ)) (first last deliveries : List Delivery) (nothing all replies : List ℕ) → first ≡ [] → nothing ≡ [] → last ≡ deliveries → all ≡ replies → Printed had left 0 (fault_of printed) (machine_of printed) (took first nothing) (took last all) → (written ≡ true → Appends old new (lines_from 1 (sheets_in deliveries) ++ replies)) → ListsPrinted printed written had left old new
+pub lists-stream : (printed : Result JobState JobError) (written : Bool) (had left old new : Option (List ℕ)) (first last deliveries : List Delivery) (nothing all replies : List ℕ) → first ≡ [] → nothing ≡ [] → last ≡ deliveries → all ≡ replies → Printed had left (fault_of printed) (machine_of printed) (under 0 (took first nothing) (took last all)) → (written ≡ true → Appends old new (lines_from 1 (sheets_in deliveries) ++ replies)) → ListsPrinted printed written had left old new
 lists-stream printed written had left old new first last deliveries nothing all replies p q r s prints lists =
-    let P : SinkLog → SinkLog → Type 0 = λ before after. Printed had left 0 (fault_of printed) (machine_of printed) before after in
+    let P : SinkLog → SinkLog → Type 0 = λ before after. Printed had left (fault_of printed) (machine_of printed) (under 0 before after) in
     let begun : took first nothing ≡ took [] [] = cc (p, q) in
     let ended : took last all ≡ took deliveries replies = cc (r, s) in
     record { deliveries = deliveries; replies = replies; prints = subst (λ (told : SinkLog). P told (took deliveries replies)) begun (subst (P (took first nothing)) ended prints); lists = lists }

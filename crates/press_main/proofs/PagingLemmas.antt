@@ -1,5 +1,6 @@
 -- A stream behind so many of its steps.
 use Rattle.std.proofs.Common.{◌≡◌, ◌∙◌, ◌≤◌, ◌+◌, ℕ, List, [], ◌∷◌, ◌++◌, length, length-append, take, Option, Some, Result, Ok, Err, IfErr, IfSome, IsErrAnd, refl, sym, ap, subst, arith}
+use Rattle.press_main.specs.Change.{change}
 use Rattle.std.proofs.lemmas.Result.{err_from_is_err_and}
 use Rattle.std.proofs.lemmas.List.{take_all}
 use Rattle.std.proofs.Math.Seq.{take-append_seam}
@@ -74,15 +75,15 @@ module _ (had left : Option (List ℕ)) (bytes : List ℕ) (read : ReadWhole had
   )
 
   no_page : (name : List ℕ) (before after : Option (List MadeOutput)) (why : PagingError) → (at : StandsAt bytes steps now)
-      → MakesPage (page_now (machine_of at).state) name (Err why) before after → StopsPaging steps name had left before after why
+      → MakesPage (page_now (machine_of at).state) name (Err why) before after → StopsPaging steps name had left (change before after) why
   no_page name before after WriteFault at prefix = (page_behind steps at.items, has_page at, prefix)
   no_page name before after NoMemory at same = same
   no_page name before after (Input why) at makes = absurd makes
 
   pub page_stopped : (name : List ℕ) (before after : Option (List MadeOutput)) (result : Result ℕ PagingError) (error : PagingError)
       → StandsAt bytes steps now → IfSome now.job.machine (λ machine. MakesPage (page_now machine.state) name (Err error) before after)
-      → IsErrAnd result (λ why. why ≡ error) → IfErr result (λ why. StopsPaging steps name had left before after why)
+      → IsErrAnd result (λ why. why ≡ error) → IfErr result (λ why. StopsPaging steps name had left (change before after) why)
   page_stopped name before after result error at makes is =
       let found = err_from_is_err_and result is in
       let here = at_machine now.job.machine (λ machine. MakesPage (page_now machine.state) name (Err error) before after) (machine_of at) at.state makes in
-      rw found.1 (subst (λ (why : PagingError). StopsPaging steps name had left before after why) (sym found.2) (no_page name before after error at here))
+      rw found.1 (subst (λ (why : PagingError). StopsPaging steps name had left (change before after) why) (sym found.2) (no_page name before after error at here))

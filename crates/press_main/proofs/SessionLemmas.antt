@@ -1,5 +1,6 @@
 -- Lines of a session, some after others.
 use Rattle.std.proofs.Common.{◌≡◌, ◌∙◌, ℕ, List, [], ◌∷◌, ◌++◌, codes, true, false, Option, Some, None, option_map, Result, Ok, Err, OnOk, IfErr, refl, sym, ap, subst, inl, inr}
+use Rattle.press_main.specs.Change.{change}
 use Rattle.std.specs.Io.KnownBytes.{Consumes, Appends}
 use Rattle.std.proofs.KnownBytes.{Appends-nil, Appends-trans, Consumes-nil, Consumes-trans}
 use Rattle.std.specs.List.{All}
@@ -20,7 +21,7 @@ use Rattle.press_main.specs.declared.sessions.SessionError.TheVariants.{Engines,
 use Rattle.press_main.specs.EntryListing.{entry_listing}
 use Rattle.press_main.specs.EventLines.{EventLine, event_of_line}
 use Rattle.press_main.specs.LineReading.{GivesLine}
-use Rattle.press_main.specs.Sessions.{Inputs, answer_text, answer_to, answers_to, happenings_in, handed_in, turn_text, AreLinesOf, TakesEvent, TakesAsked, TakesLines, Plays, PlaysToItsEnd, StopsAtLine, Ends, StopsEnding, StopsListing, StopsPlaying, Stops}
+use Rattle.press_main.specs.Sessions.{Inputs, answer_text, answer_to, answers_to, happenings_in, handed_in, turn_text, AreLinesOf, TakesEvent, TakesAsked, TakesLines, Plays, PlaysToItsEnd, StopsAtLine, Ends, StopsEnding, StopsListing, StopsPlaying, Stops, standing}
 use Rattle.press_main.proofs.LineLemmas.{next-line, reads-no-more}
 
 -- the event of this happening has its answer
@@ -57,12 +58,12 @@ AreLinesOf-append inputs [] others (happening ∷ happenings) more first second 
 AreLinesOf-append inputs (line ∷ lines) others [] more first second = absurd first
 
 -- no lines
-pub TakesLines-nothing : (inputs : Inputs) (world : World) (had : List Delivery) → TakesLines inputs [] world had world had []
+pub TakesLines-nothing : (inputs : Inputs) (world : World) (had : List Delivery) → TakesLines inputs [] (standing world had) (standing world had) []
 TakesLines-nothing inputs world had =
     record { happenings = []; are = tt; leads = refl; handed = sym (append-nil had); happened = All-nil has_answer; answered = refl }
 
 -- lines, and then others
-pub TakesLines-then : (inputs : Inputs) (lines others : List (List ℕ)) (world middle last : World) (had between has : List Delivery) (answers more : List ℕ) → TakesLines inputs lines world had middle between answers → TakesLines inputs others middle between last has more → TakesLines inputs (lines ++ others) world had last has (answers ++ more)
+pub TakesLines-then : (inputs : Inputs) (lines others : List (List ℕ)) (world middle last : World) (had between has : List Delivery) (answers more : List ℕ) → TakesLines inputs lines (standing world had) (standing middle between) answers → TakesLines inputs others (standing middle between) (standing last has) more → TakesLines inputs (lines ++ others) (standing world had) (standing last has) (answers ++ more)
 TakesLines-then inputs lines others world middle last had between has answers more first second = record {
   happenings = first.happenings ++ second.happenings;
   are = AreLinesOf-append inputs lines others first.happenings second.happenings first.are second.are;
@@ -76,7 +77,7 @@ TakesLines-then inputs lines others world middle last had between has answers mo
 }
 
 -- a line that is no event
-pub TakesLines-none : (inputs : Inputs) (line : List ℕ) (world : World) (had : List Delivery) (answer : List ℕ) → event_of_line line ≡ None → answer ≡ codes "what?" ++ 10 ∷ [] → TakesLines inputs (line ∷ []) world had world had answer
+pub TakesLines-none : (inputs : Inputs) (line : List ℕ) (world : World) (had : List Delivery) (answer : List ℕ) → event_of_line line ≡ None → answer ≡ codes "what?" ++ 10 ∷ [] → TakesLines inputs (line ∷ []) (standing world had) (standing world had) answer
 TakesLines-none inputs line world had answer none is = record {
   happenings = None ∷ [];
   are = (none, tt);
@@ -87,7 +88,7 @@ TakesLines-none inputs line world had answer none is = record {
 }
 
 -- a line that is an event
-pub TakesLines-event : (inputs : Inputs) (line : List ℕ) (asked : EventLine) (world next : World) (had has : List Delivery) (answer : List ℕ) → event_of_line line ≡ Some asked → TakesAsked inputs asked world had next has answer → TakesLines inputs (line ∷ []) world had next has answer
+pub TakesLines-event : (inputs : Inputs) (line : List ℕ) (asked : EventLine) (world next : World) (had has : List Delivery) (answer : List ℕ) → event_of_line line ≡ Some asked → TakesAsked inputs asked (standing world had) (standing next has) answer → TakesLines inputs (line ∷ []) (standing world had) (standing next has) answer
 TakesLines-event inputs line asked world next had has answer is taken =
     let its = taken.2.0 in
     let handed = taken.2.1 in
@@ -112,7 +113,7 @@ pub record IsPlayed (inputs : Inputs) (world : World) (had : List Delivery) (byt
   pub answers : List ℕ
   pub read : Consumes bytes left text
   pub cut : (more : List ℕ) → lines_of (text ++ more) ≡ lines ++ lines_of (held ++ more)
-  pub takes : TakesLines inputs lines world had next has answers
+  pub takes : TakesLines inputs lines (standing world had) (standing next has) answers
   pub written : Appends old between answers
 
 pub IsPlayed-begun : (inputs : Inputs) (world : World) (had : List Delivery) (bytes old : Option (List ℕ)) (held : List ℕ) → held ≡ [] → IsPlayed inputs world had bytes bytes old held world had old
@@ -128,7 +129,7 @@ IsPlayed-begun inputs world had bytes old held none = record {
 
 pub IsPlayed-more : (inputs : Inputs) (world : World) (had : List Delivery) (bytes left old : Option (List ℕ)) (held : List ℕ) (middle : World) (between : List Delivery) (written : Option (List ℕ)) (rest : Option (List ℕ)) (holds line : List ℕ) (next : World) (has : List Delivery) (new : Option (List ℕ))
     → IsPlayed inputs world had bytes left old held middle between written → GivesLine (Ok true) held holds left rest line
-    → ((answer : List ℕ) × TakesLines inputs (line ∷ []) middle between next has answer × Appends written new answer)
+    → ((answer : List ℕ) × TakesLines inputs (line ∷ []) (standing middle between) (standing next has) answer × Appends written new answer)
     → IsPlayed inputs world had bytes rest old holds next has new
 IsPlayed-more inputs world had bytes left old held middle between written rest holds line next has new so_far given taken =
     let read = given.0 in
@@ -148,7 +149,7 @@ IsPlayed-more inputs world had bytes left old held middle between written rest h
 -- the last line and the listing
 pub IsPlayed-ends : (inputs : Inputs) (world : World) (had : List Delivery) (bytes left old : Option (List ℕ)) (held : List ℕ) (middle : World) (between : List Delivery) (written : Option (List ℕ)) (rest : Option (List ℕ)) (holds line : List ℕ) (new : Option (List ℕ))
     → IsPlayed inputs world had bytes left old held middle between written → GivesLine (Ok false) held holds left rest line
-    → Ends inputs (lines_of line) middle between written new → PlaysToItsEnd inputs world had bytes rest old new
+    → Ends inputs (lines_of line) middle between written new → PlaysToItsEnd inputs (standing world had) bytes rest old new
 IsPlayed-ends inputs world had bytes left old held middle between written rest holds line new so_far given ends =
     let read = given.0 in
     let all : lines_of (so_far.text ++ read) ≡ so_far.lines ++ lines_of line = so_far.cut read ∙ ap (λ (bytes : List ℕ). so_far.lines ++ lines_of bytes) given.3 in
@@ -159,13 +160,13 @@ IsPlayed-ends inputs world had bytes left old held middle between written rest h
       has = ends.has;
       answers = so_far.answers ++ ends.answers;
       read = record { lost = Consumes-trans bytes left rest so_far.text read so_far.read given.1; at_end = given.4 };
-      takes = subst (λ (lines : List (List ℕ)). TakesLines inputs lines world had ends.next ends.has (so_far.answers ++ ends.answers)) (sym all) takes;
+      takes = subst (λ (lines : List (List ℕ)). TakesLines inputs lines (standing world had) (standing ends.next ends.has) (so_far.answers ++ ends.answers)) (sym all) takes;
       written = subst (λ (some : List ℕ). Appends old new some) (sym (append_assoc so_far.answers ends.answers (entry_listing ends.has))) (Appends-trans old written new so_far.answers (ends.answers ++ entry_listing ends.has) so_far.written ends.written);
     }
 
 pub IsPlayed-unread : (inputs : Inputs) (world : World) (had : List Delivery) (bytes left old : Option (List ℕ)) (held : List ℕ) (middle : World) (between : List Delivery) (written : Option (List ℕ)) (rest : Option (List ℕ)) (holds line : List ℕ) (error : InputError) (why : SessionError)
     → why ≡ File (fault.Input error) → IsPlayed inputs world had bytes left old held middle between written → GivesLine (Err error) held holds left rest line
-    → StopsPlaying inputs world had bytes rest old written why
+    → StopsPlaying inputs (standing world had) bytes rest (change old written) why
 IsPlayed-unread inputs world had bytes left old held middle between written rest holds line error why is so_far given =
     let last = reads-no-more error held holds left rest line so_far.text so_far.lines so_far.cut given in
     record {
@@ -184,7 +185,7 @@ IsPlayed-unread inputs world had bytes left old held middle between written rest
 -- a line was not answered
 pub IsPlayed-stops : (inputs : Inputs) (world : World) (had : List Delivery) (bytes left old : Option (List ℕ)) (held : List ℕ) (middle : World) (between : List Delivery) (written : Option (List ℕ)) (rest : Option (List ℕ)) (holds line : List ℕ) (new : Option (List ℕ)) (why : SessionError)
     → IsPlayed inputs world had bytes left old held middle between written → GivesLine (Ok true) held holds left rest line
-    → StopsAtLine inputs line middle between written new why → StopsPlaying inputs world had bytes rest old new why
+    → StopsAtLine inputs line (standing middle between) written new why → StopsPlaying inputs (standing world had) bytes rest (change old new) why
 IsPlayed-stops inputs world had bytes left old held middle between written rest holds line new why so_far given stops =
     let read = given.0 in
     record {
@@ -203,7 +204,7 @@ IsPlayed-stops inputs world had bytes left old held middle between written rest 
 -- the last line was not answered, or not all was listed
 pub IsPlayed-stops_ending : (inputs : Inputs) (world : World) (had : List Delivery) (bytes left old : Option (List ℕ)) (held : List ℕ) (middle : World) (between : List Delivery) (written : Option (List ℕ)) (rest : Option (List ℕ)) (holds line : List ℕ) (new : Option (List ℕ)) (why : SessionError)
     → IsPlayed inputs world had bytes left old held middle between written → GivesLine (Ok false) held holds left rest line
-    → StopsEnding inputs line middle between written new why → StopsPlaying inputs world had bytes rest old new why
+    → StopsEnding inputs line (standing middle between) written new why → StopsPlaying inputs (standing world had) bytes rest (change old new) why
 IsPlayed-stops_ending inputs world had bytes left old held middle between written rest holds line new why so_far given (inl stops) =
     let read = given.0 in
     record {
@@ -253,18 +254,18 @@ OnOk-lift (Err error) P Q f h = tt
 
 -- the listing behind the last line
 pub Ends-listed : {X E : Type 0} (result : Result X E) (inputs : Inputs) (lines others : List (List ℕ)) (world next : World) (had has : List Delivery) (answers : List ℕ) (old between new : Option (List ℕ))
-    → others ≡ lines → TakesLines inputs lines world had next has answers → Appends old between answers → OnOk result (Appends between new (entry_listing has)) → OnOk result (Ends inputs others world had old new)
+    → others ≡ lines → TakesLines inputs lines (standing world had) (standing next has) answers → Appends old between answers → OnOk result (Appends between new (entry_listing has)) → OnOk result (Ends inputs others world had old new)
 Ends-listed (Ok value) inputs lines others world next had has answers old between new are takes written listed = record {
   next = next;
   has = has;
   answers = answers;
-  takes = subst (λ (all : List (List ℕ)). TakesLines inputs all world had next has answers) (sym are) takes;
+  takes = subst (λ (all : List (List ℕ)). TakesLines inputs all (standing world had) (standing next has) answers) (sym are) takes;
   written = Appends-trans old between new answers (entry_listing has) written listed;
 }
 Ends-listed (Err error) inputs lines others world next had has answers old between new are takes written listed = tt
 
 pub StopsEnding-listed : {X : Type 0} (result : Result X SessionError) (inputs : Inputs) (line : List ℕ) (lines : List (List ℕ)) (world next : World) (had has : List Delivery) (answers : List ℕ) (old between new : Option (List ℕ))
-    → lines_of line ≡ lines → TakesLines inputs lines world had next has answers → Appends old between answers → IfErr result (StopsListing has between new) → IfErr result (StopsEnding inputs line world had old new)
+    → lines_of line ≡ lines → TakesLines inputs lines (standing world had) (standing next has) answers → Appends old between answers → IfErr result (StopsListing has between new) → IfErr result (StopsEnding inputs line (standing world had) old new)
 StopsEnding-listed (Ok value) inputs line lines world next had has answers old between new are takes written stops = tt
 StopsEnding-listed (Err error) inputs line lines world next had has answers old between new are takes written stops =
     inr (record {
@@ -272,7 +273,7 @@ StopsEnding-listed (Err error) inputs line lines world next had has answers old 
       has = has;
       answers = answers;
       between = between;
-      takes = subst (λ (all : List (List ℕ)). TakesLines inputs all world had next has answers) (sym are) takes;
+      takes = subst (λ (all : List (List ℕ)). TakesLines inputs all (standing world had) (standing next has) answers) (sym are) takes;
       written = written;
       stops = stops;
     })
@@ -280,9 +281,9 @@ StopsEnding-listed (Err error) inputs line lines world next had has answers old 
 -- ---- from a press at its beginning
 
 pub plays-given : SheetsAreGiven → (engines : ℕ) (inputs : Inputs) (world : World) (had : List Delivery) (bytes left old new : Option (List ℕ)) → are_engines engines ≡ true → world ≡ new_world engines → had ≡ []
-    → PlaysToItsEnd inputs world had bytes left old new → Plays engines inputs bytes left old new
+    → PlaysToItsEnd inputs (standing world had) bytes left old new → Plays engines inputs bytes left old new
 plays-given given engines inputs world had bytes left old new are begins none plays =
-    let played = subst (λ (w : World). PlaysToItsEnd inputs w [] bytes left old new) begins (subst (λ l. PlaysToItsEnd inputs world l bytes left old new) none plays) in
+    let played = subst (λ (w : World). PlaysToItsEnd inputs (standing w []) bytes left old new) begins (subst (λ l. PlaysToItsEnd inputs (standing world l) bytes left old new) none plays) in
     record {
       are = are;
       played = played;
@@ -290,10 +291,10 @@ plays-given given engines inputs world had bytes left old new are begins none pl
     }
 
 pub stops-playing : (engines : ℕ) (inputs : Inputs) (world : World) (had : List Delivery) (bytes left old new : Option (List ℕ)) (why : SessionError) → are_engines engines ≡ true → world ≡ new_world engines → had ≡ []
-    → StopsPlaying inputs world had bytes left old new why → Stops engines inputs bytes left old new why
+    → StopsPlaying inputs (standing world had) bytes left (change old new) why → Stops engines inputs bytes left (change old new) why
 stops-playing engines inputs world had bytes left old new why are begins none stops =
-    rw are (subst (λ (w : World). StopsPlaying inputs w [] bytes left old new why) begins (subst (λ l. StopsPlaying inputs world l bytes left old new why) none stops))
+    rw are (subst (λ (w : World). StopsPlaying inputs (standing w []) bytes left (change old new) why) begins (subst (λ l. StopsPlaying inputs (standing world l) bytes left (change old new) why) none stops))
 
 -- without a press
-pub stops-beginning : (engines : ℕ) (inputs : Inputs) (bytes old : Option (List ℕ)) (error : BadEngines) → are_engines engines ≡ false → Stops engines inputs bytes bytes old old (Engines error)
+pub stops-beginning : (engines : ℕ) (inputs : Inputs) (bytes old : Option (List ℕ)) (error : BadEngines) → are_engines engines ≡ false → Stops engines inputs bytes bytes (change old old) (Engines error)
 stops-beginning engines inputs bytes old error none = rw none ((error, refl), refl, refl)

@@ -18,6 +18,7 @@ use Rattle.press_debug.specs.Breaks.{Sets, Clears, no_breaks, refusal_number}
 use Rattle.press_debug.specs.Places.{StandsBehind}
 use Rattle.press_debug.specs.Steps.{DebuggerState, at_start}
 use Rattle.press_debug.specs.Stops.{ContinuesTo, StopsInto, StopsOver}
+use Rattle.press_main.specs.Change.{Change}
 use Rattle.press_main.specs.declared.debugger_lines.DebuggerLine.{DebuggerLine}
 use Rattle.press_main.specs.declared.debugger_lines.DebuggerLine.TheVariants as line
 use Rattle.press_main.specs.declared.debugging.DebugError.{DebugError}
@@ -142,7 +143,7 @@ StopsBehind text lines at old new why =
 
 -- The first lines of what was read were answered, and their answers written; and why the session stopped behind them, and what was
 -- written then.
-pub record AnswersSome (bytes : List ℕ) (at : Seat) (had left old new : Option (List ℕ)) (why : DebugError) : Type 0 where
+pub record AnswersSome (bytes : List ℕ) (at : Seat) (had left : Option (List ℕ)) (output : Change (Option (List ℕ))) (why : DebugError) : Type 0 where
   pub text : List ℕ
   pub lines : List (List ℕ)
   pub last : Seat
@@ -150,8 +151,8 @@ pub record AnswersSome (bytes : List ℕ) (at : Seat) (had left old new : Option
   pub between : Option (List ℕ)
   pub read : Consumes had left text
   pub answered : Answers bytes lines at answers last
-  pub written : Appends old between answers
-  pub stops : StopsBehind text lines last between new why
+  pub written : Appends output.before between answers
+  pub stops : StopsBehind text lines last between output.after why
 
 -- The stream that an input had was debugged, by all lines that a reader had.
 abbrev pub Debugs : (stream rest had left old new : Option (List ℕ)) → Type 0
@@ -164,7 +165,7 @@ IsUnopened NoMemory = ⊤
 IsUnopened (Output error) = ⊥
 
 -- It stopped early, and this is why: no debugger was opened, and no line was read; or one line was not answered, or not read.
-abbrev pub StopsDebugging : (stream rest had left old new : Option (List ℕ)) → DebugError → Type 0
-StopsDebugging stream rest had left old new why =
-    (IsUnopened why × (left ≡ had) × (new ≡ old))
-    ⊎ ((bytes : List ℕ) × ReadWhole stream rest bytes × AnswersSome bytes (opened bytes) had left old new why)
+abbrev pub StopsDebugging : (stream rest had left : Option (List ℕ)) (output : Change (Option (List ℕ))) → DebugError → Type 0
+StopsDebugging stream rest had left output why =
+    (IsUnopened why × (left ≡ had) × (output.after ≡ output.before))
+    ⊎ ((bytes : List ℕ) × ReadWhole stream rest bytes × AnswersSome bytes (opened bytes) had left output why)

@@ -5,7 +5,7 @@ use Rattle.press_cmd.specs.Token.{Token}
 use Rattle.press_cmd.specs.Split.{Closed}
 use Rattle.press_sink.specs.PrintedSheet.{PrintedSheet, printed_sheet_code}
 use Rattle.press_sink.specs.declared.sheet.Delivery.{Delivery}
-use Rattle.press_sink.specs.SinkLog.{SheetLog, ReplyLog, logs}
+use Rattle.press_sink.specs.SinkLog.{SheetLog, ReplyLog, logs, under}
 use Rattle.press_sink.specs.Sending.{sheets_of, sheets_in}
 use Rattle.press_sink.specs.Outputs.{MadeOutput, IsPrefix, with_outputs, sheet_outputs}
 use Rattle.press_sink.specs.Template.{NameParts, IsTemplate, IsNoTemplate, number_after, side_count}
@@ -16,6 +16,7 @@ use Rattle.press_stream.specs.Printed.{Printed}
 use Rattle.press_units.specs.Faults.{fault_text}
 use Rattle.press_sink.specs.Faults.{template_number}
 use Rattle.press_sink.specs.declared.fault.TemplateError.TheVariants.{BadTemplate}
+use Rattle.press_main.specs.Change.{Change, change, Edge}
 use Rattle.press_main.specs.Printing.{status_of_fault, TellsFault}
 use Rattle.press_main.specs.Telling.{Tells, as_line}
 
@@ -34,13 +35,14 @@ replies_written contents faults = record { replied = contents; faults = faults }
 -- A stream was printed to a sheet sink under tag 0, and its replies were written: so much of it went out, by the error that
 -- there was or was not, and the status is 0 exactly where there was none. Then the writer took all the replies, and nothing
 -- else. The error is what was told.
-pub record PrintsTo (status : ℕ) (said says had left : Option (List ℕ)) (before after : SheetLog) (old new : Option (List ℕ)) : Type 0 where
+pub record PrintsTo (status : ℕ) (told read : Change (Option (List ℕ))) (sheets : Change SheetLog) (written : Change (Option (List ℕ))) : Type 0 where
   pub error : Option JobError
   pub machine : Option Machine
   pub faults : ℕ
-  pub printed : Printed had left 0 error machine (logs before (replies_written old 0)) (logs after (replies_written new faults))
+  pub printed : Printed read.before read.after error machine
+      (under 0 (logs sheets.before (replies_written written.before 0)) (logs sheets.after (replies_written written.after faults)))
   pub answers : status ≡ status_of_fault error
-  pub told : TellsFault error said says
+  pub tells : TellsFault error told.before told.after
 
 -- The outputs of sheets in their order, the first front of which has this number.
 abbrev pub sheets_outputs : NameParts → ℕ → List PrintedSheet → List MadeOutput
@@ -70,17 +72,17 @@ abbrev pub files_told : List Delivery → ℕ → SheetLog
 files_told deliveries faults = record { delivered = Some deliveries; faults = faults }
 
 -- A stream was printed to files by a template of these parts: what went out of it is what the sink took, and that was made.
-pub record PrintsBy (parts : NameParts) (status : ℕ) (said says had left old new : Option (List ℕ)) (before after : Option (List MadeOutput)) : Type 0 where
+pub record PrintsBy (parts : NameParts) (status : ℕ) (edge : Edge) : Type 0 where
   pub deliveries : List Delivery
   pub faults : ℕ
-  pub prints : PrintsTo status said says had left (files_told [] 0) (files_told deliveries faults) old new
-  pub makes : ∥ MakesSheets parts (sheets_in deliveries) faults before after ∥₁
+  pub prints : PrintsTo status edge.told edge.read (change (files_told [] 0) (files_told deliveries faults)) edge.written
+  pub makes : ∥ MakesSheets parts (sheets_in deliveries) faults edge.made.before edge.made.after ∥₁
 
 -- The same by a text, which is a template.
-pub record PrintsFiles (template : List ℕ) (status : ℕ) (said says had left old new : Option (List ℕ)) (before after : Option (List MadeOutput)) : Type 0 where
+pub record PrintsFiles (template : List ℕ) (status : ℕ) (edge : Edge) : Type 0 where
   pub parts : NameParts
   pub is_template : IsTemplate template parts
-  pub by_parts : PrintsBy parts status said says had left old new before after
+  pub by_parts : PrintsBy parts status edge
 
 -- The files of a stream of these bytes were made by a template, and nothing else: the sides of the sheets that its meaning delivers,
 -- in order, each under the name with its number, and each the P4 file of its page.
@@ -92,15 +94,14 @@ pub record MakesFiles (template : List ℕ) (bytes : List ℕ) (before after : O
   pub made : after ≡ with_outputs (sheets_outputs parts 1 (sheets_of (meaning_of (with_exit commands)).outputs)) before
 
 -- Nothing was read, nothing was written or made, the status is 1, and this fault was told, or that memory ran out.
-pub record DoesNothing (number : Option ℕ) (status : ℕ) (said says had left old new : Option (List ℕ)) (before after : Option (List MadeOutput)) : Type 0 where
+pub record DoesNothing (number : Option ℕ) (status : ℕ) (edge : Edge) : Type 0 where
   pub answers : status ≡ 1
-  pub told : Tells said says (as_line (Some (fault_text number)))
-  pub unread : left ≡ had
-  pub unwritten : new ≡ old
-  pub unmade : after ≡ before
+  pub told : Tells edge.told.before edge.told.after (as_line (Some (fault_text number)))
+  pub unread : edge.read.after ≡ edge.read.before
+  pub unwritten : edge.written.after ≡ edge.written.before
+  pub unmade : edge.made.after ≡ edge.made.before
 
 -- Nothing was begun of a text: it is no template, or memory ran out.
-abbrev pub PrintsNoFiles : (template : List ℕ) (status : ℕ) (said says had left old new : Option (List ℕ)) (before after : Option (List MadeOutput)) → Type 0
-PrintsNoFiles template status said says had left old new before after =
-    (IsNoTemplate template × DoesNothing (template_number BadTemplate) status said says had left old new before after)
-    ⊎ DoesNothing None status said says had left old new before after
+abbrev pub PrintsNoFiles : (template : List ℕ) (status : ℕ) (edge : Edge) → Type 0
+PrintsNoFiles template status edge =
+    (IsNoTemplate template × DoesNothing (template_number BadTemplate) status edge) ⊎ DoesNothing None status edge

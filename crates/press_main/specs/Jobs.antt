@@ -14,6 +14,7 @@ use Rattle.press_writer.specs.Job.{job_bytes}
 use Rattle.press_writer.specs.Printing.{PrintsTheTicket}
 use Rattle.press_writer.specs.declared.fault.WriterError.{WriterError}
 use Rattle.press_writer.specs.declared.fault.WriterError.TheVariants.{WriteFault, NoMemory}
+use Rattle.press_main.specs.Change.{Change}
 use Rattle.press_main.specs.Assembly.{ReadWhole}
 use Rattle.press_main.specs.declared.jobs.JobFileError.{JobFileError}
 use Rattle.press_main.specs.declared.jobs.JobFileError.TheVariants as fault
@@ -76,7 +77,7 @@ pub record MakesAPrefix (name : List ℕ) (ticket : JobTicket) (images : List Pa
   pub told : (why ≡ WriteFault) ⊎ (why ≡ NoMemory)
   pub made : MakesPrefix (holding name (job_bytes ticket images) ∷ []) before after
 
--- What was made of a job whose output was not made whole: nothing, and this is why the ticket does not fit the images; else a front.
+-- What was made of a job whose output was not made whole: nothing, and this is why the ticket does not fit the images; else a prefix.
 abbrev pub MakesNoJob : (name : List ℕ) → JobTicket → List Page → (before after : Option (List MadeOutput)) → WriterError → Type 0
 MakesNoJob name ticket images before after why =
     ((refusal ticket images ≡ Some why) × (after ≡ before)) ⊎ MakesAPrefix name ticket images before after why
@@ -149,7 +150,7 @@ StopsWriting had left inputs old new why =
     ⊎ StopsAtTheJob had left inputs (λ ticket images error. WritesNoJob ticket images old new error) why
 
 -- The same of an output of this name that was not made whole.
-abbrev pub StopsMakingJob : (name : List ℕ) (had left : Option (List ℕ)) (inputs : List (Option (List ℕ))) (before after : Option (List MadeOutput)) → JobFileError → Type 0
-StopsMakingJob name had left inputs before after why =
-    StopsAtTheTicket had left before after why ⊎ StopsAtAnImage had left inputs before after why
-    ⊎ StopsAtTheJob had left inputs (λ ticket images error. MakesNoJob name ticket images before after error) why
+abbrev pub StopsMakingJob : (name : List ℕ) (had left : Option (List ℕ)) (inputs : List (Option (List ℕ))) (made : Change (Option (List MadeOutput))) → JobFileError → Type 0
+StopsMakingJob name had left inputs made why =
+    StopsAtTheTicket had left made.before made.after why ⊎ StopsAtAnImage had left inputs made.before made.after why
+    ⊎ StopsAtTheJob had left inputs (λ ticket images error. MakesNoJob name ticket images made.before made.after error) why

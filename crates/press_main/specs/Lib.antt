@@ -1,4 +1,5 @@
 pub mod Assembly
+pub mod Change
 pub mod DebuggerLines
 pub mod Debugging
 pub mod Defaults

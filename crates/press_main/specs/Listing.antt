@@ -7,7 +7,7 @@ use Rattle.press_cmd.specs.Token.{Token}
 use Rattle.press_cmd.specs.Split.{Closed}
 use Rattle.press_sink.specs.PrintedSheet.{PrintedSheet}
 use Rattle.press_sink.specs.declared.sheet.Delivery.{Delivery}
-use Rattle.press_sink.specs.SinkLog.{SinkLog, logs}
+use Rattle.press_sink.specs.SinkLog.{SinkLog, logs, under}
 use Rattle.press_sink.specs.Sending.{Output, sheets_of, sheets_in, reply_bytes_of}
 use Rattle.press_stream.specs.declared.fault.JobError.{JobError}
 use Rattle.press_stream.specs.State.{JobState}
@@ -15,6 +15,7 @@ use Rattle.press_stream.specs.Answers.{fault_of}
 use Rattle.press_stream.specs.Meaning.{meaning_of, with_exit}
 use Rattle.press_stream.specs.Printed.{Printed}
 use Rattle.press_trace.specs.Faults.{output_text}
+use Rattle.press_main.specs.Change.{Change}
 use Rattle.press_main.specs.Printing.{machine_of, status_of_fault, TellsFault}
 use Rattle.press_main.specs.Telling.{Tells, as_line}
 use Rattle.press_main.specs.declared.measures.Measures.{Measures}
@@ -60,7 +61,7 @@ took deliveries replies = logs (record { delivered = Some deliveries; faults = 0
 pub record ListsPrinted (printed : Result JobState JobError) (written : Bool) (had left old new : Option (List ℕ)) : Type 0 where
   pub deliveries : List Delivery
   pub replies : List ℕ
-  pub prints : Printed had left 0 (fault_of printed) (machine_of printed) (took [] []) (took deliveries replies)
+  pub prints : Printed had left (fault_of printed) (machine_of printed) (under 0 (took [] []) (took deliveries replies))
   pub lists : written ≡ true → Appends old new (lines_from 1 (sheets_in deliveries) ++ replies)
 
 -- the status after a stream and its listing
@@ -74,9 +75,9 @@ TellsListing error true said says = TellsFault error said says
 TellsListing error false said says = (between : Option (List ℕ)) × TellsFault error said between × Tells between says (as_line (Some output_text))
 
 -- The same, with its status: 0 exactly where the stream had no fault and its listing was written; and what was told.
-pub record PrintsListing (status : ℕ) (said says had left old new : Option (List ℕ)) : Type 0 where
+pub record PrintsListing (status : ℕ) (told read output : Change (Option (List ℕ))) : Type 0 where
   pub printed : Result JobState JobError
   pub written : Bool
-  pub stream : ListsPrinted printed written had left old new
+  pub stream : ListsPrinted printed written read.before read.after output.before output.after
   pub answers : status ≡ status_of_listing (fault_of printed) written
-  pub told : TellsListing (fault_of printed) written said says
+  pub tells : TellsListing (fault_of printed) written told.before told.after

@@ -10,6 +10,7 @@ use Rattle.press_engine.specs.Machine.{StepResult, power_on}
 use Rattle.press_engine.specs.Trace.{last_machine}
 use Rattle.press_stream.specs.Traced.{IsTraceOf}
 use Rattle.press_debug.specs.Steps.{DebuggerState}
+use Rattle.press_main.specs.Change.{Change}
 use Rattle.press_main.specs.Assembly.{ReadWhole}
 use Rattle.press_main.specs.Faults.{told_of_page}
 use Rattle.press_main.specs.Telling.{Tells, as_line}
@@ -34,11 +35,11 @@ PagedInto steps name had left before after =
     (page : Page) × HasPage steps had left page × (after ≡ with_outputs (holding name (file_of page) ∷ []) before)
 
 -- What was made where no page was, by the fault: a prefix of its output, where that cannot be made or written; else nothing.
-abbrev pub StopsPaging : (steps : ℕ) (name : List ℕ) (had left : Option (List ℕ)) (before after : Option (List MadeOutput)) → PagingError → Type 0
-StopsPaging steps name had left before after WriteFault =
-    (page : Page) × HasPage steps had left page × MakesPrefix (holding name (file_of page) ∷ []) before after
-StopsPaging steps name had left before after (Input why) = after ≡ before
-StopsPaging steps name had left before after NoMemory = after ≡ before
+abbrev pub StopsPaging : (steps : ℕ) (name : List ℕ) (had left : Option (List ℕ)) (made : Change (Option (List MadeOutput))) → PagingError → Type 0
+StopsPaging steps name had left made WriteFault =
+    (page : Page) × HasPage steps had left page × MakesPrefix (holding name (file_of page) ∷ []) made.before made.after
+StopsPaging steps name had left made (Input why) = made.after ≡ made.before
+StopsPaging steps name had left made NoMemory = made.after ≡ made.before
 
 -- A stream of these bytes of which so many steps were taken, or all where it has fewer.
 pub record StandsAt (bytes : List ℕ) (steps : ℕ) (now : DebuggerState) : Type 0 where
@@ -62,6 +63,8 @@ abbrev pub TellsEnd : (steps : ℕ) (said says : Option (List ℕ)) → Type 0
 TellsEnd steps said says = (says ≡ said) ⊎ ((taken : ℕ) × (taken < steps) × Appends said says (end_text taken))
 
 -- The page at a step was made an output of this name, and at most the end of the stream was told; or it was not, and why is what was told.
-pub record Paging (steps : ℕ) (name : List ℕ) (status : ℕ) (said says had left : Option (List ℕ)) (before after : Option (List MadeOutput)) : Type 0 where
-  pub done : status ≡ 0 → TellsEnd steps said says × PagedInto steps name had left before after
-  pub stops : status ≢ 0 → (status ≡ 1) × (why : PagingError) × Tells said says (as_line (told_of_page why)) × StopsPaging steps name had left before after why
+pub record Paging (steps : ℕ) (name : List ℕ) (status : ℕ) (told read : Change (Option (List ℕ))) (made : Change (Option (List MadeOutput))) : Type 0 where
+  pub done : status ≡ 0 → TellsEnd steps told.before told.after × PagedInto steps name read.before read.after made.before made.after
+  pub stops : status ≢ 0
+      → (status ≡ 1) × (why : PagingError) × Tells told.before told.after (as_line (told_of_page why))
+      × StopsPaging steps name read.before read.after made why

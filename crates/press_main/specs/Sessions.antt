@@ -11,6 +11,7 @@ use Rattle.press_core.specs.Engines.{are_engines}
 use Rattle.press_core.specs.Events.{Event, Message, TurnOn, Operator, Transition, Happens, EventAnswer, Response, Turned, Nothing, IsAnswered, IsExecution}
 use Rattle.press_core.specs.Laws.{GivenUnder}
 use Rattle.press_core.specs.World.{World, new_world}
+use Rattle.press_main.specs.Change.{Change, change}
 use Rattle.press_main.specs.declared.inputs.InputError.{InputError}
 use Rattle.press_main.specs.declared.jobs.JobFileError.{JobFileError}
 use Rattle.press_main.specs.declared.jobs.JobFileError.TheVariants as fault
@@ -89,29 +90,38 @@ abbrev pub TakesEvent : Event → World → (had : List Delivery) → (next : Wo
 TakesEvent event world had next has answer =
     (its : EventAnswer) × (handed : List Delivery) × Happens world event its handed next × (has ≡ had ++ handed) × (answer ≡ answer_text its) × IsAnswered its
 
+-- where a session is: its press, and what was delivered
+pub record Standing : Type 0 where
+  pub world : World
+  pub delivered : List Delivery
+
+abbrev pub standing : (world : World) (delivered : List Delivery) → Standing
+standing world delivered = record { world = world; delivered = delivered }
+
 -- So did the event that a line asks.
-abbrev pub TakesAsked : Inputs → EventLine → World → (had : List Delivery) → (next : World) → (has : List Delivery) → (answer : List ℕ) → Type 0
-TakesAsked inputs asked world had next has answer = (event : Event) × IsAsked inputs asked event × TakesEvent event world had next has answer
+abbrev pub TakesAsked : Inputs → EventLine → (old new : Standing) → (answer : List ℕ) → Type 0
+TakesAsked inputs asked old new answer =
+    (event : Event) × IsAsked inputs asked event × TakesEvent event old.world old.delivered new.world new.delivered answer
 
 -- Lines were carried out, one after another, from one world to another, and each event has its answer: what their events handed out was
 -- delivered behind what had been, and these are their answers.
-pub record TakesLines (inputs : Inputs) (lines : List (List ℕ)) (world : World) (had : List Delivery) (next : World) (has : List Delivery) (answers : List ℕ) : Type 0 where
+pub record TakesLines (inputs : Inputs) (lines : List (List ℕ)) (old new : Standing) (answers : List ℕ) : Type 0 where
   pub happenings : List (Option Transition)
   pub are : AreLinesOf inputs lines happenings
-  pub leads : IsExecution world (happenings_in happenings) next
-  pub handed : has ≡ had ++ handed_in (happenings_in happenings)
+  pub leads : IsExecution old.world (happenings_in happenings) new.world
+  pub handed : new.delivered ≡ old.delivered ++ handed_in (happenings_in happenings)
   pub happened : All (λ happening. IsAnswered happening.answer) (happenings_in happenings)
   pub answered : answers ≡ answers_to happenings
 
 -- All lines that a reader had, to its end, were carried out; their answers were written, and then the listing of all that was
 -- delivered, and nothing else.
-pub record PlaysToItsEnd (inputs : Inputs) (world : World) (had : List Delivery) (bytes left old new : Option (List ℕ)) : Type 0 where
+pub record PlaysToItsEnd (inputs : Inputs) (first : Standing) (bytes left old new : Option (List ℕ)) : Type 0 where
   pub text : List ℕ
   pub next : World
   pub has : List Delivery
   pub answers : List ℕ
   pub read : ReadWhole bytes left text
-  pub takes : TakesLines inputs (lines_of text) world had next has answers
+  pub takes : TakesLines inputs (lines_of text) first (standing next has) answers
   pub written : Appends old new (answers ++ entry_listing has)
 
 -- a fault of a file that is opened or read
@@ -134,15 +144,16 @@ IsUnanswered inputs line world why =
     ((asked : EventLine) × (event_of_line line ≡ Some asked) × HasFault inputs asked world why) ⊎ (why ≡ NoMemory)
 
 -- What was written of the answer of a line at which a session stopped: a prefix of it, where a write failed; else nothing.
-abbrev pub StopsAtLine : Inputs → (line : List ℕ) → World → (had : List Delivery) → (old new : Option (List ℕ)) → SessionError → Type 0
-StopsAtLine inputs line world had old new (Output error) =
-    (next : World) × (has : List Delivery) × (answer : List ℕ) × TakesLines inputs (line ∷ []) world had next has answer × AppendsPrefix old new answer
-StopsAtLine inputs line world had old new why = IsUnanswered inputs line world why × (new ≡ old)
+abbrev pub StopsAtLine : Inputs → (line : List ℕ) → Standing → (old new : Option (List ℕ)) → SessionError → Type 0
+StopsAtLine inputs line now old new (Output error) =
+    (next : World) × (has : List Delivery) × (answer : List ℕ) × TakesLines inputs (line ∷ []) now (standing next has) answer
+    × AppendsPrefix old new answer
+StopsAtLine inputs line now old new why = IsUnanswered inputs line now.world why × (new ≡ old)
 
 -- the line stands behind these lines of a text, and the session stopped there
-abbrev pub StopsAtALine : Inputs → (text : List ℕ) → List (List ℕ) → World → (had : List Delivery) → (old new : Option (List ℕ)) → SessionError → Type 0
-StopsAtALine inputs text lines world had old new why =
-    (line : List ℕ) × BeginsWith text (lines ++ line ∷ []) × StopsAtLine inputs line world had old new why
+abbrev pub StopsAtALine : Inputs → (text : List ℕ) → List (List ℕ) → Standing → Change (Option (List ℕ)) → SessionError → Type 0
+StopsAtALine inputs text lines now output why =
+    (line : List ℕ) × BeginsWith text (lines ++ line ∷ []) × StopsAtLine inputs line now output.before output.after why
 
 abbrev pub StopsReading : (text : List ℕ) → List (List ℕ) → (old new : Option (List ℕ)) → SessionError → Type 0
 StopsReading text lines old new why =
@@ -159,32 +170,41 @@ pub record Ends (inputs : Inputs) (lines : List (List ℕ)) (world : World) (had
   pub next : World
   pub has : List Delivery
   pub answers : List ℕ
-  pub takes : TakesLines inputs lines world had next has answers
+  pub takes : TakesLines inputs lines (standing world had) (standing next has) answers
   pub written : Appends old new (answers ++ entry_listing has)
 
 -- Why it was not done: at the last line, or at the listing behind it.
-pub record StopsAtTheListing (inputs : Inputs) (lines : List (List ℕ)) (world : World) (had : List Delivery) (old new : Option (List ℕ)) (why : SessionError) : Type 0 where
+pub record StopsAtTheListing (inputs : Inputs) (lines : List (List ℕ)) (first : Standing) (old new : Option (List ℕ)) (why : SessionError) : Type 0 where
   pub next : World
   pub has : List Delivery
   pub answers : List ℕ
   pub between : Option (List ℕ)
-  pub takes : TakesLines inputs lines world had next has answers
+  pub takes : TakesLines inputs lines first (standing next has) answers
   pub written : Appends old between answers
   pub stops : StopsListing has between new why
 
-abbrev pub StopsEnding : Inputs → (line : List ℕ) → World → (had : List Delivery) → (old new : Option (List ℕ)) → SessionError → Type 0
-StopsEnding inputs line world had old new why =
-    ((lines_of line ≡ line ∷ []) × StopsAtLine inputs line world had old new why) ⊎ StopsAtTheListing inputs (lines_of line) world had old new why
+abbrev pub StopsEnding : Inputs → (line : List ℕ) → Standing → (old new : Option (List ℕ)) → SessionError → Type 0
+StopsEnding inputs line now old new why =
+    ((lines_of line ≡ line ∷ []) × StopsAtLine inputs line now old new why) ⊎ StopsAtTheListing inputs (lines_of line) now old new why
+
+-- what was read, what is left, and its lines so far
+pub record LinesRead : Type 0 where
+  pub left : Option (List ℕ)
+  pub text : List ℕ
+  pub lines : List (List ℕ)
+
+abbrev pub reading : (left : Option (List ℕ)) (text : List ℕ) (lines : List (List ℕ)) → LinesRead
+reading left text lines = record { left = left; text = text; lines = lines }
 
 -- how a session stopped behind the lines that it had carried out
-abbrev pub StopsBehind : Inputs → (left : Option (List ℕ)) → (text : List ℕ) → List (List ℕ) → World → List Delivery → (old new : Option (List ℕ)) → SessionError → Type 0
-StopsBehind inputs left text lines world had old new why =
-    StopsAtALine inputs text lines world had old new why ⊎ StopsReading text lines old new why
-    ⊎ (IsAtEnd left × (lines_of text ≡ lines) × StopsListing had old new why)
+abbrev pub StopsBehind : Inputs → LinesRead → Standing → Change (Option (List ℕ)) → SessionError → Type 0
+StopsBehind inputs read now output why =
+    StopsAtALine inputs read.text read.lines now output why ⊎ StopsReading read.text read.lines output.before output.after why
+    ⊎ (IsAtEnd read.left × (lines_of read.text ≡ read.lines) × StopsListing now.delivered output.before output.after why)
 
 -- The first lines of what was read were carried out, and their answers written; and why the session stopped behind them, and what was
 -- written then.
-pub record StopsPlaying (inputs : Inputs) (world : World) (had : List Delivery) (bytes left old new : Option (List ℕ)) (why : SessionError) : Type 0 where
+pub record StopsPlaying (inputs : Inputs) (first : Standing) (bytes left : Option (List ℕ)) (output : Change (Option (List ℕ))) (why : SessionError) : Type 0 where
   pub text : List ℕ
   pub lines : List (List ℕ)
   pub next : World
@@ -192,9 +212,9 @@ pub record StopsPlaying (inputs : Inputs) (world : World) (had : List Delivery) 
   pub answers : List ℕ
   pub between : Option (List ℕ)
   pub read : Consumes bytes left text
-  pub takes : TakesLines inputs lines world had next has answers
-  pub written : Appends old between answers
-  pub stops : StopsBehind inputs left text lines next has between new why
+  pub takes : TakesLines inputs lines first (standing next has) answers
+  pub written : Appends output.before between answers
+  pub stops : StopsBehind inputs (reading left text lines) (standing next has) (change between output.after) why
 
 -- what the press of a session delivered
 abbrev pub delivered_by : Session → List Delivery
@@ -204,7 +224,7 @@ delivered_by session = entry_deliveries_of (kept session.sheets)
 -- was seen last.
 pub record Plays (engines : ℕ) (inputs : Inputs) (bytes left old new : Option (List ℕ)) : Type 0 where
   pub are : IsTrue (are_engines engines)
-  pub played : PlaysToItsEnd inputs (new_world engines) [] bytes left old new
+  pub played : PlaysToItsEnd inputs (standing (new_world engines) []) bytes left old new
   pub given : (number : ℕ) → GivenUnder (new_world engines) (happenings_in played.takes.happenings) played.next number
 
 -- No press has so many engines, and nothing was read or written.
@@ -212,6 +232,7 @@ abbrev pub DoesNotBegin : (bytes left old new : Option (List ℕ)) → SessionEr
 DoesNotBegin bytes left old new why = ((error : BadEngines) × (why ≡ Engines error)) × (left ≡ bytes) × (new ≡ old)
 
 -- It stopped early, and this is why.
-abbrev pub Stops : (engines : ℕ) → Inputs → (bytes left old new : Option (List ℕ)) → SessionError → Type 0
-Stops engines inputs bytes left old new why =
-    MatchBool (are_engines engines) (StopsPlaying inputs (new_world engines) [] bytes left old new why) (DoesNotBegin bytes left old new why)
+abbrev pub Stops : (engines : ℕ) → Inputs → (bytes left : Option (List ℕ)) → Change (Option (List ℕ)) → SessionError → Type 0
+Stops engines inputs bytes left output why =
+    MatchBool (are_engines engines) (StopsPlaying inputs (standing (new_world engines) []) bytes left output why)
+    (DoesNotBegin bytes left output.before output.after why)

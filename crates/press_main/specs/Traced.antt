@@ -3,6 +3,7 @@ use Rattle.std.specs.Prelude.{◌≡◌, ℕ, List, Option}
 use Rattle.press_trace.specs.Traced.{Traces, StopsTracing}
 use Rattle.press_trace.specs.declared.fault.TraceError.{TraceError}
 use Rattle.press_trace.specs.declared.fault.TraceError.TheVariants as traces
+use Rattle.press_main.specs.Change.{Change}
 use Rattle.press_main.specs.Assembly.{ReadWhole}
 use Rattle.press_main.specs.Faults.{told_of_trace}
 use Rattle.press_main.specs.Telling.{Ended}
@@ -30,5 +31,7 @@ StopsTelling had left old new NoMemory =
     × (why : TraceError) × IsTold why NoMemory × StopsTracing bytes old new why
 
 -- The trace of the stream of a reader was told to its end, or not.
-abbrev pub Tracing : (status : ℕ) (said says had left old new : Option (List ℕ)) → Type 0
-Tracing status said says had left old new = Ended status said says told_of_trace (Traced had left old new) (StopsTelling had left old new)
+abbrev pub Tracing : (status : ℕ) (told read written : Change (Option (List ℕ))) → Type 0
+Tracing status told read written =
+    Ended status told.before told.after told_of_trace
+    (Traced read.before read.after written.before written.after) (StopsTelling read.before read.after written.before written.after)

@@ -1,5 +1,6 @@
 //! Sessions with a debugger: what each line is answered.
 ghost use Rattle.std.specs.Prelude.{◌≡◌, ℕ, List, IfOk, IfErr, OnOk};
+ghost use Rattle.press_main.specs.Change.{change};
 ghost use Rattle.std.specs.Fn.{FnReturnsAt};
 ghost use Rattle.std.specs.String.{string_bytes};
 ghost use Rattle.press_debug.specs.Breaks.{no_breaks};
@@ -106,9 +107,9 @@ pub fn debug_lines<I: Read, R: Read, W: Write, E: Teller>(
         (Debugs (I.remaining input.old) (I.remaining input.new)
         (R.remaining reader.old) (R.remaining reader.new)
         (W.contents out.old) (W.contents out.new))
-        (StopsDebugging (I.remaining input.old) (I.remaining input.new)
-        (R.remaining reader.old) (R.remaining reader.new)
-        (W.contents out.old) (W.contents out.new)) }
+        (StopsDebugging (I.remaining input.old) (I.remaining input.new) (R.remaining reader.old)
+        (R.remaining reader.new)
+        (change (W.contents out.old) (W.contents out.new))) }
 {
     match debug(alloc, input, reader, out) {
         Ok(()) => 0,
@@ -128,7 +129,7 @@ fn debug<I: Read, R: Read, W: Write>(
         (W.contents out.old) (W.contents out.new)) }
     ensures err { IfErr result (StopsDebugging (I.remaining input.old) (I.remaining input.new)
         (R.remaining reader.old) (R.remaining reader.new)
-        (W.contents out.old) (W.contents out.new)) }
+        (change (W.contents out.old) (W.contents out.new))) }
 {
     let watch = Watch::new(|_view: &View<'_>| false);
     let debugger = opened(alloc, input, watch)?;
@@ -180,7 +181,7 @@ impl<F: Fn(&View<'_>) -> bool + Drop> DebugSession<F> {
             (bytes : List ℕ) → StandsIn bytes self.old.debugger.stepper
             → AnswersSome bytes (seat self.old.debugger.stepper self.old.debugger.breaks)
             (R.remaining reader.old) (R.remaining reader.new)
-            (W.contents out.old) (W.contents out.new) why) }
+            (change (W.contents out.old) (W.contents out.new)) why) }
     {
         let mut lines = LineReader::new(self.alloc);
         let mut line = Vec::new(self.alloc);

@@ -29,7 +29,8 @@ pub fn are_assignments(defaults: &[&str]) -> bool
 ///
 /// Source: PJL Technical Reference Manual, DEFAULT and RESET.
 pub fn prefix_of(alloc: Global, defaults: &[&str]) -> Result<Vec<u8>, AllocError>
-    ensures { IfOk result (λ prefix. prefix.items ≡ prefix_of (map (λ text. text.now) defaults.now)) }
+    ensures { IfOk result (λ prefix. prefix.items ≡ prefix_of (map (λ text. text.now)
+        defaults.now)) }
 {
     let mut prefix = Vec::new(alloc);
     if defaults.is_empty() {

@@ -1,5 +1,6 @@
 //! Streams that are printed to files.
 ghost use Rattle.std.specs.Prelude.{◌≡◌, ◌≤◌, ◌<◌, ◌⊎◌, IfSome};
+ghost use Rattle.press_main.specs.Change.{around, change};
 ghost use Rattle.press_sink.specs.Kept.{name_parts, next_number, file_faults, outputs_of};
 ghost use Rattle.press_sink.specs.SinkLog.{most_faults};
 ghost use Rattle.press_sink.specs.Template.{IsNoTemplate};
@@ -37,12 +38,13 @@ pub fn print_files<O: NamedOutputs + Drop, R: Read, W: Write + Drop, E: Teller>(
     ensures unread { IsNoTemplate template.now → R.remaining reader.new ≡ R.remaining reader.old }
     ensures files { result.status ≡ 0 → IfSome (R.remaining reader.old) (λ bytes.
         MakesFiles template.now bytes (O.made outputs) (O.made result.outputs)) }
-    ensures prints { PrintsFiles template.now result.status (E.said err.old) (E.said err.new)
-        (R.remaining reader.old) (R.remaining reader.new)
-        (W.contents out) (W.contents result.out) (O.made outputs) (O.made result.outputs)
-        ⊎ PrintsNoFiles template.now result.status (E.said err.old) (E.said err.new)
-        (R.remaining reader.old) (R.remaining reader.new)
-        (W.contents out) (W.contents result.out) (O.made outputs) (O.made result.outputs) }
+    ensures prints { PrintsFiles template.now result.status
+        (around (E.said err.old) (E.said err.new) (R.remaining reader.old) (R.remaining reader.new)
+        (W.contents out) (W.contents result.out) (O.made outputs) (O.made result.outputs))
+        ⊎ PrintsNoFiles template.now result.status
+        (around (E.said err.old) (E.said err.new) (R.remaining reader.old)
+        (R.remaining reader.new) (W.contents out) (W.contents result.out) (O.made outputs)
+        (O.made result.outputs)) }
 {
     match FolderSink::open(alloc, outputs, template) {
         Ok(sink) => print_by::<O, R, W, E, Brand>(alloc, sink, reader, out, err),
@@ -66,9 +68,9 @@ fn print_by<O: NamedOutputs + Drop, R: Read, W: Write + Drop, E: Teller, D: Fold
     requires begun { O.made (outputs_of sink) ≡ D.begun }
     requires first { next_number sink ≡ 1 }
     requires faults { file_faults sink ≡ 0 }
-    ensures { PrintsBy D.parts result.status (E.said err.old) (E.said err.new)
-        (R.remaining reader.old) (R.remaining reader.new)
-        (W.contents out) (W.contents result.out) D.begun (O.made result.outputs) }
+    ensures { PrintsBy D.parts result.status
+        (around (E.said err.old) (E.said err.new) (R.remaining reader.old) (R.remaining reader.new)
+        (W.contents out) (W.contents result.out) D.begun (O.made result.outputs)) }
 {
     let mut sheets: ToldFolder<O, D> = ToldFolder::new(sink);
     let (status, out) = print_to(alloc, reader, &mut sheets, out, err);
@@ -89,9 +91,11 @@ fn print_to<R: Read, S: SheetSink, W: Write + Drop, E: Teller>(
     err: &mut E,
 ) -> (u8, W)
     requires { (S.told sheets.old).faults < most_faults }
-    ensures { PrintsTo result.0 (E.said err.old) (E.said err.new)
-        (R.remaining reader.old) (R.remaining reader.new)
-        (S.told sheets.old) (S.told sheets.new) (W.contents out) (W.contents result.1) }
+    ensures { PrintsTo result.0
+        (change (E.said err.old) (E.said err.new))
+        (change (R.remaining reader.old) (R.remaining reader.new))
+        (change (S.told sheets.old) (S.told sheets.new))
+        (change (W.contents out) (W.contents result.1)) }
 {
     let mut replies = WriteReplies::new(out);
     let printed = print_stream(alloc, reader, 0, sheets, &mut replies);

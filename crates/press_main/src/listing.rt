@@ -1,5 +1,6 @@
 //! The listings of streams and of presses.
 ghost use Rattle.std.specs.Prelude.{◌≡◌, ◌≤◌, ◌++◌, IfSome, OnOk};
+ghost use Rattle.press_main.specs.Change.{change};
 ghost use Rattle.std.specs.Io.KnownBytes.{Appends};
 ghost use Rattle.press_main.specs.Listing.{measured_line, sheet_lines, lines_from, Lists, ListsPrinted, PrintsListing};
 ghost use Rattle.press_main.specs.Listed.{deliveries_of};
@@ -30,9 +31,10 @@ pub fn print_list<R: Read, W: Write, E: Teller>(
     ensures status { result ≤ 1 }
     ensures lists { result ≡ 0 → IfSome (R.remaining reader.old) (λ bytes.
         Lists bytes (W.contents out.old) (W.contents out.new)) }
-    ensures printed { PrintsListing result (E.said err.old) (E.said err.new)
-        (R.remaining reader.old) (R.remaining reader.new)
-        (W.contents out.old) (W.contents out.new) }
+    ensures printed { PrintsListing result
+        (change (E.said err.old) (E.said err.new))
+        (change (R.remaining reader.old) (R.remaining reader.new))
+        (change (W.contents out.old) (W.contents out.new)) }
 {
     let stream = list_stream(alloc, reader, out);
     let status = told_status(&stream.printed, err);

@@ -1,5 +1,6 @@
 //! Outputs that are made of a text, and of a ticket.
 ghost use Rattle.std.specs.Prelude.{map, IfErr, OnOk};
+ghost use Rattle.press_main.specs.Change.{change};
 ghost use Rattle.press_main.specs.Assembly.{AssembledInto, StopsMaking};
 ghost use Rattle.press_main.specs.Jobs.{MakesAJob, MakesNoJob, MakesTheTicket, StopsMakingJob};
 ghost use Rattle.press_main.specs.Faults.{told_of_job, told_of_text};
@@ -69,9 +70,9 @@ pub fn job_file<T: Read, I: NamedInputs, O: NamedOutputs, E: Teller>(
         (MakesTheTicket name.now (T.remaining ticket.old) (T.remaining ticket.new)
         (map (λ name. I.bytes inputs.now name.now) names.now)
         (O.made outputs.old) (O.made outputs.new))
-        (StopsMakingJob name.now (T.remaining ticket.old) (T.remaining ticket.new)
-        (map (λ name. I.bytes inputs.now name.now) names.now)
-        (O.made outputs.old) (O.made outputs.new)) }
+        (StopsMakingJob name.now (T.remaining ticket.old) (T.remaining ticket.new) (map (λ name.
+        I.bytes inputs.now name.now) names.now)
+        (change (O.made outputs.old) (O.made outputs.new))) }
 {
     match make_ticket(alloc, ticket, inputs, names, outputs, name) {
         Ok(()) => 0,
@@ -92,10 +93,9 @@ fn make_ticket<T: Read, I: NamedInputs, O: NamedOutputs>(
         (T.remaining ticket.old) (T.remaining ticket.new)
         (map (λ name. I.bytes inputs.now name.now) names.now)
         (O.made outputs.old) (O.made outputs.new)) }
-    ensures err { IfErr result (λ why. StopsMakingJob name.now
-        (T.remaining ticket.old) (T.remaining ticket.new)
-        (map (λ name. I.bytes inputs.now name.now) names.now)
-        (O.made outputs.old) (O.made outputs.new) why) }
+    ensures err { IfErr result (λ why. StopsMakingJob name.now (T.remaining ticket.old)
+        (T.remaining ticket.new) (map (λ name. I.bytes inputs.now name.now) names.now)
+        (change (O.made outputs.old) (O.made outputs.new)) why) }
 {
     let ticket = ticket_in(alloc, ticket)?;
     let images = images_named(alloc, inputs, names)?;

@@ -1,5 +1,6 @@
 //! The page that is open at a step of a stream, made an output.
 ghost use Rattle.std.specs.Prelude.{◌≡◌, ◌<◌, IfOk, IfErr, IfSome, OnOk};
+ghost use Rattle.press_main.specs.Change.{change};
 ghost use Rattle.press_engine.specs.Closing.{page_now};
 ghost use Rattle.press_engine.specs.Place.{blank_page};
 ghost use Rattle.press_main.specs.Paging.{MakesPage, PagedInto, Paging, StandsAt, StopsPaging};
@@ -107,9 +108,10 @@ pub fn page_file<R: Read, O: NamedOutputs, E: Teller>(
     name: &str,
     err: &mut E,
 ) -> u8
-    ensures { Paging steps name.now result (E.said err.old) (E.said err.new)
-        (R.remaining reader.old) (R.remaining reader.new)
-        (O.made outputs.old) (O.made outputs.new) }
+    ensures { Paging steps name.now result
+        (change (E.said err.old) (E.said err.new))
+        (change (R.remaining reader.old) (R.remaining reader.new))
+        (change (O.made outputs.old) (O.made outputs.new)) }
 {
     match make_page(alloc, reader, steps, outputs, name) {
         Ok(taken) => {
@@ -133,7 +135,8 @@ fn make_page<R: Read, O: NamedOutputs>(
     ensures ok { OnOk result (PagedInto steps name.now (R.remaining reader.old)
         (R.remaining reader.new) (O.made outputs.old) (O.made outputs.new)) }
     ensures err { IfErr result (λ why. StopsPaging steps name.now (R.remaining reader.old)
-        (R.remaining reader.new) (O.made outputs.old) (O.made outputs.new) why) }
+        (R.remaining reader.new)
+        (change (O.made outputs.old) (O.made outputs.new)) why) }
 {
     let bytes = read_all(alloc, reader)?;
     let stepper = behind_steps(alloc, &bytes, steps)?;

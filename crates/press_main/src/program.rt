@@ -1,5 +1,6 @@
 //! What the words ask for, done.
 ghost use Rattle.std.specs.Prelude.{◌≡◌, ◌⊎◌, map, IfOk};
+ghost use Rattle.press_main.specs.Change.{around, change};
 ghost use Rattle.std.specs.String.{string_bytes};
 ghost use Rattle.press_main.specs.Defaults.{HoldsBehind, with_prefix};
 ghost use Rattle.press_main.specs.Files.{PrintsFiles, PrintsNoFiles};
@@ -38,10 +39,9 @@ pub fn run_words<I: NamedInputs, O: NamedOutputs + Drop, S: Read, W: Write + Dro
     err: &mut E,
 ) -> Finished<W, O>
     ensures { Runs (map string_bytes words.now) (I.bytes inputs.now) (I.missing inputs.now)
-        result.status (E.said err.old) (E.said err.new)
-        (S.remaining input.old) (S.remaining input.new)
-        (W.contents out) (W.contents result.out)
-        (O.made outputs) (O.made result.outputs) }
+        result.status
+        (around (E.said err.old) (E.said err.new) (S.remaining input.old) (S.remaining input.new)
+        (W.contents out) (W.contents result.out) (O.made outputs) (O.made result.outputs)) }
 {
     let Ok(texts) = texts_of(alloc, words) else {
         return Finished {
@@ -113,10 +113,10 @@ fn perform<I: NamedInputs, O: NamedOutputs + Drop, S: Read, W: Write + Drop, E: 
     out: W,
     err: &mut E,
 ) -> Finished<W, O>
-    ensures { Performs (request_seen request.now).source (request_seen request.now).made
-        (I.bytes inputs.now) (I.missing inputs.now) result.status (E.said err.old) (E.said err.new)
-        (S.remaining input.old) (S.remaining input.new)
-        (W.contents out) (W.contents result.out) (O.made outputs) (O.made result.outputs) }
+    ensures { Performs (request_seen request.now).source (request_seen request.now).made (I.bytes
+        inputs.now) (I.missing inputs.now) result.status
+        (around (E.said err.old) (E.said err.new) (S.remaining input.old) (S.remaining input.new)
+        (W.contents out) (W.contents result.out) (O.made outputs) (O.made result.outputs)) }
 {
     let output = &request.output;
     match request.input {
@@ -143,8 +143,8 @@ fn make<I: NamedInputs, O: NamedOutputs + Drop, R: Read, W: Write + Drop, E: Tel
     err: &mut E,
 ) -> Finished<W, O>
     ensures { Makes (made_seen output.now) (I.bytes inputs.now) result.status
-        (E.said err.old) (E.said err.new) (R.remaining reader.old) (R.remaining reader.new)
-        (W.contents out) (W.contents result.out) (O.made outputs) (O.made result.outputs) }
+        (around (E.said err.old) (E.said err.new) (R.remaining reader.old) (R.remaining reader.new)
+        (W.contents out) (W.contents result.out) (O.made outputs) (O.made result.outputs)) }
 {
     match output {
         Output::Listing(prefix) => Finished {
@@ -202,8 +202,9 @@ fn list_behind<R: Read, W: Write, E: Teller>(
     err: &mut E,
 ) -> u8
     ensures { HoldsBehind prefix.now (R.remaining reader.old) (R.remaining reader.new)
-        (λ had left. PrintsListing result (E.said err.old) (E.said err.new) had left
-        (W.contents out.old) (W.contents out.new)) }
+        (λ had left. PrintsListing result
+        (change (E.said err.old) (E.said err.new)) (change had left)
+        (change (W.contents out.old) (W.contents out.new))) }
 {
     if prefix.is_empty() {
         return print_list(alloc, reader, out, err);
@@ -221,8 +222,9 @@ fn trace_behind<R: Read, W: Write, E: Teller>(
     err: &mut E,
 ) -> u8
     ensures { HoldsBehind prefix.now (R.remaining reader.old) (R.remaining reader.new)
-        (λ had left. Tracing result (E.said err.old) (E.said err.new) had left
-        (W.contents out.old) (W.contents out.new)) }
+        (λ had left. Tracing result
+        (change (E.said err.old) (E.said err.new)) (change had left)
+        (change (W.contents out.old) (W.contents out.new))) }
 {
     if prefix.is_empty() {
         return tell_trace(alloc, reader, out, err);
@@ -243,8 +245,9 @@ fn page_behind<R: Read, O: NamedOutputs, E: Teller>(
     err: &mut E,
 ) -> u8
     ensures { HoldsBehind prefix.now (R.remaining reader.old) (R.remaining reader.new)
-        (λ had left. Paging steps name.now result (E.said err.old) (E.said err.new) had left
-        (O.made outputs.old) (O.made outputs.new)) }
+        (λ had left. Paging steps name.now result
+        (change (E.said err.old) (E.said err.new)) (change had left)
+        (change (O.made outputs.old) (O.made outputs.new))) }
 {
     if prefix.is_empty() {
         return page_file(alloc, reader, steps, outputs, name, err);
@@ -264,11 +267,12 @@ fn print_behind<O: NamedOutputs + Drop, R: Read, W: Write + Drop, E: Teller>(
     err: &mut E,
 ) -> Finished<W, O>
     ensures { HoldsBehind prefix.now (R.remaining reader.old) (R.remaining reader.new)
-        (λ had left. PrintsFiles template.now result.status (E.said err.old) (E.said err.new)
-        had left (W.contents out) (W.contents result.out)
-        (O.made outputs) (O.made result.outputs)
-        ⊎ PrintsNoFiles template.now result.status (E.said err.old) (E.said err.new) had left
-        (W.contents out) (W.contents result.out) (O.made outputs) (O.made result.outputs)) }
+        (λ had left. PrintsFiles template.now result.status
+        (around (E.said err.old) (E.said err.new) had left (W.contents out)
+        (W.contents result.out) (O.made outputs) (O.made result.outputs))
+        ⊎ PrintsNoFiles template.now result.status
+        (around (E.said err.old) (E.said err.new) had left (W.contents out)
+        (W.contents result.out) (O.made outputs) (O.made result.outputs))) }
 {
     if prefix.is_empty() {
         return print_files(alloc, outputs, reader, template, out, err);
@@ -289,8 +293,9 @@ fn debug_file<I: NamedInputs, R: Read, W: Write, E: Teller>(
     err: &mut E,
 ) -> u8
     ensures { Debugging result (with_prefix prefix.now (I.bytes inputs.now name.now))
-        (E.said err.old) (E.said err.new) (R.remaining reader.old) (R.remaining reader.new)
-        (W.contents out.old) (W.contents out.new) }
+        (change (E.said err.old) (E.said err.new))
+        (change (R.remaining reader.old) (R.remaining reader.new))
+        (change (W.contents out.old) (W.contents out.new)) }
 {
     match inputs.open(name) {
         Ok(mut input) => debug_behind(alloc, prefix, &mut input, reader, out, err),
@@ -308,8 +313,9 @@ fn debug_behind<I: Read, R: Read, W: Write, E: Teller>(
     err: &mut E,
 ) -> u8
     ensures { Debugging result (with_prefix prefix.now (I.remaining input.old))
-        (E.said err.old) (E.said err.new) (R.remaining reader.old) (R.remaining reader.new)
-        (W.contents out.old) (W.contents out.new) }
+        (change (E.said err.old) (E.said err.new))
+        (change (R.remaining reader.old) (R.remaining reader.new))
+        (change (W.contents out.old) (W.contents out.new)) }
 {
     if prefix.is_empty() {
         return debug_lines(alloc, input, reader, out, err);
@@ -328,10 +334,11 @@ fn write_file<R: Read, I: NamedInputs, O: NamedOutputs, E: Teller>(
     name: &str,
     err: &mut E,
 ) -> u8
-    ensures { Writing name.now result (E.said err.old) (E.said err.new)
-        (R.remaining reader.old) (R.remaining reader.new)
+    ensures { Writing name.now result
+        (change (E.said err.old) (E.said err.new))
+        (change (R.remaining reader.old) (R.remaining reader.new))
         (map (I.bytes inputs.now) (map (λ image. image.now) images.now))
-        (O.made outputs.old) (O.made outputs.new) }
+        (change (O.made outputs.old) (O.made outputs.new)) }
 {
     let Ok(words) = names_of(alloc, images) else {
         return report(&NO_MEMORY, err);

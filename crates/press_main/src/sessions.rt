@@ -1,5 +1,6 @@
 //! Sessions with a press: lines of events, and what each is answered.
 ghost use Rattle.std.specs.Prelude.{◌≡◌, ◌∷◌, ◌++◌, ℕ, List, [], map, is_ok, IfOk, IfErr, OnOk};
+ghost use Rattle.press_main.specs.Change.{change};
 ghost use Rattle.std.specs.Io.KnownBytes.{Appends};
 ghost use Rattle.std.specs.String.{string_bytes};
 ghost use Rattle.press_asm.specs.Text.{lines_of};
@@ -24,6 +25,7 @@ ghost use Rattle.press_main.specs.Sessions.{
   Plays,
   Stops,
   delivered_by,
+  standing,
 };
 ghost use Rattle.press_main.specs.Faults.{told_of_session};
 ghost use Rattle.press_main.specs.Telling.{Ended};
@@ -161,7 +163,7 @@ pub fn press_lines<I: NamedInputs, R: Read, W: Write, E: Teller>(
         (Plays engines (I.bytes inputs.now) (R.remaining reader.old) (R.remaining reader.new)
         (W.contents out.old) (W.contents out.new))
         (Stops engines (I.bytes inputs.now) (R.remaining reader.old) (R.remaining reader.new)
-        (W.contents out.old) (W.contents out.new)) }
+            (change (W.contents out.old) (W.contents out.new))) }
 {
     match play(alloc, inputs, engines, reader, out) {
         Ok(()) => 0,
@@ -180,9 +182,9 @@ fn play<I: NamedInputs, R: Read, W: Write>(
     ensures ok { OnOk result (Plays engines (I.bytes inputs.now)
         (R.remaining reader.old) (R.remaining reader.new)
         (W.contents out.old) (W.contents out.new)) }
-    ensures err { IfErr result (Stops engines (I.bytes inputs.now)
-        (R.remaining reader.old) (R.remaining reader.new)
-        (W.contents out.old) (W.contents out.new)) }
+    ensures err { IfErr result (Stops engines (I.bytes inputs.now) (R.remaining reader.old)
+        (R.remaining reader.new)
+        (change (W.contents out.old) (W.contents out.new))) }
 {
     laws::sheets_are_given();
     let mut session = Session::new(alloc, engines)?;
@@ -223,11 +225,12 @@ impl Session {
         out: &mut W,
     ) -> Result<(), SessionError>
         ensures ok { OnOk result (PlaysToItsEnd (I.bytes inputs.now)
-            self.old.press (delivered_by self.old) (R.remaining reader.old) (R.remaining reader.new)
+            (standing self.old.press (delivered_by self.old)) (R.remaining reader.old)
+            (R.remaining reader.new)
             (W.contents out.old) (W.contents out.new)) }
         ensures err { IfErr result (λ why. StopsPlaying (I.bytes inputs.now)
-            self.old.press (delivered_by self.old) (R.remaining reader.old) (R.remaining reader.new)
-            (W.contents out.old) (W.contents out.new) why) }
+            (standing self.old.press (delivered_by self.old)) (R.remaining reader.old)
+            (R.remaining reader.new) (change (W.contents out.old) (W.contents out.new)) why) }
     {
         let mut lines = LineReader::new(self.alloc);
         let mut line = Vec::new(self.alloc);
@@ -248,7 +251,8 @@ impl Session {
         ensures ok { OnOk result (Ends (I.bytes inputs.now) (lines_of line.now)
             self.old.press (delivered_by self.old) (W.contents out.old) (W.contents out.new)) }
         ensures err { IfErr result (StopsEnding (I.bytes inputs.now) line.now
-            self.old.press (delivered_by self.old) (W.contents out.old) (W.contents out.new)) }
+            (standing self.old.press (delivered_by self.old)) (W.contents out.old)
+            (W.contents out.new)) }
     {
         if line.is_empty() {
             return self.list(out);
@@ -265,11 +269,13 @@ impl Session {
         out: &mut W,
     ) -> Result<(), SessionError>
         ensures ok { OnOk result ((answer : List ℕ)
-            × TakesLines (I.bytes inputs.now) (line.now ∷ []) self.old.press (delivered_by self.old)
-            self.new.press (delivered_by self.new) answer
+            × TakesLines (I.bytes inputs.now) (line.now ∷ [])
+                (standing self.old.press (delivered_by self.old))
+                (standing self.new.press (delivered_by self.new)) answer
             × Appends (W.contents out.old) (W.contents out.new) answer) }
         ensures err { IfErr result (λ why.
-            StopsAtLine (I.bytes inputs.now) line.now self.old.press (delivered_by self.old)
+            StopsAtLine (I.bytes inputs.now) line.now
+                (standing self.old.press (delivered_by self.old))
             (W.contents out.old) (W.contents out.new) why) }
     {
         let answer = self.answer(inputs, line)?;
@@ -303,8 +309,9 @@ impl Session {
     /// Carries out a line: its answer.
     fn answer<I: NamedInputs>(&mut self, inputs: &I, line: &[u8]) -> Result<Vec<u8>, SessionError>
         ensures ok { IfOk result (λ answer.
-            TakesLines (I.bytes inputs.now) (line.now ∷ []) self.old.press (delivered_by self.old)
-            self.new.press (delivered_by self.new) answer.items) }
+            TakesLines (I.bytes inputs.now) (line.now ∷ [])
+                (standing self.old.press (delivered_by self.old))
+                (standing self.new.press (delivered_by self.new)) answer.items) }
         ensures err { IfErr result (IsUnanswered (I.bytes inputs.now) line.now self.old.press) }
     {
         let words = words_of(self.alloc, line)?;
@@ -321,8 +328,8 @@ impl Session {
         event: LineEvent<'_>,
     ) -> Result<Vec<u8>, SessionError>
         ensures ok { IfOk result (λ answer. TakesAsked (I.bytes inputs.now) (line_seen event.entry)
-            self.old.press (delivered_by self.old)
-            self.new.press (delivered_by self.new) answer.items) }
+            (standing self.old.press (delivered_by self.old))
+            (standing self.new.press (delivered_by self.new)) answer.items) }
         ensures err { IfErr result
             (HasFault (I.bytes inputs.now) (line_seen event.entry) self.old.press) }
     {
@@ -341,10 +348,10 @@ impl Session {
         images: &[&[u8]],
     ) -> Result<Vec<u8>, SessionError>
         ensures ok { IfOk result (λ answer.
-            TakesAsked (I.bytes inputs.now)
-            (MessageLine file.now (map (λ name. name.now) images.now))
-            self.old.press (delivered_by self.old)
-            self.new.press (delivered_by self.new) answer.items) }
+            TakesAsked (I.bytes inputs.now) (MessageLine file.now (map (λ name. name.now)
+                images.now))
+                (standing self.old.press (delivered_by self.old))
+                (standing self.new.press (delivered_by self.new)) answer.items) }
         ensures err { IfErr result (HasFault (I.bytes inputs.now)
             (MessageLine file.now (map (λ name. name.now) images.now)) self.old.press) }
     {

@@ -1,6 +1,6 @@
 //! Streams that are printed from a reader to two sinks.
 ghost use Rattle.std.specs.Prelude.{◌≡◌};
-ghost use Rattle.press_sink.specs.SinkLog.{logs, HasFaultRoom};
+ghost use Rattle.press_sink.specs.SinkLog.{logs, HasFaultRoom, under};
 ghost use Rattle.press_stream.specs.Answers.{fault_of};
 ghost use Rattle.press_stream.specs.Printed.{Printed};
 ghost use Rattle.press_main.specs.Printing.{machine_of, status_of_fault, TellsFault};
@@ -25,10 +25,10 @@ pub fn print_stream<R: Read, S: SheetSink, P: ReplySink>(
     replies: &mut P,
 ) -> Result<Job, JobError>
     requires { HasFaultRoom (logs (S.told sheets.old) (P.told replies.old)) }
-    ensures { Printed (R.remaining reader.old) (R.remaining reader.new) tag (fault_of result)
+    ensures { Printed (R.remaining reader.old) (R.remaining reader.new) (fault_of result)
         (machine_of result)
-        (logs (S.told sheets.old) (P.told replies.old))
-        (logs (S.told sheets.new) (P.told replies.new)) }
+        (under tag (logs (S.told sheets.old) (P.told replies.old))
+        (logs (S.told sheets.new) (P.told replies.new))) }
 {
     press_stream::laws::chain();
     let mut job = Job::open(alloc)?;

@@ -5,7 +5,7 @@ ghost use Rattle.press_sink.specs.Outputs.{MadeOutput};
 ghost use Rattle.press_sink.specs.Sending.{sheets_in};
 ghost use Rattle.press_sink.specs.Template.{NameParts};
 ghost use Rattle.press_main.specs.Files.{MakesSheets, files_told};
-ghost use Rattle.press_main.specs.Folders.{KeepsFolder};
+ghost use Rattle.press_main.specs.Folders.{KeepsFolder, folder};
 
 use crate::taken::Taken;
 use press_sink::{FolderSink, NamedOutputs, Sheet, SheetSink, SinkError};
@@ -34,8 +34,8 @@ pub struct ToldFolder<O: NamedOutputs, D: Folder> {
     taken: Taken,
     faults: u64,
     of: PhantomData<D>,
-    ghost keeps: { ∥ KeepsFolder D.parts D.begun (sheets_in taken) faults
-        (name_parts sink) (next_number sink) (file_faults sink) (O.made (outputs_of sink)) ∥₁ },
+    ghost keeps: { ∥ KeepsFolder D.parts D.begun (sheets_in taken) faults (folder (name_parts sink)
+        (next_number sink) (file_faults sink) (O.made (outputs_of sink))) ∥₁ },
 }
 
 impl<O: NamedOutputs + Drop, D: Folder> ToldFolder<O, D> {

@@ -1,5 +1,6 @@
 //! The trace of a stream, told to a writer.
 ghost use Rattle.std.specs.Prelude.{IfErr, OnOk};
+ghost use Rattle.press_main.specs.Change.{change};
 ghost use Rattle.press_pbm.specs.Spelling.{Writes};
 ghost use Rattle.press_main.specs.Traced.{StopsTelling, Traced, Tracing};
 
@@ -70,9 +71,10 @@ pub fn tell_trace<R: Read, W: Write, E: Teller>(
     out: &mut W,
     err: &mut E,
 ) -> u8
-    ensures { Tracing result (E.said err.old) (E.said err.new)
-        (R.remaining reader.old) (R.remaining reader.new)
-        (W.contents out.old) (W.contents out.new) }
+    ensures { Tracing result
+        (change (E.said err.old) (E.said err.new))
+        (change (R.remaining reader.old) (R.remaining reader.new))
+        (change (W.contents out.old) (W.contents out.new)) }
 {
     match trace_to(alloc, reader, out) {
         Ok(()) => 0,

@@ -754,7 +754,8 @@ fn named_request<'a>(
 /// What the matches of the command line ask for.
 fn request_in<'a>(alloc: Global, matches: &ArgMatches<'a>) -> Result<Option<Request<'a>>, Error>
     ensures ok { IfOk result (λ arguments. option_map request_seen arguments
-        ≡ option_and_then (λ found. arguments_by found.0 found.1) (subcommand_rows_of matches.now)) }
+        ≡ option_and_then (λ found. arguments_by found.0 found.1)
+        (subcommand_rows_of matches.now)) }
     ensures memory { IfErr result (λ error. kind_of error ≡ OutOfMemory) }
 {
     match matches.subcommand() {

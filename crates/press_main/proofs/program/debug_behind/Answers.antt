@@ -1,4 +1,5 @@
 use Rattle.std.proofs.Common.{rules, ◌∙◌, List, ℕ, Option, subst, sym}
+use Rattle.press_main.specs.Change.{change}
 use Rattle.press_main.specs.Program.{Debugging}
 use Rattle.press_main.proofs.DefaultsLemmas.{with_prefix-none, with_prefix-some}
 use Rattle.press_main.proofs.program.debug_behind.Goals as goal
@@ -9,6 +10,5 @@ returns-then-is_empty g c = rw (with_prefix-none _ _ (sym c.is_empty.ensures ∙
 pub returns : goal.returns
 returns g c =
     let Holds : Option (List ℕ) → Type 0 = λ stream.
-    Debugging c.debug_lines-2.result stream (g.E.Teller.said c.args.err.now) (g.E.Teller.said c.debug_lines-2.new.err) (g.R.Read.remaining c.args.reader.now) (g.R.Read.remaining c.debug_lines-2.new.reader)
-    (g.W.Write.contents c.args.out.now) (g.W.Write.contents c.debug_lines-2.new.out) in
+    Debugging c.debug_lines-2.result stream (change (g.E.Teller.said c.args.err.now) (g.E.Teller.said c.debug_lines-2.new.err)) (change (g.R.Read.remaining c.args.reader.now) (g.R.Read.remaining c.debug_lines-2.new.reader)) (change (g.W.Write.contents c.args.out.now) (g.W.Write.contents c.debug_lines-2.new.out)) in
     rw (with_prefix-some _ _ (sym c.is_empty.ensures ∙ c.if-is_empty.false)) (subst Holds c.chain-stream.ensures.bytes (_, c.debug_lines-2.ensures))

@@ -1,4 +1,5 @@
 use Rattle.std.proofs.Common.{◌≡◌, ◌∙◌, ℕ, List, Bor, Option, map, ap, refl, subst, inl, arith}
+use Rattle.press_main.specs.Change.{change}
 use Rattle.press_sink.specs.Outputs.{MadeOutput}
 use Rattle.press_ticket.specs.declared.fault.TicketError.TheVariants as ticket_fault
 use Rattle.press_main.specs.Program.{Writing}
@@ -22,4 +23,4 @@ returns g c =
     let now : Bor (List ℕ) → List ℕ = λ name. name.now in
     let same : map (λ (name : Bor (List ℕ)). bytes name.now) c.deref.result.now ≡ map bytes (map now c.args.images.now) =
     map-twice now bytes c.deref.result.now ∙ ap (map bytes) (ap (map now) c.deref.ensures.value ∙ c.in-Ok.ensures) in
-    subst (λ (inputs : List (Option (List ℕ))). Writing c.args.name.now c.job_file.result (g.E.Teller.said c.args.err.now) (g.E.Teller.said c.job_file.new.err) had left inputs before after) same c.job_file.ensures
+    subst (λ (inputs : List (Option (List ℕ))). Writing c.args.name.now c.job_file.result (change (g.E.Teller.said c.args.err.now) (g.E.Teller.said c.job_file.new.err)) (change had left) inputs (change before after)) same c.job_file.ensures
