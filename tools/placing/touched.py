@@ -3,7 +3,7 @@ rooms."""
 
 TOUCHED = {
     "A3": """
-        crates/press_page/specs/Media.antt crates/press_page/specs/Environment.antt crates/press_page/src/media.rt crates/press_page/src/numbered.rt
+        crates/press_page/specs/PageSetup.antt crates/press_page/specs/Environment.antt crates/press_page/src/media.rt crates/press_page/src/numbered.rt
         crates/press_page/src/defaults.rt crates/press_pjl/specs/Names.antt crates/press_pjl/src/named.rt crates/press_ticket/specs/Names.antt
         crates/press_ticket/src/media.rt crates/press_ticket/src/parts.rt crates/press_writer/specs/Medium.antt crates/press_writer/src/media.rt
         crates/press_main/src/words.rt tools/model/pages.py tools/model/pjl.py tools/model/table.py tools/model/streams.py tools/model/writer.py
