@@ -163,7 +163,7 @@ pub fn press_lines<I: NamedInputs, R: Read, W: Write, E: Teller>(
         (Plays engines (I.bytes inputs.now) (R.remaining reader.old) (R.remaining reader.new)
         (W.contents out.old) (W.contents out.new))
         (Stops engines (I.bytes inputs.now) (R.remaining reader.old) (R.remaining reader.new)
-            (change (W.contents out.old) (W.contents out.new))) }
+        (change (W.contents out.old) (W.contents out.new))) }
 {
     match play(alloc, inputs, engines, reader, out) {
         Ok(()) => 0,
@@ -270,12 +270,12 @@ impl Session {
     ) -> Result<(), SessionError>
         ensures ok { OnOk result ((answer : List ℕ)
             × TakesLines (I.bytes inputs.now) (line.now ∷ [])
-                (standing self.old.press (delivered_by self.old))
-                (standing self.new.press (delivered_by self.new)) answer
+            (standing self.old.press (delivered_by self.old))
+            (standing self.new.press (delivered_by self.new)) answer
             × Appends (W.contents out.old) (W.contents out.new) answer) }
         ensures err { IfErr result (λ why.
             StopsAtLine (I.bytes inputs.now) line.now
-                (standing self.old.press (delivered_by self.old))
+            (standing self.old.press (delivered_by self.old))
             (W.contents out.old) (W.contents out.new) why) }
     {
         let answer = self.answer(inputs, line)?;
@@ -310,8 +310,8 @@ impl Session {
     fn answer<I: NamedInputs>(&mut self, inputs: &I, line: &[u8]) -> Result<Vec<u8>, SessionError>
         ensures ok { IfOk result (λ answer.
             TakesLines (I.bytes inputs.now) (line.now ∷ [])
-                (standing self.old.press (delivered_by self.old))
-                (standing self.new.press (delivered_by self.new)) answer.items) }
+            (standing self.old.press (delivered_by self.old))
+            (standing self.new.press (delivered_by self.new)) answer.items) }
         ensures err { IfErr result (IsUnanswered (I.bytes inputs.now) line.now self.old.press) }
     {
         let words = words_of(self.alloc, line)?;
@@ -349,9 +349,9 @@ impl Session {
     ) -> Result<Vec<u8>, SessionError>
         ensures ok { IfOk result (λ answer.
             TakesAsked (I.bytes inputs.now) (MessageLine file.now (map (λ name. name.now)
-                images.now))
-                (standing self.old.press (delivered_by self.old))
-                (standing self.new.press (delivered_by self.new)) answer.items) }
+            images.now))
+            (standing self.old.press (delivered_by self.old))
+            (standing self.new.press (delivered_by self.new)) answer.items) }
         ensures err { IfErr result (HasFault (I.bytes inputs.now)
             (MessageLine file.now (map (λ name. name.now) images.now)) self.old.press) }
     {

@@ -21,7 +21,7 @@ fn paint_lines(frame: &mut Bands, corner: Dot, lines: usize, source: DotRow<'_>,
     ensures painted { frame.new.page ≡ painted frame.old.page
         (strip_mark Portrait frame.old.page.width frame.old.page.height corner.x corner.y
         (row source.entry).dots lines (row_dot (row source.entry).bits) brush.now.tile
-            brush.now.mode) }
+        brush.now.mode) }
     ensures ready { frame.new.ready ≡ frame.old.ready }
 {
     let lines = cut_length(corner.y, lines, frame.height());
@@ -81,7 +81,7 @@ impl Across {
             ≡ covered_columns frame.now.page.width self.left self.size source.dots }
         ensures unmarked { result ≡ true → frame.now.page ≡ painted frame.now.page
             (row_on_frame (record { x = self.left; y = line }) self.size (row source.entry)
-                brush.now
+            brush.now
             frame.now.page) }
         ensures met { result ≡ false → 1 ≤ self.columns }
     {
