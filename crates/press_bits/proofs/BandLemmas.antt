@@ -1,11 +1,11 @@
 -- Pages in bands: bands that are made are white, and a row that is painted into one is its mark.
-use Rattle.std.proofs.Common.{◌≡◌, ◌≢◌, ℕ, ◌+◌, ◌-◌, ◌*◌, ◌/◌, ◌%◌, ◌<◌, ◌≤◌, ◌⊎◌, min, max, Bool, true, false, ◌&&◌, zero, suc, List, [], ◌∷◌, length, map, replicate, take, drop, get_or, set, Result, Ok, Err, OnOk, refl, sym, ap, ◌∙◌, subst, inl, inr, arith}
+use Rattle.std.proofs.Common.{◌≡◌, ◌≢◌, ℕ, ◌+◌, ◌-◌, ◌*◌, ◌/◌, ◌%◌, ◌<◌, ◌≤◌, ◌⊎◌, min, max, Bool, true, false, ◌&&◌, suc, List, [], ◌∷◌, length, map, replicate, take, drop, get_or, set, Result, Ok, Err, OnOk, refl, sym, ap, ◌∙◌, subst, inl, inr, arith}
 use Rattle.std.specs.Prelude.{nat_lt, nat_le, nat_eq, ℤ, pos, ◌+ℤ◌, int_le, int_lt, unsigned_abs}
 use Rattle.std.specs.declared.alloc.AllocError.{AllocError}
 use Rattle.std.proofs.Math.ListN.{get_or-map}
 use Rattle.std.proofs.lemmas.Bool.{cases_eq, cases_lt, true≢false}
 use Rattle.std.proofs.lemmas.Bool.Decides.{nat_tests}
-use Rattle.std.proofs.lemmas.List.{length-replicate, length-take, length-drop, take-take, drop-take, take-replicate, drop-replicate, length-set, get_or-set_same, get_or-set_other}
+use Rattle.std.proofs.lemmas.List.{length-replicate, length-take, length-drop, take-take, drop-take, take-replicate, drop-replicate, length-set, get_or-set_same, get_or-set_other, get_or_past}
 use Rattle.press_bits.specs.Page.{HasNoDotOutside, black_at, black_in_line, blank, is_page_size}
 use Rattle.press_bits.specs.DotRule.{dot_after}
 use Rattle.press_bits.specs.Mark.{IsWhite, Row, effect_at, painted, row_dot, repeated, row_mark}
@@ -46,50 +46,58 @@ pub row_dot-nothing : (p : ℕ) → row_dot [] p ≡ false
 row_dot-nothing p = row_dot-replicate_zero 0 p
 
 -- a band that is made has the dots of none
-pub made_dots : (old new : List (List ℕ)) (first end count : ℕ) (result : Result (Unit {0}) AllocError) → MakesBands old new first end count result → (k p : ℕ) → row_dot (band_at new k) p ≡ row_dot (band_at old k) p
-made_dots old new first end count result makes k p =
+pub made_dots : (old new : List (List ℕ)) (first end count most : ℕ) (result : Result (Unit {0}) AllocError) → MakesBands old new first end count most result → (k p : ℕ) → row_dot (band_at new k) p ≡ row_dot (band_at old k) p
+made_dots old new first end count most result makes k p =
     elim (makes.each k) [
       | inl same ↦ ap (λ (b : List ℕ). row_dot b p) same
       | inr made ↦ ap (λ (b : List ℕ). row_dot b p) made.1 ∙ row_dot-replicate_zero count p ∙ sym (row_dot-nothing p) ∙ ap (λ (b : List ℕ). row_dot b p) (sym made.0)
     ]
 
-pub made_page : (w h : ℕ) (old new : List (List ℕ)) (first end count : ℕ) (result : Result (Unit {0}) AllocError) → MakesBands old new first end count result → page_of_bands w h new ≡ page_of_bands w h old
+pub made_page : (w h : ℕ) (old new : List (List ℕ)) (first end count most : ℕ) (result : Result (Unit {0}) AllocError) → MakesBands old new first end count most result → page_of_bands w h new ≡ page_of_bands w h old
 unfolding page_of_bands
-made_page w h old new first end count result makes =
+made_page w h old new first end count most result makes =
     page_where_alike w h (line_dot (bytes_per_line w) new) (line_dot (bytes_per_line w) old)
-    (λ x y _ _. made_dots old new first end count result makes (y / 64) (8 * (y % 64 * bytes_per_line w) + x))
+    (λ x y _ _. made_dots old new first end count most result makes (y / 64) (8 * (y % 64 * bytes_per_line w) + x))
 
-pub made_bands : (w h : ℕ) (old new : List (List ℕ)) (first end count : ℕ) (result : Result (Unit {0}) AllocError) → count ≡ 64 * bytes_per_line w → HasBands w h old → MakesBands old new first end count result → HasBands w h new
-made_bands w h old new first end count result size has makes = record {
+pub made_bands : (w h : ℕ) (old new : List (List ℕ)) (first end count most : ℕ) (result : Result (Unit {0}) AllocError) → count ≡ 64 * bytes_per_line w → most ≤ (h + 63) / 64 → HasBands w h old → MakesBands old new first end count most result → HasBands w h new
+made_bands w h old new first end count most result size room has makes = record {
   some_width = has.some_width;
   most_width = has.most_width;
   some_height = has.some_height;
   most_height = has.most_height;
-  count = makes.same_length ∙ has.count;
-  whole = λ k within.
+  most_bands = omega (arith, makes.most, has.most_bands, room);
+  whole = λ k.
       elim (makes.each k) [
-        | inl same ↦ subst (λ (b : List ℕ). (b ≡ []) ⊎ (length b ≡ 64 * bytes_per_line w)) (sym same) (has.whole k (omega (arith, makes.same_length)))
+        | inl same ↦ subst (λ (b : List ℕ). (b ≡ []) ⊎ (length b ≡ 64 * bytes_per_line w)) (sym same) (has.whole k)
         | inr made ↦ inr (ap length made.1 ∙ length-replicate {A = ℕ} count 0 ∙ size)
       ];
-  padding = λ y x inside right within. made_dots old new first end count result makes (y / 64) (8 * (y % 64 * bytes_per_line w) + x) ∙ has.padding y x inside right within;
+  padding = λ y x inside right within. made_dots old new first end count most result makes (y / 64) (8 * (y % 64 * bytes_per_line w) + x) ∙ has.padding y x inside right within;
 }
 
 -- the flag of a band
 pub ready_of : (bands : List (List ℕ)) (k : ℕ) → get_or (map is_there bands) k false ≡ is_there (band_at bands k)
 ready_of bands k = get_or-map is_there bands k []
 
-pub made_stays : (w h : ℕ) (old new : List (List ℕ)) (first end count : ℕ) (result : Result (Unit {0}) AllocError) → MakesBands old new first end count result → (line : ℕ) → is_ready (banded w h old) line → is_ready (banded w h new) line
-made_stays w h old new first end count result makes line ready =
+pub made_stays : (w h : ℕ) (old new : List (List ℕ)) (first end count most : ℕ) (result : Result (Unit {0}) AllocError) → MakesBands old new first end count most result → (line : ℕ) → is_ready (banded w h old) line → is_ready (banded w h new) line
+made_stays w h old new first end count most result makes line ready =
     ready_of new (line / 64)
     ∙ elim (makes.each (line / 64)) [
       | inl same ↦ ap is_there same ∙ sym (ready_of old (line / 64)) ∙ ready
       | inr made ↦ absurd (true≢false (sym ready ∙ ready_of old (line / 64) ∙ ap is_there made.0))
     ]
 
+-- a band that is there is one of the bands
+pub there_within : (bands : List (List ℕ)) (k : ℕ) → is_there (band_at bands k) ≡ true → k < length bands
+there_within bands k there =
+    elim (cases_lt k (length bands)) [
+      | inl within ↦ within
+      | inr past ↦ absurd (true≢false (sym there ∙ ap is_there (get_or_past bands k [] past)))
+    ]
+
 -- a band that is there has bytes for all its lines
-pub there_long : (w h : ℕ) (bands : List (List ℕ)) (k : ℕ) → HasBands w h bands → k < length bands → is_there (band_at bands k) ≡ true → length (band_at bands k) ≡ 64 * bytes_per_line w
-there_long w h bands k has within there =
-    elim (has.whole k within) [
+pub there_long : (w h : ℕ) (bands : List (List ℕ)) (k : ℕ) → HasBands w h bands → is_there (band_at bands k) ≡ true → length (band_at bands k) ≡ 64 * bytes_per_line w
+there_long w h bands k has there =
+    elim (has.whole k) [
       | inl none ↦ absurd (true≢false (sym there ∙ ap is_there none))
       | inr long ↦ long
     ]
@@ -256,12 +264,12 @@ module _ (w h : ℕ) (bands : List (List ℕ)) (band : List ℕ) (mode : Mode) (
     most_width = has.most_width;
     some_height = has.some_height;
     most_height = has.most_height;
-    count = length-set bands (m / 64) band ∙ has.count;
-    whole = λ k within.
+    most_bands = omega (arith, length-set bands (m / 64) band, has.most_bands);
+    whole = λ k.
         let P : List ℕ → Type 0 = λ b. (b ≡ []) ⊎ (length b ≡ 64 * bytes_per_line w) in
         elim (cases_eq k (m / 64)) [
-          | inl here ↦ subst P (sym (ap (band_at (set bands (m / 64) band)) here ∙ get_or-set_same bands (m / 64) band [] there)) (inr (long ∙ there_long w h bands (m / 64) has there some))
-          | inr apart ↦ subst P (sym (get_or-set_other bands (m / 64) k band [] apart)) (has.whole k (omega (arith, length-set bands (m / 64) band)))
+          | inl here ↦ subst P (sym (ap (band_at (set bands (m / 64) band)) here ∙ get_or-set_same bands (m / 64) band [] there)) (inr (long ∙ there_long w h bands (m / 64) has some))
+          | inr apart ↦ subst P (sym (get_or-set_other bands (m / 64) k band [] apart)) (has.whole k)
         ];
     padding = λ n q inside right within.
         let p : ℕ = 8 * (n % 64 * bytes_per_line w) + q in
@@ -361,36 +369,44 @@ band_missing w h k b count bands band bytes size here gone has left is = record 
     wide : bytes_per_line (page_of_bands w h bands).width ≡ b
     wide = ap bytes_per_line (width-page_of_bands w h bands) ∙ sym size
 
--- no dot of a line is black whose band is not there
-pub none_black : (w h y : ℕ) (bands : List (List ℕ)) (band : List ℕ) → band ≡ band_at bands (y / 64) → is_there band ≡ false → HasBands w h bands → y < h → 0 ≡ black_in_line (page_of_bands w h bands) y
-none_black w h y bands band here gone has inside =
+-- no dot of a line is black that has no mark
+pub unmarked_line : (w h y : ℕ) (bands : List (List ℕ)) (band : List ℕ) → band ≡ band_at bands (y / 64) → HasBands w h bands → y < h →
+    ((p : ℕ) → 8 * (y % 64 * bytes_per_line w) ≤ p → p < 8 * (y % 64 * bytes_per_line w + bytes_per_line w) → row_dot band p ≡ false) →
+    0 ≡ black_in_line (page_of_bands w h bands) y
+unmarked_line w h y bands band here has inside white =
     let zeros : List ℕ = replicate (bytes_per_line w) 0 in
     sym (ap (λ n. count_by (row_dot zeros) (range_with_len 0 n)) (sym (zero-add (8 * length zeros)))
     ∙ count_padded (row_dot zeros) 0 (8 * length zeros) (λ x _. row_dot-replicate_zero (bytes_per_line w) x))
-    ∙ count-line (page_of_bands w h bands) y zeros (line_missing w h y (bytes_per_line w) bands band zeros refl here gone has inside refl)
+    ∙ count-line (page_of_bands w h bands) y zeros
+    (band_line w h y bands zeros has inside (length-replicate {A = ℕ} (bytes_per_line w) 0)
+    (λ x within. row_dot-replicate_zero (bytes_per_line w) x
+    ∙ sym (ap (λ (all : List ℕ). row_dot all (8 * (y % 64 * bytes_per_line w) + x)) (sym here) ∙ white (8 * (y % 64 * bytes_per_line w) + x) (omega arith) (omega (arith, within)))))
 
-pub none_there : (n k : ℕ) → band_at (replicate n []) k ≡ []
-none_there zero k = refl
-none_there (suc n) zero = refl
-none_there (suc n) (suc k) = none_there n k
+-- no dot of a line is black whose band is not there
+pub none_black : (w h y : ℕ) (bands : List (List ℕ)) (band : List ℕ) → band ≡ band_at bands (y / 64) → is_there band ≡ false → HasBands w h bands → y < h → 0 ≡ black_in_line (page_of_bands w h bands) y
+none_black w h y bands band here gone has inside =
+    unmarked_line w h y bands band here has inside (λ p _ _. row_dot-past band p (omega (arith, no_bytes (length band) gone)))
+  where
+    no_bytes : (n : ℕ) → nat_lt 0 n ≡ false → n ≡ 0
+    no_bytes n test = grind (arith, nat_tests)
 
-pub white_bands : (w h n : ℕ) (bands : List (List ℕ)) → bands ≡ replicate n [] → page_of_bands w h bands ≡ blank w h
+pub white_bands : (w h : ℕ) (bands : List (List ℕ)) → bands ≡ [] → page_of_bands w h bands ≡ blank w h
 unfolding page_of_bands
-white_bands w h n bands missing =
+white_bands w h bands none =
     page_where_alike w h (line_dot (bytes_per_line w) bands) (λ _ _. false)
-    (λ x y _ _. ap (λ all. line_dot (bytes_per_line w) all x y) missing ∙ ap (λ (one : List ℕ). row_dot one (8 * (y % 64 * bytes_per_line w) + x)) (none_there n (y / 64)) ∙ row_dot-nothing (8 * (y % 64 * bytes_per_line w) + x))
+    (λ x y _ _. ap (λ all. line_dot (bytes_per_line w) all x y) none ∙ row_dot-nothing (8 * (y % 64 * bytes_per_line w) + x))
     ∙ sym (blank_is w h)
 
-pub blank_has : (w h n : ℕ) (bands : List (List ℕ)) → is_page_size w h ≡ true → n ≡ (h + 63) / 64 → bands ≡ replicate n [] → HasBands w h bands
-blank_has w h n bands size many missing =
+pub blank_has : (w h : ℕ) (bands : List (List ℕ)) → is_page_size w h ≡ true → bands ≡ [] → HasBands w h bands
+blank_has w h bands size none =
     let sides : (1 ≤ w) × (w ≤ 16384) × (1 ≤ h) × (h ≤ 16384) = of_size w h size in record {
       some_width = sides.0;
       most_width = sides.1;
       some_height = sides.2;
       most_height = sides.3;
-      count = ap length missing ∙ length-replicate {A = List ℕ} n [] ∙ many;
-      whole = λ k _. inl (ap (λ all. band_at all k) missing ∙ none_there n k);
-      padding = λ y x _ _ _. ap (λ all. line_dot (bytes_per_line w) all x y) missing ∙ ap (λ (one : List ℕ). row_dot one (8 * (y % 64 * bytes_per_line w) + x)) (none_there n (y / 64)) ∙ row_dot-nothing (8 * (y % 64 * bytes_per_line w) + x);
+      most_bands = omega (arith, ap length none);
+      whole = λ k. inl (ap (λ all. band_at all k) none);
+      padding = λ y x _ _ _. ap (λ all. line_dot (bytes_per_line w) all x y) none ∙ row_dot-nothing (8 * (y % 64 * bytes_per_line w) + x);
     }
   where
     of_size : (w h : ℕ) → is_page_size w h ≡ true → (1 ≤ w) × (w ≤ 16384) × (1 ≤ h) × (h ≤ 16384)

@@ -25,7 +25,7 @@ bit_of : (a b : ℕ) → a < 2 → b < 2 → nat_eq a 1 ≡ nat_eq b 1 → a ≡
 bit_of a b one other same = sym (bit_test a one) ∙ ap (λ t. cond t 1 0) same ∙ bit_test b other
 
 -- bytes with the same dots are one
-same_byte : (a b : ℕ) → a < 256 → b < 256 → ((j : ℕ) → j < 8 → byte_dot a j ≡ byte_dot b j) → a ≡ b
+pub same_byte : (a b : ℕ) → a < 256 → b < 256 → ((j : ℕ) → j < 8 → byte_dot a j ≡ byte_dot b j) → a ≡ b
 unfolding byte_dot
 same_byte a b small_a small_b dots =
     same_from_bits_below 8 a b small_a small_b

@@ -297,10 +297,10 @@ module _ (rows bytes : List ℕ) (index k : ℕ) (long : length bytes ≡ k) (ro
       ∙ get_or_append_left bytes _ 0 (index + i - index) (omega arith)
       ∙ ap (λ m. get_or bytes m 0) (omega arith)
 
-  put_below : (i : ℕ) → i < index → get_or (put_mid index k rows bytes) i 0 ≡ get_or rows i 0
+  pub put_below : (i : ℕ) → i < index → get_or (put_mid index k rows bytes) i 0 ≡ get_or rows i 0
   put_below i before = get_or_append_left (take index rows) _ 0 i (omega (arith, prefix_long)) ∙ get_or-take index rows i 0 before
 
-  put_above : (i : ℕ) → index + k ≤ i → get_or (put_mid index k rows bytes) i 0 ≡ get_or rows i 0
+  pub put_above : (i : ℕ) → index + k ≤ i → get_or (put_mid index k rows bytes) i 0 ≡ get_or rows i 0
   put_above i past =
       get_or-append_right (take index rows) _ index i 0 prefix_long (omega arith)
       ∙ get_or-append_right bytes _ k (i - index) 0 long (omega arith)

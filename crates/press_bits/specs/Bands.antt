@@ -1,9 +1,10 @@
 -- Pages whose lines stand in bands, which are there only where there are marks.
-use Rattle.std.specs.Prelude.{◌≡◌, ℕ, ◌+◌, ◌*◌, ◌/◌, ◌%◌, ◌<◌, ◌≤◌, ◌⊎◌, Bool, true, false, List, [], map, length, replicate, nat_lt, slice_index_or, ℤ, pos, ◌+ℤ◌, int_le, int_lt, Result, OnOk, refl}
+use Rattle.std.specs.Prelude.{◌≡◌, ℕ, ◌+◌, ◌*◌, ◌/◌, ◌%◌, ◌<◌, ◌≤◌, ◌⊎◌, max, Bool, true, false, List, [], map, length, replicate, nat_lt, slice_index_or, ℤ, pos, ◌+ℤ◌, int_le, int_lt, Result, OnOk, refl}
 use Rattle.std.specs.declared.alloc.AllocError.{AllocError}
 use Rattle.std.specs.Coded.{Coded, code_by, coded×, coded_list, coded_bool}
 use Rattle.press_bits.specs.Page.{Page, page_code, page_where, longest_side}
 use Rattle.press_bits.specs.Mark.{row_dot}
+use Rattle.press_bits.specs.declared.comparing.Span.{Span}
 use Rattle.press_bits.specs.Lines.{bytes_per_line}
 
 -- how many lines a band has
@@ -53,22 +54,35 @@ is_there band = nat_lt 0 (length band)
 abbrev pub banded : ℕ → ℕ → List (List ℕ) → BandedPage
 banded width height bands = record { page = page_of_bands width height bands; ready = map is_there bands }
 
--- Both sides are within the limits, there is a band for each line, it has bytes for 64 lines or none, and the bits past the
+-- All black dots of a band stand in these of its bytes.
+pub record HasDotsIn (marked : Span) (band : List ℕ) : Type 0 where
+  pub within : marked.right ≤ length band
+  pub white : (p : ℕ) → (p < 8 * marked.left) ⊎ (8 * marked.right ≤ p) → row_dot band p ≡ false
+
+-- Both sides are within the limits, no band lies below the page, each has bytes for 64 lines or none, and the bits past the
 -- last dot of a line are white.
 pub record HasBands (width height : ℕ) (bands : List (List ℕ)) : Type 0 where
   pub some_width : 1 ≤ width
   pub most_width : width ≤ longest_side
   pub some_height : 1 ≤ height
   pub most_height : height ≤ longest_side
-  pub count : length bands ≡ (height + 63) / band_lines
-  pub whole : (k : ℕ) → k < length bands
+  pub most_bands : length bands ≤ (height + 63) / band_lines
+  pub whole : (k : ℕ)
       → (band_at bands k ≡ []) ⊎ (length (band_at bands k) ≡ band_lines * bytes_per_line width)
   pub padding : (y x : ℕ) → y < height → width ≤ x → x < 8 * bytes_per_line width
       → line_dot (bytes_per_line width) bands x y ≡ false
 
+-- Bands that are not there were put behind the others, until there were so many where memory was there.
+pub record Grows (old new : List (List ℕ)) (end : ℕ) (result : Result (Unit {0}) AllocError) : Type 0 where
+  pub least : length old ≤ length new
+  pub most : length new ≤ max (length old) end
+  pub same : (k : ℕ) → band_at new k ≡ band_at old k
+  pub enough : OnOk result (end ≤ length new)
+
 -- Of the bands from `first` on and before `end`, those that were not there are white, all of them where memory was there; no
--- other band changed.
-pub record MakesBands (old new : List (List ℕ)) (first end count : ℕ) (result : Result (Unit {0}) AllocError) : Type 0 where
-  pub same_length : length new ≡ length old
+-- other band changed. There are not more than before, or at most so many.
+pub record MakesBands (old new : List (List ℕ)) (first end count most_bands : ℕ) (result : Result (Unit {0}) AllocError) : Type 0 where
+  pub least : length old ≤ length new
+  pub most : length new ≤ max (length old) most_bands
   pub each : (k : ℕ) → (band_at new k ≡ band_at old k) ⊎ ((band_at old k ≡ []) × (band_at new k ≡ replicate count 0))
   pub made : OnOk result ((k : ℕ) → first ≤ k → k < end → is_there (band_at new k) ≡ true)

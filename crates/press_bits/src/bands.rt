@@ -1,10 +1,10 @@
 //! Pages of dots that stand in bands of sixty-four lines. A band that is not there is white.
 #![tactic(auto)]
 
-ghost use Rattle.std.specs.Prelude.{◌≡◌, ℕ, ◌<◌, ◌≤◌, ◌+◌, ◌-◌, ◌*◌, ◌/◌, ◌≢◌, ◌↔◌, ◌⊎◌, [], replicate, length, take, min, pos, true, false, vec_len, MatchOption, IfOk, IsTrue, OnOk, OnErr};
+ghost use Rattle.std.specs.Prelude.{◌≡◌, ℕ, ◌<◌, ◌≤◌, ◌+◌, ◌-◌, ◌*◌, ◌/◌, ◌≢◌, ◌↔◌, ◌⊎◌, length, take, min, pos, true, false, MatchOption, IfOk, IsTrue, OnOk, OnErr};
 ghost use Rattle.std.specs.List.{range_with_len, sum_by};
 ghost use Rattle.press_bits.specs.Page.{HasNoDotOutside, black_at, black_in_line, blank, count_black, is_page_size};
-ghost use Rattle.press_bits.specs.Mark.{Row, IsSolid, IsWhite, painted, row, row_mark};
+ghost use Rattle.press_bits.specs.Mark.{Row, IsSolid, IsWhite, painted, row, row_dot, row_mark};
 ghost use Rattle.press_bits.specs.Lines.{bytes_per_line, ArePageLines, IsPageLine};
 ghost use Rattle.press_bits.specs.Bands.{AreReady, StaysReady, band_at, band_lines, is_there};
 
@@ -74,25 +74,44 @@ fn place_within(at: i64, side: u32) -> Option<usize>
     }
 }
 
-/// So many bands that are not there.
-fn missing_bands(alloc: Global, count: usize) -> Result<Vec<Band>, AllocError>
-    ensures { IfOk result (λ bands. bands.items ≡ replicate count []) }
+/// The bytes of a band; none where it is not there.
+fn bytes_of(bands: &Vec<Band>, index: usize) -> &[u8]
+    ensures { result.now ≡ band_at bands.now.items index }
 {
-    let mut bands = Vec::with_capacity(alloc, count)?;
-    for made in 0..count {
-        bands.push(Band::missing(alloc))?;
+    match bands.get(index) {
+        Some(band) => band.bytes(),
+        None => &[],
     }
-    Ok(bands)
+}
+
+/// Whether a band is there.
+fn has_band(bands: &Vec<Band>, index: usize) -> bool
+    ensures { result ≡ is_there (band_at bands.now.items index) }
+{
+    match bands.get(index) {
+        Some(band) => band.is_there(),
+        None => false,
+    }
+}
+
+/// Whether no dot was painted into the bytes of a band from `first` on and before `end`: they are white.
+fn is_unmarked(bands: &Vec<Band>, index: usize, first: usize, end: usize) -> bool
+    ensures { IsTrue result → (p : ℕ) → 8 * first ≤ p → p < 8 * end
+        → row_dot (band_at bands.now.items index) p ≡ false }
+{
+    match bands.get(index) {
+        Some(band) => band.is_unmarked(first, end),
+        None => true,
+    }
 }
 
 /// Whether the bands from `first` on and before `end` are all there.
 fn are_there(bands: &Vec<Band>, first: usize, end: usize) -> bool
-    requires { end ≤ vec_len bands.now }
     ensures { IsTrue result ↔ ((k : ℕ) → first ≤ k → k < end
         → is_there (band_at bands.now.items k) ≡ true) }
 {
     for index in first..end {
-        if !bands[index].is_there() {
+        if !has_band(bands, index) {
             return false;
         }
     }
@@ -120,7 +139,7 @@ impl Bands {
         requires { is_page_size width height ≡ true }
         ensures { IfOk result (λ bands. bands.page ≡ blank width height) }
     {
-        let bands = missing_bands(alloc, (height as usize + 63) / BAND)?;
+        let bands = Vec::with_capacity(alloc, (height as usize + 63) / BAND)?;
         Ok(Bands {
             width,
             height,
@@ -207,11 +226,10 @@ impl Bands {
     {
         let lines = BAND_LINES.min(self.height - BAND_LINES * index);
         let count = lines as usize * line_bytes(self.width as usize);
-        let band = &self.bands[index as usize];
-        if !band.is_there() {
+        if !has_band(&self.bands, index as usize) {
             return prefix(&[0; BAND * WIDEST_ROW], count);
         }
-        prefix(band.bytes(), count)
+        prefix(bytes_of(&self.bands, index as usize), count)
     }
 
     /// Whether a band has the bytes of another page's; so has one that is not there on both.
@@ -222,7 +240,7 @@ impl Bands {
         ensures { IsTrue result → (x n : ℕ) → x < self.now.page.width → n < self.now.page.height
             → n / band_lines ≡ band → black_at after.now.page x n ≡ black_at self.now.page x n }
     {
-        self.bands[band].bytes() == after.bands[band].bytes()
+        bytes_of(&self.bands, band) == bytes_of(&after.bands, band)
     }
 
     /// How many dots of a line are black.
@@ -231,6 +249,11 @@ impl Bands {
         requires narrow { self.now.page.width ≤ MAX_SIDE }
         ensures { result ≡ black_in_line self.now.page y }
     {
+        let count = line_bytes(self.width as usize);
+        let first = y as usize % BAND * count;
+        if is_unmarked(&self.bands, y as usize / BAND, first, first + count) {
+            return 0;
+        }
         dot_bytes::count_black(self.line(y))
     }
 
@@ -242,7 +265,7 @@ impl Bands {
             ≡ sum_by (black_in_line self.now.page) (range_with_len 0 (band_lines * index))
             + result }
     {
-        if !self.bands[index].is_there() {
+        if !has_band(&self.bands, index) {
             return 0;
         }
         let first = (BAND * index) as u32;
@@ -324,7 +347,7 @@ impl Bands {
         if run.count == 0 {
             return;
         }
-        if !self.bands[line / BAND].is_there() {
+        if !has_band(&self.bands, line / BAND) {
             return;
         }
         let start = line % BAND * line_bytes(self.width as usize);

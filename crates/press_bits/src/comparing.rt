@@ -12,6 +12,21 @@ pub(crate) struct Span {
     pub right: usize,
 }
 
+impl Span {
+    ghost use Rattle.std.specs.Prelude.{max, min};
+
+    /// With the bytes from `left` on and before `right` too.
+    pub(crate) fn with(self, left: usize, right: usize) -> Span
+        ensures left { result.left ≡ min self.left left }
+        ensures right { result.right ≡ max self.right right }
+    {
+        Span {
+            left: self.left.min(left),
+            right: self.right.max(right),
+        }
+    }
+}
+
 /// How many bytes are the same, from the first on.
 fn same_before(before: &[u8], after: &[u8]) -> usize
     requires { length after.now ≡ length before.now }

@@ -2,7 +2,7 @@
 #![tactic(auto)]
 
 ghost use Rattle.std.specs.Prelude.{◌≡◌, ◌<◌, ◌≤◌, ◌+◌, replicate, vec_len, IfOk};
-ghost use Rattle.press_bits.specs.Bands.{MakesBands};
+ghost use Rattle.press_bits.specs.Bands.{Grows, MakesBands};
 
 use crate::band::Band;
 use std::alloc::{AllocError, Global};
@@ -33,12 +33,22 @@ fn make_band(
 ) -> Result<(), AllocError>
     requires there { index < vec_len bands.old }
     requires some { 0 < count }
-    ensures { MakesBands bands.old.items bands.new.items index (index + 1) count result }
+    ensures { MakesBands bands.old.items bands.new.items index (index + 1) count 0 result }
 {
     if bands[index].is_there() {
         return Ok(());
     }
     bands[index] = white_band(spare, alloc, index, count)?;
+    Ok(())
+}
+
+/// Puts bands that are not there behind the others until there are so many.
+fn grow(bands: &mut Vec<Band>, alloc: Global, end: usize) -> Result<(), AllocError>
+    ensures { Grows bands.old.items bands.new.items end result }
+{
+    for made in bands.len()..end {
+        bands.push(Band::missing(alloc))?;
+    }
     Ok(())
 }
 
@@ -51,10 +61,10 @@ pub(crate) fn make_bands(
     end: usize,
     count: usize,
 ) -> Result<(), AllocError>
-    requires there { end ≤ vec_len bands.old }
     requires some { 0 < count }
-    ensures { MakesBands bands.old.items bands.new.items first end count result }
+    ensures { MakesBands bands.old.items bands.new.items first end count end result }
 {
+    grow(bands, alloc, end)?;
     for index in first..end {
         make_band(bands, spare, alloc, index, count)?;
     }

@@ -1,6 +1,6 @@
-use Rattle.std.proofs.Common.{◌≡◌, ◌*◌, ◌-◌, ◌<◌, ◌≤◌, min, true, [], length, take, sym, ap, ◌∙◌, subst, arith, rules}
+use Rattle.std.proofs.Common.{◌≡◌, ◌*◌, ◌-◌, ◌≤◌, min, true, false, length, refl, sym, ap, ◌∙◌, subst, arith, rules}
 use Rattle.std.proofs.Math.Nat.{mul-le-mul_right}
-use Rattle.std.proofs.lemmas.List.{take-replicate, get_or_default}
+use Rattle.std.proofs.lemmas.List.{take-replicate}
 use Rattle.press_bits.specs.Lines.{ArePageLines}
 use Rattle.press_bits.specs.Bands.{BandedPage, band_at, is_there, page_of_bands}
 use Rattle.press_bits.proofs.BandLemmas.{height-page_of_bands, there_long, band_there, band_missing}
@@ -17,50 +17,38 @@ overflow_sub-self-inside c =
     let inside : 64 * c.args.index ≤ c.self.inside.height = omega (arith, high, c.requires) in
     search (rules, inside)
 
-pub index-band-requires : goal.index-band-requires
-index-band-requires c =
-    let high : c.self.inside.height ≡ c.args.self.now.page.height = sym (height-page_of_bands _ _ _) ∙ ap (λ (s : BandedPage). s.page.height) c.self.view_is in
-    let few : c.args.index < length c.self.inside.bands.items = omega (arith, high, c.requires, c.self.invariant.count) in
-    search (rules, few)
-
 pub prefix-requires : goal.prefix-requires
 prefix-requires c =
     let few : c.min-lines.result ≤ 64 = omega (arith, c.min-lines.ensures) in
     let small : c.min-lines.result * c.line_bytes.result ≤ 131072 = omega (arith, mul-le-mul_right c.line_bytes.result few, c.line_bytes.ensures, c.self.invariant.most_width) in
     search (rules, small)
 
-pub returns-then-not-is_there : goal.returns-then-not-is_there
-returns-then-not-is_there c =
+pub returns-then-not-has_band : goal.returns-then-not-has_band
+returns-then-not-has_band c =
     let high : c.self.inside.height ≡ c.args.self.now.page.height = sym (height-page_of_bands _ _ _) ∙ ap (λ (s : BandedPage). s.page.height) c.self.view_is in
-    let few : c.args.index < length c.self.inside.bands.items = omega (arith, high, c.requires, c.self.invariant.count) in
-    let here : c.index-band.result.now ≡ band_at c.self.inside.bands.items c.args.index = c.index-band.ensures ∙ get_or_default c.self.inside.bands.items c.args.index c.index-band.result.now [] few in
+    let gone : is_there (band_at c.self.inside.bands.items c.args.index) ≡ false = sym c.has_band.ensures ∙ search rules in
     let lines : c.min-lines.result ≡ min 64 (c.self.inside.height - 64 * c.args.index) = search rules in
     let most : c.min-lines.result ≤ 64 = omega (arith, lines) in
     subst (λ (s : BandedPage). ArePageLines s.page (64 * c.args.index) (min 64 (c.args.self.now.page.height - 64 * c.args.index)) c.prefix.result.now) c.self.view_is
     (subst (λ n. ArePageLines (page_of_bands c.self.inside.width c.self.inside.height c.self.inside.bands.items) (64 * c.args.index) n c.prefix.result.now) (lines ∙ ap (λ h. min 64 (h - 64 * c.args.index)) high)
-    (band_missing c.self.inside.width c.self.inside.height c.args.index c.line_bytes.result c.min-lines.result c.self.inside.bands.items c.index-band.result.now c.prefix.result.now c.line_bytes.ensures here (sym c.is_there.ensures ∙ search rules) c.self.invariant lines
+    (band_missing c.self.inside.width c.self.inside.height c.args.index c.line_bytes.result c.min-lines.result c.self.inside.bands.items _ c.prefix.result.now c.line_bytes.ensures refl gone c.self.invariant lines
     (c.prefix.ensures ∙ take-replicate (c.min-lines.result * c.line_bytes.result) 131072 0 (omega (arith, mul-le-mul_right c.line_bytes.result most, c.line_bytes.ensures, c.self.invariant.most_width)))))
 
 pub prefix-requires-2 : goal.prefix-requires-2
 prefix-requires-2 c =
-    let high : c.self.inside.height ≡ c.args.self.now.page.height = sym (height-page_of_bands _ _ _) ∙ ap (λ (s : BandedPage). s.page.height) c.self.view_is in
-    let few : c.args.index < length c.self.inside.bands.items = omega (arith, high, c.requires, c.self.invariant.count) in
-    let here : c.index-band.result.now ≡ band_at c.self.inside.bands.items c.args.index = c.index-band.ensures ∙ get_or_default c.self.inside.bands.items c.args.index c.index-band.result.now [] few in
-    let some : is_there (band_at c.self.inside.bands.items c.args.index) ≡ true = ap is_there (sym here) ∙ sym c.is_there.ensures ∙ search rules in
-    let long : length c.index-band.result.now ≡ 64 * c.line_bytes.result = ap length here ∙ there_long c.self.inside.width c.self.inside.height c.self.inside.bands.items c.args.index c.self.invariant few some ∙ ap (λ n. 64 * n) (sym c.line_bytes.ensures) in
+    let some : is_there (band_at c.self.inside.bands.items c.args.index) ≡ true = sym c.has_band.ensures ∙ search rules in
+    let long : length c.bytes_of.result.now ≡ 64 * c.line_bytes.result = ap length c.bytes_of.ensures ∙ there_long c.self.inside.width c.self.inside.height c.self.inside.bands.items c.args.index c.self.invariant some ∙ ap (λ n. 64 * n) (sym c.line_bytes.ensures) in
     let most : c.min-lines.result ≤ 64 = omega (arith, c.min-lines.ensures) in
-    let within : c.min-lines.result * c.line_bytes.result ≤ length c.bytes.result.now = omega (arith, mul-le-mul_right c.line_bytes.result most, long, ap length c.bytes.ensures) in
+    let within : c.min-lines.result * c.line_bytes.result ≤ length c.bytes_of.result.now = omega (arith, mul-le-mul_right c.line_bytes.result most, long) in
     search (rules, within)
 
 pub returns : goal.returns
 returns c =
     let high : c.self.inside.height ≡ c.args.self.now.page.height = sym (height-page_of_bands _ _ _) ∙ ap (λ (s : BandedPage). s.page.height) c.self.view_is in
-    let few : c.args.index < length c.self.inside.bands.items = omega (arith, high, c.requires, c.self.invariant.count) in
-    let here : c.index-band.result.now ≡ band_at c.self.inside.bands.items c.args.index = c.index-band.ensures ∙ get_or_default c.self.inside.bands.items c.args.index c.index-band.result.now [] few in
-    let some : is_there (band_at c.self.inside.bands.items c.args.index) ≡ true = ap is_there (sym here) ∙ sym c.is_there.ensures ∙ search rules in
-    let long : length c.index-band.result.now ≡ 64 * c.line_bytes.result = ap length here ∙ there_long c.self.inside.width c.self.inside.height c.self.inside.bands.items c.args.index c.self.invariant few some ∙ ap (λ n. 64 * n) (sym c.line_bytes.ensures) in
+    let some : is_there (band_at c.self.inside.bands.items c.args.index) ≡ true = sym c.has_band.ensures ∙ search rules in
+    let long : length c.bytes_of.result.now ≡ 64 * c.line_bytes.result = ap length c.bytes_of.ensures ∙ there_long c.self.inside.width c.self.inside.height c.self.inside.bands.items c.args.index c.self.invariant some ∙ ap (λ n. 64 * n) (sym c.line_bytes.ensures) in
     let lines : c.min-lines.result ≡ min 64 (c.self.inside.height - 64 * c.args.index) = search rules in
     subst (λ (s : BandedPage). ArePageLines s.page (64 * c.args.index) (min 64 (c.args.self.now.page.height - 64 * c.args.index)) c.prefix-2.result.now) c.self.view_is
     (subst (λ n. ArePageLines (page_of_bands c.self.inside.width c.self.inside.height c.self.inside.bands.items) (64 * c.args.index) n c.prefix-2.result.now) (lines ∙ ap (λ h. min 64 (h - 64 * c.args.index)) high)
-    (band_there c.self.inside.width c.self.inside.height c.args.index c.line_bytes.result c.min-lines.result c.self.inside.bands.items c.index-band.result.now c.prefix-2.result.now c.line_bytes.ensures here long c.self.invariant lines
-    (c.prefix-2.ensures ∙ ap (take (c.min-lines.result * c.line_bytes.result)) c.bytes.ensures)))
+    (band_there c.self.inside.width c.self.inside.height c.args.index c.line_bytes.result c.min-lines.result c.self.inside.bands.items c.bytes_of.result.now c.prefix-2.result.now c.line_bytes.ensures c.bytes_of.ensures long c.self.invariant lines
+    c.prefix-2.ensures))

@@ -1,30 +1,22 @@
-use Rattle.std.proofs.Common.{◌≡◌, ℕ, ◌+◌, ◌-◌, ◌*◌, ◌/◌, ◌<◌, ◌≤◌, min, [], length, sym, ap, ◌∙◌, arith, rules}
+use Rattle.std.proofs.Common.{◌≡◌, ℕ, ◌+◌, ◌-◌, ◌*◌, ◌/◌, ◌<◌, ◌≤◌, min, false, refl, sym, ap, ◌∙◌, arith, rules}
 use Rattle.std.specs.List.{sum_by, range_with_len}
-use Rattle.std.proofs.lemmas.List.{get_or_default}
 use Rattle.press_bits.specs.Page.{black_at, black_in_line, longest_side}
-use Rattle.press_bits.specs.Bands.{BandedPage, band_at}
+use Rattle.press_bits.specs.Bands.{BandedPage, band_at, is_there}
 use Rattle.press_bits.proofs.CountLemmas.{sum_more, sum_none, sum_bound, count_bound}
 use Rattle.press_bits.proofs.BandLemmas.{height-page_of_bands, width-page_of_bands, none_black}
 use Rattle.press_bits.proofs.bands.Bands.black_in_band.Goals as goal
 
-pub index-requires : goal.index-requires
-index-requires c =
+pub returns-then-not-has_band : goal.returns-then-not-has_band
+returns-then-not-has_band c =
     let high : c.args.self.now.page.height ≡ c.self.inside.height = sym (ap (λ (b : BandedPage). b.page.height) c.self.view_is) ∙ height-page_of_bands _ _ _ in
-    let few : c.args.index < length c.self.inside.bands.items = omega (arith, c.requires, high, c.self.invariant.count) in
-    search (rules, few)
-
-pub returns-then-not-is_there : goal.returns-then-not-is_there
-returns-then-not-is_there c =
-    let high : c.args.self.now.page.height ≡ c.self.inside.height = sym (ap (λ (b : BandedPage). b.page.height) c.self.view_is) ∙ height-page_of_bands _ _ _ in
-    let few : c.args.index < length c.self.inside.bands.items = omega (arith, c.requires, high, c.self.invariant.count) in
-    let here : c.index.result.now ≡ band_at c.self.inside.bands.items c.args.index = c.index.ensures ∙ get_or_default c.self.inside.bands.items c.args.index c.index.result.now [] few in
+    let gone : is_there (band_at c.self.inside.bands.items c.args.index) ≡ false = sym c.has_band.ensures ∙ search rules in
     let end : min c.args.self.now.page.height (64 * (c.args.index + 1)) ≡ 64 * c.args.index + (min c.args.self.now.page.height (64 * (c.args.index + 1)) - 64 * c.args.index) = omega arith in
     ap (λ n. sum_by (black_in_line c.args.self.now.page) (range_with_len 0 n)) end
     ∙ sum_none (black_in_line c.args.self.now.page) (64 * c.args.index) (min c.args.self.now.page.height (64 * (c.args.index + 1)) - 64 * c.args.index)
     (λ y from before.
     let inside : y < c.self.inside.height = omega arith in
-    let of : c.args.index ≡ y / 64 = omega arith in
-    sym (none_black c.self.inside.width c.self.inside.height y c.self.inside.bands.items c.index.result.now (here ∙ ap (band_at c.self.inside.bands.items) of) (sym c.is_there.ensures ∙ search rules) c.self.invariant inside
+    let of : y / 64 ≡ c.args.index = omega arith in
+    sym (none_black c.self.inside.width c.self.inside.height y c.self.inside.bands.items _ refl (ap (λ k. is_there (band_at c.self.inside.bands.items k)) of ∙ gone) c.self.invariant inside
     ∙ ap (λ (s : BandedPage). black_in_line s.page y) c.self.view_is))
     ∙ omega arith
 

@@ -9,7 +9,7 @@ use Rattle.press_bits.specs.DotRows.{mixed_dot}
 use Rattle.press_bits.specs.Lines.{bytes_per_line}
 use Rattle.press_bits.proofs.MarkLemmas.{unmarked, row_off_line, row_off_columns}
 use Rattle.press_bits.specs.Bands.{BandedPage, is_there, band_at}
-use Rattle.press_bits.proofs.BandLemmas.{width-page_of_bands, height-page_of_bands, no_dot_outside, painted_band, painted_has, stays_white, put_flags, band_ready, at_line, there_long, in_bytes}
+use Rattle.press_bits.proofs.BandLemmas.{width-page_of_bands, height-page_of_bands, no_dot_outside, painted_band, painted_has, stays_white, put_flags, band_ready, at_line, there_long, there_within, in_bytes}
 use Rattle.press_bits.proofs.bands.Bands.paint_row.Goals as goal
 
 pub returns-in_default-clause-painted : goal.returns-in_default-clause-painted
@@ -32,11 +32,9 @@ returns-then-run-eq0-clause-painted c =
     c.run_within-run.ensures.count c.if-run-eq0.true
     (subst (λ m. column < m) (sym (ap (λ (s : BandedPage). s.page.width) c.self.view_is) ∙ width-page_of_bands _ _ _) wide))
 
-pub returns-then-not-is_there-clause-painted : goal.returns-then-not-is_there-clause-painted
-returns-then-not-is_there-clause-painted c =
-    let there : c.in-Some.line / 64 < length c.self.inside.bands.items = omega (arith, c.in-Some.ensures.1, c.self.invariant.count) in
-    let here : c.index.result.now ≡ band_at c.self.inside.bands.items (c.in-Some.line / 64) = c.index.ensures ∙ get_or_default c.self.inside.bands.items (c.in-Some.line / 64) c.index.result.now [] there in
-    let gone : is_there (band_at c.self.inside.bands.items (c.in-Some.line / 64)) ≡ false = ap is_there (sym here) ∙ sym c.is_there.ensures ∙ search rules in
+pub returns-then-not-has_band-clause-painted : goal.returns-then-not-has_band-clause-painted
+returns-then-not-has_band-clause-painted c =
+    let gone : is_there (band_at c.self.inside.bands.items (c.in-Some.line / 64)) ≡ false = sym c.has_band.ensures ∙ search rules in
     let line = c.in-Some.ensures.0 ∙ to_z-of_z w64 c.args.y c.ranges.y in
     let at = at_line c.args.y c.in-Some.line line in
     let high : c.in-Some.line < c.args.self.now.page.height = subst (λ m. c.in-Some.line < m) (sym (height-page_of_bands _ _ _) ∙ ap (λ (s : BandedPage). s.page.height) c.self.view_is) c.in-Some.ensures.1 in
@@ -50,44 +48,41 @@ returns-then-not-is_there-clause-painted c =
 
 pub index_mut-requires : goal.index_mut-requires
 index_mut-requires c =
-    let few : c.in-Some.line / 64 < length c.self.inside.bands.items = omega (arith, c.in-Some.ensures.1, c.self.invariant.count) in
+    let some : is_there (band_at c.self.inside.bands.items (c.in-Some.line / 64)) ≡ true = sym c.has_band.ensures ∙ search rules in
+    let few : c.in-Some.line / 64 < length c.self.inside.bands.items = there_within c.self.inside.bands.items (c.in-Some.line / 64) some in
     search (rules, few)
 
 pub paint-requires-clause-within : goal.paint-requires-clause-within
 paint-requires-clause-within c =
     let items : List (List ℕ) = c.self.inside.bands.items in
-    let there : c.in-Some.line / 64 < length c.self.inside.bands.items = omega (arith, c.in-Some.ensures.1, c.self.invariant.count) in
+    let some : is_there (band_at c.self.inside.bands.items (c.in-Some.line / 64)) ≡ true = sym c.has_band.ensures ∙ search rules in
+    let there : c.in-Some.line / 64 < length c.self.inside.bands.items = there_within c.self.inside.bands.items (c.in-Some.line / 64) some in
     let band : c.index_mut.result.now ≡ band_at c.self.inside.bands.items (c.in-Some.line / 64) = c.index_mut.ensures.value ∙ get_or_default c.self.inside.bands.items (c.in-Some.line / 64) c.index_mut.result.now [] there in
-    let here : c.index.result.now ≡ band_at c.self.inside.bands.items (c.in-Some.line / 64) = c.index.ensures ∙ get_or_default c.self.inside.bands.items (c.in-Some.line / 64) c.index.result.now [] there in
-    let some : is_there (band_at c.self.inside.bands.items (c.in-Some.line / 64)) ≡ true = ap is_there (sym here) ∙ sym c.is_there.ensures ∙ search rules in
-    let long : length c.index_mut.result.now ≡ 64 * bytes_per_line c.self.inside.width = ap length band ∙ there_long c.self.inside.width c.self.inside.height c.self.inside.bands.items (c.in-Some.line / 64) c.self.invariant there some in
+    let long : length c.index_mut.result.now ≡ 64 * bytes_per_line c.self.inside.width = ap length band ∙ there_long c.self.inside.width c.self.inside.height c.self.inside.bands.items (c.in-Some.line / 64) c.self.invariant some in
     let full : 0 < c.run_within-run.result.count = omega arith in
     in_bytes c.self.inside.width c.line_bytes.result c.run_within-run.result.first c.run_within-run.result.count c.args.source.dots c.run_within-run.result.skip _ _ c.line_bytes.ensures long (omega arith) c.run_within-run.ensures.count full
 
 pub paint-requires-clause-long : goal.paint-requires-clause-long
 paint-requires-clause-long c =
-    let there : c.in-Some.line / 64 < length c.self.inside.bands.items = omega (arith, c.in-Some.ensures.1, c.self.invariant.count) in
+    let some : is_there (band_at c.self.inside.bands.items (c.in-Some.line / 64)) ≡ true = sym c.has_band.ensures ∙ search rules in
+    let there : c.in-Some.line / 64 < length c.self.inside.bands.items = there_within c.self.inside.bands.items (c.in-Some.line / 64) some in
     let band : c.index_mut.result.now ≡ band_at c.self.inside.bands.items (c.in-Some.line / 64) = c.index_mut.ensures.value ∙ get_or_default c.self.inside.bands.items (c.in-Some.line / 64) c.index_mut.result.now [] there in
-    let here : c.index.result.now ≡ band_at c.self.inside.bands.items (c.in-Some.line / 64) = c.index.ensures ∙ get_or_default c.self.inside.bands.items (c.in-Some.line / 64) c.index.result.now [] there in
-    let some : is_there (band_at c.self.inside.bands.items (c.in-Some.line / 64)) ≡ true = ap is_there (sym here) ∙ sym c.is_there.ensures ∙ search rules in
-    let long : length c.index_mut.result.now ≡ 64 * bytes_per_line c.self.inside.width = ap length band ∙ there_long c.self.inside.width c.self.inside.height c.self.inside.bands.items (c.in-Some.line / 64) c.self.invariant there some in
+    let long : length c.index_mut.result.now ≡ 64 * bytes_per_line c.self.inside.width = ap length band ∙ there_long c.self.inside.width c.self.inside.height c.self.inside.bands.items (c.in-Some.line / 64) c.self.invariant some in
     omega (arith, long, c.self.invariant.some_width)
 
 pub paint-requires-clause-small : goal.paint-requires-clause-small
 paint-requires-clause-small c =
-    let there : c.in-Some.line / 64 < length c.self.inside.bands.items = omega (arith, c.in-Some.ensures.1, c.self.invariant.count) in
+    let some : is_there (band_at c.self.inside.bands.items (c.in-Some.line / 64)) ≡ true = sym c.has_band.ensures ∙ search rules in
+    let there : c.in-Some.line / 64 < length c.self.inside.bands.items = there_within c.self.inside.bands.items (c.in-Some.line / 64) some in
     let band : c.index_mut.result.now ≡ band_at c.self.inside.bands.items (c.in-Some.line / 64) = c.index_mut.ensures.value ∙ get_or_default c.self.inside.bands.items (c.in-Some.line / 64) c.index_mut.result.now [] there in
-    let here : c.index.result.now ≡ band_at c.self.inside.bands.items (c.in-Some.line / 64) = c.index.ensures ∙ get_or_default c.self.inside.bands.items (c.in-Some.line / 64) c.index.result.now [] there in
-    let some : is_there (band_at c.self.inside.bands.items (c.in-Some.line / 64)) ≡ true = ap is_there (sym here) ∙ sym c.is_there.ensures ∙ search rules in
-    let long : length c.index_mut.result.now ≡ 64 * bytes_per_line c.self.inside.width = ap length band ∙ there_long c.self.inside.width c.self.inside.height c.self.inside.bands.items (c.in-Some.line / 64) c.self.invariant there some in
+    let long : length c.index_mut.result.now ≡ 64 * bytes_per_line c.self.inside.width = ap length band ∙ there_long c.self.inside.width c.self.inside.height c.self.inside.bands.items (c.in-Some.line / 64) c.self.invariant some in
     omega (arith, long, c.self.invariant.most_width)
 
 pub invariant_of-self : goal.invariant_of-self
 invariant_of-self c =
-    let there : c.in-Some.line / 64 < length c.self.inside.bands.items = omega (arith, c.in-Some.ensures.1, c.self.invariant.count) in
+    let some : is_there (band_at c.self.inside.bands.items (c.in-Some.line / 64)) ≡ true = sym c.has_band.ensures ∙ search rules in
+    let there : c.in-Some.line / 64 < length c.self.inside.bands.items = there_within c.self.inside.bands.items (c.in-Some.line / 64) some in
     let band : c.index_mut.result.now ≡ band_at c.self.inside.bands.items (c.in-Some.line / 64) = c.index_mut.ensures.value ∙ get_or_default c.self.inside.bands.items (c.in-Some.line / 64) c.index_mut.result.now [] there in
-    let here : c.index.result.now ≡ band_at c.self.inside.bands.items (c.in-Some.line / 64) = c.index.ensures ∙ get_or_default c.self.inside.bands.items (c.in-Some.line / 64) c.index.result.now [] there in
-    let some : is_there (band_at c.self.inside.bands.items (c.in-Some.line / 64)) ≡ true = ap is_there (sym here) ∙ sym c.is_there.ensures ∙ search rules in
     let full : 0 < c.run_within-run.result.count = omega arith in
     painted_has c.self.inside.width c.self.inside.height c.self.inside.bands.items c.paint.new.self c.args.mode
     (λ p. row_dot c.args.source.bits.now (c.run_within-run.result.skip + (p - (8 * (c.in-Some.line % 64 * bytes_per_line c.self.inside.width) + c.run_within-run.result.first)))) (λ p. repeated (row c.args.pattern) (p - 8 * (c.in-Some.line % 64 * bytes_per_line c.self.inside.width)))
@@ -98,7 +93,8 @@ invariant_of-self c =
 
 pub returns-clause-painted : goal.returns-clause-painted
 returns-clause-painted c =
-    let there : c.in-Some.line / 64 < length c.self.inside.bands.items = omega (arith, c.in-Some.ensures.1, c.self.invariant.count) in
+    let some : is_there (band_at c.self.inside.bands.items (c.in-Some.line / 64)) ≡ true = sym c.has_band.ensures ∙ search rules in
+    let there : c.in-Some.line / 64 < length c.self.inside.bands.items = there_within c.self.inside.bands.items (c.in-Some.line / 64) some in
     let band : c.index_mut.result.now ≡ band_at c.self.inside.bands.items (c.in-Some.line / 64) = c.index_mut.ensures.value ∙ get_or_default c.self.inside.bands.items (c.in-Some.line / 64) c.index_mut.result.now [] there in
     let full : 0 < c.run_within-run.result.count = omega arith in
     painted_band c.self.inside.width c.self.inside.height c.self.inside.bands.items c.paint.new.self c.args.x c.args.y (row c.args.source) (row c.args.pattern) c.args.mode
@@ -114,7 +110,8 @@ returns-clause-painted c =
 
 pub returns-clause-ready : goal.returns-clause-ready
 returns-clause-ready c =
-    let there : c.in-Some.line / 64 < length c.self.inside.bands.items = omega (arith, c.in-Some.ensures.1, c.self.invariant.count) in
+    let some : is_there (band_at c.self.inside.bands.items (c.in-Some.line / 64)) ≡ true = sym c.has_band.ensures ∙ search rules in
+    let there : c.in-Some.line / 64 < length c.self.inside.bands.items = there_within c.self.inside.bands.items (c.in-Some.line / 64) some in
     let band : c.index_mut.result.now ≡ band_at c.self.inside.bands.items (c.in-Some.line / 64) = c.index_mut.ensures.value ∙ get_or_default c.self.inside.bands.items (c.in-Some.line / 64) c.index_mut.result.now [] there in
     put_flags (c.in-Some.line / 64) c.self.inside.bands.items c.paint.new.self there (c.paint.ensures.long ∙ ap length band)
     ∙ ap (λ (s : BandedPage). s.ready) c.self.view_is

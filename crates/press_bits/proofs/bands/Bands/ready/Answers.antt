@@ -13,14 +13,14 @@ returns-then-run-eq0-clause-ok c = λ n from before high.
     absurd (omega (arith, within.0, within.1, c.if-run-eq0.true))
 
 pub invariant_of-self : goal.invariant_of-self
-invariant_of-self c = made_bands c.self.inside.width c.self.inside.height c.self.inside.bands.items c.make_bands.new.bands.items _ _ _ c.make_bands.result (ap (λ n. 64 * n) c.line_bytes-size.ensures) c.self.invariant c.make_bands.ensures
+invariant_of-self c = made_bands c.self.inside.width c.self.inside.height c.self.inside.bands.items c.make_bands.new.bands.items _ _ _ _ c.make_bands.result (ap (λ n. 64 * n) c.line_bytes-size.ensures) (omega (arith, c.run_within-run.ensures.count)) c.self.invariant c.make_bands.ensures
 
 pub returns-clause-dots : goal.returns-clause-dots
-returns-clause-dots c = made_page c.self.inside.width c.self.inside.height c.self.inside.bands.items c.make_bands.new.bands.items _ _ _ c.make_bands.result c.make_bands.ensures ∙ ap (λ (s : BandedPage). s.page) c.self.view_is
+returns-clause-dots c = made_page c.self.inside.width c.self.inside.height c.self.inside.bands.items c.make_bands.new.bands.items _ _ _ _ c.make_bands.result c.make_bands.ensures ∙ ap (λ (s : BandedPage). s.page) c.self.view_is
 
 pub returns-clause-stays : goal.returns-clause-stays
 returns-clause-stays c = λ line ready.
-    made_stays c.self.inside.width c.self.inside.height c.self.inside.bands.items c.make_bands.new.bands.items _ _ _ c.make_bands.result c.make_bands.ensures line (subst (λ (s : BandedPage). is_ready s line) (sym c.self.view_is) ready)
+    made_stays c.self.inside.width c.self.inside.height c.self.inside.bands.items c.make_bands.new.bands.items _ _ _ _ c.make_bands.result c.make_bands.ensures line (subst (λ (s : BandedPage). is_ready s line) (sym c.self.view_is) ready)
 
 pub returns-clause-ok : goal.returns-clause-ok
 returns-clause-ok c = after_ok c.make_bands.result (λ made n from before high.
