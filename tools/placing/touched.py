@@ -29,7 +29,8 @@ TOUCHED = {
         crates/press_core/specs/Messages.antt crates/press_core/specs/Rows.antt crates/press_core/src/message_type.rt crates/press_core/src/commands.rt
         tools/model/press.py tools/model/job_queue.py tools/model/sessions.py tools/asked/sessions.py tools/reasons/sessions.py docs/QUEUE.md""",
     "disasm": """
-        crates/press_main/specs/Words.antt crates/press_main/specs/Program.antt crates/press_main/src/words.rt crates/press_main/src/program.rt
+        crates/press_main/specs/Words.antt crates/press_main/specs/Program.antt crates/press_main/specs/View.antt crates/press_main/specs/Faults.antt
+        crates/press_main/src/words.rt crates/press_main/src/program.rt
         crates/press_main/src/making.rt crates/press_main/src/sparing.rt tools/model/program.py tools/asked/words.py tools/asked/told.txt
         tools/refusing/rows.py tools/completions.bash docs/FAULTS.md docs/PROVED.md docs/press.1 README.md""",
 }

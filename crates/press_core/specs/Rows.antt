@@ -1,7 +1,7 @@
 -- What each message does to the world of a press, and what it is answered (CIP4 JDF 1.5, queue commands and queries of JMF;
 -- this profile).
 use Rattle.std.specs.Prelude.{ℕ, ℤ, pos, List, [], ◌++◌, length, nat_lt, if◌then◌else◌, Option, Some, None, Result, Ok, Err, ok_or, option_map, option_and_then, codes}
-use Rattle.std.specs.Result.{result_ok}
+use Rattle.std.specs.Result.{result_map_both, result_ok}
 use Rattle.serde_json.specs.Data.{Data, string}
 use Rattle.press_bits.specs.Page.{Page}
 use Rattle.press_queue.specs.declared.refusal.Refusal.{Refusal}
@@ -49,10 +49,14 @@ abbrev pub with_named : {A : Type 0} → Result A Refused → World → (A → M
 with_named (Err refused) world row = refusing refused world
 with_named (Ok value) world row = row value
 
+-- what a value leads to, where there is one
+abbrev pub and_then : {A B : Type 0} → (A → Result B Refused) → Result A Refused → Result B Refused
+and_then next (Err refused) = Err refused
+and_then next (Ok value) = next value
+
 -- the value of a parameter, or why the message is refused
 abbrev pub or_refused : {A : Type 0} → Found A → Result A Refused
-or_refused (Err fault) = Err (for_parameter fault)
-or_refused (Ok value) = Ok value
+or_refused found = result_map_both (λ value. value) for_parameter found
 
 -- a refusal of the queue
 abbrev pub for_queue : Refusal → Refused
@@ -71,25 +75,14 @@ abbrev pub id_parameter : Data → Found (List ℕ)
 id_parameter message = text_parameter (codes "QueueEntryID") message
 
 -- the entry that a message names
-abbrev pub numbered : Result (List ℕ) Refused → QueueState → Result ℕ Refused
-numbered (Err refused) queue = Err refused
-numbered (Ok id) queue = entry_number_of id queue
-
 abbrev pub named_entry : Data → QueueState → Result ℕ Refused
-named_entry message queue = numbered (or_refused (id_parameter message)) queue
+named_entry message queue = and_then (λ id. entry_number_of id queue) (or_refused (id_parameter message))
 
 -- the entry that a message names, and a number beside it
-abbrev pub paired : {A : Type 0} → Result ℕ Refused → A → Result (ℕ × A) Refused
-paired (Err refused) value = Err refused
-paired (Ok number) value = Ok (number, value)
-
-abbrev pub numbered_with : Result (List ℕ × ℤ) Refused → QueueState → Result (ℕ × ℤ) Refused
-numbered_with (Err refused) queue = Err refused
-numbered_with (Ok both) queue = paired (entry_number_of both.0 queue) both.1
-
 abbrev pub named_entry_with : List ℕ → Data → QueueState → Result (ℕ × ℤ) Refused
 named_entry_with key message queue =
-    numbered_with (or_refused (both_found (id_parameter message) (whole_parameter key message))) queue
+    and_then (λ both. and_then (λ number. Ok (number, both.1)) (entry_number_of both.0 queue))
+    (or_refused (both_found (id_parameter message) (whole_parameter key message)))
 
 -- a command to one entry: the queue's row, and what follows for the world
 abbrev pub entry_row : Data → World → (ℕ → QueueState → rows.QueueAnswer (Unit {0})) → (ℕ → World → MessageAnswer) → MessageAnswer
@@ -122,17 +115,11 @@ priority_parameter message = optional_parameter (codes "Priority") as_whole defa
 abbrev pub submitted_parameters : Data → Found (Data × ℤ)
 submitted_parameters message = both_found (object_parameter (codes "Ticket") message) (priority_parameter message)
 
-abbrev pub prioritized : Result JobTicket Refused → ℤ → Result (JobTicket × ℤ) Refused
-prioritized (Err refused) priority = Err refused
-prioritized (Ok ticket) priority = Ok (ticket, priority)
-
-abbrev pub ticketed : List Page → Result (Data × ℤ) Refused → Result (JobTicket × ℤ) Refused
-ticketed images (Err refused) = Err refused
-ticketed images (Ok both) = prioritized (fitting_ticket images (ticket_from both.0)) both.1
-
 -- The ticket and the priority of a new entry: the parameters, then the ticket, then its images.
 abbrev pub submission : Data → List Page → Result (JobTicket × ℤ) Refused
-submission message images = ticketed images (or_refused (submitted_parameters message))
+submission message images =
+    and_then (λ both. and_then (λ ticket. Ok (ticket, both.1)) (fitting_ticket images (ticket_from both.0)))
+    (or_refused (submitted_parameters message))
 
 abbrev pub submit_row : Data → List Page → World → MessageAnswer
 submit_row message images world =

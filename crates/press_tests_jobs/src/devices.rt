@@ -41,7 +41,7 @@ fn notes(alloc: Global, sheets: &ListSink) -> Result<Vec<Notes>, AllocError> {
 
 impl Outcome {
     /// What the sinks took.
-    pub fn of(alloc: Global, sheets: &ListSink, replies: &ListReplies) -> Result<Self, Fail> {
+    pub(crate) fn of(alloc: Global, sheets: &ListSink, replies: &ListReplies) -> Result<Self, Fail> {
         Ok(Outcome {
             numbers: Vec::new(alloc),
             sheets: notes(alloc, sheets)?,
@@ -50,7 +50,7 @@ impl Outcome {
     }
 
     /// Whether the sheets and replies of a row came.
-    pub fn is(&self, (_, sheets, replies): &Row) -> bool {
+    pub(crate) fn is(&self, (_, sheets, replies): &Row) -> bool {
         self.sheets.as_slice() == *sheets && self.replies.as_slice() == *replies
     }
 
