@@ -1,6 +1,5 @@
 -- How steps of the code are put together.
-use Rattle.std.proofs.Common.{◌≡◌, ◌∙◌, ◌-◌, arith, ℕ, zero, suc, Some, List, [], ◌∷◌, Bool, true, false, Result, Ok, Err, IfOk, Vec, refl, sym, ap, subst, slice_index_or}
-use Rattle.std.specs.List.{remove}
+use Rattle.std.proofs.Common.{◌≡◌, ◌∙◌, ◌-◌, arith, ℕ, zero, suc, Some, List, [], ◌∷◌, Bool, true, false, Result, Ok, Err, IfOk, Vec, refl, sym, ap, subst}
 use Rattle.std.specs.declared.alloc.Global.{Global}
 use Rattle.std.proofs.lemmas.Bool.{false≢true}
 use Rattle.std.proofs.lemmas.List.{append-nil}
@@ -67,11 +66,6 @@ unwind-next activations rest activation run is used = sym (ap (λ (all : List Ac
 pub unwind-none : (activations : List Activation) (run : StepResult) → is_top_used_up activations ≡ false → record { item = run; activations = activations } ≡ unwind activations run
 unwind-none [] run is = refl
 unwind-none (activation ∷ activations) run is = sym (ended-not activation.body activations activation run is)
-
--- the first of the activations, and the others
-pub first-and-rest : (activations next : List Activation) (activation : Activation) → is_top_used_up activations ≡ true → activation ≡ slice_index_or activations 0 activation → next ≡ remove activations 0 → activations ≡ activation ∷ next
-first-and-rest [] next activation is first others = absurd cc
-first-and-rest (one ∷ rest) next activation is first others = (λ i. sym first i ∷ sym others i)
 
 pub first-used : (activations next : List Activation) (activation : Activation) → is_top_used_up activations ≡ true → activations ≡ activation ∷ next → used_up activation.body ≡ true
 first-used activations next activation is all = ap is_top_used_up (sym all) ∙ is

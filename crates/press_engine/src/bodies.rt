@@ -7,14 +7,15 @@ use press_cmd::{Command, Kind, kind};
 use std::alloc::{AllocError, Global};
 use std::marker::Model;
 
-/// The bodies that run, the innermost first, of which that one has a command. Contracts see the list of them.
+/// The bodies that run, the innermost last, of which that one has a command. Contracts see the list of them, the innermost
+/// first.
 #[derive(Drop)]
 pub struct Bodies {
     activations: Vec<Activation>,
 }
 
 impl Model for Bodies {
-    ghost use Rattle.std.specs.Prelude.{List};
+    ghost use Rattle.std.specs.Prelude.{List, reverse};
     ghost use Rattle.std.specs.Coded.{codes};
     ghost use Rattle.press_engine.specs.Stack.{IsSound};
     ghost use Rattle.press_engine.specs.declared.activation.Activation.{Activation};
@@ -24,9 +25,9 @@ impl Model for Bodies {
 
     ghost coded = { Prim.hlevel (codes, activation.the_row.coded) };
 
-    ghost view = { λ bodies. bodies.activations.items };
+    ghost view = { λ bodies. reverse bodies.activations.items };
 
-    ghost invariant = { λ bodies. IsSound bodies.activations.items };
+    ghost invariant = { λ bodies. IsSound (reverse bodies.activations.items) };
 }
 
 impl Last {

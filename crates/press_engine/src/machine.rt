@@ -97,14 +97,14 @@ impl Machine {
             → TakesMemory (effect_on source (token command.now) self.old.state) }
     {
         let kind = kind(command);
-        let last = if self.state.records(command) {
+        let records = self.state.records(command);
+        let effect = self.state.row(alloc, source, command, kind, records)?;
+        self.step = self.step.saturating_add(1);
+        self.last = if records {
             Last::Recorded(kind)
         } else {
             Last::Ran(kind)
         };
-        let effect = self.state.row(alloc, source, command)?;
-        self.step = self.step.saturating_add(1);
-        self.last = last;
         Ok(effect)
     }
 

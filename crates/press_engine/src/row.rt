@@ -3,7 +3,7 @@
 use crate::effect::{Effect, Source};
 use crate::operation::{Operation, operation_of};
 use crate::state::State;
-use press_cmd::{Command, kind};
+use press_cmd::{Command, Kind};
 use press_units::Unit;
 use std::alloc::{AllocError, Global};
 
@@ -42,7 +42,8 @@ impl State {
     ghost use Rattle.press_cmd.specs.View.{token};
     ghost use Rattle.press_engine.specs.Effects.{effect_of};
     ghost use Rattle.press_engine.specs.Engine.{TakesMemory};
-    ghost use Rattle.press_engine.specs.Table.{table_row, is_skipped, effect_on};
+    ghost use Rattle.press_cmd.specs.Kinds.{kind_of};
+    ghost use Rattle.press_engine.specs.Table.{table_row, is_recorded, is_skipped, effect_on};
 
     /// What a row does with a command, by where the command comes from.
     fn apply(
@@ -136,23 +137,27 @@ impl State {
             || (source.in_overlay() && !operation.works_in_overlay())
     }
 
-    /// What a command does: it is recorded and does nothing else, or its kind's row gives what it does.
+    /// What a command of this kind does: it is recorded and does nothing else, or its kind's row gives what it does.
     pub fn row(
         &mut self,
         alloc: Global,
         source: Source,
         command: &Command<'_>,
+        kind: Kind,
+        records: bool,
     ) -> Result<Effect, AllocError>
+        requires kind { kind ≡ kind_of (token command.now) }
+        requires recorded { records ≡ is_recorded (token command.now) self.old }
         ensures effect { IfOk result (λ effect.
             effect_of self.new effect ≡ effect_on source (token command.now) self.old) }
         ensures memory { IsErr result
             → TakesMemory (effect_on source (token command.now) self.old) }
     {
-        if self.records(command) {
+        if records {
             self.macros.record(command)?;
             return Ok(Effect::Makes);
         }
-        let operation = operation_of(kind(command));
+        let operation = operation_of(kind);
         if self.is_skipped(source, operation) {
             return Ok(Effect::Changes);
         }

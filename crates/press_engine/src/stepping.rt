@@ -1,7 +1,7 @@
 //! Table steps, as values: each takes one command, of the stream or of the innermost body that runs, and answers what goes out
 //! (PCL 5 Printer Language Technical Reference Manual, Macros). No sink is known here.
 
-ghost use Rattle.std.specs.Prelude.{◌≡◌, ◌≢◌, [], ◌++◌, option_to_list, OnOk, IfErr, IsErr, IsSome};
+ghost use Rattle.std.specs.Prelude.{◌≡◌, ◌≢◌, [], ◌++◌, reverse, option_to_list, OnOk, IfErr, IsErr, IsSome};
 ghost use Rattle.press_engine.specs.Outputs.{outputs_of, all_outputs};
 ghost use Rattle.press_engine.specs.Stepping.{is_top_used_up};
 
@@ -53,9 +53,9 @@ impl Source {
 
 /// Whether the innermost body is used up.
 fn is_top_used_up(activations: &[Activation]) -> bool
-    ensures { result ≡ is_top_used_up activations.now }
+    ensures { result ≡ is_top_used_up (reverse activations.now) }
 {
-    match activations.first() {
+    match activations.last() {
         Some(activation) => activation.body.is_used_up(),
         None => false,
     }
@@ -66,12 +66,12 @@ fn push_started(
     activations: &mut Vec<Activation>,
     started: Option<Activation>,
 ) -> Result<(), AllocError>
-    ensures ok { OnOk result (activations.new.items ≡ option_to_list started ++
-        activations.old.items) }
+    ensures ok { OnOk result (reverse activations.new.items
+        ≡ option_to_list started ++ reverse activations.old.items) }
     ensures some { IsErr result → IsSome started }
 {
     if let Some(activation) = started {
-        activations.insert(0, activation)?;
+        activations.push(activation)?;
     }
     Ok(())
 }
@@ -261,12 +261,15 @@ impl Machine {
         activations: &mut Vec<Activation>,
         out: &mut Vec<Sent>,
     ) -> Result<(), AllocError>
-        ensures ends { OnOk result (stepped_of self.new out.new.items activations.new.items
-            ≡ unwind activations.old.items (run_of self.old out.old.items)) }
-        ensures overlay { IsErr result → EndsOverlay activations.old.items }
+        ensures ends { OnOk result (stepped_of self.new out.new.items
+            (reverse activations.new.items)
+            ≡ unwind (reverse activations.old.items) (run_of self.old out.old.items)) }
+        ensures overlay { IsErr result → EndsOverlay (reverse activations.old.items) }
     {
         while is_top_used_up(activations) {
-            let activation = activations.remove(0);
+            let Some(activation) = activations.pop() else {
+                return Ok(());
+            };
             self.end_activation(alloc, activation.end, activation.depth, out)?;
         }
         Ok(())
@@ -279,10 +282,11 @@ impl Machine {
         it: Begun,
         activations: &mut Vec<Activation>,
     ) -> Result<Vec<Sent>, AllocError>
-        ensures steps { IfOk result (λ out. stepped_of self.new out.items activations.new.items
-            ≡ finished (begun_of self.old it) activations.old.items) }
+        ensures steps { IfOk result (λ out.
+            stepped_of self.new out.items (reverse activations.new.items)
+            ≡ finished (begun_of self.old it) (reverse activations.old.items)) }
         ensures memory { IsErr result → (outputs_of it.sent ≢ [])
-            ⊎ (option_to_list it.started ≢ []) ⊎ EndsOverlay activations.old.items }
+            ⊎ (option_to_list it.started ≢ []) ⊎ EndsOverlay (reverse activations.old.items) }
     {
         let mut out = Vec::new(alloc);
         push_sent(&mut out, it.sent)?;
@@ -301,12 +305,13 @@ impl Machine {
         effect: Effect,
         activations: &mut Vec<Activation>,
     ) -> Result<Vec<Sent>, AllocError>
-        ensures steps { IfOk result (λ out. stepped_of self.new out.items activations.new.items
+        ensures steps { IfOk result (λ out.
+            stepped_of self.new out.items (reverse activations.new.items)
             ≡ finished (begun in_overlay macro_levels self.old (effect_of self.old.state effect))
-            activations.old.items) }
+            (reverse activations.old.items)) }
         ensures memory { IsErr result → TakesMemory (effect_of self.old.state effect)
             ⊎ GoesOn (begun in_overlay macro_levels self.old (effect_of self.old.state effect))
-            activations.old.items }
+            (reverse activations.old.items) }
     {
         let it = self.begin(alloc, in_overlay, macro_levels, effect)?;
         self.finish_step(alloc, it, activations)
@@ -318,10 +323,14 @@ impl Machine {
         alloc: Global,
         activations: &mut Vec<Activation>,
     ) -> Result<Vec<Sent>, AllocError>
-        ensures steps { IfOk result (λ out. stepped_of self.new out.items activations.new.items
-            ≡ finished (begun_only (silent self.old)) activations.old.items) }
-        ensures memory { IsErr result → EndsOverlay activations.old.items }
+        ensures steps { IfOk result (λ out.
+            stepped_of self.new out.items (reverse activations.new.items)
+            ≡ finished (begun_only (silent self.old)) (reverse activations.old.items)) }
+        ensures memory { IsErr result → EndsOverlay (reverse activations.old.items) }
     {
+        if !is_top_used_up(activations) {
+            return Ok(Vec::new(alloc));
+        }
         let mut out = Vec::new(alloc);
         self.end_bodies(alloc, activations, &mut out)?;
         Ok(out)
@@ -335,7 +344,8 @@ impl Machine {
         activations: &mut Vec<Activation>,
     ) -> Result<Vec<Sent>, AllocError>
         requires none { activations.old.items ≡ [] }
-        ensures steps { IfOk result (λ out. stepped_of self.new out.items activations.new.items
+        ensures steps { IfOk result (λ out.
+            stepped_of self.new out.items (reverse activations.new.items)
             ≡ step_outer (token command.entry) self.old) }
         ensures memory { IsErr result
             → TakesMemory (effect_on Stream (token command.entry) self.old.state) }
@@ -353,18 +363,19 @@ impl Machine {
         alloc: Global,
         activations: &mut Vec<Activation>,
     ) -> Result<Vec<Sent>, AllocError>
-        requires running { HasNext activations.old.items }
+        requires running { HasNext (reverse activations.old.items) }
         ensures steps { IfOk result (λ out.
             (activation : Activation) (command : Token) (rest : List Token) (outer : List
             Activation)
-            → activations.old.items ≡ record activation { body = command ∷ rest } ∷ outer
-            → stepped_of self.new out.items activations.new.items
+            → reverse activations.old.items ≡ record activation { body = command ∷ rest } ∷ outer
+            → stepped_of self.new out.items (reverse activations.new.items)
             ≡ step_inner activation command rest outer self.old) }
-        ensures memory { IsErr result → InnerTakesMemory activations.old.items self.old }
+        ensures memory { IsErr result → InnerTakesMemory (reverse activations.old.items) self.old }
     {
-        let in_overlay = activations[0].in_overlay;
-        let macro_levels = activations[0].macro_levels;
-        let effect = self.take_first(alloc, &mut activations[0])?;
+        let innermost = activations.len() - 1;
+        let in_overlay = activations[innermost].in_overlay;
+        let macro_levels = activations[innermost].macro_levels;
+        let effect = self.take_first(alloc, &mut activations[innermost])?;
         if effect.is_done() {
             return self.end_step(alloc, activations);
         }

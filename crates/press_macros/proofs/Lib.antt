@@ -1,3 +1,3 @@
+mod RecordLemmas
 mod StoreLemmas
 pub mod WorkedMacros
-mod RecordLemmas

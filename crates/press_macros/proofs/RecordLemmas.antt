@@ -1,67 +1,86 @@
--- The records of commands and the commands of records.
-use Rattle.std.proofs.Common.{◌≡◌, ◌<◌, ◌≤◌, ◌+◌, ◌-◌, ◌==◌, ◌∙◌, ℕ, Bool, false, zero, suc, List, [], ◌∷◌, ◌++◌, length, take, drop, slice_index, slice_get, Some, Result, Ok, Err, OnOk, OnErr, refl, sym, ap, subst, arith, append_assoc, length-append, lit≤}
-use Rattle.std.specs.List.{AllByRecursion, between}
-use Rattle.std.proofs.lemmas.Slice.{between_to_end}
-use Rattle.std.proofs.lemmas.List.{append-nil}
-use Rattle.std.proofs.Math.Seq.{take-append_seam}
-use Rattle.byteorder.specs.Endian.{big_bytes, big_number}
-use Rattle.byteorder.specs.Numbers.{big_number-reads_back}
+-- The first of the records of commands, the others, and a further one.
+use Rattle.std.proofs.Common.{◌≡◌, ◌↔◌, ◌≤◌, ◌+◌, ◌-◌, ◌==◌, ◌∙◌, ℕ, List, [], ◌∷◌, ◌++◌, length, take, drop, slice_index_or, slice_get, Bool, false, Some, Result, Ok, Err, OnOk, OnErr, IsTrue, refl, sym, ap, subst, arith, append_assoc, length-append}
+use Rattle.std.specs.List.{AllByRecursion}
+use Rattle.std.proofs.lemmas.List.{append-nil, drop-drop, length-drop}
+use Rattle.std.proofs.Math.Seq.{take-append_seam, drop-append_seam}
+use Rattle.byteorder.specs.Endian.{big_number}
 use Rattle.press_cmd.specs.Token.{Token, bytes_of}
 use Rattle.press_cmd.specs.Stored.{variant_of, token_from, IsSound}
 use Rattle.press_cmd.proofs.StoredLemmas.{stored-read}
-use Rattle.press_cmd.proofs.CommandLengths.{sound-fits}
-use Rattle.press_macros.specs.Records.{record_of, encoded, first_count, decoded_of, decoded, AreRecords, IsBehind}
+use Rattle.press_macros.specs.Records.{record_of, encoded, AreRecords}
+use Rattle.press_macros.specs.RecordsOnce.{count-read}
 
--- what stands behind the variant of a record, with what follows it
-abbrev pub tail_of : Token → List ℕ → List ℕ
-tail_of command following = (big_bytes 4 (length (bytes_of command)) ++ bytes_of command) ++ following
+-- the command that the first record stands for
+abbrev pub first_of : (bytes : List ℕ) (count : ℕ) → Token
+first_of bytes count = token_from (slice_index_or bytes 0 0) (take (count - 5) (drop 5 bytes))
 
-count-read : (command : Token) (following : List ℕ) → IsSound command → first_count (tail_of command following) ≡ length (bytes_of command)
-count-read command following sound =
-    let fits = sound-fits command sound in
-    ap (big_number 4) (append_assoc (big_bytes 4 (length (bytes_of command))) (bytes_of command) following)
-    ∙ big_number-reads_back 4 (length (bytes_of command)) (bytes_of command ++ following) (omega (arith, fits))
+-- what is so where a record of so many bytes stands in front
+pub record First (bytes : List ℕ) (commands : List Token) (count : ℕ) : Type 0 where
+  pub head : 5 ≤ count
+  pub within : count ≤ length bytes
+  pub counted : 5 + big_number 4 (drop 1 bytes) ≡ count
+  pub stored : bytes_of (first_of bytes count) ≡ take (count - 5) (drop 5 bytes)
+  pub sound : IsSound (first_of bytes count)
+  pub given : Some (first_of bytes count) ≡ slice_get commands 0
 
-take-first : (command : Token) (following : List ℕ) → IsSound command → take (first_count (tail_of command following)) (drop 4 (tail_of command following)) ≡ bytes_of command
-take-first command following sound =
-    ap (λ n. take n (bytes_of command ++ following)) (count-read command following sound)
-    ∙ take-append_seam (bytes_of command) following
+first-of : (command : Token) (commands : List Token) → IsSound command → First (encoded (command ∷ commands)) (command ∷ commands) (length (record_of command))
+first-of command commands sound =
+    let count : length (record_of command) - 5 ≡ length (bytes_of command) = omega arith in
+    let part = ap (λ n. take n (bytes_of command ++ encoded commands)) count ∙ take-append_seam (bytes_of command) (encoded commands) in
+    let read = ap (token_from (variant_of command)) part ∙ stored-read command sound in
+    record {
+      head = omega arith;
+      within = omega (arith, length-append (record_of command) (encoded commands));
+      counted = omega (arith, count-read command (encoded commands) sound);
+      stored = ap bytes_of read ∙ sym part;
+      sound = subst IsSound (sym read) sound;
+      given = ap Some read;
+    }
 
-drop-seam : (xs ys : List ℕ) → drop (length xs) (xs ++ ys) ≡ ys
-drop-seam [] ys = refl
-drop-seam (x ∷ xs) ys = drop-seam xs ys
+first-in : (commands : List Token) → AllByRecursion IsSound commands → (bytes : List ℕ) → bytes ≡ encoded commands → (length bytes == 0) ≡ false
+    → First bytes commands (length (encoded (take 1 commands)))
+first-in [] sound bytes spelled some = let none = sym (ap (λ list. length list == 0) spelled) ∙ some in absurd (cc)
+first-in (command ∷ commands) sound bytes spelled some =
+    let first = subst (First (encoded (command ∷ commands)) (command ∷ commands)) (ap length (sym (append-nil (record_of command)))) (first-of command commands sound.0) in
+    subst (λ list. First list (command ∷ commands) (length (encoded (command ∷ [])))) (sym spelled) first
 
-drop-first : (command : Token) (following : List ℕ) → IsSound command → drop (first_count (tail_of command following)) (drop 4 (tail_of command following)) ≡ following
-drop-first command following sound =
-    ap (λ n. drop n (bytes_of command ++ following)) (count-read command following sound)
-    ∙ drop-seam (bytes_of command) following
+pub first-record : (bytes : List ℕ) (records : AreRecords bytes) → (empty : Bool) → empty ≡ (length bytes == 0) → empty ≡ false → (count : ℕ) → count ≡ length (encoded (take 1 records.commands))
+    → First bytes records.commands count
+first-record bytes records empty tested none count is =
+    subst (First bytes records.commands) (sym is) (first-in records.commands records.sound bytes records.spelled (sym tested ∙ none))
 
-first-read : (command : Token) (following : List ℕ) → IsSound command
-    → token_from (variant_of command) (take (first_count (tail_of command following)) (drop 4 (tail_of command following))) ≡ command
-first-read command following sound = ap (token_from (variant_of command)) (take-first command following sound) ∙ stored-read command sound
+-- ---- behind the first record
 
-decoded_of-encoded : (most : ℕ) (commands : List Token) → AllByRecursion IsSound commands → length commands ≤ most → decoded_of most (encoded commands) ≡ commands
-decoded_of-encoded zero [] sound enough = refl
-decoded_of-encoded (suc most) [] sound enough = refl
-decoded_of-encoded zero (command ∷ commands) sound enough = absurd (omega arith)
-decoded_of-encoded (suc most) (command ∷ commands) sound enough =
-    let following = encoded commands in
-    (λ i. first-read command following sound.0 i ∷ decoded_of most (drop-first command following sound.0 i))
-    ∙ ap (λ rest. command ∷ rest) (decoded_of-encoded most commands sound.1 (omega (arith, enough)))
+pub used-up : (commands : List Token) → IsTrue (length (encoded commands) == 0) ↔ (commands ≡ [])
+used-up [] = (λ _. refl, λ _. refl)
+used-up (command ∷ commands) = (λ none. absurd (grind arith), λ none. absurd (cc))
 
-length-encoded : (commands : List Token) → length commands ≤ length (encoded commands)
-length-encoded [] = lit≤ tt
-length-encoded (command ∷ commands) =
-    omega (arith, length-encoded commands, length-append (record_of command) (encoded commands))
+split-first : (commands : List Token) → encoded commands ≡ encoded (take 1 commands) ++ encoded (drop 1 commands)
+split-first [] = refl
+split-first (command ∷ commands) = ap (λ front. front ++ encoded commands) (sym (append-nil (record_of command)))
 
-pub decoded-encoded : (commands : List Token) → AllByRecursion IsSound commands → decoded (encoded commands) ≡ commands
-decoded-encoded commands sound = decoded_of-encoded (length (encoded commands)) commands sound (length-encoded commands)
+sound-behind : (commands : List Token) → AllByRecursion IsSound commands → AllByRecursion IsSound (drop 1 commands)
+sound-behind [] sound = sound
+sound-behind (command ∷ commands) sound = sound.1
 
--- the records of sound commands are records
-pub records-of : (commands : List Token) → AllByRecursion IsSound commands → AreRecords (encoded commands)
-records-of commands sound =
-    let same = decoded-encoded commands sound in
-    record { spelled = ap encoded (sym same); sound = subst (AllByRecursion IsSound) (sym same) sound }
+-- the records of the other commands stand at this place
+pub record Behind (all : List ℕ) (place : ℕ) (commands : List Token) : Type 0 where
+  pub within : place ≤ length all
+  pub spelled : drop place all ≡ encoded commands
+  pub sound : AllByRecursion IsSound commands
+
+pub behind-first : (all : List ℕ) (place : ℕ) (left : AreRecords (drop place all)) → place ≤ length all → (bytes : List ℕ) → bytes ≡ drop place all
+    → (count : ℕ) → ((records : AreRecords bytes) → count ≡ length (encoded (take 1 records.commands))) → Behind all (place + count) (drop 1 left.commands)
+behind-first all place left within bytes is count counted =
+    let first = encoded (take 1 left.commands) in
+    let others = encoded (drop 1 left.commands) in
+    let parts : drop place all ≡ first ++ others = left.spelled ∙ split-first left.commands in
+    let same = counted (record { commands = left.commands; spelled = is ∙ left.spelled; sound = left.sound }) in
+    record {
+      within = omega (arith, within, same, length-drop place all, ap length parts, length-append first others);
+      spelled = sym (drop-drop count place all) ∙ (λ i. drop (same i) (parts i)) ∙ drop-append_seam first others;
+      sound = sound-behind left.commands left.sound;
+    }
 
 -- ---- a further record
 
@@ -71,85 +90,25 @@ encoded-append (first ∷ commands) command =
     ap (λ rest. record_of first ++ rest) (encoded-append commands command)
     ∙ sym (append_assoc (record_of first) (encoded commands) (record_of command))
 
-sound-append : (commands : List Token) (command : Token) → AllByRecursion IsSound commands → IsSound command → AllByRecursion IsSound (commands ++ (command ∷ []))
-sound-append [] command all one = (one, tt)
-sound-append (first ∷ commands) command all one = (all.0, sound-append commands command all.1 one)
+pub sound-more : (commands : List Token) (command : Token) → AllByRecursion IsSound commands → IsSound command → AllByRecursion IsSound (commands ++ (command ∷ []))
+sound-more [] command all one = (one, tt)
+sound-more (first ∷ commands) command all one = (all.0, sound-more commands command all.1 one)
 
-pub record Pushed (bytes : List ℕ) (command : Token) (new : List ℕ) : Type 0 where
-  pub records : AreRecords new
-  pub commands : decoded new ≡ decoded bytes ++ (command ∷ [])
+pub spelled-more : {bytes new : List ℕ} (records : AreRecords bytes) (command : Token) → new ≡ bytes ++ record_of command
+    → new ≡ encoded (records.commands ++ (command ∷ []))
+spelled-more records command appended =
+    appended ∙ ap (λ front. front ++ record_of command) records.spelled ∙ sym (encoded-append records.commands command)
 
-pub pushed : (bytes : List ℕ) (command : Token) (new : List ℕ) → AreRecords bytes → IsSound command → new ≡ bytes ++ record_of command → Pushed bytes command new
-pushed bytes command new is one appended =
-    let all = sound-append (decoded bytes) command is.sound one in
-    let spelled : new ≡ encoded (decoded bytes ++ (command ∷ [])) =
-    appended ∙ ap (λ prefix. prefix ++ record_of command) is.spelled ∙ sym (encoded-append (decoded bytes) command) in
-    record {
-      records = subst AreRecords (sym spelled) (records-of (decoded bytes ++ (command ∷ [])) all);
-      commands = ap decoded spelled ∙ decoded-encoded (decoded bytes ++ (command ∷ [])) all;
-    }
-
-pub push-records : {T E : Type 0} (r : Result T E) (bytes : List ℕ) (command : Token) (new : List ℕ) → AreRecords bytes → IsSound command
+pub pushed-records : {T E : Type 0} (r : Result T E) {bytes new : List ℕ} (command : Token) → AreRecords bytes → IsSound command
     → OnOk r (new ≡ bytes ++ record_of command) → OnErr r (new ≡ bytes) → AreRecords new
-push-records (Ok _) bytes command new is one appended same = (pushed bytes command new is one appended).records
-push-records (Err _) bytes command new is one appended same = subst AreRecords (sym same) is
-
-pub push-commands : {T E : Type 0} (r : Result T E) (bytes : List ℕ) (command : Token) (new : List ℕ) (commands : List Token) → AreRecords bytes → IsSound command
-    → decoded bytes ≡ commands → OnOk r (new ≡ bytes ++ record_of command) → OnOk r (decoded new ≡ commands ++ (command ∷ []))
-push-commands (Ok _) bytes command new commands is one before appended =
-    (pushed bytes command new is one appended).commands ∙ ap (λ prefix. prefix ++ (command ∷ [])) before
-push-commands (Err _) bytes command new commands is one before appended = tt
-
--- ---- the first record
-
--- the command of the first record, whose bytes are so many
-pub record First (bytes : List ℕ) (n : ℕ) : Type 0 where
-  pub stored : bytes_of (token_from (slice_index bytes 0) (take (5 + n - 5) (drop 5 bytes))) ≡ take (5 + n - 5) (drop 5 bytes)
-  pub sound : IsSound (token_from (slice_index bytes 0) (take (5 + n - 5) (drop 5 bytes)))
-  pub first : Some (token_from (slice_index bytes 0) (take (5 + n - 5) (drop 5 bytes))) ≡ slice_get (decoded bytes) 0
-  pub behind : IsBehind (5 + n) 0 bytes
-
-first-of : (command : Token) (commands : List Token) → AllByRecursion IsSound (command ∷ commands) → First (encoded (command ∷ commands)) (length (bytes_of command))
-first-of command commands sound =
-    let all = encoded (command ∷ commands) in
-    let n = length (bytes_of command) in
-    let same : 5 + n - 5 ≡ n = omega arith in
-    let five : 5 + n ≡ suc (suc (suc (suc (suc n)))) = omega arith in
-    let part : take (5 + n - 5) (drop 5 all) ≡ bytes_of command =
-    ap (λ k. take k (bytes_of command ++ encoded commands)) same ∙ take-append_seam (bytes_of command) (encoded commands) in
-    let whole : token_from (slice_index all 0) (take (5 + n - 5) (drop 5 all)) ≡ command =
-    ap (token_from (variant_of command)) part ∙ stored-read command sound.0 in
-    let read = decoded-encoded (command ∷ commands) sound in
-    let rest : drop (5 + n) all ≡ encoded commands =
-    ap (λ k. drop k all) five ∙ drop-seam (bytes_of command) (encoded commands) in
+pushed-records (Ok _) command records sound appended same =
     record {
-      stored = ap bytes_of whole ∙ sym part;
-      sound = subst IsSound (sym whole) sound.0;
-      first = ap Some whole ∙ sym (ap (λ list. slice_get list 0) read);
-      behind = record {
-        from = record {
-          within = omega (arith, length-append (record_of command) (encoded commands));
-          records = subst AreRecords (sym rest) (records-of commands sound.1);
-        };
-        left = ap decoded rest ∙ decoded-encoded commands sound.1 ∙ sym (ap (drop 1) read);
-      };
+      commands = records.commands ++ (command ∷ []);
+      spelled = spelled-more records command appended;
+      sound = sound-more records.commands command records.sound sound;
     }
+pushed-records (Err _) command records sound appended same = subst AreRecords (sym same) records
 
-first-from : (commands : List Token) → AllByRecursion IsSound commands → (bytes : List ℕ) → bytes ≡ encoded commands → 0 < length bytes
-    → (n : ℕ) → n ≡ big_number 4 (between 1 (length bytes) bytes) → First bytes n
-first-from [] sound bytes spelled some_bytes n is = absurd (omega (arith, ap length spelled, some_bytes))
-first-from (command ∷ commands) sound bytes spelled some_bytes n is =
-    let count : n ≡ length (bytes_of command) =
-    is ∙ ap (big_number 4) (between_to_end bytes 1 (length bytes) (omega arith)) ∙ ap (λ list. first_count (drop 1 list)) spelled
-    ∙ count-read command (encoded commands) sound.0 in
-    subst (λ list. First list n) (sym spelled)
-    (subst (First (encoded (command ∷ commands))) (sym count) (first-of command commands sound))
-
-some-bytes : (bytes : List ℕ) (empty : Bool) → empty ≡ (length bytes == 0) → empty ≡ false → 0 < length bytes
-some-bytes [] empty is none = absurd (cc)
-some-bytes (byte ∷ bytes) empty is none = omega arith
-
-pub first-record : (bytes : List ℕ) → AreRecords bytes → (empty : Bool) → empty ≡ (length bytes == 0) → empty ≡ false
-    → (n : ℕ) → n ≡ big_number 4 (between 1 (length bytes) bytes) → First bytes n
-first-record bytes is empty tested none n counted =
-    first-from (decoded bytes) is.sound bytes is.spelled (some-bytes bytes empty tested none) n counted
+pub OnErr-map : {X E : Type 0} (r : Result X E) (P Q : Type 0) → (P → Q) → OnErr r P → OnErr r Q
+OnErr-map (Ok _) P Q f h = tt
+OnErr-map (Err _) P Q f h = f h

@@ -3,3 +3,4 @@ pub mod Macros
 pub mod Coding
 pub mod Lending
 pub mod Records
+pub mod RecordsOnce

@@ -1,10 +1,10 @@
 //! The body of a macro that runs (PCL 5 Printer Language Technical Reference Manual, Macros).
 
-ghost use Rattle.std.specs.Prelude.{◌≡◌, ◌↔◌, [], IsTrue, IfOk, option_map, slice_get, drop};
-ghost use Rattle.std.specs.Borrow.{sem};
-ghost use Rattle.press_cmd.specs.View.{token};
+ghost use Rattle.std.specs.Prelude.{◌≤◌, length, drop};
+ghost use Rattle.press_macros.specs.Records.{encoded, AreRecords};
+ghost use Rattle.press_macros.specs.RecordsOnce.{AreRecords-prop};
 
-use crate::records::Records;
+use crate::records::{Records, first_command, first_count};
 use press_cmd::Command;
 use std::alloc::AllocError;
 use std::marker::Model;
@@ -19,21 +19,24 @@ pub struct Body {
     commands: Rc<Records>,
     /// Where the record of the next command begins.
     place: usize,
+    ghost within: { place ≤ length (encoded commands.value) },
+    /// The commands that are left.
+    ghost left: { AreRecords (drop place (encoded commands.value)) } by { AreRecords-prop _ },
 }
 
 impl Model for Body {
-    ghost use Rattle.std.specs.Prelude.{List, drop};
+    ghost use Rattle.std.specs.Prelude.{List};
     ghost use Rattle.press_cmd.specs.Token.{Token};
-    ghost use Rattle.press_macros.specs.Records.{encoded, decoded, AreRecordsFrom};
 
     ghost Value = { List Token };
 
-    ghost view = { λ body. decoded (drop body.place (encoded body.commands.value)) };
-
-    ghost invariant = { λ body. AreRecordsFrom body.place (encoded body.commands.value) };
+    ghost view = { λ body. body.left.commands };
 }
 
 impl Body {
+    ghost use Rattle.std.specs.Prelude.{◌≡◌, ◌↔◌, [], IsTrue, IfOk, option_map, slice_get};
+    ghost use Rattle.std.specs.Borrow.{sem};
+    ghost use Rattle.press_cmd.specs.View.{token};
     ghost use Rattle.press_macros.specs.Lending.{KeepsBehindFirst};
 
     /// The body of these commands, from the first on.
@@ -49,16 +52,17 @@ impl Body {
         ensures given { option_map token result ≡ slice_get self.old 0 }
         ensures* left { sem 𝓛 (KeepsBehindFirst self.entry) }
     {
-        let (command, behind) = self.commands.command_at(self.place)?;
-        self.place = behind;
-        Some(command)
+        let place = self.place;
+        let count = first_count(self.commands.from(place));
+        self.place = place + count;
+        first_command(self.commands.from(place), count)
     }
 
     /// Whether no command is left.
     pub fn is_used_up(&self) -> bool
         ensures { IsTrue result ↔ (self.now ≡ []) }
     {
-        self.commands.end_at(self.place)
+        self.commands.from(self.place).is_empty()
     }
 
     /// An equal body, which shares the commands.

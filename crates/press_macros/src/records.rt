@@ -2,11 +2,10 @@
 //! command has, in four bytes, the highest first, and these bytes (PCL 5 Printer Language Technical Reference Manual,
 //! Macros; the records are this profile's).
 
-ghost use Rattle.std.specs.Prelude.{◌≡◌, ◌↔◌, ◌++◌, ◌∷◌, [], length, take, drop, option_map, slice_get, IsTrue, OnOk, OnErr, IfOk, IfSome};
-ghost use Rattle.std.specs.List.{AllByRecursion};
-ghost use Rattle.press_cmd.specs.Stored.{IsSound};
+ghost use Rattle.std.specs.Prelude.{◌≡◌, ◌++◌, [], length, take, option_map, slice_get, OnOk, OnErr};
 ghost use Rattle.press_cmd.specs.View.{token};
-ghost use Rattle.press_macros.specs.Records.{header_of, record_of, encoded, decoded, AreRecords, AreRecordsFrom, IsBehind};
+ghost use Rattle.press_macros.specs.Records.{header_of, record_of, encoded, AreRecords};
+ghost use Rattle.press_macros.specs.RecordsOnce.{AreRecords-prop};
 
 use byteorder::{BigEndian, ByteOrder};
 use press_cmd::{Command, bytes_count, stored, variant_number, write_command};
@@ -20,21 +19,24 @@ const HEADER: usize = 5;
 #[derive(Drop)]
 pub(crate) struct Records {
     bytes: Vec<u8>,
+    /// The commands of the records.
+    ghost records: { AreRecords bytes.items } by { AreRecords-prop _ },
 }
 
 impl Model for Records {
     ghost use Rattle.std.specs.Prelude.{List};
     ghost use Rattle.press_cmd.specs.Token.{Token};
-    ghost use Rattle.press_macros.specs.Records.{decoded, AreRecords};
 
     ghost Value = { List Token };
 
-    ghost view = { λ records. decoded records.bytes.items };
-
-    ghost invariant = { λ records. AreRecords records.bytes.items };
+    ghost view = { λ r. r.records.commands };
 }
 
 impl Records {
+    ghost use Rattle.std.specs.Prelude.{◌≤◌, ◌<◌, ◌^◌, ◌∷◌, drop, IfOk};
+    ghost use Rattle.std.specs.List.{AllByRecursion};
+    ghost use Rattle.press_cmd.specs.Stored.{IsSound};
+
     /// No command.
     pub fn new(alloc: Global) -> Self
         ensures { result ≡ [] }
@@ -47,6 +49,22 @@ impl Records {
     /// The allocator of the bytes.
     pub fn allocator(&self) -> Global {
         *self.bytes.allocator()
+    }
+
+    /// The records from this place on.
+    pub fn from(&self, place: usize) -> &[u8]
+        requires { place ≤ length (encoded self.now) }
+        ensures from { result.now ≡ drop place (encoded self.now) }
+        ensures few { length (encoded self.now) < 2 ^ 63 }
+    {
+        &self.bytes.as_slice()[place..]
+    }
+
+    /// Each command is sound.
+    pub fn are_sound(&self)
+        ensures { AllByRecursion IsSound self.now }
+    {
+        let _ = &self.bytes;
     }
 
     /// Records a command behind the others.
@@ -64,45 +82,32 @@ impl Records {
         let bytes = Vec::from_slice(*self.bytes.allocator(), self.bytes.as_slice())?;
         Ok(Records { bytes })
     }
-
-    /// The parts of each command have their ranges.
-    pub fn are_sound(&self)
-        ensures { AllByRecursion IsSound self.now }
-    {
-        let _ = &self.bytes;
-    }
-
-    /// Whether no record begins at this place.
-    pub fn end_at(&self, place: usize) -> bool
-        requires { AreRecordsFrom place (encoded self.now) }
-        ensures { IsTrue result ↔ (decoded (drop place (encoded self.now)) ≡ []) }
-    {
-        place == self.bytes.len()
-    }
-
-    /// The first of the commands whose records begin at this place, if there is one, and the place behind its record.
-    pub fn command_at(&self, place: usize) -> Option<(Command<'_>, usize)>
-        requires { AreRecordsFrom place (encoded self.now) }
-        ensures first { option_map (λ found. token found.0) result
-            ≡ slice_get (decoded (drop place (encoded self.now))) 0 }
-        ensures behind { IfSome result (λ found. IsBehind found.1 place (encoded self.now)) }
-    {
-        let (command, count) = first_command(&self.bytes.as_slice()[place..])?;
-        Some((command, place + count))
-    }
 }
 
-/// The command of the first of these records, if there is one, and how many bytes the record has.
-fn first_command(bytes: &[u8]) -> Option<(Command<'_>, usize)>
+/// How many bytes the first of these records has, if there is one.
+pub(crate) fn first_count(bytes: &[u8]) -> usize
     requires { AreRecords bytes.now }
-    ensures first { option_map (λ found. token found.0) result ≡ slice_get (decoded bytes.now) 0 }
-    ensures behind { IfSome result (λ found. IsBehind found.1 0 bytes.now) }
+    ensures { (records : AreRecords bytes.now)
+        → result ≡ length (encoded (take 1 records.commands)) }
+{
+    if bytes.is_empty() {
+        return 0;
+    }
+    HEADER + BigEndian::read_u32(&bytes[1..]) as usize
+}
+
+/// The command of the first of these records, if there is one; it has so many bytes.
+pub(crate) fn first_command(bytes: &[u8], count: usize) -> Option<Command<'_>>
+    requires records { AreRecords bytes.now }
+    requires count { (records : AreRecords bytes.now)
+        → count ≡ length (encoded (take 1 records.commands)) }
+    ensures { (records : AreRecords bytes.now)
+        → option_map token result ≡ slice_get records.commands 0 }
 {
     if bytes.is_empty() {
         return None;
     }
-    let end = HEADER + BigEndian::read_u32(&bytes[1..]) as usize;
-    Some((stored(bytes[0], &bytes[HEADER..end]), end))
+    Some(stored(bytes[0], &bytes[HEADER..count]))
 }
 
 /// Appends the command's record. An error leaves the vector as it was.

@@ -1,4 +1,4 @@
-use Rattle.std.proofs.Common.{◌∙◌, sym, ap, subst}
+use Rattle.std.proofs.Common.{◌∙◌, sym, ap, subst, reverse}
 use Rattle.press_cmd.specs.View.{token}
 use Rattle.press_engine.specs.Engine.{IsOfKind}
 use Rattle.press_engine.specs.Machine.{macro_levels}
@@ -10,7 +10,7 @@ use Rattle.press_engine.proofs.bodies.Bodies.step.Goals as goal
 
 pub invariant_of-self : goal.invariant_of-self
 invariant_of-self c =
-    sound-outer (token c.args.command) c.args.machine.now c.step_outer.new.activations.items (ap (λ (stepped : Stepped). stepped.activations) c.in-Ok.ensures.steps)
+    sound-outer (token c.args.command) c.args.machine.now (reverse c.step_outer.new.activations.items) (ap (λ (stepped : Stepped). stepped.activations) c.in-Ok.ensures.steps)
 
 pub returns-in-Ok-clause-steps : goal.returns-in-Ok-clause-steps
 returns-in-Ok-clause-steps c =
@@ -19,4 +19,4 @@ returns-in-Ok-clause-steps c =
     let steps = c.in-Ok.ensures.steps in
     let last = ap (λ (stepped : Stepped). stepped.item.machine.last) steps ∙ outer-last command old in
     let of_kind = subst (IsOfKind c.step_outer.new.self.last) (sym c.kind-kind.ensures) (last-kind command old c.step_outer.new.self.last last) in
-    steps-to (trace_at macro_levels command old) (step_outer command old) c.kind-kind.result c.in-Ok.sent c.step_outer.new.self c.step_outer.new.activations.items (outer-continuation command old) steps of_kind
+    steps-to (trace_at macro_levels command old) (step_outer command old) c.kind-kind.result c.in-Ok.sent c.step_outer.new.self (reverse c.step_outer.new.activations.items) (outer-continuation command old) steps of_kind

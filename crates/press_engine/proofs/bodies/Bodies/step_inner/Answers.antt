@@ -1,4 +1,4 @@
-use Rattle.std.proofs.Common.{◌≢◌, ◌∙◌, List, [], sym, ap, subst}
+use Rattle.std.proofs.Common.{◌≢◌, ◌∙◌, List, [], sym, ap, subst, reverse}
 use Rattle.press_engine.specs.declared.activation.Activation.{Activation}
 use Rattle.press_engine.specs.Engine.{StepsTo}
 use Rattle.press_engine.specs.Stack.{Stepped, step_inner, continuation}
@@ -8,7 +8,7 @@ use Rattle.press_engine.proofs.bodies.Bodies.step_inner.Goals as goal
 
 pub kind-requires : goal.kind-requires
 kind-requires c =
-    let activations = c.self.inside.activations.items in
+    let activations = reverse c.self.inside.activations.items in
     let some : activations ≢ [] = λ none. c.requires.running (sym c.self.view_is ∙ none) in
     let (activation, command, rest, outer, is) = ready-some activations c.self.invariant.ready some in
     let steps = c.in-Ok.ensures.steps activation command rest outer is in
@@ -16,19 +16,19 @@ kind-requires c =
 
 pub invariant_of-self : goal.invariant_of-self
 invariant_of-self c =
-    let activations = c.self.inside.activations.items in
+    let activations = reverse c.self.inside.activations.items in
     let some : activations ≢ [] = λ none. c.requires.running (sym c.self.view_is ∙ none) in
     let (activation, command, rest, outer, is) = ready-some activations c.self.invariant.ready some in
     let steps = c.in-Ok.ensures.steps activation command rest outer is in
-    sound-inner activation command rest outer activations c.step_inner.new.activations.items c.args.machine.now is c.self.invariant.nested (ap (λ (stepped : Stepped). stepped.activations) steps)
+    sound-inner activation command rest outer activations (reverse c.step_inner.new.activations.items) c.args.machine.now is c.self.invariant.nested (ap (λ (stepped : Stepped). stepped.activations) steps)
 
 pub returns-in-Ok-clause-steps : goal.returns-in-Ok-clause-steps
 returns-in-Ok-clause-steps c =
-    let activations = c.self.inside.activations.items in
+    let activations = reverse c.self.inside.activations.items in
     let old = c.args.machine.now in
     let some : activations ≢ [] = λ none. c.requires.running (sym c.self.view_is ∙ none) in
     let (activation, command, rest, outer, is) = ready-some activations c.self.invariant.ready some in
     let steps = c.in-Ok.ensures.steps activation command rest outer is in
-    let P : List Activation → Type 0 = λ these. StepsTo (continuation these old) (record { kind = c.kind.result; sent = c.in-Ok.sent }) c.step_inner.new.self c.step_inner.new.activations.items in
+    let P : List Activation → Type 0 = λ these. StepsTo (continuation these old) (record { kind = c.kind.result; sent = c.in-Ok.sent }) c.step_inner.new.self (reverse c.step_inner.new.activations.items) in
     subst P c.self.view_is
-    (steps-to (continuation activations old) (step_inner activation command rest outer old) c.kind.result c.in-Ok.sent c.step_inner.new.self c.step_inner.new.activations.items (inner-gives activation command rest outer activations old is) steps c.kind.ensures)
+    (steps-to (continuation activations old) (step_inner activation command rest outer old) c.kind.result c.in-Ok.sent c.step_inner.new.self (reverse c.step_inner.new.activations.items) (inner-gives activation command rest outer activations old is) steps c.kind.ensures)

@@ -1,17 +1,18 @@
-use Rattle.std.proofs.Common.{◌≡◌, ◌∙◌, true, false, inl, inr, sym, ap}
+use Rattle.std.proofs.Common.{◌≡◌, ◌∙◌, true, false, inl, inr, sym, ap, reverse, ◌∷◌, []}
+use Rattle.std.proofs.lemmas.List.{reverse-append}
 use Rattle.press_engine.specs.Stack.{unwind}
 use Rattle.press_engine.specs.Stepping.{is_top_used_up, run_of}
-use Rattle.press_engine.proofs.EndsLemmas.{unwind-next, unwind-none, first-and-rest, first-used}
+use Rattle.press_engine.proofs.EndsLemmas.{unwind-next, unwind-none, first-used}
 use Rattle.press_engine.proofs.StepLemmas.{ends-overlay, is_err-of}
 use Rattle.press_engine.proofs.machine.Machine.end_bodies.Goals as goal
 
 pub loop-alloc-preserved : goal.loop-alloc-preserved
 loop-alloc-preserved c =
-    let activations = c.loop-alloc.activations.items in
-    let rest = c.remove-activation.new.self.items in
-    let activation = c.remove-activation.result in
-    let used : is_top_used_up activations ≡ true = ap is_top_used_up (sym c.deref.ensures.value) ∙ sym c.is_top_used_up.ensures ∙ c.loop-alloc-test.true in
-    let all = first-and-rest activations rest activation used c.remove-activation.ensures.value c.remove-activation.ensures.items in
+    let activations = reverse c.loop-alloc.activations.items in
+    let rest = reverse c.pop.new.self.items in
+    let activation = c.in-Some.activation in
+    let used : is_top_used_up activations ≡ true = ap (λ items. is_top_used_up (reverse items)) (sym c.deref.ensures.value) ∙ sym c.is_top_used_up.ensures ∙ c.loop-alloc-test.true in
+    let all : activations ≡ activation ∷ rest = ap reverse (c.in-Some.ensures.items) ∙ reverse-append c.pop.new.self.items (activation ∷ []) in
     let first = first-used activations rest activation used all in
     record {
       ends = ap (unwind rest) c.in_ok-end_activation.ensures.ends ∙ unwind-next activations rest activation (run_of c.loop-alloc.self c.loop-alloc.out.items) all first ∙ c.loop-alloc.invariant.ends;
@@ -20,14 +21,14 @@ loop-alloc-preserved c =
 
 pub returns-clause-ends : goal.returns-clause-ends
 returns-clause-ends c =
-    let none : is_top_used_up c.loop-alloc.activations.items ≡ false = ap is_top_used_up (sym c.deref.ensures.value) ∙ sym c.is_top_used_up.ensures ∙ c.loop-alloc-test.false in
-    unwind-none c.loop-alloc.activations.items (run_of c.loop-alloc.self c.loop-alloc.out.items) none ∙ c.loop-alloc.invariant.ends
+    let none : is_top_used_up (reverse c.loop-alloc.activations.items) ≡ false = ap (λ items. is_top_used_up (reverse items)) (sym c.deref.ensures.value) ∙ sym c.is_top_used_up.ensures ∙ c.loop-alloc-test.false in
+    unwind-none (reverse c.loop-alloc.activations.items) (run_of c.loop-alloc.self c.loop-alloc.out.items) none ∙ c.loop-alloc.invariant.ends
 
 pub returns-in_err-end_activation-clause-overlay : goal.returns-in_err-end_activation-clause-overlay
 returns-in_err-end_activation-clause-overlay c stops =
-    let activations = c.loop-alloc.activations.items in
-    let rest = c.remove-activation.new.self.items in
-    let activation = c.remove-activation.result in
-    let used : is_top_used_up activations ≡ true = ap is_top_used_up (sym c.deref.ensures.value) ∙ sym c.is_top_used_up.ensures ∙ c.loop-alloc-test.true in
-    let all = first-and-rest activations rest activation used c.remove-activation.ensures.value c.remove-activation.ensures.items in
+    let activations = reverse c.loop-alloc.activations.items in
+    let rest = reverse c.pop.new.self.items in
+    let activation = c.in-Some.activation in
+    let used : is_top_used_up activations ≡ true = ap (λ items. is_top_used_up (reverse items)) (sym c.deref.ensures.value) ∙ sym c.is_top_used_up.ensures ∙ c.loop-alloc-test.true in
+    let all : activations ≡ activation ∷ rest = ap reverse (c.in-Some.ensures.items) ∙ reverse-append c.pop.new.self.items (activation ∷ []) in
     c.loop-alloc.invariant.overlay (ends-overlay activations rest activation all (first-used activations rest activation used all) (inl (c.end_activation.ensures.overlay (is_err-of c.end_activation.result _ c.in_err-end_activation.was))))

@@ -1,4 +1,4 @@
-use Rattle.std.proofs.Common.{◌≡◌, length}
+use Rattle.std.proofs.Common.{◌≡◌, length, reverse}
 use Rattle.press_engine.specs.Stack.{unwind, EndsOverlay}
 use Rattle.press_engine.specs.Stepping.{run_of}
 use Rattle.press_engine.proofs.machine.Machine.end_bodies.Given as goal
@@ -7,8 +7,8 @@ use Rattle.press_engine.proofs.machine.Machine.end_bodies.Given as goal
 -- ends among those that are left ends among all.
 abbrev pub invariant-loop-alloc : goal.invariant-loop-alloc
 invariant-loop-alloc l = record {
-  ends : unwind l.activations.items (run_of l.self l.out.items) ≡ unwind l.fn.activations.items (run_of l.fn.self l.fn.out.items);
-  overlay : EndsOverlay l.activations.items → EndsOverlay l.fn.activations.items;
+  ends : unwind (reverse l.activations.items) (run_of l.self l.out.items) ≡ unwind (reverse l.fn.activations.items) (run_of l.fn.self l.fn.out.items);
+  overlay : EndsOverlay (reverse l.activations.items) → EndsOverlay (reverse l.fn.activations.items);
 }
 
 abbrev pub decreases-loop-alloc : goal.decreases-loop-alloc
