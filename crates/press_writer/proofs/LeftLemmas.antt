@@ -1,5 +1,5 @@
 -- What is left of a job, and the next piece of it.
-use Rattle.std.proofs.Common.{◌≡◌, ◌≤◌, ◌<◌, ℕ, zero, suc, ◌+◌, ◌-◌, List, [], ◌∷◌, ◌++◌, length, map, drop, codes, slice_get, Option, Some, None, IfSome, true, false, refl, sym, ap, ◌∙◌, subst, arith, rules, true≢false, append_assoc, append-nil, length-append}
+use Rattle.std.proofs.Common.{◌≡◌, ◌≤◌, ◌<◌, ℕ, zero, suc, ◌+◌, ◌-◌, List, [], ◌∷◌, ◌++◌, length, map, drop, codes, slice_get, Option, Some, None, IfSome, Bool, true, false, ◌==◌, if◌then◌else◌, refl, sym, ap, ◌∙◌, subst, arith, rules, true≢false, append_assoc, append-nil, length-append}
 use Rattle.std.specs.List.{flat_map, range_with_len}
 use Rattle.std.proofs.lemmas.Grind.{flat_map-append}
 use Rattle.press_bits.specs.Page.{Page}
@@ -11,11 +11,11 @@ use Rattle.press_rows.specs.declared.compression.Method.{Method}
 use Rattle.press_rows.specs.declared.compression.Method.TheVariants.{Unencoded}
 use Rattle.press_writer.specs.declared.part.PageLeft.{PageLeft}
 use Rattle.press_writer.specs.declared.part.Part.{Part}
-use Rattle.press_writer.specs.declared.sequence.Sequence.TheVariants.{EndRaster}
+use Rattle.press_writer.specs.declared.sequence.Sequence.TheVariants.{CompressionMethod, EndRaster}
 use Rattle.press_writer.specs.Inside.{AppendsSome}
 use Rattle.press_writer.specs.Job.{head_of, commands_of_part, FitsPart, form_feed_command, page}
 use Rattle.press_writer.specs.Left.{JobLeft, HasImages, GivesPiece, commands_left, rest_of_page, rest_of_begun}
-use Rattle.press_writer.specs.Picture.{is_white_row, method_change, sent, left_out, row_commands, raster_rows, row_before, rows_from, page_start, image_rows}
+use Rattle.press_writer.specs.Picture.{is_white_row, method_number, method_change, sent, left_out, row_commands, raster_rows, row_before, rows_from, page_start, image_rows}
 use Rattle.press_writer.specs.Sequences.{command, written}
 use Rattle.press_writer.proofs.PictureLemmas.{rows_from-next, row_before-next, raster_rows-white, raster_rows-sent, raster_rows-none}
 
@@ -54,12 +54,13 @@ head_some medium = at_least_one (codes "%-12345X" ++ written (drop 1 (head_of me
     at_least_one bytes = omega arith
 
 -- the first of some commands were appended
-pub appends_some : (commands front others : List Token) (before after : List ℕ) → commands ≡ front ++ others → 1 ≤ length (written front)
-    → after ≡ before ++ written front → AppendsSome commands others before after
-appends_some commands front others before after is some appended = record {
+pub appends_some : (most : ℕ) (commands front others : List Token) (before after : List ℕ) → length front ≤ most → commands ≡ front ++ others → 1 ≤ length (written front)
+    → after ≡ before ++ written front → AppendsSome most commands others before after
+appends_some most commands front others before after few is some appended = record {
   next = ap (λ bytes. bytes ++ written others) appended ∙ append_assoc before (written front) (written others)
       ∙ ap (λ bytes. before ++ bytes) (sym (ap written is ∙ written-append front others));
   some = omega (arith, ap length appended, length-append before (written front), some);
+  few = omega (arith, few, ap length is, length-append front others);
 }
 
 -- the next row of a page that has a black dot
@@ -101,6 +102,28 @@ page_begun image number =
     (append_assoc (image_rows image) (command EndRaster 0 ∷ []) (form_feed_command ∷ [])
     ∙ ap (λ n. raster_rows Unencoded (row_before image 0) 0 (map (line_bytes image) (range_with_len 0 n)) ++ command EndRaster 0 ∷ form_feed_command ∷ []) (sym all))
 
+-- a row is three commands at most
+pub row_few : (image : Page) (left : PageLeft) (y : ℕ) → length (row_commands_from image left y) ≤ 3
+row_few image left y =
+    let before : List ℕ = row_before image y in
+    let line : List ℕ = line_bytes image y in
+    let row : List Token = row_commands left.method before line in
+    omega (
+      arith,
+      length-append (left_out (y - left.line)) row,
+      length-append (method_change left.method (best_method line before)) (sent (best_method line before) line before ∷ []),
+      one_left_out (y - left.line),
+      one_if (method_number left.method == method_number (best_method line before)) (command CompressionMethod (method_number (best_method line before))),
+    )
+  where
+    one_left_out : (n : ℕ) → length (left_out n) ≤ 1
+    one_left_out zero = omega arith
+    one_left_out (suc n) = omega arith
+
+    one_if : (same : Bool) (change : Token) → length (if same then [] else change ∷ []) ≤ 1
+    one_if true change = omega arith
+    one_if false change = omega arith
+
 -- a row is a byte at least
 pub row_some : (image : Page) (left : PageLeft) (y : ℕ) → 1 ≤ length (written (row_commands_from image left y))
 row_some image left y =
@@ -113,16 +136,17 @@ row_some image left y =
     subst (λ commands. 1 ≤ length (written commands)) (sym cut) (some_bytes changes (sent method line before) (omega arith))
 
 -- the next piece: the first of the commands that come next were appended, and behind the others stands what stood there
-pub gives : (old new : JobLeft) (images : List Page) (commands others behind : List Token) (bytes before after : List ℕ)
-    → commands_left old images ≡ commands ++ behind → commands_left new images ≡ others ++ behind
-    → AppendsSome commands others [] bytes → after ≡ before ++ bytes → GivesPiece old images true new before after
-gives old new images commands others behind bytes before after was stands appends appended = record {
+pub gives : (most : ℕ) (old new : JobLeft) (images : List Page) (commands others behind : List Token) (bytes before after : List ℕ)
+    → most ≤ 8 → commands_left old images ≡ commands ++ behind → commands_left new images ≡ others ++ behind
+    → AppendsSome most commands others [] bytes → after ≡ before ++ bytes → GivesPiece old images true new before after
+gives most old new images commands others behind bytes before after little was stands appends appended = record {
   piece = bytes;
   appended = appended;
   next = ap written was ∙ written-append commands behind ∙ ap (λ front. front ++ written behind) (sym appends.next)
       ∙ append_assoc bytes (written others) (written behind)
       ∙ ap (λ back. bytes ++ back) (sym (ap written stands ∙ written-append others behind));
   some = λ _. appends.some;
+  few = omega (arith, appends.few, little, ap length was, ap length stands, length-append commands behind, length-append others behind);
   none = λ e. absurd (true≢false e);
 }
 
@@ -138,21 +162,21 @@ abbrev pub with_begun : Option PageLeft → List Part → JobLeft → JobLeft
 with_begun begun parts left = record left { begun = begun; parts = parts }
 
 pub goes_on : (old : JobLeft) (images : List Page) (left : PageLeft) (begun : Option PageLeft) (bytes before after : List ℕ) → old.begun ≡ Some left
-    → AppendsSome (rest_of_begun images (Some left)) (rest_of_begun images begun) [] bytes → after ≡ before ++ bytes
+    → AppendsSome 3 (rest_of_begun images (Some left)) (rest_of_begun images begun) [] bytes → after ≡ before ++ bytes
     → GivesPiece old images true (with_begun begun old.parts old) before after
 goes_on old images left begun bytes before after was appends appended =
     let behind = flat_map (commands_of_part old.medium images) old.parts in
-    gives old (with_begun begun old.parts old) images (rest_of_begun images (Some left)) (rest_of_begun images begun) behind bytes before after
-    (ap (λ page. rest_of_begun images page ++ behind) was) refl appends appended
+    gives 3 old (with_begun begun old.parts old) images (rest_of_begun images (Some left)) (rest_of_begun images begun) behind bytes before after
+    (omega arith) (ap (λ page. rest_of_begun images page ++ behind) was) refl appends appended
 
 pub begins : (old : JobLeft) (images : List Page) (part : Part) (parts : List Part) (begun : Option PageLeft) (bytes before after : List ℕ)
     → old.begun ≡ None → old.parts ≡ part ∷ parts
-    → AppendsSome (commands_of_part old.medium images part) (rest_of_begun images begun) [] bytes → after ≡ before ++ bytes
+    → AppendsSome 8 (commands_of_part old.medium images part) (rest_of_begun images begun) [] bytes → after ≡ before ++ bytes
     → GivesPiece old images true (with_begun begun parts old) before after
 begins old images part parts begun bytes before after none is appends appended =
     let f = commands_of_part old.medium images in
-    gives old (with_begun begun parts old) images (f part) (rest_of_begun images begun) (flat_map f parts) bytes before after
-    (λ j. rest_of_begun images (none j) ++ flat_map f (is j)) refl appends appended
+    gives 8 old (with_begun begun parts old) images (f part) (rest_of_begun images begun) (flat_map f parts) bytes before after
+    (omega arith) (λ j. rest_of_begun images (none j) ++ flat_map f (is j)) refl appends appended
 
 -- the images of the part that comes next, and of those behind it
 pub next_fits : (count : ℕ) (left : JobLeft) (part : Part) (parts : List Part) → left.parts ≡ part ∷ parts → HasImages count left → FitsPart count part

@@ -1,5 +1,5 @@
 -- A writer of a job as contracts see it. No public clause cites this.
-use Rattle.std.specs.Prelude.{◌≡◌, ◌≤◌, ◌<◌, ℕ, List, [], ◌++◌, Option, Some, None, drop, length}
+use Rattle.std.specs.Prelude.{◌≡◌, ◌≤◌, ◌<◌, ℕ, ◌+◌, List, [], ◌++◌, Option, Some, None, drop, length}
 use Rattle.press_bits.specs.Page.{Page}
 use Rattle.press_cmd.specs.Token.{Token}
 use Rattle.press_writer.specs.declared.job_writer.JobWriter.TheInside.{Inside}
@@ -20,7 +20,8 @@ abbrev pub rest_in : (image : Page) → Option PageLeft → List Token
 rest_in image None = []
 rest_in image (Some left) = rest_of_page image left
 
--- Of these commands the first were appended, some byte at least, and the others are left.
-pub record AppendsSome (commands others : List Token) (before after : List ℕ) : Type 0 where
+-- Of these commands the first were appended, at most so many and some byte at least, and the others are left.
+pub record AppendsSome (most : ℕ) (commands others : List Token) (before after : List ℕ) : Type 0 where
   pub next : after ++ written others ≡ before ++ written commands
   pub some : length before < length after
+  pub few : length commands ≤ length others + most

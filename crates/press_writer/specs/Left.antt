@@ -1,5 +1,5 @@
 -- What a job that is written piece by piece has still to say.
-use Rattle.std.specs.Prelude.{◌≡◌, ◌≤◌, ◌<◌, ℕ, List, [], ◌∷◌, ◌++◌, length, slice_get, Option, Some, None, IfSome, Bool, true, false}
+use Rattle.std.specs.Prelude.{◌≡◌, ◌≤◌, ◌<◌, ℕ, ◌+◌, List, [], ◌∷◌, ◌++◌, length, slice_get, Option, Some, None, IfSome, Bool, true, false}
 use Rattle.std.specs.List.{flat_map}
 use Rattle.press_bits.specs.Page.{Page}
 use Rattle.press_cmd.specs.Token.{Token}
@@ -17,6 +17,10 @@ use Rattle.press_writer.specs.Wanted.{image_of}
 -- no job of a ticket has more commands
 abbrev pub most_job_commands : ℕ
 most_job_commands = 4000000000000
+
+-- No piece of a job has more commands: so many has its head, and a row of an image has three.
+abbrev pub most_commands_of_piece : ℕ
+most_commands_of_piece = 8
 
 -- On what the job prints; what is left of the page that is begun, if one is; and the parts that are not begun.
 pub record JobLeft : Type 0 where
@@ -51,10 +55,11 @@ pub record HasImages (count : ℕ) (left : JobLeft) : Type 0 where
   pub begun : IfSome left.begun (λ page. page.page < count)
   pub parts : (i : ℕ) (part : Part) → slice_get left.parts i ≡ Some part → FitsPart count part
 
--- A piece was appended, the next of the bytes that are left: one byte at least; or none was, since none is left.
+-- A piece was appended, the next of the bytes that are left: one byte at least, and few commands; or none was, since none is left.
 pub record GivesPiece (old : JobLeft) (images : List Page) (more : Bool) (new : JobLeft) (before after : List ℕ) : Type 0 where
   pub piece : List ℕ
   pub appended : after ≡ before ++ piece
   pub next : bytes_left old images ≡ piece ++ bytes_left new images
   pub some : more ≡ true → 1 ≤ length piece
+  pub few : length (commands_left old images) ≤ length (commands_left new images) + most_commands_of_piece
   pub none : more ≡ false → (bytes_left old images ≡ []) × (new ≡ old) × (piece ≡ [])

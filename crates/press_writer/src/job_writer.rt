@@ -63,8 +63,8 @@ fn begin_page(
     number: u16,
 ) -> Result<Option<PageLeft>, AllocError>
     requires { number < length images.now }
-    ensures appends { IfOk result (λ begun. AppendsSome (page (image_of images.now number))
-        (rest_of_begun images.now begun) out.old.items out.new.items) }
+    ensures appends { IfOk result (λ begun. AppendsSome 3
+        (page (image_of images.now number)) (rest_of_begun images.now begun) out.old.items out.new.items) }
     ensures fits { IfOk result (λ begun. IfSome begun (λ left. left.page < length images.now)) }
 {
     push_start(out, &images[usize::from(number)])?;
@@ -83,8 +83,8 @@ fn begin_part(
     part: Part,
 ) -> Result<Option<PageLeft>, AllocError>
     requires { FitsPart (length images.now) part }
-    ensures appends { IfOk result (λ begun. AppendsSome (commands_of_part medium images.now part)
-        (rest_of_begun images.now begun) out.old.items out.new.items) }
+    ensures appends { IfOk result (λ begun. AppendsSome 8
+        (commands_of_part medium images.now part) (rest_of_begun images.now begun) out.old.items out.new.items) }
     ensures fits { IfOk result (λ begun. IfSome begun (λ left. left.page < length images.now)) }
 {
     match part {
@@ -116,8 +116,8 @@ fn go_on(
     left: PageLeft,
 ) -> Result<Option<PageLeft>, AllocError>
     requires { left.page < length images.now }
-    ensures appends { IfOk result (λ begun. AppendsSome (rest_of_begun images.now (Some left))
-        (rest_of_begun images.now begun) out.old.items out.new.items) }
+    ensures appends { IfOk result (λ begun. AppendsSome 3
+        (rest_of_begun images.now (Some left)) (rest_of_begun images.now begun) out.old.items out.new.items) }
     ensures fits { IfOk result (λ begun. IfSome begun (λ left. left.page < length images.now)) }
 {
     push_next_row(alloc, out, &images[usize::from(left.page)], left)

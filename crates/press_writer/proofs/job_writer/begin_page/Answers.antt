@@ -15,7 +15,7 @@ returns-clause-appends c =
     let number = c.args.number in
     let image : image_of images number ≡ c.index-images-from.result =
     image_of-within images number c.index-images-from.result c.requires (c.index-images-from.is ∙ ap (λ i. slice_index_or images i c.index-images-from.result) c.from.ensures) in
-    appends_some (page (image_of images number)) (page_start (image_of images number))
+    appends_some 3 (page (image_of images number)) (page_start (image_of images number))
     (rest_of_page (image_of images number) (record { page = number; line = 0; method = Unencoded })) c.args.out.now.items _
-    (page_begun (image_of images number) number) (omega arith)
+    (omega arith) (page_begun (image_of images number) number) (omega arith)
     (c.in_ok-push_start.ensures ∙ (λ j. c.args.out.now.items ++ written (page_start (sym image j))))
