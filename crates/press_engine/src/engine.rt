@@ -194,6 +194,16 @@ impl Engine {
     pub fn reuse(&mut self, sent: Vec<Sent>)
         ensures { self.new ≡ self.old }
     {
+        if !sent.is_empty() {
+            self.keep_all(sent);
+        }
+    }
+
+    /// Takes the memory of these parts.
+    #[inline(never)]
+    fn keep_all(&mut self, sent: Vec<Sent>)
+        ensures { self.new ≡ self.old }
+    {
         for part in sent {
             self.machine.state.keep(part);
         }

@@ -373,9 +373,10 @@ impl Machine {
         ensures memory { IsErr result → InnerTakesMemory (reverse activations.old.items) self.old }
     {
         let innermost = activations.len() - 1;
-        let in_overlay = activations[innermost].in_overlay;
-        let macro_levels = activations[innermost].macro_levels;
-        let effect = self.take_first(alloc, &mut activations[innermost])?;
+        let activation = &mut activations[innermost];
+        let in_overlay = activation.in_overlay;
+        let macro_levels = activation.macro_levels;
+        let effect = self.take_first(alloc, activation)?;
         if effect.is_done() {
             return self.end_step(alloc, activations);
         }

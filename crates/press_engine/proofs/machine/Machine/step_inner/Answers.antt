@@ -15,17 +15,15 @@ use Rattle.press_engine.proofs.machine.Machine.step_inner.Goals as goal
 pub returns-clause-steps : goal.returns-clause-steps
 returns-clause-steps c =
     let effect = effect_of c.take_first.new.self.state c.in_ok-effect.effect in
-    let one = stack.begun c.index.result.now.in_overlay c.index-2.result.now.macro_levels c.take_first.new.self effect in
+    let one = stack.begun c.index_mut-activation.result.now.in_overlay c.index_mut-activation.result.now.macro_levels c.take_first.new.self effect in
     let activations = reverse (slice_set c.args.activations.now.items (c.len-innermost.result - 1) c.take_first.new.activation) in
     steps-inner c.go_on.result c.go_on.new.self c.args.self.now (reverse c.go_on.new.activations.items) (reverse c.args.activations.now.items) (finished one activations)
     (λ activation command rest outer is.
-    let first : c.index.result.now ≡ record activation { body = command ∷ rest } = c.index.ensures ∙ innermost-lies c.args.activations.now.items is _ (c.len-innermost.ensures ∙ c.args.activations.now.ok.0) c.index.result.now in
-    let second : c.index-2.result.now ≡ record activation { body = command ∷ rest } = c.index-2.ensures ∙ innermost-lies c.args.activations.now.items is _ (c.len-innermost.ensures ∙ c.args.activations.now.ok.0) c.index-2.result.now in
-    let lent : c.index_mut.result.now ≡ record activation { body = command ∷ rest } = c.index_mut.ensures.value ∙ innermost-lies c.args.activations.now.items is _ (c.len-innermost.ensures ∙ c.args.activations.now.ok.0) c.index_mut.result.now in
+    let lent : c.index_mut-activation.result.now ≡ record activation { body = command ∷ rest } = c.index_mut-activation.ensures.value ∙ innermost-lies c.args.activations.now.items is _ (c.len-innermost.ensures ∙ c.args.activations.now.ok.0) c.index_mut-activation.result.now in
     let taken = c.in_ok-effect.ensures.takes command rest (ap (λ (one : Activation). one.body) lent) in
     let gives = taken.0.0 ∙ (λ i. effect_on (source_in (lent i).in_overlay (lent i).macro_levels) command c.args.self.now.state) in
     let begun : one ≡ begins activation.in_overlay activation.macro_levels command c.args.self.now =
-    (λ i. stack.begun (first i).in_overlay (second i).macro_levels c.take_first.new.self effect)
+    (λ i. stack.begun (lent i).in_overlay (lent i).macro_levels c.take_first.new.self effect)
     ∙ begins-from activation.in_overlay activation.macro_levels command c.args.self.now c.take_first.new.self c.in_ok-effect.effect taken.0.1 gives in
     let all : activations ≡ record activation { body = rest } ∷ outer =
     innermost-set c.args.activations.now.items is _ (c.len-innermost.ensures ∙ c.args.activations.now.ok.0) c.take_first.new.activation
@@ -38,14 +36,12 @@ pub returns-clause-memory : goal.returns-clause-memory
 returns-clause-memory c stops =
     let (activation, command, rest, outer, is) = c.requires.running in
     let effect = effect_of c.take_first.new.self.state c.in_ok-effect.effect in
-    let one = stack.begun c.index.result.now.in_overlay c.index-2.result.now.macro_levels c.take_first.new.self effect in
-    let first : c.index.result.now ≡ record activation { body = command ∷ rest } = c.index.ensures ∙ innermost-lies c.args.activations.now.items is _ (c.len-innermost.ensures ∙ c.args.activations.now.ok.0) c.index.result.now in
-    let second : c.index-2.result.now ≡ record activation { body = command ∷ rest } = c.index-2.ensures ∙ innermost-lies c.args.activations.now.items is _ (c.len-innermost.ensures ∙ c.args.activations.now.ok.0) c.index-2.result.now in
-    let lent : c.index_mut.result.now ≡ record activation { body = command ∷ rest } = c.index_mut.ensures.value ∙ innermost-lies c.args.activations.now.items is _ (c.len-innermost.ensures ∙ c.args.activations.now.ok.0) c.index_mut.result.now in
+    let one = stack.begun c.index_mut-activation.result.now.in_overlay c.index_mut-activation.result.now.macro_levels c.take_first.new.self effect in
+    let lent : c.index_mut-activation.result.now ≡ record activation { body = command ∷ rest } = c.index_mut-activation.ensures.value ∙ innermost-lies c.args.activations.now.items is _ (c.len-innermost.ensures ∙ c.args.activations.now.ok.0) c.index_mut-activation.result.now in
     let taken = c.in_ok-effect.ensures.takes command rest (ap (λ (one : Activation). one.body) lent) in
     let gives = taken.0.0 ∙ (λ i. effect_on (source_in (lent i).in_overlay (lent i).macro_levels) command c.args.self.now.state) in
     let begun : one ≡ begins activation.in_overlay activation.macro_levels command c.args.self.now =
-    (λ i. stack.begun (first i).in_overlay (second i).macro_levels c.take_first.new.self effect)
+    (λ i. stack.begun (lent i).in_overlay (lent i).macro_levels c.take_first.new.self effect)
     ∙ begins-from activation.in_overlay activation.macro_levels command c.args.self.now c.take_first.new.self c.in_ok-effect.effect taken.0.1 gives in
     let all : reverse (slice_set c.args.activations.now.items (c.len-innermost.result - 1) c.take_first.new.activation) ≡ record activation { body = rest } ∷ outer =
     innermost-set c.args.activations.now.items is _ (c.len-innermost.ensures ∙ c.args.activations.now.ok.0) c.take_first.new.activation
@@ -60,7 +56,7 @@ returns-clause-memory c stops =
 pub returns-in_err-effect-clause-memory : goal.returns-in_err-effect-clause-memory
 returns-in_err-effect-clause-memory c stops =
     let (activation, command, rest, outer, is) = c.requires.running in
-    let lent : c.index_mut.result.now ≡ record activation { body = command ∷ rest } = c.index_mut.ensures.value ∙ innermost-lies c.args.activations.now.items is _ (c.len-innermost.ensures ∙ c.args.activations.now.ok.0) c.index_mut.result.now in
+    let lent : c.index_mut-activation.result.now ≡ record activation { body = command ∷ rest } = c.index_mut-activation.ensures.value ∙ innermost-lies c.args.activations.now.items is _ (c.len-innermost.ensures ∙ c.args.activations.now.ok.0) c.index_mut-activation.result.now in
     let P : Activation → Type 0 = λ one. TakesMemory (first_effect one command c.args.self.now.state) in
     (activation, command, rest, outer, is, inl (subst P lent (c.in_err-effect.ensures.memory refl command rest (ap (λ (one : Activation). one.body) lent))))
 
@@ -70,7 +66,7 @@ returns-then-is_done-clause-steps c =
     let activations = reverse (slice_set c.args.activations.now.items (c.len-innermost.result - 1) c.take_first.new.activation) in
     steps-inner c.end_step.result c.end_step.new.self c.args.self.now (reverse c.end_step.new.activations.items) (reverse c.args.activations.now.items) (finished one activations)
     (λ activation command rest outer is.
-    let lent : c.index_mut.result.now ≡ record activation { body = command ∷ rest } = c.index_mut.ensures.value ∙ innermost-lies c.args.activations.now.items is _ (c.len-innermost.ensures ∙ c.args.activations.now.ok.0) c.index_mut.result.now in
+    let lent : c.index_mut-activation.result.now ≡ record activation { body = command ∷ rest } = c.index_mut-activation.ensures.value ∙ innermost-lies c.args.activations.now.items is _ (c.len-innermost.ensures ∙ c.args.activations.now.ok.0) c.index_mut-activation.result.now in
     let taken = c.in_ok-effect.ensures.takes command rest (ap (λ (one : Activation). one.body) lent) in
     let gives = taken.0.0 ∙ (λ i. effect_on (source_in (lent i).in_overlay (lent i).macro_levels) command c.args.self.now.state) in
     let begun : one ≡ begins activation.in_overlay activation.macro_levels command c.args.self.now =
@@ -86,7 +82,7 @@ returns-then-is_done-clause-steps c =
 pub returns-then-is_done-clause-memory : goal.returns-then-is_done-clause-memory
 returns-then-is_done-clause-memory c stops =
     let (activation, command, rest, outer, is) = c.requires.running in
-    let lent : c.index_mut.result.now ≡ record activation { body = command ∷ rest } = c.index_mut.ensures.value ∙ innermost-lies c.args.activations.now.items is _ (c.len-innermost.ensures ∙ c.args.activations.now.ok.0) c.index_mut.result.now in
+    let lent : c.index_mut-activation.result.now ≡ record activation { body = command ∷ rest } = c.index_mut-activation.ensures.value ∙ innermost-lies c.args.activations.now.items is _ (c.len-innermost.ensures ∙ c.args.activations.now.ok.0) c.index_mut-activation.result.now in
     let taken = c.in_ok-effect.ensures.takes command rest (ap (λ (one : Activation). one.body) lent) in
     let all : reverse (slice_set c.args.activations.now.items (c.len-innermost.result - 1) c.take_first.new.activation) ≡ record activation { body = rest } ∷ outer =
     innermost-set c.args.activations.now.items is _ (c.len-innermost.ensures ∙ c.args.activations.now.ok.0) c.take_first.new.activation
