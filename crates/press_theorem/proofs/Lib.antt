@@ -1,3 +1,4 @@
 pub mod ChainLemmas
 pub mod EventLemmas
 pub mod TicketLemmas
+pub mod AtEndLemmas

@@ -1,3 +1,4 @@
 pub mod Calls
 pub mod Events
 pub mod Tickets
+pub mod AtEnd

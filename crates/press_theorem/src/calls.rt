@@ -2,12 +2,13 @@
 ghost use Rattle.std.specs.Prelude.{◌≡◌, List, Some, None, IsSome, false, IfOk, IfErr, OnErr, OnOk};
 ghost use Rattle.std.specs.List.{flat_map};
 ghost use Rattle.press_sink.specs.SinkLog.{logs, HasFaultRoom, under};
-ghost use Rattle.press_sink.specs.Sending.{Complete};
+ghost use Rattle.press_sink.specs.Sending.{Complete, WentOut};
 ghost use Rattle.press_stream.specs.Answers.{FaultsBefore};
 ghost use Rattle.press_stream.specs.Meaning.{CarriesOut};
 ghost use Rattle.press_stream.specs.Printed.{Prints, PrintedTo};
 ghost use Rattle.press_stream.specs.State.{IsOver, opened};
 ghost use Rattle.press_cmd.specs.Token.{Token};
+ghost use Rattle.press_theorem.specs.AtEnd.{meaning_at_end};
 ghost use Rattle.press_theorem.specs.Calls.{PrintsCalls, bytes_of};
 
 use press_sink::{ReplySink, SheetSink};
@@ -43,6 +44,12 @@ pub fn print_calls<S: SheetSink, P: ReplySink>(
 ) -> Result<Job, JobError>
     requires { HasFaultRoom (logs (S.told sheets.old) (P.told replies.old)) }
     ensures ok { IfOk result (λ job. Prints (flat_map bytes_of calls.now) tag Complete job.machine
+        (logs (S.told sheets.old) (P.told replies.old))
+        (logs (S.told sheets.new) (P.told replies.new))) }
+    ensures machine { IfOk result (λ job.
+        job.machine ≡ Some (meaning_at_end (flat_map bytes_of calls.now)).machine) }
+    ensures told { OnOk result (WentOut tag
+        (meaning_at_end (flat_map bytes_of calls.now)).outputs Complete
         (logs (S.told sheets.old) (P.told replies.old))
         (logs (S.told sheets.new) (P.told replies.new))) }
     ensures over { IfOk result IsOver }

@@ -4,6 +4,7 @@ use Rattle.std.proofs.lemmas.List.{take_all}
 use Rattle.std.proofs.lemmas.Result.{err_from_is_err_and}
 use Rattle.press_theorem.specs.declared.calls.Call.TheVariants.{Push}
 use Rattle.press_theorem.specs.Calls.{bytes_of}
+use Rattle.press_theorem.proofs.AtEndLemmas.{printed-means}
 use Rattle.press_theorem.proofs.ChainLemmas.{opened-going, pieces-next, CarriesOut-opened, CarriesOut-more, has_fault_room-after, finish-over, Prints-end, pieces-rest, PrintedTo-before, PrintedTo-none, PrintedTo-end}
 use Rattle.press_theorem.proofs.calls.print_calls.Goals as goal
 
@@ -35,6 +36,12 @@ returns-clause-ok g c =
     let pieces = c.args.calls.now in
     let i = c.loop-call.call-index in
     Prints-end c.chain.ensures.calls c.chain.ensures.prints (flat_map bytes_of (take i pieces)) (flat_map bytes_of pieces) c.loop-call.invariant.given c.args.tag c.loop-call.job c.finish.new.self c.finish.result c.in_ok-finish.field-0 _ _ _ c.in_ok-finish.was (sym (ap (flat_map bytes_of) (take_all i pieces c.loop-call-test.false))) c.loop-call.invariant.goes c.finish.ensures.finishes
+
+pub returns-clause-machine : goal.returns-clause-machine
+returns-clause-machine g c = (printed-means (flat_map bytes_of c.args.calls.now) c.args.tag c.finish.new.self.machine _ _ (returns-clause-ok g c)).0
+
+pub returns-clause-told : goal.returns-clause-told
+returns-clause-told g c = (printed-means (flat_map bytes_of c.args.calls.now) c.args.tag c.finish.new.self.machine _ _ (returns-clause-ok g c)).1
 
 pub returns-clause-over : goal.returns-clause-over
 returns-clause-over g c = finish-over c.loop-call.job c.finish.new.self c.args.tag c.finish.result c.in_ok-finish.field-0 _ _ c.in_ok-finish.was c.finish.ensures.finishes
