@@ -1,7 +1,8 @@
 -- How far outputs go out, put together.
-use Rattle.std.proofs.Common.{◌≡◌, ◌≢◌, ◌∙◌, ◌<◌, ◌+◌, ◌-◌, ◌≤◌, zero, suc, arith, ℕ, List, [], ◌∷◌, ◌++◌, length, drop, Option, None, Some, true, Result, Ok, Err, refl, sym, ap, subst}
+use Rattle.std.proofs.Common.{◌≡◌, ◌≢◌, ◌∙◌, ◌<◌, ◌+◌, ◌-◌, ◌≤◌, zero, suc, arith, ℕ, List, [], ◌∷◌, ◌++◌, length, drop, append-nil, Option, None, Some, true, Result, Ok, Err, refl, sym, ap, subst}
 use Rattle.std.specs.Prelude.{nat_lt}
-use Rattle.std.proofs.KnownBytes.{Appends-nil}
+use Rattle.std.proofs.KnownBytes.{Appends-nil, Appends-kept}
+use Rattle.std.specs.Io.KnownBytes.{Appends}
 use Rattle.std.proofs.lemmas.Bool.Decides.{nat_tests}
 use Rattle.press_sink.specs.PrintedSheet.{PrintedSheet}
 use Rattle.press_sink.specs.declared.fault.SinkError.{SinkError}
@@ -9,71 +10,69 @@ use Rattle.press_sink.specs.declared.fault.SinkError.TheVariants as sink_errors
 use Rattle.press_sink.specs.declared.fault.ReplyError.{ReplyError}
 use Rattle.press_sink.specs.declared.fault.ReplyError.TheVariants as reply_errors
 use Rattle.press_sink.specs.SinkLog.{SheetLog, ReplyLog, SinkLog, logs, most_faults, HasFaultRoom, Delivers, TookLast, Replies}
-use Rattle.press_sink.specs.Sending.{Output, Deliver, Reply, AtSheet, AtReply, ForMemory, Complete, TookAll, StoppedAtSheet, StoppedAtReply}
-use Rattle.press_sink.proofs.SendingLemmas.{told-nothing, TookAll-none, WentOut-then, WentOut-stopped}
+use Rattle.press_sink.specs.Sending.{Output, Deliver, Reply, Ending, AtSheet, AtReply, ForMemory, Complete, WentOut}
+use Rattle.press_sink.proofs.SendingLemmas.{told-nothing, WentOut-none, WentOut-then, WentOut-stopped, all-delivered}
 use Rattle.press_engine.specs.declared.fault.EngineError.{EngineError}
 use Rattle.press_engine.specs.declared.fault.EngineError.TheVariants as engine_errors
-use Rattle.press_engine.specs.Engine.{Sends}
+use Rattle.press_engine.specs.Engine.{ending_of}
 use Rattle.press_engine.specs.Outputs.{copy_out, next_count, copies_out, outputs_of, all_outputs}
 use Rattle.press_engine.specs.declared.effect.Sent.{Sent}
 
--- all of the outputs went out, and then others so far
-pub Sends-then : (tag : ℕ) (outputs others : List Output) (result : Result (Unit {0}) EngineError) (before between after : SinkLog) → TookAll tag outputs before between → Sends tag others result between after → Sends tag (outputs ++ others) result before after
-Sends-then tag outputs others (Ok done) before between after first then = WentOut-then tag outputs others Complete before between after first then
-Sends-then tag outputs others (Err engine_errors.SinkFault) before between after first then = WentOut-then tag outputs others AtSheet before between after first then
-Sends-then tag outputs others (Err engine_errors.ReplyFault) before between after first then = WentOut-then tag outputs others AtReply before between after first then
-Sends-then tag outputs others (Err engine_errors.NoMemory) before between after first then = WentOut-then tag outputs others ForMemory before between after first then
-Sends-then tag outputs others (Err engine_errors.Failed) before between after first then = then
-
--- outputs that did not all go out, and others behind them
-Sends-stopped : (tag : ℕ) (outputs others : List Output) (error : EngineError) (before after : SinkLog) → Sends tag outputs (Err error) before after → Sends tag (outputs ++ others) (Err error) before after
-Sends-stopped tag outputs others engine_errors.SinkFault before after stopped = WentOut-stopped tag outputs others AtSheet before after (λ e. cc) stopped
-Sends-stopped tag outputs others engine_errors.ReplyFault before after stopped = WentOut-stopped tag outputs others AtReply before after (λ e. cc) stopped
-Sends-stopped tag outputs others engine_errors.NoMemory before after stopped = WentOut-stopped tag outputs others ForMemory before after (λ e. cc) stopped
-Sends-stopped tag outputs others engine_errors.Failed before after stopped = stopped
+-- outputs do not all go out where an error is answered
+pub stops : (error : EngineError) → ending_of {X = Unit {0}} (Err error) ≡ Complete → ⊥
+stops engine_errors.SinkFault is = cc
+stops engine_errors.ReplyFault is = cc
+stops engine_errors.NoMemory is = cc
+stops engine_errors.Failed is = cc
 
 -- a first part that stopped, and the exit that hands its error on
-pub Sends-exit : (tag : ℕ) (outputs others : List Output) (first result : Result (Unit {0}) EngineError) (error : EngineError) (before after : SinkLog) → Sends tag outputs first before after → first ≡ Err error → result ≡ Err error → Sends tag (outputs ++ others) result before after
-Sends-exit tag outputs others first result error before after sends stops exits =
-    let P : Result (Unit {0}) EngineError → Type 0 = λ one. Sends tag outputs one before after in
-    let Q : Result (Unit {0}) EngineError → Type 0 = λ one. Sends tag (outputs ++ others) one before after in
-    subst Q (sym exits) (Sends-stopped tag outputs others error before after (subst P stops sends))
+pub WentOut-exit : (tag : ℕ) (outputs others : List Output) (first result : Result (Unit {0}) EngineError) (error : EngineError) (before after : SinkLog) → WentOut tag outputs (ending_of first) before after → first ≡ Err error → result ≡ Err error → WentOut tag (outputs ++ others) (ending_of result) before after
+WentOut-exit tag outputs others first result error before after sends is exits =
+    let P : Result (Unit {0}) EngineError → Type 0 = λ one. WentOut tag outputs (ending_of one) before after in
+    let Q : Result (Unit {0}) EngineError → Type 0 = λ one. WentOut tag (outputs ++ others) (ending_of one) before after in
+    subst Q (sym exits) (WentOut-stopped tag outputs others (ending_of {X = Unit {0}} (Err error)) before after (stops error) (subst P is sends))
 
--- a sheet sink that had a fault
-pub deliver-fault : (old new : SheetLog) (tag : ℕ) (sheet : PrintedSheet) (result : Result (Unit {0}) SinkError) → Delivers old (record { tag = tag; sheet = sheet }) result new → result ≡ Err sink_errors.SinkFault → (replies : ReplyLog) → StoppedAtSheet tag (Deliver sheet ∷ []) (logs old replies) (logs new replies)
-deliver-fault old new tag sheet result delivers e replies =
-    let P : Result (Unit {0}) SinkError → Type 0 = λ answer. Delivers old (record { tag = tag; sheet = sheet }) answer new in
-    let stopped : (new.delivered ≡ old.delivered) × (new.faults ≡ old.faults + 1) = subst P e delivers in
-    record {
-      taken = [];
-      sheet = sheet;
-      others = [];
-      outputs_are = refl;
-      delivered = stopped.0 ∙ told-nothing old.delivered;
-      replied = Appends-nil replies.replied;
-      fault = stopped.1;
-      reply_faults = refl;
-    }
+-- how a sheet ends, by what its sink answers, and how a reply does
+abbrev pub ending_at_sheet : Result (Unit {0}) SinkError → Ending
+ending_at_sheet (Ok _) = Complete
+ending_at_sheet (Err sink_errors.SinkFault) = AtSheet
+ending_at_sheet (Err sink_errors.NoMemory) = ForMemory
 
--- a reply sink that had a fault
-pub reply-fault : (old new : ReplyLog) (tag : ℕ) (bytes : List ℕ) (result : Result (Unit {0}) ReplyError) → Replies old bytes result new → result ≡ Err reply_errors.ReplyFault → (sheets : SheetLog) → StoppedAtReply tag (Reply bytes ∷ []) (logs sheets old) (logs sheets new)
-reply-fault old new tag bytes result replied e sheets =
-    let P : Result (Unit {0}) ReplyError → Type 0 = λ answer. Replies old bytes answer new in
-    let (prefix, back, parts, tells, fault) = subst P e replied in
-    record {
-      taken = [];
-      prefix = prefix;
-      back = back;
-      others = [];
-      outputs_are = ap (λ (all : List ℕ). Reply all ∷ []) parts;
-      delivered = told-nothing sheets.delivered;
-      replied = tells;
-      sheet_faults = refl;
-      fault = fault;
-    }
+abbrev pub ending_at_reply : Result (Unit {0}) ReplyError → Ending
+ending_at_reply (Ok _) = Complete
+ending_at_reply (Err reply_errors.ReplyFault) = AtReply
+ending_at_reply (Err reply_errors.NoMemory) = ForMemory
+
+pub deliver-sends : (old new : SheetLog) (tag : ℕ) (sheet : PrintedSheet) (result : Result (Unit {0}) SinkError) → Delivers old (record { tag = tag; sheet = sheet }) result new → (replies : ReplyLog) → WentOut tag (Deliver sheet ∷ []) (ending_at_sheet result) (logs old replies) (logs new replies)
+deliver-sends old new tag sheet (Ok done) (told, faults) replies =
+    record { went = Deliver sheet ∷ []; goes = refl; delivered = told; replied = Appends-nil replies.replied; sheet_faults = faults; reply_faults = refl }
+deliver-sends old new tag sheet (Err sink_errors.SinkFault) (told, faults) replies =
+    record { went = []; goes = (sheet, [], refl); delivered = told ∙ told-nothing old.delivered; replied = Appends-nil replies.replied; sheet_faults = faults; reply_faults = refl }
+deliver-sends old new tag sheet (Err sink_errors.NoMemory) (told, faults) replies =
+    record { went = []; goes = (Deliver sheet ∷ [], refl); delivered = told ∙ told-nothing old.delivered; replied = Appends-nil replies.replied; sheet_faults = faults; reply_faults = refl }
+
+pub reply-sends : (old new : ReplyLog) (tag : ℕ) (bytes : List ℕ) (result : Result (Unit {0}) ReplyError) → Replies old bytes result new → (sheets : SheetLog) → WentOut tag (Reply bytes ∷ []) (ending_at_reply result) (logs sheets old) (logs sheets new)
+reply-sends old new tag bytes (Ok done) (told, faults) sheets =
+    record { went = Reply bytes ∷ []; goes = refl; delivered = told-nothing sheets.delivered; replied = subst (Appends old.replied new.replied) (sym (append-nil bytes)) told; sheet_faults = refl; reply_faults = faults }
+reply-sends old new tag bytes (Err reply_errors.ReplyFault) (prefix, back, parts, told, faults) sheets = record {
+  went = Reply prefix ∷ [];
+  goes = ([], [], prefix, back, ap (λ (all : List ℕ). Reply all ∷ []) parts, refl);
+  delivered = told-nothing sheets.delivered;
+  replied = subst (Appends old.replied new.replied) (sym (append-nil prefix)) told;
+  sheet_faults = refl;
+  reply_faults = faults;
+}
+reply-sends old new tag bytes (Err reply_errors.NoMemory) (told, faults) sheets = record {
+  went = [];
+  goes = (Reply bytes ∷ [], refl);
+  delivered = told-nothing sheets.delivered;
+  replied = Appends-kept old.replied old.replied new.replied [] (Appends-nil old.replied) told;
+  sheet_faults = refl;
+  reply_faults = faults;
+}
 
 -- after outputs that all went out, the sinks can count as before
-pub has_fault_room-then : (tag : ℕ) (outputs : List Output) (before after : SinkLog) → TookAll tag outputs before after → HasFaultRoom before → HasFaultRoom after
+pub has_fault_room-then : (tag : ℕ) (outputs : List Output) (before after : SinkLog) → WentOut tag outputs Complete before after → HasFaultRoom before → HasFaultRoom after
 has_fault_room-then tag outputs before after took can = record {
   sheets = subst (λ (n : ℕ). n < most_faults) (sym took.sheet_faults) can.sheets;
   replies = subst (λ (n : ℕ). n < most_faults) (sym took.reply_faults) can.replies;
@@ -88,31 +87,31 @@ module _ (sheet : PrintedSheet) (tag done copies : ℕ) (count next : Option ℕ
       ∙ ap (λ (number : Option ℕ). copy_out sheet number ++ copies_out sheet (copies - (done + 1)) number) (sym counts)
 
   -- a copy went out, and then of the others so much
-  pub Sends-copy : (result : Result (Unit {0}) EngineError) (before between after : SinkLog) → done < copies → TookAll tag (copy_out sheet next) before between → Sends tag (copies_out sheet (copies - (done + 1)) next) result between after → Sends tag (copies_out sheet (copies - done) count) result before after
-  Sends-copy result before between after below first then =
-      let P : List Output → Type 0 = λ outputs. Sends tag outputs result before after in
-      subst P (sym (one_more below)) (Sends-then tag (copy_out sheet next) (copies_out sheet (copies - (done + 1)) next) result before between after first then)
+  pub WentOut-copy : (result : Result (Unit {0}) EngineError) (before between after : SinkLog) → done < copies → WentOut tag (copy_out sheet next) Complete before between → WentOut tag (copies_out sheet (copies - (done + 1)) next) (ending_of result) between after → WentOut tag (copies_out sheet (copies - done) count) (ending_of result) before after
+  WentOut-copy result before between after below first then =
+      let P : List Output → Type 0 = λ outputs. WentOut tag outputs (ending_of result) before after in
+      subst P (sym (one_more below)) (WentOut-then tag (copy_out sheet next) (copies_out sheet (copies - (done + 1)) next) (ending_of result) before between after first then)
 
   -- a copy that did not go out
-  pub Sends-stopped_copy : (first result : Result (Unit {0}) EngineError) (error : EngineError) (before after : SinkLog) → done < copies → Sends tag (copy_out sheet next) first before after → first ≡ Err error → result ≡ Err error → Sends tag (copies_out sheet (copies - done) count) result before after
-  Sends-stopped_copy first result error before after below sends stops exits =
-      let P : List Output → Type 0 = λ outputs. Sends tag outputs result before after in
-      subst P (sym (one_more below)) (Sends-exit tag (copy_out sheet next) (copies_out sheet (copies - (done + 1)) next) first result error before after sends stops exits)
+  pub WentOut-stopped_copy : (first result : Result (Unit {0}) EngineError) (error : EngineError) (before after : SinkLog) → done < copies → WentOut tag (copy_out sheet next) (ending_of first) before after → first ≡ Err error → result ≡ Err error → WentOut tag (copies_out sheet (copies - done) count) (ending_of result) before after
+  WentOut-stopped_copy first result error before after below sends stops exits =
+      let P : List Output → Type 0 = λ outputs. WentOut tag outputs (ending_of result) before after in
+      subst P (sym (one_more below)) (WentOut-exit tag (copy_out sheet next) (copies_out sheet (copies - (done + 1)) next) first result error before after sends stops exits)
 
 -- behind a copy the sheet is what its sink took last
-pub TookLast-copy : (sheet : PrintedSheet) (tag : ℕ) (count : Option ℕ) (before after : SinkLog) → TookAll tag (copy_out sheet count) before after → TookLast after.sheets (record { tag = tag; sheet = sheet })
-TookLast-copy sheet tag None before after took = (before.sheets.delivered, took.delivered)
-TookLast-copy sheet tag (Some since_job) before after took = (before.sheets.delivered, took.delivered)
+pub TookLast-copy : (sheet : PrintedSheet) (tag : ℕ) (count : Option ℕ) (before after : SinkLog) → WentOut tag (copy_out sheet count) Complete before after → TookLast after.sheets (record { tag = tag; sheet = sheet })
+TookLast-copy sheet tag None before after took = (before.sheets.delivered, all-delivered tag (copy_out sheet None) before after took)
+TookLast-copy sheet tag (Some since_job) before after took = (before.sheets.delivered, all-delivered tag (copy_out sheet (Some since_job)) before after took)
 
 pub is_later : (n : ℕ) → nat_lt 0 n ≡ true → 0 < n
 is_later n test = grind (arith, nat_tests)
 
 -- no copy is left
-pub Sends-no_copy : (sheet : PrintedSheet) (tag done copies : ℕ) (count : Option ℕ) (told : SinkLog) → copies ≤ done → Sends tag (copies_out sheet (copies - done) count) (Ok tt) told told
-Sends-no_copy sheet tag done copies count told past =
+pub WentOut-no_copy : (sheet : PrintedSheet) (tag done copies : ℕ) (count : Option ℕ) (told : SinkLog) → copies ≤ done → WentOut tag (copies_out sheet (copies - done) count) Complete told told
+WentOut-no_copy sheet tag done copies count told past =
     let e : copies - done ≡ 0 = omega arith in
-    let P : ℕ → Type 0 = λ n. Sends tag (copies_out sheet n count) (Ok tt) told told in
-    subst P (sym e) (TookAll-none tag told)
+    let P : ℕ → Type 0 = λ n. WentOut tag (copies_out sheet n count) Complete told told in
+    subst P (sym e) (WentOut-none tag told)
 
 -- where there is a copy, something goes out
 pub copies_out-some : (sheet : PrintedSheet) (done copies : ℕ) (count : Option ℕ) → done < copies → copies_out sheet copies count ≢ []
@@ -140,11 +139,11 @@ all_outputs-some (one ∷ sent) zero part rest left some nothing =
 all_outputs-some (one ∷ sent) (suc done) part rest left some nothing = some-behind (outputs_of one) (all_outputs sent) (all_outputs-some sent done part rest left some) nothing
 
 -- all parts went out
-pub Sends-all : (tag done : ℕ) (sent : List Sent) (told : SinkLog) → length sent ≤ done → Sends tag (all_outputs (drop done sent)) (Ok tt) told told
-Sends-all tag zero [] told past = TookAll-none tag told
-Sends-all tag (suc done) [] told past = TookAll-none tag told
-Sends-all tag zero (one ∷ sent) told past = absurd (omega arith)
-Sends-all tag (suc done) (one ∷ sent) told past = Sends-all tag done sent told (omega arith)
+pub WentOut-all : (tag done : ℕ) (sent : List Sent) (told : SinkLog) → length sent ≤ done → WentOut tag (all_outputs (drop done sent)) Complete told told
+WentOut-all tag zero [] told past = WentOut-none tag told
+WentOut-all tag (suc done) [] told past = WentOut-none tag told
+WentOut-all tag zero (one ∷ sent) told past = absurd (omega arith)
+WentOut-all tag (suc done) (one ∷ sent) told past = WentOut-all tag done sent told (omega arith)
 
 pub prefix-none : (outputs others : List Output) → outputs ++ others ≡ [] → outputs ≡ []
 prefix-none [] others none = refl

@@ -2,16 +2,16 @@
 use Rattle.std.proofs.Common.{◌≡◌, ◌≢◌, ◌⊎◌, ◌∙◌, ℕ, List, [], ◌∷◌, Option, Some, None, Result, Ok, Err, inl, inr, refl, sym, ap, subst}
 use Rattle.press_cmd.specs.Token.{Token}
 use Rattle.press_cmd.specs.declared.variant.Kind.{Kind}
-use Rattle.press_sink.specs.Sending.{Output}
+use Rattle.press_sink.specs.Sending.{Output, Complete, WentOut}
 use Rattle.press_sink.specs.SinkLog.{SinkLog, under}
-use Rattle.press_sink.proofs.SendingLemmas.{TookAll-none}
+use Rattle.press_sink.proofs.SendingLemmas.{WentOut-no_memory}
 use Rattle.press_engine.specs.declared.effect.StepOutput.{StepOutput}
 use Rattle.press_engine.specs.declared.fault.EngineError.{EngineError}
 use Rattle.press_engine.specs.declared.fault.EngineError.TheVariants as engine_errors
 use Rattle.press_engine.specs.declared.activation.Activation.{Activation}
 use Rattle.press_engine.specs.declared.machine.Machine.{Machine}
 use Rattle.press_engine.specs.declared.effect.Source.TheVariants.{Stream}
-use Rattle.press_engine.specs.Engine.{Sends, Steps, TakesItem, TakesNext, TakesMemory, NeedsMemory, InnerNeedsMemory, InnerTakesMemory}
+use Rattle.press_engine.specs.Engine.{ending_of, Steps, TakesItem, TakesNext, TakesMemory, NeedsMemory, InnerNeedsMemory, InnerTakesMemory}
 use Rattle.press_engine.specs.Machine.{StepResult, macro_levels}
 use Rattle.press_engine.specs.Outputs.{all_outputs}
 use Rattle.press_engine.specs.Stack.{continuation, step_outer, step_inner, HasNext}
@@ -27,7 +27,7 @@ first_outputs [] = []
 first_outputs (item ∷ items) = item.outputs
 
 -- the engine's step, whose outputs all went out
-pub takes-ok : (old : Option Machine) (owing : Machine → List StepResult) (step : StepOutput) (new : Option Machine) (still : List Activation) (tag : ℕ) (before after : SinkLog) → Steps old owing step new still → Sends tag (all_outputs step.sent.items) (Ok tt) before after → TakesNext old owing (Ok step.kind) new still (under tag before after)
+pub takes-ok : (old : Option Machine) (owing : Machine → List StepResult) (step : StepOutput) (new : Option Machine) (still : List Activation) (tag : ℕ) (before after : SinkLog) → Steps old owing step new still → WentOut tag (all_outputs step.sent.items) Complete before after → TakesNext old owing (Ok step.kind) new still (under tag before after)
 takes-ok old owing step new still tag before after s sends =
     let P : Option Machine → Type 0 = λ from. TakesNext from owing (Ok step.kind) new still (under tag before after) in
     subst P (sym s.was) (record {
@@ -39,11 +39,11 @@ takes-ok old owing step new still tag before after s sends =
     })
 
 -- and one at whose outputs a sink had a fault
-pub takes-stopped : (old : Option Machine) (owing : Machine → List StepResult) (step : StepOutput) (between new : Option Machine) (held still : List Activation) (tag : ℕ) (sent : Result (Unit {0}) EngineError) (result : Result Kind EngineError) (error : EngineError) (before after : SinkLog) → Steps old owing step between held → Sends tag (all_outputs step.sent.items) sent before after → sent ≡ Err error → result ≡ Err error → new ≡ None → still ≡ [] → TakesNext old owing result new still (under tag before after)
+pub takes-stopped : (old : Option Machine) (owing : Machine → List StepResult) (step : StepOutput) (between new : Option Machine) (held still : List Activation) (tag : ℕ) (sent : Result (Unit {0}) EngineError) (result : Result Kind EngineError) (error : EngineError) (before after : SinkLog) → Steps old owing step between held → WentOut tag (all_outputs step.sent.items) (ending_of sent) before after → sent ≡ Err error → result ≡ Err error → new ≡ None → still ≡ [] → TakesNext old owing result new still (under tag before after)
 takes-stopped old owing step between new held still tag sent result error before after s sends stops exits fails none =
     let P : Option Machine → Type 0 = λ from. TakesNext from owing (Err error) new still (under tag before after) in
     let Q : Result Kind EngineError → Type 0 = λ answer. TakesNext old owing answer new still (under tag before after) in
-    let R : Result (Unit {0}) EngineError → Type 0 = λ answer. Sends tag (all_outputs step.sent.items) answer before after in
+    let R : Result (Unit {0}) EngineError → Type 0 = λ answer. WentOut tag (all_outputs step.sent.items) (ending_of answer) before after in
     subst Q (sym exits) (subst P (sym s.was) (record {
       item = record { machine = s.after; outputs = all_outputs step.sent.items };
       others = continuation held s.after;
@@ -64,7 +64,7 @@ stopped-at owing tag new still told some fails none =
       others = others;
       due = is;
       left = (fails, none);
-      sends = record { taken = []; others = item.outputs; outputs_are = refl; took = TookAll-none tag told };
+      sends = WentOut-no_memory tag item.outputs told;
     }
 
 takes-failed : (old : Option Machine) (owing : Machine → List StepResult) (tag : ℕ) (error : EngineError) (new : Option Machine) (still : List Activation) (told : SinkLog) → ((machine : Machine) → owing machine ≢ []) → (error ≡ engine_errors.Failed) ⊎ (error ≡ engine_errors.NoMemory) → (error ≡ engine_errors.Failed → old ≡ None) → new ≡ None → still ≡ [] → TakesNext old owing (Err error) new still (under tag told told)

@@ -3,16 +3,17 @@ use Rattle.std.proofs.Common.{◌≡◌, ◌≢◌, ◌∙◌, ◌<◌, arith, �
 use Rattle.press_cmd.specs.Token.{Token}
 use Rattle.press_cmd.specs.declared.variant.Kind.{Kind}
 use Rattle.press_sink.specs.SinkLog.{SinkLog, HasFaultRoom, under}
-use Rattle.press_sink.proofs.SendingLemmas.{TookAll-none}
+use Rattle.press_sink.specs.Sending.{WentOut}
+use Rattle.press_sink.proofs.SendingLemmas.{WentOut-none, WentOut-then}
 use Rattle.press_engine.specs.declared.fault.EngineError.{EngineError}
 use Rattle.press_engine.specs.declared.activation.Activation.{Activation}
 use Rattle.press_engine.specs.declared.machine.Machine.{Machine}
 use Rattle.press_engine.specs.declared.engine.Engine.{Engine}
-use Rattle.press_engine.specs.Engine.{machine_of, bodies, Sends, Runs, TakesItem, TakesNext, NeedsMemory}
+use Rattle.press_engine.specs.Engine.{machine_of, bodies, ending_of, Runs, TakesItem, TakesNext, NeedsMemory}
 use Rattle.press_engine.specs.Machine.{StepResult, macro_levels}
 use Rattle.press_engine.specs.Stack.{continuation, begins, unwind, step_outer, HasNext}
 use Rattle.press_engine.specs.Trace.{joined, trace_at, told_by}
-use Rattle.press_engine.proofs.SendsLemmas.{Sends-then, Sends-exit, has_fault_room-then}
+use Rattle.press_engine.proofs.SendsLemmas.{WentOut-exit, has_fault_room-then}
 use Rattle.press_engine.proofs.StackLaws.{outer-continuation}
 use Rattle.press_engine.proofs.StackLemmas.{outer-wants}
 use Rattle.press_engine.proofs.ValueLemmas.{inner-some}
@@ -20,7 +21,7 @@ use Rattle.press_engine.proofs.ValueLemmas.{inner-some}
 -- a run was carried out, after which an engine has this machine
 pub record Leaves (run : StepResult) (tag : ℕ) (result : Result (Unit {0}) EngineError) (new : Option Machine) (before after : SinkLog) : Type 0 where
   pub left : MatchResult result (λ _. new ≡ Some run.machine) (λ _. new ≡ None)
-  pub sends : Sends tag run.outputs result before after
+  pub sends : WentOut tag run.outputs (ending_of result) before after
 
 -- so were the items that an engine owes
 abbrev pub LeavesAll : Option Machine → (Machine → List StepResult) → ℕ → Result (Unit {0}) EngineError → Option Machine → SinkLog → SinkLog → Type 0
@@ -36,7 +37,7 @@ module _ (owing : Machine → List StepResult) (tag : ℕ) where
       let others = continuation still t.item.machine in
       let there : Leaves (told_by others t.item.machine) tag result new between after = subst P t.left.1 rest in
       subst Q (ap (λ (items : List StepResult). t.item ∷ items) (sym t.left.2) ∙ sym t.due)
-      (record { left = there.left; sends = Sends-then tag t.item.outputs (joined others) result before between after t.sends there.sends })
+      (record { left = there.left; sends = WentOut-then tag t.item.outputs (joined others) (ending_of result) before between after t.sends there.sends })
 
   pub next-leaves : (old mid : Option Machine) (kind : Kind) (still : List Activation) (result : Result (Unit {0}) EngineError) (new : Option Machine) (before between after : SinkLog) → TakesNext old owing (Ok kind) mid still (under tag before between) → LeavesAll mid (continuation still) tag result new between after → LeavesAll old owing tag result new before after
   next-leaves None mid kind still result new before between after takes rest =
@@ -48,7 +49,7 @@ module _ (owing : Machine → List StepResult) (tag : ℕ) where
   stop-item : (machine : Machine) (error : EngineError) (new : Option Machine) (still : List Activation) (before after : SinkLog) → TakesItem (owing machine) (Err error) new still (under tag before after) → Leaves (told_by (owing machine) machine) tag (Err error) new before after
   stop-item machine error new still before after t =
       let Q : List StepResult → Type 0 = λ items. Leaves (told_by items machine) tag (Err error) new before after in
-      subst Q (sym t.due) (record { left = t.left.0; sends = Sends-exit tag t.item.outputs (joined t.others) (Err error) (Err error) error before after t.sends refl refl })
+      subst Q (sym t.due) (record { left = t.left.0; sends = WentOut-exit tag t.item.outputs (joined t.others) (Err error) (Err error) error before after t.sends refl refl })
 
   pub stop-leaves : (old : Option Machine) (result : Result Kind EngineError) (exit : Result (Unit {0}) EngineError) (error : EngineError) (new : Option Machine) (still : List Activation) (before after : SinkLog) → old ≢ None → TakesNext old owing result new still (under tag before after) → result ≡ Err error → exit ≡ Err error → LeavesAll old owing tag exit new before after
   stop-leaves None result exit error new still before after alive takes is exits = absurd (alive refl)
@@ -62,13 +63,13 @@ pub none-leaves : (old : Option Machine) (still : List Activation) (tag : ℕ) (
 none-leaves None still tag told alive none = absurd (alive refl)
 none-leaves (Some machine) still tag told alive none =
     let P : List Activation → Type 0 = λ activations. Leaves (told_by (continuation activations machine) machine) tag (Ok tt) (Some machine) told told in
-    subst P (sym none) (record { left = refl; sends = TookAll-none tag told })
+    subst P (sym none) (record { left = refl; sends = WentOut-none tag told })
 
 -- the items of a whole command
 pub runs-of : (old : Option Machine) (command : Token) (tag : ℕ) (result : Result (Unit {0}) EngineError) (new : Option Machine) (before after : SinkLog) → LeavesAll old (trace_at macro_levels command) tag result new before after → Runs old command result new (under tag before after)
 runs-of None command tag result new before after leaves = absurd leaves
 runs-of (Some machine) command tag result new before after leaves =
-    record { left = leaves.left; sends = leaves.sends }
+    (leaves.left, leaves.sends)
 
 -- the first step stopped
 pub runs-stopped : (old : Option Machine) (command : Token) (tag : ℕ) (result : Result Kind EngineError) (exit : Result (Unit {0}) EngineError) (error : EngineError) (new : Option Machine) (still : List Activation) (before after : SinkLog) → TakesNext old (trace_at macro_levels command) result new still (under tag before after) → result ≡ Err error → exit ≡ Err error → Runs old command exit new (under tag before after)

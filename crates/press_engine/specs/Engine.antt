@@ -1,13 +1,13 @@
 -- The engine as callers see it.
-use Rattle.std.specs.Prelude.{◌≡◌, ◌≢◌, ◌⊎◌, ℕ, pos, false, Option, Some, None, List, [], ◌∷◌, Result, Ok, Err, MatchResult, if◌then◌else◌}
+use Rattle.std.specs.Prelude.{◌≡◌, ◌≢◌, ◌⊎◌, pos, false, Option, Some, None, List, [], ◌∷◌, Result, Ok, Err, MatchResult, if◌then◌else◌}
 use Rattle.std.specs.Borrow.{Bor}
 use Rattle.press_cmd.specs.Token.{Token}
 use Rattle.press_cmd.specs.declared.variant.Kind.{Kind}
 use Rattle.press_cursor.specs.declared.stack.CursorPosition.{CursorPosition}
 use Rattle.press_macros.specs.Macros.{defining}
 use Rattle.press_raster.specs.Graphics.{raster_position}
-use Rattle.press_sink.specs.SinkLog.{SinkLog, SinkUse}
-use Rattle.press_sink.specs.Sending.{Output, Complete, AtSheet, AtReply, ForMemory, WentOut}
+use Rattle.press_sink.specs.SinkLog.{SinkUse}
+use Rattle.press_sink.specs.Sending.{Ending, Complete, AtSheet, AtReply, ForMemory, Refused, WentOut}
 use Rattle.press_engine.specs.declared.effect.StepOutput.{StepOutput}
 use Rattle.press_engine.specs.declared.engine.Engine.{Engine}
 use Rattle.press_engine.specs.declared.fault.EngineError.{EngineError}
@@ -35,23 +35,20 @@ machine_of engine = if engine.failed then None else Some engine.machine.value
 abbrev pub bodies : Engine → List Activation
 bodies engine = if engine.failed then [] else engine.bodies
 
--- How far outputs went out, by what was answered.
-abbrev pub Sends : ℕ → List Output → Result (Unit {0}) EngineError → SinkLog → SinkLog → Type 0
-Sends tag outputs (Ok _) before after = WentOut tag outputs Complete before after
-Sends tag outputs (Err engine_errors.SinkFault) before after = WentOut tag outputs AtSheet before after
-Sends tag outputs (Err engine_errors.ReplyFault) before after = WentOut tag outputs AtReply before after
-Sends tag outputs (Err engine_errors.NoMemory) before after = WentOut tag outputs ForMemory before after
-Sends tag outputs (Err engine_errors.Failed) before after = ⊥
+-- how the outputs that a call hands over end, by what it answers
+abbrev pub ending_of : {X : Type 0} → Result X EngineError → Ending
+ending_of (Ok _) = Complete
+ending_of (Err engine_errors.SinkFault) = AtSheet
+ending_of (Err engine_errors.ReplyFault) = AtReply
+ending_of (Err engine_errors.NoMemory) = ForMemory
+ending_of (Err engine_errors.Failed) = Refused
 
--- A command was handed to an engine with this machine. Where all went well, the new machine is the command's, and its
--- outputs went out; else the engine has failed, and the outputs went out as far as the answer says.
-pub record Carries (machine : Machine) (command : Token) (result : Result (Unit {0}) EngineError) (new : Option Machine) (sinks : SinkUse) : Type 0 where
-  pub left : MatchResult result (λ _. new ≡ Some (run command machine).machine) (λ _. new ≡ None)
-  pub sends : Sends sinks.tag (run command machine).outputs result sinks.before sinks.after
-
--- the same for any engine: one that has failed changes nothing, and nothing goes out
+-- A command was handed to an engine. Where all went well, the new machine is the command's; else the engine has failed. Its outputs
+-- went out as far as the answer says. An engine that has failed changes nothing, and nothing goes out.
 abbrev pub Runs : Option Machine → Token → Result (Unit {0}) EngineError → Option Machine → SinkUse → Type 0
-Runs (Some machine) command result new sinks = Carries machine command result new sinks
+Runs (Some machine) command result new sinks =
+    MatchResult result (λ _. new ≡ Some (run command machine).machine) (λ _. new ≡ None)
+    × WentOut sinks.tag (run command machine).outputs (ending_of result) sinks.before sinks.after
 Runs None command result new sinks = (new ≡ None) × (sinks.after ≡ sinks.before)
 
 -- a step that took a command of this kind
@@ -59,11 +56,6 @@ abbrev pub IsOfKind : Last → Kind → Type 0
 IsOfKind lasts.Nothing kind = ⊥
 IsOfKind (lasts.Ran one) kind = kind ≡ one
 IsOfKind (lasts.Recorded one) kind = kind ≡ one
-
--- whether a step was taken, by its answer
-abbrev pub whether : Result Kind EngineError → Result (Unit {0}) EngineError
-whether (Ok kind) = Ok tt
-whether (Err error) = Err error
 
 -- An engine that owed these items took a step. Where all went well, its machine is that of the first of them, what it still
 -- owes are the others, and the answer is the command's kind; else the engine has failed, and no body runs. The outputs of
@@ -75,7 +67,7 @@ pub record TakesItem (owing : List StepResult) (result : Result Kind EngineError
   pub left : MatchResult result
       (λ kind. IsOfKind item.machine.last kind × (new ≡ Some item.machine) × (others ≡ continuation still item.machine))
       (λ _. (new ≡ None) × (still ≡ []))
-  pub sends : Sends sinks.tag item.outputs (whether result) sinks.before sinks.after
+  pub sends : WentOut sinks.tag item.outputs (ending_of result) sinks.before sinks.after
 
 -- the same for any engine: one that has failed changes nothing, and nothing goes out
 abbrev pub TakesNext : Option Machine → (Machine → List StepResult) → Result Kind EngineError → Option Machine → List Activation → SinkUse → Type 0

@@ -30,6 +30,7 @@ pub struct Engine {
 impl Engine {
     ghost use Rattle.std.specs.Prelude.{◌≡◌, ◌≢◌, ◌≤◌, ◌⊎◌, ◌↔◌, [], length, IsTrue, IfOk, IfErr, IfSome, IsErrOf, MatchResult, Some, None, option_map};
     ghost use Rattle.press_sink.specs.SinkLog.{logs, HasFaultRoom, under};
+    ghost use Rattle.press_sink.specs.Sending.{WentOut};
     ghost use Rattle.press_cmd.specs.View.{token};
     ghost use Rattle.press_engine.specs.Machine.{power_on, macro_levels};
     ghost use Rattle.press_cmd.specs.Kinds.{kind_of};
@@ -38,7 +39,7 @@ impl Engine {
     ghost use Rattle.press_engine.specs.Trace.{trace_at};
     ghost use Rattle.press_engine.specs.Outputs.{all_outputs};
     ghost use Rattle.press_engine.specs.Passing.{SkipsBytes, SkipsControls, passed};
-    ghost use Rattle.press_engine.specs.Engine.{machine_of, bodies, HasFailed, Sends, Steps, Runs, TakesNext, NeedsMemory, InnerNeedsMemory, view_of};
+    ghost use Rattle.press_engine.specs.Engine.{machine_of, bodies, HasFailed, ending_of, Steps, Runs, TakesNext, NeedsMemory, InnerNeedsMemory, view_of};
 
     /// An engine after power on.
     ///
@@ -177,7 +178,7 @@ impl Engine {
         replies: &mut R,
     ) -> Result<(), EngineError>
         requires has_fault_room { HasFaultRoom (logs (S.told sheets.old) (R.told replies.old)) }
-        ensures sends { Sends tag (all_outputs sent.now) result
+        ensures sends { WentOut tag (all_outputs sent.now) (ending_of result)
             (logs (S.told sheets.old) (R.told replies.old))
             (logs (S.told sheets.new) (R.told replies.new)) }
         ensures left { MatchResult result (λ _. self.new ≡ self.old) (λ _. HasFailed self.new) }

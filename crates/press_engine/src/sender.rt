@@ -3,8 +3,8 @@
 ghost use Rattle.std.specs.Prelude.{◌≡◌, ◌≢◌, ◌<◌, [], ◌∷◌, Some, true, IsErrOf};
 ghost use Rattle.press_pjl.specs.Replies.{page_reply};
 ghost use Rattle.press_sink.specs.SinkLog.{logs, HasFaultRoom, Delivers, TookLast, most_faults};
-ghost use Rattle.press_sink.specs.Sending.{Deliver, Reply};
-ghost use Rattle.press_engine.specs.Engine.{Sends};
+ghost use Rattle.press_sink.specs.Sending.{Deliver, Reply, WentOut};
+ghost use Rattle.press_engine.specs.Engine.{ending_of};
 ghost use Rattle.press_engine.specs.Outputs.{outputs_of, all_outputs, finished_of, copy_out, next_count};
 
 use crate::effect::{FinishedSheet, Sent};
@@ -22,7 +22,7 @@ fn send<S: SheetSink, R: ReplySink>(
     replies: &mut R,
 ) -> Result<(), EngineError>
     requires { HasFaultRoom (logs (S.told sheets.old) (R.told replies.old)) }
-    ensures sends { Sends tag (outputs_of sent.now) result
+    ensures sends { WentOut tag (outputs_of sent.now) (ending_of result)
         (logs (S.told sheets.old) (R.told replies.old))
         (logs (S.told sheets.new) (R.told replies.new)) }
     ensures memory { IsErrOf result EngineError.NoMemory → outputs_of sent.now ≢ [] }
@@ -46,7 +46,7 @@ pub fn send_all<S: SheetSink, R: ReplySink>(
     replies: &mut R,
 ) -> Result<(), EngineError>
     requires { HasFaultRoom (logs (S.told sheets.old) (R.told replies.old)) }
-    ensures sends { Sends tag (all_outputs sent.now) result
+    ensures sends { WentOut tag (all_outputs sent.now) (ending_of result)
         (logs (S.told sheets.old) (R.told replies.old))
         (logs (S.told sheets.new) (R.told replies.new)) }
     ensures memory { IsErrOf result EngineError.NoMemory → all_outputs sent.now ≢ [] }
@@ -66,7 +66,7 @@ fn send_finished<S: SheetSink, R: ReplySink>(
     replies: &mut R,
 ) -> Result<(), EngineError>
     requires { HasFaultRoom (logs (S.told sheets.old) (R.told replies.old)) }
-    ensures sends { Sends tag (finished_of finished.now) result
+    ensures sends { WentOut tag (finished_of finished.now) (ending_of result)
         (logs (S.told sheets.old) (R.told replies.old))
         (logs (S.told sheets.new) (R.told replies.new)) }
     ensures memory { IsErrOf result EngineError.NoMemory → finished_of finished.now ≢ [] }
@@ -93,7 +93,7 @@ fn send_copies<S: SheetSink, R: ReplySink>(
     replies: &mut R,
 ) -> Result<(), EngineError>
     requires { HasFaultRoom (logs (S.told sheets.old) (R.told replies.old)) }
-    ensures sends { Sends tag (finished_of (Some finished.now)) result
+    ensures sends { WentOut tag (finished_of (Some finished.now)) (ending_of result)
         (logs (S.told sheets.old) (R.told replies.old))
         (logs (S.told sheets.new) (R.told replies.new)) }
     ensures memory { IsErrOf result EngineError.NoMemory → finished_of (Some finished.now) ≢ [] }
@@ -120,7 +120,7 @@ fn send_copy<S: SheetSink, R: ReplySink>(
     requires has_fault_room { HasFaultRoom (logs (S.told sheets.old) (R.told replies.old)) }
     requires last { again ≡ true
         → TookLast (S.told sheets.old) (record { tag = tag; sheet = sheet.now }) }
-    ensures { Sends tag (copy_out sheet.now count) result
+    ensures { WentOut tag (copy_out sheet.now count) (ending_of result)
         (logs (S.told sheets.old) (R.told replies.old))
         (logs (S.told sheets.new) (R.told replies.new)) }
 {
@@ -140,7 +140,7 @@ fn reply_status<S: SheetSink, R: ReplySink>(
     replies: &mut R,
 ) -> Result<(), EngineError>
     requires { HasFaultRoom (logs (S.told sheets.old) (R.told replies.old)) }
-    ensures { Sends tag (Reply (page_reply since_job) ∷ []) result
+    ensures { WentOut tag (Reply (page_reply since_job) ∷ []) (ending_of result)
         (logs (S.told sheets.old) (R.told replies.old))
         (logs (S.told sheets.new) (R.told replies.new)) }
 {
@@ -177,7 +177,7 @@ fn deliver<S: SheetSink, R: ReplySink>(
     requires has_fault_room { HasFaultRoom (logs (S.told sheets.old) (R.told replies.old)) }
     requires last { again ≡ true
         → TookLast (S.told sheets.old) (record { tag = tag; sheet = sheet.now }) }
-    ensures { Sends tag (Deliver sheet.now ∷ []) result
+    ensures { WentOut tag (Deliver sheet.now ∷ []) (ending_of result)
         (logs (S.told sheets.old) (R.told replies.old))
         (logs (S.told sheets.new) (R.told replies.new)) }
 {
@@ -196,7 +196,7 @@ fn reply<S: SheetSink, R: ReplySink>(
     replies: &mut R,
 ) -> Result<(), EngineError>
     requires { HasFaultRoom (logs (S.told sheets.old) (R.told replies.old)) }
-    ensures { Sends tag (Reply bytes.now ∷ []) result
+    ensures { WentOut tag (Reply bytes.now ∷ []) (ending_of result)
         (logs (S.told sheets.old) (R.told replies.old))
         (logs (S.told sheets.new) (R.told replies.new)) }
 {

@@ -17,7 +17,7 @@ use Rattle.press_sink.specs.Faults.{template_number}
 use Rattle.press_sink.specs.declared.fault.TemplateError.{TemplateError}
 use Rattle.press_sink.specs.declared.fault.TemplateError.TheVariants as template_fault
 use Rattle.press_sink.specs.declared.fault.TemplateError.TheVariants.{BadTemplate}
-use Rattle.press_sink.proofs.SendingLemmas.{sheets_in-tagged, told-twice}
+use Rattle.press_sink.proofs.SendingLemmas.{all-delivered, sheets_in-tagged, told-twice}
 use Rattle.press_stream.specs.declared.fault.JobError.{JobError}
 use Rattle.press_stream.specs.Meaning.{meaning_of, with_exit}
 use Rattle.press_sink.specs.SinkLog.{logs, under}
@@ -147,11 +147,11 @@ makes_files template parts status said says (Some bytes) left old new before aft
     of_error : (error : Option JobError) → prints.prints.error ≡ error → MakesFiles template bytes before after
     of_error (Some error) is = absurd (omega (arith, zero_, prints.prints.answers, ap status_of_fault is))
     of_error None is =
-        let P : Option JobError → Type 0 = λ error. Printed (Some bytes) left error prints.prints.machine (under 0 (logs (files_told [] 0) (replies_written old 0)) (logs (files_told prints.deliveries prints.faults) (replies_written new prints.prints.faults))) in
+        let P : Option JobError → Type 0 = λ error. Printed [] (Some bytes) left error prints.prints.machine (under 0 (logs (files_told [] 0) (replies_written old 0)) (logs (files_told prints.deliveries prints.faults) (replies_written new prints.prints.faults))) in
         let printed : P None = subst P is prints.prints.printed in
         let commands = printed.printed.commands in
         let sheets = sheets_of (meaning_of (with_exit commands)).outputs in
-        let told : prints.deliveries ≡ under_tag 0 sheets = same_Some prints.deliveries (under_tag 0 sheets) printed.printed.went.delivered in
+        let told : prints.deliveries ≡ under_tag 0 sheets = same_Some prints.deliveries (under_tag 0 sheets) (all-delivered 0 (meaning_of (with_exit commands)).outputs _ _ printed.printed.went) in
         let all_sheets : sheets_in prints.deliveries ≡ sheets = ap sheets_in told ∙ sheets_in-tagged 0 sheets in
         record {
           parts = parts;

@@ -8,7 +8,7 @@ use Rattle.press_sink.specs.PrintedSheet.{PrintedSheet}
 use Rattle.press_sink.specs.declared.sheet.Delivery.{Delivery}
 use Rattle.press_sink.specs.SinkLog.{SinkLog, under}
 use Rattle.press_sink.specs.Sending.{sheets_of, sheets_in, under_tag, reply_bytes_of}
-use Rattle.press_sink.proofs.SendingLemmas.{sheets_in-tagged}
+use Rattle.press_sink.proofs.SendingLemmas.{all-delivered, all-replied, sheets_in-tagged}
 use Rattle.press_stream.specs.declared.fault.JobError.{JobError}
 use Rattle.press_stream.specs.State.{JobState}
 use Rattle.press_stream.specs.Meaning.{meaning_of, with_exit}
@@ -70,17 +70,17 @@ lists-printed (Ok job) true (Some bytes) left old new stream zero =
     let went = stream.prints.printed.went in
     let outputs = (meaning_of (with_exit commands)).outputs in
     let sheets = sheets_of outputs in
-    let told : stream.deliveries ≡ under_tag 0 sheets = same_Some stream.deliveries (under_tag 0 sheets) went.delivered in
+    let told : stream.deliveries ≡ under_tag 0 sheets = same_Some stream.deliveries (under_tag 0 sheets) (all-delivered 0 outputs (took [] []) (took stream.deliveries stream.replies) went) in
     let all_sheets : sheets_in stream.deliveries ≡ sheets = ap sheets_in told ∙ sheets_in-tagged 0 sheets in
-    let all_replies : stream.replies ≡ reply_bytes_of outputs = went.replied in
+    let all_replies : stream.replies ≡ reply_bytes_of outputs = all-replied 0 outputs (took [] []) (took stream.deliveries stream.replies) went in
     let R : List ℕ → Type 0 = λ lines. Appends old new lines in
     let S : List ℕ → Type 0 = λ all. Closed all commands in
     (commands, subst S (read_all bytes left stream.prints.bytes stream.prints.read) stream.prints.printed.closed, subst R (ap (λ (all : List PrintedSheet). lines_from 1 all ++ stream.replies) all_sheets ∙ ap (λ (all : List ℕ). lines_from 1 sheets ++ all) all_replies) (stream.lists refl))
 
 -- what the sinks tell, and what is listed of it
-pub lists-stream : (printed : Result JobState JobError) (written : Bool) (had left old new : Option (List ℕ)) (first last deliveries : List Delivery) (nothing all replies : List ℕ) → first ≡ [] → nothing ≡ [] → last ≡ deliveries → all ≡ replies → Printed had left (fault_of printed) (machine_of printed) (under 0 (took first nothing) (took last all)) → (written ≡ true → Appends old new (lines_from 1 (sheets_in deliveries) ++ replies)) → ListsPrinted printed written had left old new
+pub lists-stream : (printed : Result JobState JobError) (written : Bool) (had left old new : Option (List ℕ)) (first last deliveries : List Delivery) (nothing all replies : List ℕ) → first ≡ [] → nothing ≡ [] → last ≡ deliveries → all ≡ replies → Printed [] had left (fault_of printed) (machine_of printed) (under 0 (took first nothing) (took last all)) → (written ≡ true → Appends old new (lines_from 1 (sheets_in deliveries) ++ replies)) → ListsPrinted printed written had left old new
 lists-stream printed written had left old new first last deliveries nothing all replies p q r s prints lists =
-    let P : SinkLog → SinkLog → Type 0 = λ before after. Printed had left (fault_of printed) (machine_of printed) (under 0 before after) in
+    let P : SinkLog → SinkLog → Type 0 = λ before after. Printed [] had left (fault_of printed) (machine_of printed) (under 0 before after) in
     let begun : took first nothing ≡ took [] [] = cc (p, q) in
     let ended : took last all ≡ took deliveries replies = cc (r, s) in
     record { deliveries = deliveries; replies = replies; prints = subst (λ (told : SinkLog). P told (took deliveries replies)) begun (subst (P (took first nothing)) ended prints); lists = lists }

@@ -39,7 +39,7 @@ pub record PrintsTo (status : ℕ) (told read : Change (Option (List ℕ))) (she
   pub error : Option JobError
   pub machine : Option Machine
   pub faults : ℕ
-  pub printed : Printed read.before read.after error machine
+  pub printed : Printed [] read.before read.after error machine
       (under 0 (logs sheets.before (replies_written written.before 0)) (logs sheets.after (replies_written written.after faults)))
   pub answers : status ≡ status_of_fault error
   pub tells : TellsFault error told.before told.after

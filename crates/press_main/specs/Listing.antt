@@ -61,7 +61,7 @@ took deliveries replies = logs (record { delivered = Some deliveries; faults = 0
 pub record ListsPrinted (printed : Result JobState JobError) (written : Bool) (had left old new : Option (List ℕ)) : Type 0 where
   pub deliveries : List Delivery
   pub replies : List ℕ
-  pub prints : Printed had left (fault_of printed) (machine_of printed) (under 0 (took [] []) (took deliveries replies))
+  pub prints : Printed [] had left (fault_of printed) (machine_of printed) (under 0 (took [] []) (took deliveries replies))
   pub lists : written ≡ true → Appends old new (lines_from 1 (sheets_in deliveries) ++ replies)
 
 -- the status after a stream and its listing

@@ -1,5 +1,5 @@
 //! Streams that are printed from a reader to two sinks.
-ghost use Rattle.std.specs.Prelude.{◌≡◌};
+ghost use Rattle.std.specs.Prelude.{◌≡◌, []};
 ghost use Rattle.press_sink.specs.SinkLog.{logs, HasFaultRoom, under};
 ghost use Rattle.press_stream.specs.Answers.{fault_of};
 ghost use Rattle.press_stream.specs.Printed.{Printed};
@@ -25,7 +25,7 @@ pub fn print_stream<R: Read, S: SheetSink, P: ReplySink>(
     replies: &mut P,
 ) -> Result<Job, JobError>
     requires { HasFaultRoom (logs (S.told sheets.old) (P.told replies.old)) }
-    ensures { Printed (R.remaining reader.old) (R.remaining reader.new) (fault_of result)
+    ensures { Printed [] (R.remaining reader.old) (R.remaining reader.new) (fault_of result)
         (machine_of result)
         (under tag (logs (S.told sheets.old) (P.told replies.old))
         (logs (S.told sheets.new) (P.told replies.new))) }

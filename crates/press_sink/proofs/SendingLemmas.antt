@@ -1,12 +1,11 @@
 -- Outputs that go out one after another.
-use Rattle.std.proofs.Common.{◌≡◌, ◌∙◌, ◌+◌, ℕ, List, [], ◌∷◌, ◌++◌, Option, Some, None, map, option_map, refl, sym, ap, subst}
+use Rattle.std.proofs.Common.{◌≡◌, ◌∙◌, ℕ, List, [], ◌∷◌, ◌++◌, Option, Some, None, map, option_map, refl, sym, ap, subst}
 use Rattle.std.proofs.lemmas.List.{append_assoc, append-nil, map-append}
 use Rattle.std.proofs.KnownBytes.{Appends-nil, Appends-trans}
 use Rattle.std.specs.Io.KnownBytes.{Appends}
 use Rattle.press_sink.specs.PrintedSheet.{PrintedSheet}
-use Rattle.press_sink.specs.declared.sheet.Delivery.{Delivery}
 use Rattle.press_sink.specs.SinkLog.{SinkLog}
-use Rattle.press_sink.specs.Sending.{Output, Deliver, Reply, Ending, Complete, AtSheet, AtReply, ForMemory, sheets_of, sheets_in, under_tag, reply_bytes_of, TookAll, WentOut}
+use Rattle.press_sink.specs.Sending.{Output, Deliver, Reply, Ending, Complete, AtSheet, AtReply, ForMemory, Refused, sheets_of, sheets_in, under_tag, reply_bytes_of, GoesOut, sheet_faults_after, reply_faults_after, WentOut}
 
 -- the sheets of outputs, and of others behind them
 pub sheets_of-append : (outputs others : List Output) → sheets_of (outputs ++ others) ≡ sheets_of outputs ++ sheets_of others
@@ -47,90 +46,84 @@ pub told-nothing : {X : Type 0} (told : Option (List X)) → told ≡ option_map
 told-nothing None = refl
 told-nothing (Some all) = ap Some (sym (append-nil all))
 
-delivered-then : (tag : ℕ) (outputs others : List Output) (before between after : Option (List Delivery)) → between ≡ option_map (λ all. all ++ under_tag tag (sheets_of outputs)) before → after ≡ option_map (λ all. all ++ under_tag tag (sheets_of others)) between → after ≡ option_map (λ all. all ++ under_tag tag (sheets_of (outputs ++ others))) before
-delivered-then tag outputs others before between after first then =
-    then ∙ ap (λ told. option_map (λ all. all ++ under_tag tag (sheets_of others)) told) first
-    ∙ told-twice before (under_tag tag (sheets_of outputs)) (under_tag tag (sheets_of others))
-    ∙ ap (λ more. option_map (λ all. all ++ more) before) (sym (tagged-append tag outputs others))
-
-replied-then : (outputs : List Output) (more all : List ℕ) (before between after : Option (List ℕ)) → Appends before between (reply_bytes_of outputs) → Appends between after more → all ≡ reply_bytes_of outputs ++ more → Appends before after all
-replied-then outputs more all before between after first then e = subst (Appends before after) (sym e) (Appends-trans before between after (reply_bytes_of outputs) more first then)
-
-pub TookAll-none : (tag : ℕ) (told : SinkLog) → TookAll tag [] told told
-TookAll-none tag told = record {
+pub WentOut-none : (tag : ℕ) (told : SinkLog) → WentOut tag [] Complete told told
+WentOut-none tag told = record {
+  went = [];
+  goes = refl;
   delivered = told-nothing told.sheets.delivered;
   replied = Appends-nil told.replies.replied;
   sheet_faults = refl;
   reply_faults = refl;
 }
 
--- outputs, and then others
-pub TookAll-append : (tag : ℕ) (outputs others : List Output) (before between after : SinkLog) → TookAll tag outputs before between → TookAll tag others between after → TookAll tag (outputs ++ others) before after
-TookAll-append tag outputs others before between after first then = record {
-  delivered = delivered-then tag outputs others _ _ _ first.delivered then.delivered;
-  replied = replied-then outputs (reply_bytes_of others) _ before.replies.replied between.replies.replied after.replies.replied first.replied then.replied (reply_bytes_of-append outputs others);
-  sheet_faults = then.sheet_faults ∙ first.sheet_faults;
-  reply_faults = then.reply_faults ∙ first.reply_faults;
+-- memory ran out before the first of the outputs
+pub WentOut-no_memory : (tag : ℕ) (outputs : List Output) (told : SinkLog) → WentOut tag outputs ForMemory told told
+WentOut-no_memory tag outputs told = record {
+  went = [];
+  goes = (outputs, refl);
+  delivered = told-nothing told.sheets.delivered;
+  replied = Appends-nil told.replies.replied;
+  sheet_faults = refl;
+  reply_faults = refl;
 }
 
+module _ (tag : ℕ) (outputs : List Output) (before after : SinkLog) (all : WentOut tag outputs Complete before after) where
+  -- the sheets of outputs all of which went out, and their replies
+  pub all-delivered : after.sheets.delivered ≡ option_map (λ told. told ++ under_tag tag (sheets_of outputs)) before.sheets.delivered
+  all-delivered = all.delivered ∙ ap (λ (went : List Output). option_map (λ told. told ++ under_tag tag (sheets_of went)) before.sheets.delivered) all.goes
+
+  pub all-replied : Appends before.replies.replied after.replies.replied (reply_bytes_of outputs)
+  all-replied = subst (λ (went : List Output). Appends before.replies.replied after.replies.replied (reply_bytes_of went)) all.goes all.replied
+
+-- what goes out behind other outputs
+goes-then : (ending : Ending) (outputs went others : List Output) → GoesOut ending went others → GoesOut ending (outputs ++ went) (outputs ++ others)
+goes-then Complete outputs went others is = ap (λ more. outputs ++ more) is
+goes-then AtSheet outputs went others (sheet, more, is) = (sheet, more, ap (λ all. outputs ++ all) is ∙ sym (append_assoc outputs went (Deliver sheet ∷ more)))
+goes-then AtReply outputs went others (whole, more, prefix, back, is, goes) = (
+  outputs ++ whole,
+  more,
+  prefix,
+  back,
+  ap (λ all. outputs ++ all) is ∙ sym (append_assoc outputs whole (Reply (prefix ++ back) ∷ more)),
+  ap (λ all. outputs ++ all) goes ∙ sym (append_assoc outputs whole (Reply prefix ∷ [])),
+)
+goes-then ForMemory outputs went others (more, is) = (more, ap (λ all. outputs ++ all) is ∙ sym (append_assoc outputs went more))
+goes-then Refused outputs went others none = none
+
 -- all of the outputs went out, and then others so far
-pub WentOut-then : (tag : ℕ) (outputs others : List Output) (ending : Ending) (before between after : SinkLog) → TookAll tag outputs before between → WentOut tag others ending between after → WentOut tag (outputs ++ others) ending before after
-WentOut-then tag outputs others Complete before between after first then = TookAll-append tag outputs others before between after first then
-WentOut-then tag outputs others AtSheet before between after first then = record {
-  taken = outputs ++ then.taken;
-  sheet = then.sheet;
-  others = then.others;
-  outputs_are = ap (λ more. outputs ++ more) then.outputs_are ∙ sym (append_assoc outputs then.taken (Deliver then.sheet ∷ then.others));
-  delivered = delivered-then tag outputs then.taken _ _ _ first.delivered then.delivered;
-  replied = replied-then outputs (reply_bytes_of then.taken) _ before.replies.replied between.replies.replied after.replies.replied first.replied then.replied (reply_bytes_of-append outputs then.taken);
-  fault = then.fault ∙ ap (λ (n : ℕ). n + 1) first.sheet_faults;
-  reply_faults = then.reply_faults ∙ first.reply_faults;
+pub WentOut-then : (tag : ℕ) (outputs others : List Output) (ending : Ending) (before between after : SinkLog) → WentOut tag outputs Complete before between → WentOut tag others ending between after → WentOut tag (outputs ++ others) ending before after
+WentOut-then tag outputs others ending before between after first then = record {
+  went = outputs ++ then.went;
+  goes = goes-then ending outputs then.went others then.goes;
+  delivered =
+      then.delivered
+      ∙ ap (λ told. option_map (λ all. all ++ under_tag tag (sheets_of then.went)) told) (all-delivered tag outputs before between first)
+      ∙ told-twice before.sheets.delivered (under_tag tag (sheets_of outputs)) (under_tag tag (sheets_of then.went))
+      ∙ ap (λ more. option_map (λ all. all ++ more) before.sheets.delivered) (sym (tagged-append tag outputs then.went));
+  replied =
+      subst (Appends before.replies.replied after.replies.replied) (sym (reply_bytes_of-append outputs then.went))
+      (Appends-trans before.replies.replied between.replies.replied after.replies.replied (reply_bytes_of outputs) (reply_bytes_of then.went) (all-replied tag outputs before between first) then.replied);
+  sheet_faults = then.sheet_faults ∙ ap (sheet_faults_after ending) first.sheet_faults;
+  reply_faults = then.reply_faults ∙ ap (reply_faults_after ending) first.reply_faults;
 }
-WentOut-then tag outputs others AtReply before between after first then = record {
-  taken = outputs ++ then.taken;
-  prefix = then.prefix;
-  back = then.back;
-  others = then.others;
-  outputs_are = ap (λ more. outputs ++ more) then.outputs_are ∙ sym (append_assoc outputs then.taken (Reply (then.prefix ++ then.back) ∷ then.others));
-  delivered = delivered-then tag outputs then.taken _ _ _ first.delivered then.delivered;
-  replied = replied-then outputs (reply_bytes_of then.taken ++ then.prefix) _ before.replies.replied between.replies.replied after.replies.replied first.replied then.replied (ap (λ more. more ++ then.prefix) (reply_bytes_of-append outputs then.taken) ∙ append_assoc (reply_bytes_of outputs) (reply_bytes_of then.taken) then.prefix);
-  sheet_faults = then.sheet_faults ∙ first.sheet_faults;
-  fault = then.fault ∙ ap (λ (n : ℕ). n + 1) first.reply_faults;
-}
-WentOut-then tag outputs others ForMemory before between after first then = record {
-  taken = outputs ++ then.taken;
-  others = then.others;
-  outputs_are = ap (λ more. outputs ++ more) then.outputs_are ∙ sym (append_assoc outputs then.taken then.others);
-  took = TookAll-append tag outputs then.taken before between after first then.took;
-}
+
+-- what goes out of outputs that do not all go out, whatever comes behind them
+goes-stopped : (ending : Ending) (went outputs others : List Output) → (ending ≡ Complete → ⊥) → GoesOut ending went outputs → GoesOut ending went (outputs ++ others)
+goes-stopped Complete went outputs others stops goes = absurd (stops refl)
+goes-stopped AtSheet went outputs others stops (sheet, more, is) =
+    (sheet, more ++ others, ap (λ all. all ++ others) is ∙ append_assoc went (Deliver sheet ∷ more) others)
+goes-stopped AtReply went outputs others stops (whole, more, prefix, back, is, goes) =
+    (whole, more ++ others, prefix, back, ap (λ all. all ++ others) is ∙ append_assoc whole (Reply (prefix ++ back) ∷ more) others, goes)
+goes-stopped ForMemory went outputs others stops (more, is) = (more ++ others, ap (λ all. all ++ others) is ∙ append_assoc went more others)
+goes-stopped Refused went outputs others stops none = none
 
 -- outputs that did not all go out, and others behind them
 pub WentOut-stopped : (tag : ℕ) (outputs others : List Output) (ending : Ending) (before after : SinkLog) → (ending ≡ Complete → ⊥) → WentOut tag outputs ending before after → WentOut tag (outputs ++ others) ending before after
-WentOut-stopped tag outputs others Complete before after stops stopped = absurd (stops refl)
-WentOut-stopped tag outputs others AtSheet before after stops stopped = record {
-  taken = stopped.taken;
-  sheet = stopped.sheet;
-  others = stopped.others ++ others;
-  outputs_are = ap (λ more. more ++ others) stopped.outputs_are ∙ append_assoc stopped.taken (Deliver stopped.sheet ∷ stopped.others) others;
-  delivered = stopped.delivered;
-  replied = stopped.replied;
-  fault = stopped.fault;
-  reply_faults = stopped.reply_faults;
-}
-WentOut-stopped tag outputs others AtReply before after stops stopped = record {
-  taken = stopped.taken;
-  prefix = stopped.prefix;
-  back = stopped.back;
-  others = stopped.others ++ others;
-  outputs_are = ap (λ more. more ++ others) stopped.outputs_are ∙ append_assoc stopped.taken (Reply (stopped.prefix ++ stopped.back) ∷ stopped.others) others;
+WentOut-stopped tag outputs others ending before after stops stopped = record {
+  went = stopped.went;
+  goes = goes-stopped ending stopped.went outputs others stops stopped.goes;
   delivered = stopped.delivered;
   replied = stopped.replied;
   sheet_faults = stopped.sheet_faults;
-  fault = stopped.fault;
-}
-WentOut-stopped tag outputs others ForMemory before after stops stopped = record {
-  taken = stopped.taken;
-  others = stopped.others ++ others;
-  outputs_are = ap (λ more. more ++ others) stopped.outputs_are ∙ append_assoc stopped.taken stopped.others others;
-  took = stopped.took;
+  reply_faults = stopped.reply_faults;
 }

@@ -30,54 +30,40 @@ under_tag tag sheets = map (λ (sheet : PrintedSheet). record { tag = tag; sheet
 abbrev pub sheets_in : List Delivery → List PrintedSheet
 sheets_in deliveries = map (λ (delivery : Delivery). delivery.sheet) deliveries
 
--- How outputs went out: all of them; up to a sheet at which the sheet sink had a fault; up to a reply in which the reply
--- sink had one; up to where memory ran out.
+-- How outputs end: all of them go out; those up to a sheet at which the sheet sink has a fault; up to a reply in which the reply sink
+-- has one; up to where memory runs out. A call that was refused hands none over, so none end so.
 pub data Ending : Type 0 where
   Complete : Ending
   AtSheet : Ending
   AtReply : Ending
   ForMemory : Ending
+  Refused : Ending
 
--- What the sinks tell after they took all these outputs: they are added in order, and no fault is.
-pub record TookAll (tag : ℕ) (outputs : List Output) (before after : SinkLog) : Type 0 where
-  pub delivered : after.sheets.delivered ≡ option_map (λ all. all ++ under_tag tag (sheets_of outputs)) before.sheets.delivered
-  pub replied : Appends before.replies.replied after.replies.replied (reply_bytes_of outputs)
-  pub sheet_faults : after.sheets.faults ≡ before.sheets.faults
-  pub reply_faults : after.replies.faults ≡ before.replies.faults
+-- What goes out of outputs that end so: all of them; those before a sheet; those before a reply, and a prefix of that reply; or the
+-- first of them.
+abbrev pub GoesOut : Ending → (went outputs : List Output) → Type 0
+GoesOut Complete went outputs = went ≡ outputs
+GoesOut AtSheet went outputs = (sheet : PrintedSheet) × (others : List Output) × (outputs ≡ went ++ Deliver sheet ∷ others)
+GoesOut AtReply went outputs =
+    (whole others : List Output) × (prefix back : List ℕ) × (outputs ≡ whole ++ Reply (prefix ++ back) ∷ others) × (went ≡ whole ++ Reply prefix ∷ [])
+GoesOut ForMemory went outputs = (others : List Output) × (outputs ≡ went ++ others)
+GoesOut Refused went outputs = ⊥
 
--- They took the outputs before a sheet, and at that sheet the sheet sink had one fault more.
-pub record StoppedAtSheet (tag : ℕ) (outputs : List Output) (before after : SinkLog) : Type 0 where
-  pub taken : List Output
-  pub sheet : PrintedSheet
-  pub others : List Output
-  pub outputs_are : outputs ≡ taken ++ (Deliver sheet ∷ others)
-  pub delivered : after.sheets.delivered ≡ option_map (λ all. all ++ under_tag tag (sheets_of taken)) before.sheets.delivered
-  pub replied : Appends before.replies.replied after.replies.replied (reply_bytes_of taken)
-  pub fault : after.sheets.faults ≡ before.sheets.faults + 1
-  pub reply_faults : after.replies.faults ≡ before.replies.faults
+-- the faults of the sheet sink after outputs that ended so
+abbrev pub sheet_faults_after : Ending → (before : ℕ) → ℕ
+sheet_faults_after AtSheet before = before + 1
+sheet_faults_after _ before = before
 
--- They took the outputs before a reply and a prefix of that reply, and the reply sink had one fault more.
-pub record StoppedAtReply (tag : ℕ) (outputs : List Output) (before after : SinkLog) : Type 0 where
-  pub taken : List Output
-  pub prefix : List ℕ
-  pub back : List ℕ
-  pub others : List Output
-  pub outputs_are : outputs ≡ taken ++ (Reply (prefix ++ back) ∷ others)
-  pub delivered : after.sheets.delivered ≡ option_map (λ all. all ++ under_tag tag (sheets_of taken)) before.sheets.delivered
-  pub replied : Appends before.replies.replied after.replies.replied (reply_bytes_of taken ++ prefix)
-  pub sheet_faults : after.sheets.faults ≡ before.sheets.faults
-  pub fault : after.replies.faults ≡ before.replies.faults + 1
+-- those of the reply sink
+abbrev pub reply_faults_after : Ending → (before : ℕ) → ℕ
+reply_faults_after AtReply before = before + 1
+reply_faults_after _ before = before
 
--- They took the first of the outputs, and then memory ran out.
-pub record StoppedForMemory (tag : ℕ) (outputs : List Output) (before after : SinkLog) : Type 0 where
-  pub taken : List Output
-  pub others : List Output
-  pub outputs_are : outputs ≡ taken ++ others
-  pub took : TookAll tag taken before after
-
--- How far these outputs went out, by how they ended.
-abbrev pub WentOut : ℕ → List Output → Ending → SinkLog → SinkLog → Type 0
-WentOut tag outputs Complete before after = TookAll tag outputs before after
-WentOut tag outputs AtSheet before after = StoppedAtSheet tag outputs before after
-WentOut tag outputs AtReply before after = StoppedAtReply tag outputs before after
-WentOut tag outputs ForMemory before after = StoppedForMemory tag outputs before after
+-- What the sinks tell after these outputs ended so: they took what goes out of them, in order, and count the fault.
+pub record WentOut (tag : ℕ) (outputs : List Output) (ending : Ending) (before after : SinkLog) : Type 0 where
+  pub went : List Output
+  pub goes : GoesOut ending went outputs
+  pub delivered : after.sheets.delivered ≡ option_map (λ all. all ++ under_tag tag (sheets_of went)) before.sheets.delivered
+  pub replied : Appends before.replies.replied after.replies.replied (reply_bytes_of went)
+  pub sheet_faults : after.sheets.faults ≡ sheet_faults_after ending before.sheets.faults
+  pub reply_faults : after.replies.faults ≡ reply_faults_after ending before.replies.faults

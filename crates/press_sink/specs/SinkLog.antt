@@ -75,7 +75,3 @@ Replies old bytes (Ok _) new = Appends old.replied new.replied bytes × (new.fau
 Replies old bytes (Err reply_errors.ReplyFault) new =
     (prefix back : List ℕ) × (bytes ≡ prefix ++ back) × Appends old.replied new.replied prefix × (new.faults ≡ old.faults + 1)
 Replies old bytes (Err reply_errors.NoMemory) new = Keeps old.replied new.replied × (new.faults ≡ old.faults)
-
--- A reply was handed on to a sink, whatever that answered.
-abbrev pub HandsOn : ReplyLog → List ℕ → ReplyLog → Type 0
-HandsOn old bytes new = (answer : Result (Unit {0}) ReplyError) × Replies old bytes answer new

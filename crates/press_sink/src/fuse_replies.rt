@@ -1,6 +1,6 @@
 //! A reply sink that has one fault, for tests.
-ghost use Rattle.std.specs.Prelude.{◌≡◌, ◌≢◌, ◌<◌, ◌+◌, Some, IsErrOf, take};
-ghost use Rattle.press_sink.specs.SinkLog.{Replies, HandsOn, most_faults, replies_with_own_faults};
+ghost use Rattle.std.specs.Prelude.{◌≡◌, ◌≢◌, ◌<◌, ◌+◌, Some, Result, IsErrOf, take};
+ghost use Rattle.press_sink.specs.SinkLog.{Replies, most_faults, replies_with_own_faults};
 ghost use Rattle.press_sink.specs.Kept.{inner_replies, replies_left, passed_prefix, left_after, own_reply_faults};
 
 use crate::fault::ReplyError;
@@ -72,8 +72,9 @@ impl<S: ReplySink + Drop> ReplySink for FuseReplies<S> {
             (replies_with_own_faults (S.told (inner_replies self.new))
             (own_reply_faults self.new)) }
         ensures blows { replies_left self.old ≡ Some 0 → IsErrOf result ReplyError.ReplyFault }
-        ensures front { replies_left self.old ≡ Some 0 → HandsOn (S.told (inner_replies self.old))
-            (take (passed_prefix self.old) bytes.now) (S.told (inner_replies self.new)) }
+        ensures front { replies_left self.old ≡ Some 0 → (answer : Result (Unit {0}) ReplyError)
+            × Replies (S.told (inner_replies self.old))
+            (take (passed_prefix self.old) bytes.now) answer (S.told (inner_replies self.new)) }
         ensures passes { replies_left self.old ≢ Some 0 → Replies (S.told (inner_replies self.old))
             bytes.now result (S.told (inner_replies self.new)) }
         ensures counts { replies_left self.new ≡ left_after (replies_left self.old) }

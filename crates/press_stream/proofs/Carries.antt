@@ -5,14 +5,14 @@ use Rattle.press_cmd.specs.declared.variant.Kind.{Kind}
 use Rattle.press_scan.specs.ScannerState.{ScannerState, buffer_size}
 use Rattle.press_sink.specs.SinkLog.{SinkLog}
 use Rattle.press_sink.specs.Sending.{Output, Ending, Complete, AtSheet, AtReply, ForMemory, WentOut}
-use Rattle.press_sink.proofs.SendingLemmas.{TookAll-none}
+use Rattle.press_sink.proofs.SendingLemmas.{WentOut-no_memory}
 use Rattle.press_engine.specs.declared.effect.Sent.{Sent}
 use Rattle.press_engine.specs.declared.effect.StepOutput.{StepOutput}
 use Rattle.press_engine.specs.declared.fault.EngineError.{EngineError}
 use Rattle.press_engine.specs.declared.fault.EngineError.TheVariants as engine_errors
 use Rattle.press_engine.specs.declared.activation.Activation.{Activation}
 use Rattle.press_engine.specs.declared.machine.Machine.{Machine}
-use Rattle.press_engine.specs.Engine.{bodies, Sends, Steps, NeedsMemory, InnerNeedsMemory}
+use Rattle.press_engine.specs.Engine.{bodies, ending_of, Steps, NeedsMemory, InnerNeedsMemory}
 use Rattle.press_engine.specs.Machine.{StepResult, macro_levels}
 use Rattle.press_engine.specs.Outputs.{all_outputs}
 use Rattle.press_engine.specs.Stack.{continuation, HasNext}
@@ -20,8 +20,9 @@ use Rattle.press_engine.specs.Trace.{trace_at}
 use Rattle.press_engine.proofs.ValueLemmas.{some-items, outer-some, inner-some, wants-outer, wants-inner}
 use Rattle.press_stream.specs.declared.fault.JobError.{JobError}
 use Rattle.press_stream.specs.declared.fault.JobError.TheVariants as errors
-use Rattle.press_stream.specs.Answers.{job_error, IsDue, RanOne, StepFaults, StopsAtDue, TakesStep, HandsOver, WantsMemory}
-use Rattle.press_stream.specs.Meaning.{left, StoppedAt}
+use Rattle.press_stream.specs.declared.step.Step.TheVariants as answers
+use Rattle.press_stream.specs.Answers.{job_error, ending_by, IsDue, TakesOf, Takes, FaultsBy, StopsAtDue, TakesStep, WantsMemory}
+use Rattle.press_stream.specs.Meaning.{left}
 use Rattle.press_stream.specs.State.{JobState}
 use Rattle.press_stream.specs.Steps.{TakesGiven, TakesNothing, Does, DoesStep, CarriesOne, CarriesNext}
 use Rattle.press_stream.proofs.Items.{left-none, left-one}
@@ -91,42 +92,47 @@ Fits-nothing held next old new still running room nothing =
 
 -- ---- what goes out in a step
 
--- how far outputs were handed over, by an engine's answer
-pub HandsOver-err : (tag : ℕ) (outputs : List Output) (error : EngineError) (before after : SinkLog) → Sends tag outputs (Err error) before after → HandsOver tag outputs (Err (job_error error)) before after
-HandsOver-err tag outputs engine_errors.SinkFault before after sends = sends
-HandsOver-err tag outputs engine_errors.ReplyFault before after sends = sends
-HandsOver-err tag outputs engine_errors.NoMemory before after sends = sends
-HandsOver-err tag outputs engine_errors.Failed before after sends = absurd sends
+-- an engine's error and the job's of it end alike
+pub ending-same : (error : EngineError) → ending_of {X = Unit {0}} (Err error) ≡ ending_by (Some (job_error error))
+ending-same engine_errors.SinkFault = refl
+ending-same engine_errors.ReplyFault = refl
+ending-same engine_errors.NoMemory = refl
+ending-same engine_errors.Failed = refl
 
 -- a step all of whose outputs went out
-pub RanOne-sent : (old between new : JobState) (step : StepOutput) (sent : List Sent) (tag : ℕ) (before after : SinkLog) → DoesStep old step between → new ≡ between → sent ≡ step.sent.items → HandsOver tag (all_outputs sent) (Ok tt) before after → RanOne old tag step.kind new before after
-RanOne-sent old between new step sent tag before after (machine, did) same is hands =
+pub Takes-sent : (old between new : JobState) (step : StepOutput) (sent : List Sent) (tag : ℕ) (before after : SinkLog) → DoesStep old step between → new ≡ between → sent ≡ step.sent.items → WentOut tag (all_outputs sent) Complete before after → Takes old tag (Ok (answers.Ran step.kind)) new before after
+Takes-sent old between new step sent tag before after (machine, did) same is hands =
     let P : List Sent → Type 0 = λ these. WentOut tag (all_outputs these) Complete before after in
     let item : StepResult = record { machine = machine; outputs = all_outputs step.sent.items } in
     let Q : JobState → Type 0 = λ job. Does old item step.kind job in
-    record { item = item; did = subst Q (sym same) did; went = subst P is hands }
+    (item, subst Q (sym same) did, subst P is hands)
 
 -- the outputs of a step's item went out so far
 stops-at : (old new : JobState) (item : StepResult) (kind : Kind) (tag : ℕ) (ending : Ending) (before after : SinkLog) → Does old item kind new → WentOut tag item.outputs ending before after → StopsAtDue old tag ending before after
-stops-at old new item kind tag ending before after did went = (
-  did.given,
-  taken-of old new did.given did.takes,
-  record { from = did.from; starts = did.starts; item = item; others = continuation new.bodies item.machine; are = did.are; went = went },
-)
+stops-at old new item kind tag ending before after did went = record {
+  given = did.given;
+  takes = taken-of old new did.given did.takes;
+  from = did.from;
+  starts = did.starts;
+  item = item;
+  others = continuation new.bodies item.machine;
+  are = did.are;
+  went = went;
+}
 
-faults-by : (old between new : JobState) (item : StepResult) (kind : Kind) (tag : ℕ) (error : JobError) (before after : SinkLog) → Does old item kind between → new.machine ≡ None → HandsOver tag item.outputs (Err error) before after → StepFaults old tag error new before after
-faults-by old between new item kind tag errors.SinkFault before after did gone hands = (gone, stops-at old between item kind tag AtSheet before after did hands)
-faults-by old between new item kind tag errors.ReplyFault before after did gone hands = (gone, stops-at old between item kind tag AtReply before after did hands)
-faults-by old between new item kind tag errors.NoMemory before after did gone hands = (gone, stops-at old between item kind tag ForMemory before after did hands)
-faults-by old between new item kind tag errors.Failed before after did gone hands = absurd hands
-faults-by old between new item kind tag errors.ReadFault before after did gone hands = absurd hands
-faults-by old between new item kind tag errors.AfterEnd before after did gone hands = absurd hands
+faults-by : (old between new : JobState) (item : StepResult) (kind : Kind) (tag : ℕ) (error : JobError) (before after : SinkLog) → Does old item kind between → new.machine ≡ None → WentOut tag item.outputs (ending_by (Some error)) before after → FaultsBy (λ ending. StopsAtDue old tag ending before after) old error new before after
+faults-by old between new item kind tag errors.SinkFault before after did gone went = (gone, stops-at old between item kind tag AtSheet before after did went)
+faults-by old between new item kind tag errors.ReplyFault before after did gone went = (gone, stops-at old between item kind tag AtReply before after did went)
+faults-by old between new item kind tag errors.NoMemory before after did gone went = (gone, stops-at old between item kind tag ForMemory before after did went)
+faults-by old between new item kind tag errors.Failed before after did gone went = absurd went.goes
+faults-by old between new item kind tag errors.ReadFault before after did gone went = absurd went.goes
+faults-by old between new item kind tag errors.AfterEnd before after did gone went = absurd went.goes
 
 -- a step whose outputs were not all taken
-pub Faults-sent : (old between new : JobState) (step : StepOutput) (sent : List Sent) (tag : ℕ) (error : JobError) (before after : SinkLog) → DoesStep old step between → sent ≡ step.sent.items → new.machine ≡ None → HandsOver tag (all_outputs sent) (Err error) before after → StepFaults old tag error new before after
-Faults-sent old between new step sent tag error before after (machine, did) is gone hands =
-    let P : List Sent → Type 0 = λ these. HandsOver tag (all_outputs these) (Err error) before after in
-    faults-by old between new (record { machine = machine; outputs = all_outputs step.sent.items }) step.kind tag error before after did gone (subst P is hands)
+pub Faults-sent : (old between new : JobState) (step : StepOutput) (sent : List Sent) (tag : ℕ) (error : JobError) (before after : SinkLog) → DoesStep old step between → sent ≡ step.sent.items → new.machine ≡ None → WentOut tag (all_outputs sent) (ending_by (Some error)) before after → FaultsBy (λ ending. StopsAtDue old tag ending before after) old error new before after
+Faults-sent old between new step sent tag error before after (machine, did) is gone went =
+    let P : List Sent → Type 0 = λ these. WentOut tag (all_outputs these) (ending_by (Some error)) before after in
+    faults-by old between new (record { machine = machine; outputs = all_outputs step.sent.items }) step.kind tag error before after did gone (subst P is went)
 
 -- where something goes out in a step, what comes next may take memory
 needs-command : (old new : JobState) (item : StepResult) (kind : Kind) → (did : Does old item kind new) → item.outputs ≢ [] → (command : Token) → did.given ≡ command ∷ [] → old.bodies ≡ [] → NeedsMemory old.machine command
@@ -152,17 +158,10 @@ wants-sent old new step sent (machine, did) is some =
 
 -- ---- where memory ran out in a step
 
-stopped-before : (given : List Token) (job : JobState) (machine : Machine) (tag : ℕ) (told : SinkLog) → job.machine ≡ Some machine → left given job.bodies machine ≢ [] → StoppedAt given job tag ForMemory told told
-stopped-before given job machine tag told is some =
+stopped-before : (given : List Token) (job : JobState) (machine : Machine) (tag : ℕ) (told : SinkLog) → TakesOf job given → job.machine ≡ Some machine → left given job.bodies machine ≢ [] → StopsAtDue job tag ForMemory told told
+stopped-before given job machine tag told takes is some =
     let (item, others, are) = some-items (left given job.bodies machine) some in
-    record {
-      from = machine;
-      starts = is;
-      item = item;
-      others = others;
-      are = are;
-      went = record { taken = []; others = item.outputs; outputs_are = refl; took = TookAll-none tag told };
-    }
+    record { given = given; takes = takes; from = machine; starts = is; item = item; others = others; are = are; went = WentOut-no_memory tag item.outputs told }
 
 -- nothing of what comes next went out
 stops-inside : (job : JobState) (machine : Option Machine) (tag : ℕ) (told : SinkLog) → job.machine ≡ machine → InnerNeedsMemory machine job.bodies → StopsAtDue job tag ForMemory told told
@@ -170,19 +169,19 @@ stops-inside job None tag told is needs = absurd needs
 stops-inside job (Some machine) tag told is (activation, command, rest, outer, all, _) =
     let next : HasNext job.bodies = (activation, command, rest, outer, all) in
     let some : left [] job.bodies machine ≢ [] = λ none. inner-some job.bodies machine next (sym (left-none job.bodies machine) ∙ none) in
-    ([], inl (next_runs job.bodies next, refl), stopped-before [] job machine tag told is some)
+    stopped-before [] job machine tag told (inl (next_runs job.bodies next, refl)) is some
 
 stops-at_command : (job : JobState) (command : Token) (machine : Option Machine) (tag : ℕ) (told : SinkLog) → IsDue job command → job.machine ≡ machine → NeedsMemory machine command → StopsAtDue job tag ForMemory told told
 stops-at_command job command None tag told due is needs = absurd needs
 stops-at_command job command (Some machine) tag told due is needs =
     let some : left (command ∷ []) job.bodies machine ≢ [] = λ none. outer-some command machine (sym (command_is_left job.bodies command machine due.0) ∙ none) in
-    (command ∷ [], inr (command, due, refl), stopped-before (command ∷ []) job machine tag told is some)
+    stopped-before (command ∷ []) job machine tag told (inr (command, due, refl)) is some
 
 stops-for_memory : (job : JobState) (tag : ℕ) (told : SinkLog) → WantsMemory job → StopsAtDue job tag ForMemory told told
 stops-for_memory job tag told (inl needs) = stops-inside job job.machine tag told refl needs
 stops-for_memory job tag told (inr (command, due, needs)) = stops-at_command job command job.machine tag told due refl needs
 
-pub Faults-taken : (old new : JobState) (tag : ℕ) (error : JobError) (told : SinkLog) → TakesStep old (Err error) new → StepFaults old tag error new told told
+pub Faults-taken : (old new : JobState) (tag : ℕ) (error : JobError) (told : SinkLog) → TakesStep old (Err error) new → FaultsBy (λ ending. StopsAtDue old tag ending told told) old error new told told
 Faults-taken old new tag errors.NoMemory told takes = (takes.1, stops-for_memory old tag told takes.0)
 Faults-taken old new tag errors.Failed told takes = (takes.0, takes.1, refl)
 Faults-taken old new tag errors.SinkFault told takes = absurd takes

@@ -9,9 +9,9 @@ use Rattle.press_cmd.proofs.Splits.{some_split, steps-more, steps-then}
 use Rattle.press_cmd.specs.declared.variant.Kind.{Kind}
 use Rattle.press_scan.specs.Gives.{Passes, IsDone}
 use Rattle.press_scan.specs.ScannerState.{ScannerState}
-use Rattle.press_sink.specs.SinkLog.{SinkLog, HasFaultRoom, most_faults, under}
+use Rattle.press_sink.specs.SinkLog.{SinkLog, under}
 use Rattle.press_sink.specs.Sending.{Output, Ending, Complete, ForMemory, WentOut}
-use Rattle.press_sink.proofs.SendingLemmas.{TookAll-none, WentOut-then, WentOut-stopped}
+use Rattle.press_sink.proofs.SendingLemmas.{WentOut-none, WentOut-no_memory, WentOut-then, WentOut-stopped}
 use Rattle.press_engine.specs.declared.activation.Activation.{Activation}
 use Rattle.press_engine.specs.declared.machine.Machine.{Machine}
 use Rattle.press_engine.specs.Machine.{StepResult}
@@ -19,8 +19,8 @@ use Rattle.press_engine.specs.Stack.{continuation, HasNext}
 use Rattle.press_engine.specs.Trace.{last_machine, joined, trace}
 use Rattle.press_stream.specs.State.{JobState, with_piece, input_ended, most_commands}
 use Rattle.press_stream.specs.Steps.{TakesGiven, Does}
-use Rattle.press_stream.specs.Meaning.{with_exit, left, Carried, Stopped, StoppedAt, Owes, CarriesOut, Stops}
-use Rattle.press_stream.specs.Answers.{TakesOf, RanOne, StopsAtDue}
+use Rattle.press_stream.specs.Meaning.{with_exit, left, Owes, CarriesOut, Stops}
+use Rattle.press_stream.specs.Answers.{TakesOf, StopsAtDue}
 use Rattle.press_engine.proofs.TraceLaws.{joined-append}
 use Rattle.press_stream.proofs.Items.{joined-one, left-none, left-append, left-then, last-append}
 
@@ -32,77 +32,6 @@ some_of None some = absurd (false≢true some)
 -- an option has one value
 pub same_some : {X : Type 0} (option : Option X) (one other : X) → option ≡ Some one → option ≡ Some other → one ≡ other
 same_some option one other p q = cc
-
--- no command changes nothing
-pub Carried-none : (old new : JobState) (tag : ℕ) (told : SinkLog) → IsSome old.machine → new.machine ≡ old.machine → new.bodies ≡ old.bodies → Carried [] [] old new (under tag told told)
-Carried-none old new tag told running same still =
-    let some = some_of old.machine running in
-    record {
-      from = some.0;
-      starts = some.1;
-      ends = same ∙ some.1;
-      are = left-none old.bodies some.0 ∙ ap (λ (bodies : List Activation). continuation bodies some.0) (sym still);
-      went = TookAll-none tag told;
-    }
-
--- commands, and then others
-pub Carried-then : (commands others : List Token) (items more : List StepResult) (old between new : JobState) (tag : ℕ) (before middle after : SinkLog) → Carried commands items old between (under tag before middle) → Carried others more between new (under tag middle after) → Carried (commands ++ others) (items ++ more) old new (under tag before after)
-Carried-then commands others items more old between new tag before middle after first second =
-    let from = first.from in
-    let at = last_machine from items in
-    let same : second.from ≡ at = same_some between.machine second.from at second.starts first.ends in
-    let last = last-append items more from in
-    let P : List Output → Type 0 = λ outputs. WentOut tag outputs Complete before after in
-    let second_are : left others between.bodies at ≡ more ++ continuation new.bodies (last_machine at more) = subst (λ (machine : Machine). left others between.bodies machine ≡ more ++ continuation new.bodies (last_machine machine more)) same second.are in
-    record {
-      from = from;
-      starts = first.starts;
-      ends = second.ends ∙ ap (λ (machine : Machine). Some (last_machine machine more)) same ∙ ap (λ (machine : Machine). Some machine) (sym last);
-      are =
-          left-then commands others old.bodies between.bodies from items first.are
-          ∙ ap (λ (rest : List StepResult). items ++ rest) second_are
-          ∙ sym (append_assoc items more (continuation new.bodies (last_machine at more)))
-          ∙ ap (λ (machine : Machine). (items ++ more) ++ continuation new.bodies machine) (sym last);
-      went = subst P (sym (joined-append items more)) (WentOut-then tag (joined items) (joined more) Complete before middle after first.went second.went);
-    }
-
--- commands, and then others that stopped
-pub Stopped-then : (commands others : List Token) (items : List StepResult) (old between : JobState) (tag : ℕ) (ending : Ending) (before middle after : SinkLog) → Carried commands items old between (under tag before middle) → Stopped others between tag ending middle after → Stopped (commands ++ others) old tag ending before after
-Stopped-then commands others items old between tag ending before middle after first second =
-    let from = first.from in
-    let at = last_machine from items in
-    let same : second.from ≡ at = same_some between.machine second.from at second.starts first.ends in
-    let more = left others between.bodies at in
-    let P : List Output → Type 0 = λ outputs. WentOut tag outputs ending before after in
-    let Q : Machine → Type 0 = λ machine. WentOut tag (joined (left others between.bodies machine)) ending middle after in
-    let is = left-then commands others old.bodies between.bodies from items first.are in
-    record {
-      from = from;
-      starts = first.starts;
-      went = subst P (sym (ap joined is ∙ joined-append items more)) (WentOut-then tag (joined items) (joined more) ending before middle after first.went (subst Q same second.went));
-    }
-
--- an item that stopped, and what was left behind it
-pub Stopped-more : (given others : List Token) (job : JobState) (tag : ℕ) (ending : Ending) (before after : SinkLog) → (ending ≡ Complete → ⊥) → StoppedAt given job tag ending before after → Stopped (given ++ others) job tag ending before after
-Stopped-more given others job tag ending before after stops stopped =
-    let from = stopped.from in
-    let all = left given job.bodies from in
-    let more = stopped.others ++ trace others (last_machine from all) in
-    let P : List Output → Type 0 = λ outputs. WentOut tag outputs ending before after in
-    let is : left (given ++ others) job.bodies from ≡ stopped.item ∷ more =
-    left-append given others job.bodies from ∙ ap (λ (prefix : List StepResult). prefix ++ trace others (last_machine from all)) stopped.are in
-    record {
-      from = from;
-      starts = stopped.starts;
-      went = subst P (sym (ap joined is)) (WentOut-stopped tag stopped.item.outputs (joined more) ending before after stops stopped.went);
-    }
-
--- where all went out, the sinks can count as before
-pub has_fault_room-then : (commands : List Token) (items : List StepResult) (old new : JobState) (tag : ℕ) (before after : SinkLog) → Carried commands items old new (under tag before after) → HasFaultRoom before → HasFaultRoom after
-has_fault_room-then commands items old new tag before after carried can = record {
-  sheets = subst (λ (n : ℕ). n < most_faults) (sym carried.went.sheet_faults) can.sheets;
-  replies = subst (λ (n : ℕ). n < most_faults) (sym carried.went.reply_faults) can.replies;
-}
 
 -- ---- what is owed
 
@@ -128,50 +57,74 @@ closed-then from bytes commands closed mode rest steps ends = (
 
 -- ---- from one call to the next
 
+-- no command changes nothing
+stays : (old new : JobState) (bytes : List ℕ) (tag : ℕ) (told : SinkLog) → IsSome old.machine → new.machine ≡ old.machine → new.bodies ≡ old.bodies
+    → (new.held.ended ≡ false → (old.held.ended ≡ false) × Steps old.held.mode (old.held.bytes ++ bytes) [] new.held.mode new.held.bytes)
+    → ((more : List ℕ) (commands : List Token) → Owes new more commands → Owes old (bytes ++ more) commands)
+    → CarriesOut old bytes [] new (under tag told told)
+stays old new bytes tag told running same still so_far to_end =
+    let some = some_of old.machine running in
+    record {
+      items = [];
+      so_far = so_far;
+      to_end = to_end;
+      from = some.0;
+      starts = some.1;
+      ends = same ∙ some.1;
+      are = left-none old.bodies some.0 ∙ ap (λ (bodies : List Activation). continuation bodies some.0) (sym still);
+      went = WentOut-none tag told;
+    }
+
 pub CarriesOut-none : (job : JobState) (tag : ℕ) (told : SinkLog) → IsSome job.machine → CarriesOut job [] [] job (under tag told told)
-CarriesOut-none job tag told running = record {
-  items = [];
-  so_far = λ going. (going, (refl, append-nil job.held.bytes));
-  to_end = λ more commands owes. owes;
-  carried = Carried-none job job tag told running refl refl;
-}
+CarriesOut-none job tag told running =
+    stays job job [] tag told running refl refl (λ going. (going, (refl, append-nil job.held.bytes))) (λ more commands owes. owes)
 
 pub CarriesOut-push : (job : JobState) (piece : List ℕ) (tag : ℕ) (told : SinkLog) → IsSome job.machine → job.held.ended ≡ false → CarriesOut job piece [] (with_piece piece job) (under tag told told)
-CarriesOut-push job piece tag told running going = record {
-  items = [];
-  so_far = λ _. (going, (refl, refl));
-  to_end = λ more commands owes. (λ ended. absurd (true≢false (sym ended ∙ going)), continuation job.exited more commands owes.1);
-  carried = Carried-none job (with_piece piece job) tag told running refl refl;
-} where
-  continuation : (exited : Bool) (more : List ℕ) (commands : List Token) → MatchBool exited (commands ≡ []) ((closed : List Token) × ClosedFrom job.held.mode ((job.held.bytes ++ piece) ++ more) closed × (commands ≡ with_exit closed)) → MatchBool exited (commands ≡ []) ((closed : List Token) × ClosedFrom job.held.mode (job.held.bytes ++ (piece ++ more)) closed × (commands ≡ with_exit closed))
-  continuation true more commands none = none
-  continuation false more commands some =
-      let P : List ℕ → Type 0 = λ all. ClosedFrom job.held.mode all some.0 in
-      (some.0, subst P (append_assoc job.held.bytes piece more) some.1, some.2)
+CarriesOut-push job piece tag told running going =
+    stays job (with_piece piece job) piece tag told running refl refl (λ _. (going, (refl, refl)))
+    (λ more commands owes. (λ ended. absurd (true≢false (sym ended ∙ going)), continuation job.exited more commands owes.1)) where
+      continuation : (exited : Bool) (more : List ℕ) (commands : List Token) → MatchBool exited (commands ≡ []) ((closed : List Token) × ClosedFrom job.held.mode ((job.held.bytes ++ piece) ++ more) closed × (commands ≡ with_exit closed)) → MatchBool exited (commands ≡ []) ((closed : List Token) × ClosedFrom job.held.mode (job.held.bytes ++ (piece ++ more)) closed × (commands ≡ with_exit closed))
+      continuation true more commands none = none
+      continuation false more commands some =
+          let P : List ℕ → Type 0 = λ all. ClosedFrom job.held.mode all some.0 in
+          (some.0, subst P (append_assoc job.held.bytes piece more) some.1, some.2)
 
 pub CarriesOut-ends : (job : JobState) (tag : ℕ) (told : SinkLog) → IsSome job.machine → CarriesOut job [] [] (input_ended job) (under tag told told)
-CarriesOut-ends job tag told running = record {
-  items = [];
-  so_far = λ going. absurd (true≢false going);
-  to_end = λ more commands owes. (λ _. owes.0 refl, owes.1);
-  carried = Carried-none job (input_ended job) tag told running refl refl;
-}
+CarriesOut-ends job tag told running =
+    stays job (input_ended job) [] tag told running refl refl (λ going. absurd (true≢false going)) (λ more commands owes. (λ _. owes.0 refl, owes.1))
 
 pub CarriesOut-then : (old between new : JobState) (bytes more : List ℕ) (given others : List Token) (tag : ℕ) (before middle after : SinkLog) → CarriesOut old bytes given between (under tag before middle) → CarriesOut between more others new (under tag middle after) → CarriesOut old (bytes ++ more) (given ++ others) new (under tag before after)
-CarriesOut-then old between new bytes more given others tag before middle after first second = record {
-  items = first.items ++ second.items;
-  so_far = λ going.
-      let last = second.so_far going in
-      let start = first.so_far last.0 in
-      let longer = steps-more old.held.mode (old.held.bytes ++ bytes) more given between.held.mode between.held.bytes start.1 in
-      let P : List ℕ → Type 0 = λ all. Steps old.held.mode all (given ++ others) new.held.mode new.held.bytes in
-      (start.0, subst P (append_assoc old.held.bytes bytes more) (steps-then old.held.mode ((old.held.bytes ++ bytes) ++ more) given others between.held.mode new.held.mode (between.held.bytes ++ more) new.held.bytes longer last.1));
-  to_end = λ last commands owes.
-      let P : List ℕ → Type 0 = λ all. Owes old all ((given ++ others) ++ commands) in
-      let Q : List Token → Type 0 = λ all. Owes old (bytes ++ (more ++ last)) all in
-      subst P (sym (append_assoc bytes more last)) (subst Q (sym (append_assoc given others commands)) (first.to_end (more ++ last) (others ++ commands) (second.to_end last commands owes)));
-  carried = Carried-then given others first.items second.items old between new tag before middle after first.carried second.carried;
-}
+CarriesOut-then old between new bytes more given others tag before middle after first second =
+    let items = first.items in
+    let rest = second.items in
+    let from = first.from in
+    let at = last_machine from items in
+    let same : second.from ≡ at = same_some between.machine second.from at second.starts first.ends in
+    let last = last-append items rest from in
+    let O : List Output → Type 0 = λ outputs. WentOut tag outputs Complete before after in
+    let second_are : left others between.bodies at ≡ rest ++ continuation new.bodies (last_machine at rest) = subst (λ (machine : Machine). left others between.bodies machine ≡ rest ++ continuation new.bodies (last_machine machine rest)) same second.are in
+    record {
+      items = items ++ rest;
+      so_far = λ going.
+          let last = second.so_far going in
+          let start = first.so_far last.0 in
+          let longer = steps-more old.held.mode (old.held.bytes ++ bytes) more given between.held.mode between.held.bytes start.1 in
+          let P : List ℕ → Type 0 = λ all. Steps old.held.mode all (given ++ others) new.held.mode new.held.bytes in
+          (start.0, subst P (append_assoc old.held.bytes bytes more) (steps-then old.held.mode ((old.held.bytes ++ bytes) ++ more) given others between.held.mode new.held.mode (between.held.bytes ++ more) new.held.bytes longer last.1));
+      to_end = λ last commands owes.
+          let P : List ℕ → Type 0 = λ all. Owes old all ((given ++ others) ++ commands) in
+          let Q : List Token → Type 0 = λ all. Owes old (bytes ++ (more ++ last)) all in
+          subst P (sym (append_assoc bytes more last)) (subst Q (sym (append_assoc given others commands)) (first.to_end (more ++ last) (others ++ commands) (second.to_end last commands owes)));
+      from = from;
+      starts = first.starts;
+      ends = second.ends ∙ ap (λ (machine : Machine). Some (last_machine machine rest)) same ∙ ap (λ (machine : Machine). Some machine) (sym last);
+      are =
+          left-then given others old.bodies between.bodies from items first.are
+          ∙ ap (λ (left : List StepResult). items ++ left) second_are
+          ∙ sym (append_assoc items rest (continuation new.bodies (last_machine at rest)))
+          ∙ ap (λ (machine : Machine). (items ++ rest) ++ continuation new.bodies machine) (sym last);
+      went = subst O (sym (joined-append items rest)) (WentOut-then tag (joined items) (joined rest) Complete before middle after first.went second.went);
+    }
 
 -- the items of both, one after the other
 pub CarriesOut-items : (old between new : JobState) (bytes more : List ℕ) (given others : List Token) (tag : ℕ) (before middle after : SinkLog)
@@ -270,18 +223,18 @@ CarriesOut-one old new item kind tag before after did went =
       items = item ∷ [];
       so_far = taken-so_far old new did.given did.takes;
       to_end = taken-to_end old new did.given did.takes;
-      carried = record { from = did.from; starts = did.starts; ends = did.ends; are = did.are; went = subst P (sym (joined-one item)) went };
+      from = did.from;
+      starts = did.starts;
+      ends = did.ends;
+      are = did.are;
+      went = subst P (sym (joined-one item)) went;
     }
 
-pub CarriesOut-ran : (old new : JobState) (tag : ℕ) (kind : Kind) (before after : SinkLog) → (ran : RanOne old tag kind new before after) → CarriesOut old [] ran.did.given new (under tag before after)
-CarriesOut-ran old new tag kind before after ran = CarriesOut-one old new ran.item kind tag before after ran.did ran.went
-
-pub CarriesOut-took : (old new : JobState) (tag : ℕ) (kind : Kind) (before after : SinkLog) → (ran : RanOne old tag kind new before after)
-    → (given : List Token) × TakesOf old given × (goes : CarriesOut old [] given new (under tag before after)) × (goes.items ≡ ran.item ∷ [])
+pub CarriesOut-took : (old new : JobState) (item : StepResult) (kind : Kind) (tag : ℕ) (before after : SinkLog) → Does old item kind new → WentOut tag item.outputs Complete before after
+    → (given : List Token) × TakesOf old given × (goes : CarriesOut old [] given new (under tag before after)) × (goes.items ≡ item ∷ [])
 unfolding CarriesOut-one
-CarriesOut-took old new tag kind before after ran =
-    let did = ran.did in
-    (did.given, taken-of old new did.given did.takes, CarriesOut-one old new ran.item kind tag before after did ran.went, refl)
+CarriesOut-took old new item kind tag before after did went =
+    (did.given, taken-of old new did.given did.takes, CarriesOut-one old new item kind tag before after did went, refl)
 
 -- Whatever a step takes of the stream, something is owed behind it.
 taken_owed : (job : JobState) (given : List Token) (more : List ℕ) → (job.held.ended ≡ true → more ≡ []) → TakesOf job given → (others : List Token) × Owes job more (given ++ others)
@@ -300,23 +253,45 @@ taken_owed job given more none_after (inr (command, (_, going, inr (ended, done,
     let R : List ℕ → Type 0 = λ all. Owes job all (Uel ∷ []) in
     ([], subst P (sym is) (subst Q (sym exit) (subst R (sym (none_after ended)) (exit_owed job going ended done))))
 
--- a step that stopped
+-- a step that stopped, and what was left behind it
 pub Stops-due : (job : JobState) (bytes : List ℕ) (tag : ℕ) (ending : Ending) (before after : SinkLog) → (ending ≡ Complete → ⊥) → (job.held.ended ≡ true → bytes ≡ []) → StopsAtDue job tag ending before after → Stops job bytes tag ending before after
-Stops-due job bytes tag ending before after stops none_after (given, takes, stopped) =
-    let continuation = taken_owed job given bytes none_after takes in
-    (given ++ continuation.0, continuation.1, Stopped-more given continuation.0 job tag ending before after stops stopped)
+Stops-due job bytes tag ending before after stops none_after stopped =
+    let (others, owes) = taken_owed job stopped.given bytes none_after stopped.takes in
+    let all = left stopped.given job.bodies stopped.from in
+    let behind = trace others (last_machine stopped.from all) in
+    let more = stopped.others ++ behind in
+    let P : List Output → Type 0 = λ outputs. WentOut tag outputs ending before after in
+    let is : left (stopped.given ++ others) job.bodies stopped.from ≡ stopped.item ∷ more =
+    left-append stopped.given others job.bodies stopped.from ∙ ap (λ (front : List StepResult). front ++ behind) stopped.are in
+    record {
+      commands = stopped.given ++ others;
+      owes = owes;
+      from = stopped.from;
+      starts = stopped.starts;
+      went = subst P (sym (ap joined is)) (WentOut-stopped tag stopped.item.outputs (joined more) ending before after stops stopped.went);
+    }
 
 -- a job that stopped after it had gone on
 pub Stops-then : (old between : JobState) (bytes more : List ℕ) (given : List Token) (tag : ℕ) (ending : Ending) (before middle after : SinkLog) → CarriesOut old bytes given between (under tag before middle) → Stops between more tag ending middle after → Stops old (bytes ++ more) tag ending before after
-Stops-then old between bytes more given tag ending before middle after goes stops = (
-  given ++ stops.0,
-  goes.to_end more stops.0 stops.1,
-  Stopped-then given stops.0 goes.items old between tag ending before middle after goes.carried stops.2,
-)
+Stops-then old between bytes more given tag ending before middle after goes stops =
+    let items = goes.items in
+    let at = last_machine goes.from items in
+    let same : stops.from ≡ at = same_some between.machine stops.from at stops.starts goes.ends in
+    let rest = left stops.commands between.bodies at in
+    let P : List Output → Type 0 = λ outputs. WentOut tag outputs ending before after in
+    let Q : Machine → Type 0 = λ machine. WentOut tag (joined (left stops.commands between.bodies machine)) ending middle after in
+    let is = left-then given stops.commands old.bodies between.bodies goes.from items goes.are in
+    record {
+      commands = given ++ stops.commands;
+      owes = goes.to_end more stops.commands stops.owes;
+      from = goes.from;
+      starts = goes.starts;
+      went = subst P (sym (ap joined is ∙ joined-append items rest)) (WentOut-then tag (joined items) (joined rest) ending before middle after goes.went (subst Q same stops.went));
+    }
 
 -- memory ran out before anything went out
 pub Stops-memory : (job : JobState) (bytes : List ℕ) (tag : ℕ) (told : SinkLog) → IsSome job.machine → (job.held.ended ≡ true → bytes ≡ []) → Stops job bytes tag ForMemory told told
 Stops-memory job bytes tag told running none_after =
-    let continuation = Owes-some job bytes none_after in
+    let (commands, owes) = Owes-some job bytes none_after in
     let some = some_of job.machine running in
-    (continuation.0, continuation.1, record { from = some.0; starts = some.1; went = record { taken = []; others = joined (left continuation.0 job.bodies some.0); outputs_are = refl; took = TookAll-none tag told } })
+    record { commands = commands; owes = owes; from = some.0; starts = some.1; went = WentOut-no_memory tag (joined (left commands job.bodies some.0)) told }

@@ -17,7 +17,6 @@ use Rattle.press_stream.specs.declared.phase.Phase.TheVariants as phases
 use Rattle.press_stream.specs.State.{JobState, IsOver, opened, with_piece, input_ended, is_exited}
 use Rattle.press_stream.specs.Meaning.{with_exit, left, Owes}
 use Rattle.press_stream.specs.Steps.{Does}
-use Rattle.press_stream.specs.Answers.{RanOne}
 use Rattle.press_stream.specs.Left.{LeftWith, StepsOn, LeftGoesOn}
 use Rattle.press_stream.proofs.Items.{left-none, left-then}
 use Rattle.press_stream.proofs.Going.{Owes-some, same_some, taken-to_end, taken-ended}
@@ -44,10 +43,6 @@ left_does old new item kind bytes items is did =
       are = is.are ∙ (λ j. left (commands j) old.bodies (same j)) ∙ left-then did.given rest old.bodies new.bodies did.from (item ∷ []) did.are;
       still = record { from = item.machine; starts = did.ends; commands = rest; owes = later.1; are = refl };
     }
-
-left_steps : (old new : JobState) (tag : ℕ) (kind : Kind) (before after : SinkLog) (bytes : List ℕ) (items : List StepResult) → LeftWith old bytes items → (ran : RanOne old tag kind new before after)
-    → StepsOn new bytes items ran.item
-left_steps old new tag kind before after bytes items is ran = left_does old new ran.item kind bytes items is ran.did
 
 -- what was left before a step
 pub left_before : (old new : JobState) (item : StepResult) (kind : Kind) (bytes : List ℕ) (others : List StepResult) → LeftWith new bytes others → Does old item kind new → LeftWith old bytes (item ∷ others)
@@ -107,7 +102,7 @@ left_ends : (job : JobState) (items : List StepResult) → LeftWith job [] items
 left_ends job items is = record { from = is.from; starts = is.starts; commands = is.commands; owes = (λ _. refl, is.owes.1); are = is.are }
 
 pub left_goes_on : LeftGoesOn
-left_goes_on = record { opens = left_opens; pushes = left_pushes; ends = left_ends; does = left_does; steps = left_steps; over = left_over }
+left_goes_on = record { opens = left_opens; pushes = left_pushes; ends = left_ends; does = left_does; over = left_over }
 
 -- something is owed by bodies of which the innermost has a command
 some-then : (items others : List StepResult) → items ++ others ≡ [] → items ≡ []

@@ -9,7 +9,7 @@ use Rattle.press_scan.specs.Passing.{PassesEach, IsOneByte, PassesOver}
 use Rattle.press_scan.specs.ScannerState.{ScannerState}
 use Rattle.press_sink.specs.SinkLog.{SinkLog}
 use Rattle.press_sink.specs.Sending.{Output, Complete, WentOut}
-use Rattle.press_sink.proofs.SendingLemmas.{TookAll-none}
+use Rattle.press_sink.proofs.SendingLemmas.{WentOut-none}
 use Rattle.press_engine.specs.declared.activation.Activation.{Activation}
 use Rattle.press_engine.specs.declared.machine.Machine.{Machine}
 use Rattle.press_engine.specs.declared.state.State.{State}
@@ -19,7 +19,7 @@ use Rattle.press_engine.specs.Stack.{continuation}
 use Rattle.press_engine.specs.Trace.{last_machine, joined, trace, run_all}
 use Rattle.press_engine.proofs.PassingLaws.{passing_is_counted}
 use Rattle.press_stream.specs.Answers.{PassesOn}
-use Rattle.press_stream.specs.Meaning.{left, Carried, Owes, CarriesOut}
+use Rattle.press_stream.specs.Meaning.{left, Owes, CarriesOut}
 use Rattle.press_stream.specs.State.{JobState, most_commands}
 use Rattle.press_stream.specs.Steps.{CarriesIdle}
 use Rattle.press_stream.proofs.Going.{CarriesOut-none, passes-to_end}
@@ -103,16 +103,14 @@ passes_on old new going still idle none carries =
             let P : List ℕ → Type 0 = λ all. Steps old.held.mode all given new.held.mode new.held.bytes in
             (before, subst P (sym (append-nil old.held.bytes)) (each-steps given old.held new.held before carries.each));
         to_end = each-owes given old new going still carries.each;
-        carried = record {
-          from = from;
-          starts = carries.starts;
-          ends = carries.ends;
-          are =
-              ap (λ (bodies : List Activation). left given bodies from) idle
-              ∙ sym (append-nil items)
-              ∙ ap (λ (bodies : List Activation). items ++ continuation bodies (last_machine from items)) (sym none);
-          went = subst (λ (outputs : List Output). WentOut tag outputs Complete told told) (sym carries.nothing) (TookAll-none tag told);
-        };
+        from = from;
+        starts = carries.starts;
+        ends = carries.ends;
+        are =
+            ap (λ (bodies : List Activation). left given bodies from) idle
+            ∙ sym (append-nil items)
+            ∙ ap (λ (bodies : List Activation). items ++ continuation bodies (last_machine from items)) (sym none);
+        went = subst (λ (outputs : List Output). WentOut tag outputs Complete told told) (sym carries.nothing) (WentOut-none tag told);
       };
       idle = none;
       fewer = rw (going, still) (omega (arith, stays.fewer));

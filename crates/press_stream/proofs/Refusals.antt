@@ -3,7 +3,7 @@ use Rattle.std.proofs.Common.{◌≡◌, ◌≢◌, ◌↔◌, ◌∙◌, ℕ, L
 use Rattle.std.proofs.lemmas.Bool.{true≢false}
 use Rattle.press_cmd.specs.Token.{Token}
 use Rattle.press_sink.specs.SinkLog.{SinkLog, under}
-use Rattle.press_sink.specs.Sending.{Output, Ending, AtSheet, AtReply, ForMemory, WentOut}
+use Rattle.press_sink.specs.Sending.{Output, Ending, AtSheet, AtReply, ForMemory, Refused, WentOut}
 use Rattle.press_engine.specs.declared.machine.Machine.{Machine}
 use Rattle.press_stream.specs.declared.fault.JobError.{JobError}
 use Rattle.press_stream.specs.declared.fault.JobError.TheVariants as errors
@@ -26,10 +26,11 @@ runs machine from some none = cc
 -- a job went on
 went_on : (old new : JobState) (value : Unit {0}) (bytes : List ℕ) (given : List Token) (tag : ℕ) (before after : SinkLog) → CarriesOut old bytes given new (under tag before after) → Answered old (Ok value) new before after
 went_on old new value bytes given tag before after goes = record {
-  failed = (λ is. absurd (cc), λ none. absurd (runs old.machine _ goes.carried.starts none));
+  failed = (λ is. absurd (cc), λ none. absurd (runs old.machine _ goes.starts none));
   unchanged = λ early. absurd early;
   lost = tt;
-  counts = record { sheets = goes.carried.went.sheet_faults; replies = goes.carried.went.reply_faults };
+  sheet_faults = goes.went.sheet_faults;
+  reply_faults = goes.went.reply_faults;
 }
 
 -- a job stopped at a fault
@@ -40,7 +41,8 @@ stopped_by stops old new errors.SinkFault before after sent faults =
       failed = (λ is. absurd (cc), λ none. absurd (runs old.machine one.from one.starts none));
       unchanged = λ early. absurd early;
       lost = λ _. faults.0;
-      counts = record { sheets = one.went.fault; replies = one.went.reply_faults };
+      sheet_faults = one.went.sheet_faults;
+      reply_faults = one.went.reply_faults;
     }
 stopped_by stops old new errors.ReplyFault before after sent faults =
     let one = sent AtReply faults.1 in
@@ -48,7 +50,8 @@ stopped_by stops old new errors.ReplyFault before after sent faults =
       failed = (λ is. absurd (cc), λ none. absurd (runs old.machine one.from one.starts none));
       unchanged = λ early. absurd early;
       lost = λ _. faults.0;
-      counts = record { sheets = one.went.sheet_faults; replies = one.went.fault };
+      sheet_faults = one.went.sheet_faults;
+      reply_faults = one.went.reply_faults;
     }
 stopped_by stops old new errors.NoMemory before after sent faults =
     let one = sent ForMemory faults.1 in
@@ -56,16 +59,18 @@ stopped_by stops old new errors.NoMemory before after sent faults =
       failed = (λ is. absurd (cc), λ none. absurd (runs old.machine one.from one.starts none));
       unchanged = λ early. absurd early;
       lost = λ _. faults.0;
-      counts = record { sheets = one.went.took.sheet_faults; replies = one.went.took.reply_faults };
+      sheet_faults = one.went.sheet_faults;
+      reply_faults = one.went.reply_faults;
     }
 stopped_by stops old new errors.Failed before after sent faults = record {
   failed = (λ _. faults.0, λ _. refl);
   unchanged = λ _. (faults.1, faults.2);
   lost = λ _. ap (λ (job : JobState). job.machine) faults.1 ∙ faults.0;
-  counts = record { sheets = ap (λ (tells : SinkLog). tells.sheets.faults) faults.2; replies = ap (λ (tells : SinkLog). tells.replies.faults) faults.2 };
+  sheet_faults = ap (λ (tells : SinkLog). tells.sheets.faults) faults.2;
+  reply_faults = ap (λ (tells : SinkLog). tells.replies.faults) faults.2;
 }
-stopped_by stops old new errors.ReadFault before after sent faults = absurd faults
-stopped_by stops old new errors.AfterEnd before after sent faults = absurd faults
+stopped_by stops old new errors.ReadFault before after sent faults = absurd (sent Refused faults.1).went.goes
+stopped_by stops old new errors.AfterEnd before after sent faults = absurd (sent Refused faults.1).went.goes
 
 -- a job that stopped has failed
 gone : (stops : Ending → Type 0) (old new : JobState) (error : JobError) (before after : SinkLog) → FaultsBy stops old error new before after → new.machine ≡ None
@@ -73,8 +78,8 @@ gone stops old new errors.SinkFault before after faults = faults.0
 gone stops old new errors.ReplyFault before after faults = faults.0
 gone stops old new errors.NoMemory before after faults = faults.0
 gone stops old new errors.Failed before after faults = ap (λ (job : JobState). job.machine) faults.1 ∙ faults.0
-gone stops old new errors.ReadFault before after faults = absurd faults
-gone stops old new errors.AfterEnd before after faults = absurd faults
+gone stops old new errors.ReadFault before after faults = faults.0
+gone stops old new errors.AfterEnd before after faults = faults.0
 
 -- the end of input was given before
 after_end : (old new : JobState) (before after : SinkLog) → IsSome old.machine → new ≡ old → after ≡ before → Answered {X = Unit {0}} old (Err errors.AfterEnd) new before after
@@ -82,11 +87,12 @@ after_end old new before after running same told = record {
   failed = (λ is. absurd (cc), λ none. absurd (cc));
   unchanged = λ _. (same, told);
   lost = λ other. absurd (other refl);
-  counts = record { sheets = ap (λ (tells : SinkLog). tells.sheets.faults) told; replies = ap (λ (tells : SinkLog). tells.replies.faults) told };
+  sheet_faults = ap (λ (tells : SinkLog). tells.sheets.faults) told;
+  reply_faults = ap (λ (tells : SinkLog). tells.replies.faults) told;
 }
 
 sent_of_stops : (old : JobState) (bytes : List ℕ) (tag : ℕ) (before after : SinkLog) (ending : Ending) → Stops old bytes tag ending before after → Sent old ending before after
-sent_of_stops old bytes tag before after ending (commands, owes, stopped) = record {
+sent_of_stops old bytes tag before after ending stopped = record {
   from = stopped.from;
   starts = stopped.starts;
   tag = tag;
@@ -126,10 +132,11 @@ Answered-feed old new piece tag (Err error) before after going feeds = by error 
 pub Answered-run : (old new : JobState) (bytes : List ℕ) (tag : ℕ) (result : Result (Unit {0}) JobError) (before after : SinkLog) → RunsThrough old bytes result new (under tag before after) → Answered old result new before after
 Answered-run old new bytes tag (Ok done) before after (given, goes, _) = went_on old new done bytes given tag before after goes
 Answered-run old new bytes tag (Err errors.ReadFault) before after (gone, given, last, goes, _) = record {
-  failed = (λ is. absurd (cc), λ none. absurd (runs old.machine _ goes.carried.starts none));
+  failed = (λ is. absurd (cc), λ none. absurd (runs old.machine _ goes.starts none));
   unchanged = λ early. absurd early;
   lost = λ _. gone;
-  counts = record { sheets = goes.carried.went.sheet_faults; replies = goes.carried.went.reply_faults };
+  sheet_faults = goes.went.sheet_faults;
+  reply_faults = goes.went.reply_faults;
 }
 Answered-run old new bytes tag (Err errors.AfterEnd) before after (ended, _, same, told) = after_end old new before after ended.0 same told
 Answered-run old new bytes tag (Err errors.SinkFault) before after faults = stopped_with old new bytes tag errors.SinkFault before after faults

@@ -7,7 +7,7 @@ use Rattle.press_cmd.specs.Token.{Token}
 use Rattle.press_sink.specs.PrintedSheet.{PrintedSheet}
 use Rattle.press_sink.specs.declared.sheet.Delivery.{Delivery}
 use Rattle.press_sink.specs.SinkLog.{SinkLog, ReplyLog, under}
-use Rattle.press_sink.specs.Sending.{Output, Ending, Complete, AtSheet, AtReply, ForMemory, sheets_of, reply_bytes_of, sheets_in, under_tag, TookAll, WentOut}
+use Rattle.press_sink.specs.Sending.{Output, Ending, Complete, sheets_of, reply_bytes_of, sheets_in, under_tag, sheet_faults_after, reply_faults_after, WentOut}
 use Rattle.press_sink.proofs.SendingLemmas.{sheets_in-tagged}
 use Rattle.press_stream.specs.State.{JobState}
 use Rattle.press_stream.specs.Meaning.{CarriesOut, Stops}
@@ -41,75 +41,44 @@ same_under tag other sheets before after from delivered same = record {
   replies = refl;
 }
 
--- all outputs were taken, under another tag
-took-under : (tag other : ℕ) (outputs : List Output) (before after from : SinkLog) → TookAll tag outputs before after → SameButTags before from
-    → (to : SinkLog) × SameButTags after to × TookAll other outputs from to
-took-under tag other outputs before after from took same = (
-  log_under other (sheets_of outputs) after from,
-  same_under tag other (sheets_of outputs) before after from took.delivered same,
-  record {
-    delivered = refl;
-    replied = subst (λ (told : ReplyLog). Appends told.replied after.replies.replied (reply_bytes_of outputs)) same.replies took.replied;
-    sheet_faults = took.sheet_faults ∙ same.sheet_faults;
-    reply_faults = took.reply_faults ∙ ap (λ (told : ReplyLog). told.faults) same.replies;
-  },
-)
-
 -- how outputs went out, under another tag
 pub WentOut-under : (tag other : ℕ) (outputs : List Output) (ending : Ending) (before after from : SinkLog) → WentOut tag outputs ending before after → SameButTags before from
     → (to : SinkLog) × SameButTags after to × WentOut other outputs ending from to
-WentOut-under tag other outputs Complete before after from went same = took-under tag other outputs before after from went same
-WentOut-under tag other outputs AtSheet before after from went same = (
-  log_under other (sheets_of went.taken) after from,
-  same_under tag other (sheets_of went.taken) before after from went.delivered same,
+WentOut-under tag other outputs ending before after from went same = (
+  log_under other (sheets_of went.went) after from,
+  same_under tag other (sheets_of went.went) before after from went.delivered same,
   record {
-    taken = went.taken;
-    sheet = went.sheet;
-    others = went.others;
-    outputs_are = went.outputs_are;
+    went = went.went;
+    goes = went.goes;
     delivered = refl;
-    replied = subst (λ (told : ReplyLog). Appends told.replied after.replies.replied (reply_bytes_of went.taken)) same.replies went.replied;
-    fault = went.fault ∙ ap (λ (n : ℕ). n + 1) same.sheet_faults;
-    reply_faults = went.reply_faults ∙ ap (λ (told : ReplyLog). told.faults) same.replies;
+    replied = subst (λ (told : ReplyLog). Appends told.replied after.replies.replied (reply_bytes_of went.went)) same.replies went.replied;
+    sheet_faults = went.sheet_faults ∙ ap (sheet_faults_after ending) same.sheet_faults;
+    reply_faults = went.reply_faults ∙ ap (λ (told : ReplyLog). reply_faults_after ending told.faults) same.replies;
   },
 )
-WentOut-under tag other outputs AtReply before after from went same = (
-  log_under other (sheets_of went.taken) after from,
-  same_under tag other (sheets_of went.taken) before after from went.delivered same,
-  record {
-    taken = went.taken;
-    prefix = went.prefix;
-    back = went.back;
-    others = went.others;
-    outputs_are = went.outputs_are;
-    delivered = refl;
-    replied = subst (λ (told : ReplyLog). Appends told.replied after.replies.replied (reply_bytes_of went.taken ++ went.prefix)) same.replies went.replied;
-    sheet_faults = went.sheet_faults ∙ same.sheet_faults;
-    fault = went.fault ∙ ap (λ (told : ReplyLog). told.faults + 1) same.replies;
-  },
-)
-WentOut-under tag other outputs ForMemory before after from went same =
-    let all = took-under tag other went.taken before after from went.took same in
-    (all.0, all.1, record { taken = went.taken; others = went.others; outputs_are = went.outputs_are; took = all.2 })
 
 -- a job that went under a tag
 pub CarriesOut-under : (old new : JobState) (bytes : List ℕ) (given : List Token) (tag other : ℕ) (before after from : SinkLog) → CarriesOut old bytes given new (under tag before after) → SameButTags before from
     → (to : SinkLog) × SameButTags after to × CarriesOut old bytes given new (under other from to)
 CarriesOut-under old new bytes given tag other before after from goes same =
-    let told = WentOut-under tag other _ Complete before after from goes.carried.went same in (
+    let told = WentOut-under tag other _ Complete before after from goes.went same in (
       told.0,
       told.1,
       record {
         items = goes.items;
         so_far = goes.so_far;
         to_end = goes.to_end;
-        carried = record { from = goes.carried.from; starts = goes.carried.starts; ends = goes.carried.ends; are = goes.carried.are; went = told.2 };
+        from = goes.from;
+        starts = goes.starts;
+        ends = goes.ends;
+        are = goes.are;
+        went = told.2;
       },
     )
 
 -- a job that stopped under a tag
 pub Stops-under : (job : JobState) (bytes : List ℕ) (tag other : ℕ) (ending : Ending) (before after from : SinkLog) → Stops job bytes tag ending before after → SameButTags before from
     → (to : SinkLog) × SameButTags after to × Stops job bytes other ending from to
-Stops-under job bytes tag other ending before after from (commands, owes, stopped) same =
-    let told = WentOut-under tag other _ ending before after from stopped.went same in
-    (told.0, told.1, (commands, owes, record { from = stopped.from; starts = stopped.starts; went = told.2 }))
+Stops-under job bytes tag other ending before after from stops same =
+    let told = WentOut-under tag other _ ending before after from stops.went same in
+    (told.0, told.1, record { commands = stops.commands; owes = stops.owes; from = stops.from; starts = stops.starts; went = told.2 })

@@ -5,9 +5,10 @@ use Rattle.press_cmd.specs.Token.{Token, Uel}
 use Rattle.press_cmd.specs.declared.variant.Kind.{Kind}
 use Rattle.press_scan.specs.Gives.{IsDone, IsNext}
 use Rattle.press_sink.specs.SinkLog.{SinkLog, SinkUse, under}
-use Rattle.press_sink.specs.Sending.{Output, Ending, Complete, AtSheet, AtReply, ForMemory, WentOut}
+use Rattle.press_sink.specs.Sending.{Ending, Complete, AtSheet, AtReply, ForMemory, Refused, sheet_faults_after, reply_faults_after, WentOut}
 use Rattle.press_engine.specs.Engine.{NeedsMemory, InnerNeedsMemory}
 use Rattle.press_engine.specs.Machine.{StepResult}
+use Rattle.press_engine.specs.declared.machine.Machine.{Machine}
 use Rattle.press_engine.specs.declared.fault.EngineError.{EngineError}
 use Rattle.press_engine.specs.declared.fault.EngineError.TheVariants as engine_errors
 use Rattle.press_stream.specs.declared.fault.JobError.{JobError}
@@ -18,7 +19,7 @@ use Rattle.press_stream.specs.declared.step.JobStep.{JobStep}
 use Rattle.press_stream.specs.declared.step.JobStep.TheVariants as steps
 use Rattle.press_stream.specs.State.{JobState, NeedsInput, IsOver, IsAfterEnd, with_piece, most_commands}
 use Rattle.press_stream.specs.Steps.{Does, DoesStep}
-use Rattle.press_stream.specs.Meaning.{StoppedAt, CarriesOut, Stops}
+use Rattle.press_stream.specs.Meaning.{left, CarriesOut, Stops}
 
 -- an engine's error as a job's
 abbrev pub job_error : EngineError → JobError
@@ -27,15 +28,24 @@ job_error engine_errors.ReplyFault = errors.ReplyFault
 job_error engine_errors.Failed = errors.Failed
 job_error engine_errors.NoMemory = errors.NoMemory
 
+-- the error that was answered, if one was
+abbrev pub fault_of : {X : Type 0} → Result X JobError → Option JobError
+fault_of (Ok _) = None
+fault_of (Err error) = Some error
+
+-- how what goes out ends, by the error that was answered
+abbrev pub ending_by : Option JobError → Ending
+ending_by None = Complete
+ending_by (Some errors.SinkFault) = AtSheet
+ending_by (Some errors.ReplyFault) = AtReply
+ending_by (Some errors.NoMemory) = ForMemory
+ending_by (Some _) = Refused
+
 -- A job stopped at a fault, and has failed for good: so much went out as the fault's ending says. A job that had failed
 -- before lets nothing out.
 abbrev pub FaultsBy : (Ending → Type 0) → JobState → JobError → JobState → SinkLog → SinkLog → Type 0
-FaultsBy stops old errors.SinkFault new before after = (new.machine ≡ None) × stops AtSheet
-FaultsBy stops old errors.ReplyFault new before after = (new.machine ≡ None) × stops AtReply
-FaultsBy stops old errors.NoMemory new before after = (new.machine ≡ None) × stops ForMemory
 FaultsBy stops old errors.Failed new before after = (old.machine ≡ None) × (new ≡ old) × (after ≡ before)
-FaultsBy stops old errors.ReadFault new before after = ⊥
-FaultsBy stops old errors.AfterEnd new before after = ⊥
+FaultsBy stops old error new before after = (new.machine ≡ None) × stops (ending_by (Some error))
 
 -- The same of a job with these bytes behind what it held: it is so much of what it owed.
 abbrev pub Faults : JobState → List ℕ → JobError → JobState → SinkUse → Type 0
@@ -86,27 +96,25 @@ abbrev pub TakesOf : JobState → List Token → Type 0
 TakesOf job given =
     ((job.bodies ≢ []) × (given ≡ [])) ⊎ ((command : Token) × IsDue job command × (given ≡ command ∷ []))
 
--- A table step was taken: the job did an item, whose command has this kind, and all that goes out in it went out.
-pub record RanOne (old : JobState) (tag : ℕ) (kind : Kind) (new : JobState) (before after : SinkLog) : Type 0 where
-  pub item : StepResult
-  pub did : Does old item kind new
-  pub went : WentOut tag item.outputs Complete before after
-
 -- The item that comes next was begun, and of its outputs so much went out as the ending says.
-abbrev pub StopsAtDue : JobState → ℕ → Ending → SinkLog → SinkLog → Type 0
-StopsAtDue job tag ending before after =
-    (given : List Token) × TakesOf job given × StoppedAt given job tag ending before after
+pub record StopsAtDue (job : JobState) (tag : ℕ) (ending : Ending) (before after : SinkLog) : Type 0 where
+  pub given : List Token
+  pub takes : TakesOf job given
+  pub from : Machine
+  pub starts : job.machine ≡ Some from
+  pub item : StepResult
+  pub others : List StepResult
+  pub are : left given job.bodies from ≡ item ∷ others
+  pub went : WentOut tag item.outputs ending before after
 
--- A step stopped at a fault: so much went out of the item that comes next.
-abbrev pub StepFaults : JobState → ℕ → JobError → JobState → SinkLog → SinkLog → Type 0
-StepFaults old tag error new before after = FaultsBy (λ ending. StopsAtDue old tag ending before after) old error new before after
-
--- A step was taken; or the bytes so far are used up, or no step is left, and nothing changed; or the job stopped at a fault.
+-- A table step was taken, and all that goes out in its item went out; or the bytes so far are used up, or no step is left, and nothing
+-- changed; or the job stopped at a fault, and so much went out of the item that comes next.
 abbrev pub Takes : JobState → ℕ → Result Step JobError → JobState → SinkLog → SinkLog → Type 0
-Takes old tag (Ok (answers.Ran kind)) new before after = RanOne old tag kind new before after
+Takes old tag (Ok (answers.Ran kind)) new before after =
+    (item : StepResult) × Does old item kind new × WentOut tag item.outputs Complete before after
 Takes old tag (Ok answers.Hungry) new before after = NeedsInput old × (new ≡ old) × (after ≡ before)
 Takes old tag (Ok answers.Ended) new before after = IsOver old × (new ≡ old) × (after ≡ before)
-Takes old tag (Err error) new before after = StepFaults old tag error new before after
+Takes old tag (Err error) new before after = FaultsBy (λ ending. StopsAtDue old tag ending before after) old error new before after
 
 -- the job is hungry, or no step is left
 abbrev pub IsIdle : JobState → Type 0
@@ -130,26 +138,10 @@ TakesStep old (Err errors.ReplyFault) new = ⊥
 TakesStep old (Err errors.ReadFault) new = ⊥
 TakesStep old (Err errors.AfterEnd) new = ⊥
 
--- How far outputs went out that were handed over, by what is answered.
-abbrev pub HandsOver : ℕ → List Output → Result (Unit {0}) JobError → SinkLog → SinkLog → Type 0
-HandsOver tag outputs (Ok _) before after = WentOut tag outputs Complete before after
-HandsOver tag outputs (Err errors.SinkFault) before after = WentOut tag outputs AtSheet before after
-HandsOver tag outputs (Err errors.ReplyFault) before after = WentOut tag outputs AtReply before after
-HandsOver tag outputs (Err errors.NoMemory) before after = WentOut tag outputs ForMemory before after
-HandsOver tag outputs (Err errors.Failed) before after = ⊥
-HandsOver tag outputs (Err errors.ReadFault) before after = ⊥
-HandsOver tag outputs (Err errors.AfterEnd) before after = ⊥
-
 -- The job goes on, by commands that it takes, to where what comes next may take memory.
 abbrev pub ComesToWant : JobState → ℕ → SinkLog → Type 0
 ComesToWant job tag told =
     (given : List Token) × (last : JobState) × (between : SinkLog) × CarriesOut job [] given last (under tag told between) × WantsMemory last
-
--- A job did what was left of the bodies that run, and took no command of the stream.
-abbrev pub RunsOut : JobState → ℕ → Result (Unit {0}) JobError → JobState → SinkLog → SinkLog → Type 0
-RunsOut old tag (Ok _) new before after =
-    CarriesOut old [] [] new (under tag before after) × (new.bodies ≡ []) × (most_commands new ≤ most_commands old) × (new.held.ended ≡ old.held.ended)
-RunsOut old tag (Err error) new before after = FaultsBefore old [] error new (under tag before after)
 
 -- A job in which no body runs took commands of its stream, and nothing goes out in any of them.
 pub record PassesOn (old new : JobState) : Type 0 where
@@ -158,12 +150,6 @@ pub record PassesOn (old new : JobState) : Type 0 where
   pub idle : new.bodies ≡ []
   pub fewer : most_commands new ≤ most_commands old
   pub ended : new.held.ended ≡ old.held.ended
-
--- A job carried out what it holds, until it is hungry or no step is left.
-abbrev pub Drains : JobState → ℕ → Result (Unit {0}) JobError → JobState → SinkLog → SinkLog → Type 0
-Drains old tag (Ok _) new before after =
-    (given : List Token) × CarriesOut old [] given new (under tag before after) × IsIdle new × (new.held.ended ≡ old.held.ended)
-Drains old tag (Err error) new before after = FaultsBefore old [] error new (under tag before after)
 
 -- A piece was handed to a job, which carried out the commands so far; or it was refused after the end of input, and nothing
 -- changed.
@@ -177,34 +163,16 @@ abbrev pub Finishes : JobState → ℕ → Result (Unit {0}) JobError → JobSta
 Finishes old tag (Ok _) new before after = (given : List Token) × CarriesOut old [] given new (under tag before after) × IsOver new
 Finishes old tag (Err error) new before after = Faults old [] error new (under tag before after)
 
--- the error that was answered, if one was
-abbrev pub fault_of : {X : Type 0} → Result X JobError → Option JobError
-fault_of (Ok _) = None
-fault_of (Err error) = Some error
-
--- The sheet sink's count of faults, by the error that was answered: it is one more at 301, and else as it was.
-abbrev pub SheetFaults : Option JobError → (before after : ℕ) → Type 0
-SheetFaults (Some errors.SinkFault) before after = after ≡ before + 1
-SheetFaults error before after = after ≡ before
-
--- the reply sink's: it is one more at 302
-abbrev pub ReplyFaults : Option JobError → (before after : ℕ) → Type 0
-ReplyFaults (Some errors.ReplyFault) before after = after ≡ before + 1
-ReplyFaults error before after = after ≡ before
-
--- the counts of faults of both sinks
-pub record CountsFaults (error : Option JobError) (before after : SinkLog) : Type 0 where
-  pub sheets : SheetFaults error before.sheets.faults after.sheets.faults
-  pub replies : ReplyFaults error before.replies.faults after.replies.faults
-
 -- What else a call answers, whatever it does.
 -- failed: it is 303 exactly where the job had failed. unchanged: where a call is refused before anything is read or done, the job and
--- what the sinks tell stay. lost: any error but 305 leaves a job that has failed. counts: the sinks count the fault that is answered.
+-- what the sinks tell stay. lost: any error but 305 leaves a job that has failed. sheet_faults, reply_faults: the sinks count the fault that is
+-- answered.
 pub record Answered {X : Type 0} (old : JobState) (result : Result X JobError) (new : JobState) (before after : SinkLog) : Type 0 where
   pub failed : IsErrOf result errors.Failed ↔ (old.machine ≡ None)
   pub unchanged : IsEarly result → (new ≡ old) × (after ≡ before)
   pub lost : IfErr result (λ error. error ≢ errors.AfterEnd → new.machine ≡ None)
-  pub counts : CountsFaults (fault_of result) before after
+  pub sheet_faults : after.sheets.faults ≡ sheet_faults_after (ending_by (fault_of result)) before.sheets.faults
+  pub reply_faults : after.replies.faults ≡ reply_faults_after (ending_by (fault_of result)) before.replies.faults
 
 -- These bytes were read of a reader and handed to a job, by what the reader had and what it has left: all that it had, where
 -- there was no error.

@@ -46,13 +46,16 @@ impl Model for Job {
 impl Job {
     ghost use Rattle.std.specs.Prelude.{◌≡◌, ◌≢◌, ◌<◌, ◌≤◌, ◌↔◌, ℕ, List, [], length, take, false, None, IfOk, IfErr, OnErr, IfSome, IsTrue, IsSome, IsErrOf, MatchResult, option_map};
     ghost use Rattle.press_sink.specs.SinkLog.{logs, HasFaultRoom, under};
+    ghost use Rattle.press_sink.specs.Sending.{WentOut};
+    ghost use Rattle.press_cmd.specs.Token.{Token};
     ghost use Rattle.press_engine.specs.Engine.{view_of};
     ghost use Rattle.press_engine.specs.Machine.{StepResult};
     ghost use Rattle.press_engine.specs.Outputs.{all_outputs};
     ghost use Rattle.press_engine.specs.Stack.{IsReady};
     ghost use Rattle.press_stream.specs.Left.{LeftWith};
-    ghost use Rattle.press_stream.specs.State.{opened, with_piece, input_ended, NeedsInput, IsOver, IsAfterEnd};
-    ghost use Rattle.press_stream.specs.Answers.{Pushes, IsGoing, IsEarly, TakesStep, HandsOver, Takes, WantsMemory, RunsOut, PassesOn, Drains, ComesToWant, Feeds, Finishes, RunsReader, Answered};
+    ghost use Rattle.press_stream.specs.State.{opened, with_piece, input_ended, most_commands, NeedsInput, IsOver, IsAfterEnd};
+    ghost use Rattle.press_stream.specs.Meaning.{CarriesOut};
+    ghost use Rattle.press_stream.specs.Answers.{fault_of, ending_by, Pushes, IsGoing, IsEarly, TakesStep, Takes, WantsMemory, FaultsBefore, PassesOn, IsIdle, ComesToWant, Feeds, Finishes, RunsReader, Answered};
     ghost use Rattle.press_stream.specs.Pieces.{most_reads, no_reads, HasFault};
 
     /// A job at the beginning of a stream, with an engine after power on.
@@ -158,7 +161,7 @@ impl Job {
         replies: &mut P,
     ) -> Result<(), JobError>
         requires { HasFaultRoom (logs (S.told sheets.old) (P.told replies.old)) }
-        ensures hands { HandsOver tag (all_outputs sent.now) result
+        ensures hands { WentOut tag (all_outputs sent.now) (ending_by (fault_of result))
             (logs (S.told sheets.old) (P.told replies.old))
             (logs (S.told sheets.new) (P.told replies.new)) }
         ensures left { MatchResult result
@@ -432,9 +435,15 @@ impl Job {
     ) -> Result<(), JobError>
         requires running { IsSome self.old.machine }
         requires has_fault_room { HasFaultRoom (logs (S.told sheets.old) (P.told replies.old)) }
-        ensures runs_out { RunsOut self.old tag result self.new
-            (logs (S.told sheets.old) (P.told replies.old))
-            (logs (S.told sheets.new) (P.told replies.new)) }
+        ensures runs_out { MatchResult result
+            (λ _. CarriesOut self.old [] [] self.new
+            (under tag (logs (S.told sheets.old) (P.told replies.old))
+            (logs (S.told sheets.new) (P.told replies.new)))
+            × (self.new.bodies ≡ []) × (most_commands self.new ≤ most_commands self.old)
+            × (self.new.held.ended ≡ self.old.held.ended))
+            (λ error. FaultsBefore self.old [] error self.new
+            (under tag (logs (S.told sheets.old) (P.told replies.old))
+            (logs (S.told sheets.new) (P.told replies.new)))) }
         ensures memory { IsErrOf result JobError.NoMemory
             → ComesToWant self.old tag (logs (S.told sheets.old) (P.told replies.old)) }
     {
@@ -465,9 +474,14 @@ impl Job {
     ) -> Result<(), JobError>
         requires running { IsSome self.old.machine }
         requires has_fault_room { HasFaultRoom (logs (S.told sheets.old) (P.told replies.old)) }
-        ensures drains { Drains self.old tag result self.new
-            (logs (S.told sheets.old) (P.told replies.old))
-            (logs (S.told sheets.new) (P.told replies.new)) }
+        ensures drains { MatchResult result
+            (λ _. (given : List Token) × CarriesOut self.old [] given self.new
+            (under tag (logs (S.told sheets.old) (P.told replies.old))
+            (logs (S.told sheets.new) (P.told replies.new)))
+            × IsIdle self.new × (self.new.held.ended ≡ self.old.held.ended))
+            (λ error. FaultsBefore self.old [] error self.new
+            (under tag (logs (S.told sheets.old) (P.told replies.old))
+            (logs (S.told sheets.new) (P.told replies.new)))) }
         ensures memory { IsErrOf result JobError.NoMemory
             → ComesToWant self.old tag (logs (S.told sheets.old) (P.told replies.old)) }
     {

@@ -41,7 +41,11 @@ fn notes(alloc: Global, sheets: &ListSink) -> Result<Vec<Notes>, AllocError> {
 
 impl Outcome {
     /// What the sinks took.
-    pub(crate) fn of(alloc: Global, sheets: &ListSink, replies: &ListReplies) -> Result<Self, Fail> {
+    pub(crate) fn of(
+        alloc: Global,
+        sheets: &ListSink,
+        replies: &ListReplies,
+    ) -> Result<Self, Fail> {
         Ok(Outcome {
             numbers: Vec::new(alloc),
             sheets: notes(alloc, sheets)?,

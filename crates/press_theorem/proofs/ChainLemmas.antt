@@ -6,20 +6,19 @@ use Rattle.std.proofs.lemmas.Grind.{flat_map-append}
 use Rattle.std.proofs.lemmas.Bool.{true≢false}
 use Rattle.std.proofs.lemmas.List.{append-nil, take_more, take-append-drop}
 use Rattle.press_cmd.specs.Token.{Token}
-use Rattle.press_sink.specs.SinkLog.{SinkLog, HasFaultRoom, most_faults, under}
+use Rattle.press_sink.specs.SinkLog.{SinkLog, under}
 use Rattle.press_sink.specs.Sending.{Complete, AtSheet, AtReply, ForMemory}
 use Rattle.press_engine.specs.declared.machine.Machine.{Machine}
 use Rattle.press_stream.specs.declared.fault.JobError.{JobError}
 use Rattle.press_stream.specs.declared.fault.JobError.TheVariants as errors
 use Rattle.press_stream.specs.State.{IsOver, JobState, opened}
-use Rattle.press_stream.specs.Answers.{Pushes, Takes, Feeds, Finishes, Faults, FaultsBefore, RunsReader, RunsThrough, StepFaults, fault_of}
+use Rattle.press_stream.specs.Answers.{Pushes, Takes, Feeds, Finishes, Faults, FaultsBefore, RunsThrough}
 use Rattle.press_stream.specs.declared.step.Step.{Step}
 use Rattle.press_stream.specs.declared.step.Step.TheVariants as steps
 use Rattle.press_stream.specs.Chain.{CallsGo, PrintsAll}
 use Rattle.press_stream.specs.Meaning.{CarriesOut}
-use Rattle.press_stream.specs.Printed.{Prints, PrintedTo}
-use Rattle.press_stream.proofs.Going.{CarriesOut-ran, taken-ended}
-use Rattle.press_theorem.specs.Calls.{PrintsCalls}
+use Rattle.press_stream.specs.Printed.{Prints, PrintedTo, Printed}
+use Rattle.press_stream.proofs.Going.{CarriesOut-one, taken-ended}
 
 -- the bytes of the first pieces, and of one more
 pub pieces-next : {A : Type 0} (f : A → List ℕ) (pieces : List A) (i : ℕ) (other : A) → i < length pieces → flat_map f (take (i + 1) pieces) ≡ flat_map f (take i pieces) ++ f (get_or pieces i other)
@@ -39,14 +38,7 @@ opened-going job is = ap (λ (one : JobState). one.held.ended) is
 -- one call more
 pub CarriesOut-more : CallsGo → (bytes more all : List ℕ) (given others : List Token) (tag : ℕ) (job new : JobState) (before middle after : SinkLog) → all ≡ bytes ++ more → CarriesOut opened bytes given job (under tag before middle) → CarriesOut job more others new (under tag middle after) → CarriesOut opened all (given ++ others) new (under tag before after)
 CarriesOut-more calls bytes more all given others tag job new before middle after is first second =
-    subst (λ (handed : List ℕ). CarriesOut opened handed (given ++ others) new (under tag before after)) (sym is) (calls.then opened job new bytes more given others tag before middle after first second)
-
--- where all went out, the sinks can count as before
-pub has_fault_room-after : (old new : JobState) (bytes : List ℕ) (given : List Token) (tag : ℕ) (before after : SinkLog) → CarriesOut old bytes given new (under tag before after) → HasFaultRoom before → HasFaultRoom after
-has_fault_room-after old new bytes given tag before after goes can = record {
-  sheets = subst (λ (n : ℕ). n < most_faults) (sym goes.carried.went.sheet_faults) can.sheets;
-  replies = subst (λ (n : ℕ). n < most_faults) (sym goes.carried.went.reply_faults) can.replies;
-}
+    subst (λ (handed : List ℕ). CarriesOut opened handed (given ++ others) new (under tag before after)) (sym is) (calls.then opened job new bytes more given others tag before middle after first second).0
 
 -- a stream to its end
 pub Prints-end : CallsGo → PrintsAll → (bytes all : List ℕ) (given : List Token) (tag : ℕ) (job new : JobState) (result : Result (Unit {0}) JobError) (done : Unit {0}) (before middle after : SinkLog) → result ≡ Ok done → all ≡ bytes → CarriesOut opened bytes given job (under tag before middle) → Finishes job tag result new middle after → Prints all tag Complete new.machine before after
@@ -76,7 +68,7 @@ still calls old new tag before after running same quiet =
 pub stepped : CallsGo → (old new : JobState) (tag : ℕ) (result : Result Step JobError) (step : Step) (before after : SinkLog) → IsSome old.machine → result ≡ Ok step → Takes old tag result new before after → (given : List Token) × CarriesOut old [] given new (under tag before after)
 stepped calls old new tag result step before after running answer takes = by step (subst (λ (one : Result Step JobError). Takes old tag one new before after) answer takes) where
   by : (step : Step) → Takes old tag (Ok step) new before after → (given : List Token) × CarriesOut old [] given new (under tag before after)
-  by (steps.Ran kind) ran = (ran.did.given, CarriesOut-ran old new tag kind before after ran)
+  by (steps.Ran kind) ran = (ran.1.given, CarriesOut-one old new ran.0 kind tag before after ran.1 ran.2)
   by steps.Hungry quiet = still calls old new tag before after running quiet.1 quiet.2
   by steps.Ended quiet = still calls old new tag before after running quiet.1 quiet.2
 
@@ -89,7 +81,7 @@ pushed-going old new piece (Err error) pushes = tt
 pub stepped-going : (old new : JobState) (tag : ℕ) (result : Result Step JobError) (step : Step) (before after : SinkLog) → old.held.ended ≡ false → result ≡ Ok step → Takes old tag result new before after → new.held.ended ≡ false
 stepped-going old new tag result step before after going answer takes = by step (subst (λ (one : Result Step JobError). Takes old tag one new before after) answer takes) where
   by : (step : Step) → Takes old tag (Ok step) new before after → new.held.ended ≡ false
-  by (steps.Ran kind) ran = taken-ended old new ran.did.given ran.did.takes ∙ going
+  by (steps.Ran kind) ran = taken-ended old new ran.1.given ran.1.takes ∙ going
   by steps.Hungry quiet = ap (λ (job : JobState). job.held.ended) quiet.1 ∙ going
   by steps.Ended quiet = ap (λ (job : JobState). job.held.ended) quiet.1 ∙ going
 
@@ -109,9 +101,9 @@ pub PrintedTo-fault : PrintsAll → (bytes more : List ℕ) (given : List Token)
 PrintedTo-fault prints bytes more given tag errors.SinkFault job new before middle after goes faults = prints.stopped bytes more given tag AtSheet job before middle after (λ e. cc) goes faults.1 None
 PrintedTo-fault prints bytes more given tag errors.ReplyFault job new before middle after goes faults = prints.stopped bytes more given tag AtReply job before middle after (λ e. cc) goes faults.1 None
 PrintedTo-fault prints bytes more given tag errors.NoMemory job new before middle after goes faults = prints.stopped bytes more given tag ForMemory job before middle after (λ e. cc) goes faults.1 None
-PrintedTo-fault prints bytes more given tag errors.Failed job new before middle after goes faults = absurd (has_failed job.machine _ faults.0 goes.carried.ends)
-PrintedTo-fault prints bytes more given tag errors.ReadFault job new before middle after goes faults = absurd faults
-PrintedTo-fault prints bytes more given tag errors.AfterEnd job new before middle after goes faults = absurd faults
+PrintedTo-fault prints bytes more given tag errors.Failed job new before middle after goes faults = absurd (has_failed job.machine _ faults.0 goes.ends)
+PrintedTo-fault prints bytes more given tag errors.ReadFault job new before middle after goes faults = absurd faults.1.went.goes
+PrintedTo-fault prints bytes more given tag errors.AfterEnd job new before middle after goes faults = absurd faults.1.went.goes
 
 -- the same of a fault whatever bytes come behind the piece, in the midst of all bytes
 pub PrintedTo-before : PrintsAll → (bytes piece more all : List ℕ) (given : List Token) (tag : ℕ) (error : JobError) (job new : JobState) (before middle after : SinkLog) → job.held.ended ≡ false → (bytes ++ piece) ++ more ≡ all → CarriesOut opened bytes given job (under tag before middle) → FaultsBefore job piece error new (under tag middle after) → PrintedTo (Some error) all tag None before after
@@ -160,15 +152,6 @@ pushed-fault calls old new piece tag (Err errors.SinkFault) told running going p
 pushed-fault calls old new piece tag (Err errors.ReplyFault) told running going pushes = absurd pushes
 pushed-fault calls old new piece tag (Err errors.ReadFault) told running going pushes = absurd pushes
 
--- of a step
-pub stepped-fault : CallsGo → (old new : JobState) (tag : ℕ) (error : JobError) (before after : SinkLog) → StepFaults old tag error new before after → FaultsBefore old [] error new (under tag before after)
-stepped-fault calls old new tag errors.SinkFault before after faults = λ more none_after. (faults.0, calls.stops old more tag AtSheet before after (λ e. cc) none_after faults.1)
-stepped-fault calls old new tag errors.ReplyFault before after faults = λ more none_after. (faults.0, calls.stops old more tag AtReply before after (λ e. cc) none_after faults.1)
-stepped-fault calls old new tag errors.NoMemory before after faults = λ more none_after. (faults.0, calls.stops old more tag ForMemory before after (λ e. cc) none_after faults.1)
-stepped-fault calls old new tag errors.Failed before after faults = λ more none_after. faults
-stepped-fault calls old new tag errors.ReadFault before after faults = absurd faults
-stepped-fault calls old new tag errors.AfterEnd before after faults = absurd faults
-
 -- a job that stopped has failed
 none_runs : (machine : Option Machine) → IsSome machine → machine ≡ None → ⊥
 none_runs machine some none = cc
@@ -178,8 +161,8 @@ stopped-by job new bytes tag errors.SinkFault before after runs faults = faults.
 stopped-by job new bytes tag errors.ReplyFault before after runs faults = faults.0
 stopped-by job new bytes tag errors.NoMemory before after runs faults = faults.0
 stopped-by job new bytes tag errors.Failed before after runs faults = absurd (none_runs job.machine runs faults.0)
-stopped-by job new bytes tag errors.ReadFault before after runs faults = absurd faults
-stopped-by job new bytes tag errors.AfterEnd before after runs faults = absurd faults
+stopped-by job new bytes tag errors.ReadFault before after runs faults = faults.0
+stopped-by job new bytes tag errors.AfterEnd before after runs faults = faults.0
 
 pub stopped-failed : (job new : JobState) (piece : List ℕ) (tag : ℕ) (error : JobError) (before after : SinkLog) → IsSome job.machine → job.held.ended ≡ false → FaultsBefore job piece error new (under tag before after) → new.machine ≡ None
 stopped-failed job new piece tag error before after runs going faults =
@@ -194,24 +177,16 @@ PrintedTo-any : (error : JobError) (bytes : List ℕ) (tag : ℕ) (one other : O
 PrintedTo-any errors.SinkFault bytes tag one other before after printed = printed
 PrintedTo-any errors.ReplyFault bytes tag one other before after printed = printed
 PrintedTo-any errors.NoMemory bytes tag one other before after printed = printed
-PrintedTo-any errors.Failed bytes tag one other before after printed = absurd printed
+PrintedTo-any errors.Failed bytes tag one other before after printed = printed
 PrintedTo-any errors.ReadFault bytes tag one other before after printed = printed
-PrintedTo-any errors.AfterEnd bytes tag one other before after printed = absurd printed
+PrintedTo-any errors.AfterEnd bytes tag one other before after printed = printed
 
 -- a call stopped, and nothing was read
-pub PrintsCalls-stopped : (bytes : List ℕ) (had : Option (List ℕ)) (tag : ℕ) (error : JobError) (job : JobState) (before after : SinkLog) → PrintedTo (Some error) bytes tag None before after → PrintsCalls bytes had had (Err error) job (under tag before after)
-PrintsCalls-stopped bytes had tag error job before after printed = record {
-  read = [];
-  reads = record { lost = Consumes-nil had; at_end = λ none. absurd (cc) };
-  printed = subst (λ (all : List ℕ). PrintedTo (Some error) all tag job.machine before after) (sym (append-nil bytes)) (PrintedTo-any error bytes tag None job.machine before after printed);
-}
-
--- what a reader has behind the calls
-pub PrintsCalls-read : PrintsAll → (bytes all : List ℕ) (given : List Token) (had left : Option (List ℕ)) (tag : ℕ) (result : Result (Unit {0}) JobError) (job new : JobState) (before middle after : SinkLog) → all ≡ bytes → CarriesOut opened bytes given job (under tag before middle) → job.held.ended ≡ false → RunsReader job had left result new (under tag middle after) → PrintsCalls all had left result new (under tag before after)
-PrintsCalls-read prints bytes all given had left tag result job new before middle after is goes going runs = record {
-  read = runs.bytes;
-  reads = runs.read;
-  printed = subst (λ (prefix : List ℕ). PrintedTo (fault_of result) (prefix ++ runs.bytes) tag new.machine before after) (sym is) (prints.runs_on bytes given had left tag result job new before middle after goes going runs);
+pub Printed-stopped : (bytes : List ℕ) (had : Option (List ℕ)) (tag : ℕ) (error : JobError) (new : Option Machine) (before after : SinkLog) → PrintedTo (Some error) bytes tag None before after → Printed bytes had had (Some error) new (under tag before after)
+Printed-stopped bytes had tag error new before after printed = record {
+  bytes = [];
+  read = record { lost = Consumes-nil had; at_end = λ none. absurd (cc) };
+  printed = subst (λ (all : List ℕ). PrintedTo (Some error) all tag new before after) (sym (append-nil bytes)) (PrintedTo-any error bytes tag None new before after printed);
 }
 
 -- it is over then, or has failed
@@ -230,7 +205,7 @@ read-failed job new bytes tag (Err errors.Failed) before after some going runs =
 
 -- a job that goes on runs
 pub runs-on : (bytes : List ℕ) (given : List Token) (tag : ℕ) (job : JobState) (before after : SinkLog) → CarriesOut opened bytes given job (under tag before after) → IsSome job.machine
-runs-on bytes given tag job before after goes = some job.machine _ goes.carried.ends where
+runs-on bytes given tag job before after goes = some job.machine _ goes.ends where
   some : (machine : Option Machine) (one : Machine) → machine ≡ Some one → IsSome machine
   some machine one is = ap is_some is
 

@@ -19,7 +19,7 @@ use Rattle.press_core.specs.Events.{Event, Message, TurnOn, Operator, EventAnswe
 use Rattle.press_core.specs.Laws.{EntriesAreBounded, SheetsAreGiven}
 use Rattle.press_core.specs.Turns.{FaultsAfter, WereHandedOut}
 use Rattle.press_core.specs.World.{World, new_world}
-use Rattle.press_theorem.specs.Events.{FaultLeaves, HappenAll, HappenFromNew, HappenFromNewUpTo, HappenUpTo, line_of, handing}
+use Rattle.press_theorem.specs.Events.{ComesFromNew, FaultLeaves, HappenAll, HappenUpTo, line_of, handing}
 
 -- the event of this happening has its answer
 abbrev has_answer : Transition → Type 0
@@ -192,33 +192,30 @@ HappenUpTo-behind error world middle last events others more all before between 
 
 -- ---- from a new press
 
-pub from-new : SheetsAreGiven → EntriesAreBounded → (start : World) (engines : ℕ) (events : List Event) (last : World) (before after : SheetLog) (old new : List ℕ)
-    → are_engines engines ≡ true → start ≡ new_world engines → HappenAll start events last (handing before after old new) → HappenFromNew engines events last (handing before after old new)
-from-new given bounded start engines events last before after old new are is all =
-    let happened = subst (λ (w : World). HappenAll w events last (handing before after old new)) is all in
-    let run : IsRun happened.happenings last = record { engines = engines; are = are; leads = happened.leads } in
+-- a new press that came to a world is one that the laws of every run are about
+comes_from_new : SheetsAreGiven → EntriesAreBounded → (engines : ℕ) (happenings : List Transition) (last : World) → are_engines engines ≡ true → IsExecution (new_world engines) happenings last → ComesFromNew engines happenings last
+comes_from_new given bounded engines happenings last are leads =
+    let run : IsRun happenings last = record { engines = engines; are = are; leads = leads } in
     record {
-      happened = happened;
-      given = λ number. given.under happened.happenings last number run;
-      on_engines = bounded.on_engines happened.happenings last run;
-      count = bounded.count happened.happenings last run;
-      queue = bounded.queue happened.happenings last run;
-    }
-
-pub up-to-from-new : SheetsAreGiven → EntriesAreBounded → (start : World) (error : TurnError) (engines : ℕ) (events : List Event) (last : World) (before after : SheetLog) (old new : List ℕ)
-    → are_engines engines ≡ true → start ≡ new_world engines → HappenUpTo error start events last (handing before after old new) → HappenFromNewUpTo error engines events last (handing before after old new)
-up-to-from-new given bounded start error engines events last before after old new are is all =
-    let happened = subst (λ (w : World). HappenUpTo error w events last (handing before after old new)) is all in
-    let happenings : List Transition = happened.happened.happenings ++ happened.stopped ∷ [] in
-    let run : IsRun happenings last = record {
-      engines = engines;
-      are = are;
-      leads = Leads-join (new_world engines) happened.between last happened.happened.happenings (happened.stopped ∷ []) happened.happened.leads happened.leads;
-    } in
-    record {
-      happened = happened;
       given = λ number. given.under happenings last number run;
       on_engines = bounded.on_engines happenings last run;
       count = bounded.count happenings last run;
       queue = bounded.queue happenings last run;
     }
+
+pub from-new : SheetsAreGiven → EntriesAreBounded → (start : World) (engines : ℕ) (events : List Event) (last : World) (before after : SheetLog) (old new : List ℕ)
+    → are_engines engines ≡ true → start ≡ new_world engines → HappenAll start events last (handing before after old new)
+    → (happened : HappenAll (new_world engines) events last (handing before after old new)) × ComesFromNew engines happened.happenings last
+from-new given bounded start engines events last before after old new are is all =
+    let happened = subst (λ (w : World). HappenAll w events last (handing before after old new)) is all in
+    (happened, comes_from_new given bounded engines happened.happenings last are happened.leads)
+
+pub up-to-from-new : SheetsAreGiven → EntriesAreBounded → (start : World) (error : TurnError) (engines : ℕ) (events : List Event) (last : World) (before after : SheetLog) (old new : List ℕ)
+    → are_engines engines ≡ true → start ≡ new_world engines → HappenUpTo error start events last (handing before after old new)
+    → (happened : HappenUpTo error (new_world engines) events last (handing before after old new)) × ComesFromNew engines (happened.happened.happenings ++ happened.stopped ∷ []) last
+up-to-from-new given bounded start error engines events last before after old new are is all =
+    let happened = subst (λ (w : World). HappenUpTo error w events last (handing before after old new)) is all in (
+      happened,
+      comes_from_new given bounded engines (happened.happened.happenings ++ happened.stopped ∷ []) last are
+          (Leads-join (new_world engines) happened.between last happened.happened.happenings (happened.stopped ∷ []) happened.happened.leads happened.leads),
+    )

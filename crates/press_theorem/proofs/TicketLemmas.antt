@@ -6,7 +6,7 @@ use Rattle.press_sink.specs.declared.sheet.Delivery.{Delivery}
 use Rattle.press_engine.specs.declared.machine.Machine.{Machine}
 use Rattle.press_sink.specs.Sending.{Output, Deliver, Complete, sheets_of, reply_bytes_of, under_tag}
 use Rattle.press_sink.specs.SinkLog.{SinkLog, logs}
-use Rattle.press_sink.proofs.SendingLemmas.{sheets_of-delivered, reply_bytes_of-delivered}
+use Rattle.press_sink.proofs.SendingLemmas.{all-delivered, all-replied, sheets_of-delivered, reply_bytes_of-delivered}
 use Rattle.press_stream.specs.Meaning.{meaning_of, with_exit}
 use Rattle.press_stream.specs.Printed.{Prints}
 use Rattle.press_ticket.specs.Ticket.{JobTicket}
@@ -25,8 +25,8 @@ pub delivers-of : (bytes : List ℕ) (tag : ℕ) (machine : Option Machine) (she
 delivers-of bytes tag machine sheets replies prints = record {
   commands = prints.commands;
   closed = prints.closed;
-  sheets_are = same_Some sheets (under_tag tag (sheets_of (meaning_of (with_exit prints.commands)).outputs)) prints.went.delivered;
-  replies_are = prints.went.replied;
+  sheets_are = same_Some sheets (under_tag tag (sheets_of (meaning_of (with_exit prints.commands)).outputs)) (all-delivered tag (meaning_of (with_exit prints.commands)).outputs (told_by [] []) (told_by sheets replies) prints.went);
+  replies_are = all-replied tag (meaning_of (with_exit prints.commands)).outputs (told_by [] []) (told_by sheets replies) prints.went;
 }
 
 -- the outputs of the job of a ticket

@@ -48,12 +48,11 @@ pub record HappenAll (world : World) (events : List Event) (last : World) (outpu
   pub no_fault : outputs.after.faults ≡ outputs.before.faults
   pub responses : outputs.new ≡ outputs.old ++ flat_map (λ happening. line_of happening.answer) happenings
 
--- They happened one after another to a new press of so many engines. Under each number was handed out what its entry says, as it was
+-- By these happenings a new press of so many engines came to this world. Under each number was handed out what its entry says, as it was
 -- seen last, with the steps that its turns were answered. Each entry that runs is on an engine of its own, there are as many engines, and the
 -- queue is as every queue is.
-pub record HappenFromNew (engines : ℕ) (events : List Event) (last : World) (outputs : EventOutputs) : Type 0 where
-  pub happened : HappenAll (new_world engines) events last outputs
-  pub given : (number : ℕ) → GivenUnder (new_world engines) happened.happenings last number
+pub record ComesFromNew (engines : ℕ) (happenings : List Transition) (last : World) : Type 0 where
+  pub given : (number : ℕ) → GivenUnder (new_world engines) happenings last number
   pub on_engines : RunsOnEngines last.queue last.engines
   pub count : length last.engines ≡ engines
   pub queue : IsQueue last.queue
@@ -79,12 +78,3 @@ pub record HappenUpTo (error : TurnError) (world : World) (events : List Event) 
   pub leads : IsExecution between (stopped ∷ []) last
   pub handed : WereHandedOut {A = Turn} stopped.handed (Err error) told outputs.after
   pub leaves : FaultLeaves stopped.answer error said outputs.new
-
--- They happened up to a fault to a new press of so many engines. What was handed out under each number, the engines and the queue are
--- as where all happened, with the event that was stopped as the last of the run.
-pub record HappenFromNewUpTo (error : TurnError) (engines : ℕ) (events : List Event) (last : World) (outputs : EventOutputs) : Type 0 where
-  pub happened : HappenUpTo error (new_world engines) events last outputs
-  pub given : (number : ℕ) → GivenUnder (new_world engines) (happened.happened.happenings ++ happened.stopped ∷ []) last number
-  pub on_engines : RunsOnEngines last.queue last.engines
-  pub count : length last.engines ≡ engines
-  pub queue : IsQueue last.queue

@@ -3,13 +3,13 @@ ghost use Rattle.std.specs.Prelude.{◌≡◌, List, Some, None, IsSome, false, 
 ghost use Rattle.std.specs.List.{flat_map};
 ghost use Rattle.press_sink.specs.SinkLog.{logs, HasFaultRoom, under};
 ghost use Rattle.press_sink.specs.Sending.{Complete, WentOut};
-ghost use Rattle.press_stream.specs.Answers.{FaultsBefore};
+ghost use Rattle.press_stream.specs.Answers.{FaultsBefore, fault_of};
 ghost use Rattle.press_stream.specs.Meaning.{CarriesOut};
-ghost use Rattle.press_stream.specs.Printed.{Prints, PrintedTo};
+ghost use Rattle.press_stream.specs.Printed.{Prints, PrintedTo, Printed};
 ghost use Rattle.press_stream.specs.State.{IsOver, opened};
 ghost use Rattle.press_cmd.specs.Token.{Token};
 ghost use Rattle.press_theorem.specs.AtEnd.{meaning_at_end};
-ghost use Rattle.press_theorem.specs.Calls.{PrintsCalls, bytes_of};
+ghost use Rattle.press_theorem.specs.Calls.{bytes_of};
 
 use press_sink::{ReplySink, SheetSink};
 use press_stream::{Job, JobError, laws};
@@ -94,8 +94,8 @@ pub fn print_stream<R: Read, S: SheetSink, P: ReplySink>(
     replies: &mut P,
 ) -> Result<PrintedStream, AllocError>
     requires { HasFaultRoom (logs (S.told sheets.old) (P.told replies.old)) }
-    ensures prints { IfOk result (λ printed. PrintsCalls (flat_map bytes_of calls.now) (R.remaining
-        reader.old) (R.remaining reader.new) printed.result printed.job
+    ensures prints { IfOk result (λ printed. Printed (flat_map bytes_of calls.now) (R.remaining
+        reader.old) (R.remaining reader.new) (fault_of printed.result) printed.job.machine
         (under tag (logs (S.told sheets.old) (P.told replies.old))
         (logs (S.told sheets.new) (P.told replies.new)))) }
     ensures over { IfOk result (λ printed. OnOk printed.result (IsOver printed.job)) }
@@ -119,8 +119,8 @@ fn run_calls<R: Read, S: SheetSink, P: ReplySink>(
 ) -> Result<(), JobError>
     requires opened { job.old ≡ opened }
     requires has_fault_room { HasFaultRoom (logs (S.told sheets.old) (P.told replies.old)) }
-    ensures prints { PrintsCalls (flat_map bytes_of calls.now) (R.remaining reader.old)
-        (R.remaining reader.new) result job.new
+    ensures prints { Printed (flat_map bytes_of calls.now) (R.remaining reader.old)
+        (R.remaining reader.new) (fault_of result) job.new.machine
         (under tag (logs (S.told sheets.old) (P.told replies.old))
         (logs (S.told sheets.new) (P.told replies.new))) }
     ensures over { OnOk result (IsOver job.new) }

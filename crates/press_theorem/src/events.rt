@@ -4,7 +4,7 @@ ghost use Rattle.press_pbm.specs.Spelling.{AppendsPrefix};
 ghost use Rattle.press_sink.specs.SinkLog.{most_faults};
 ghost use Rattle.press_core.specs.Engines.{are_engines};
 ghost use Rattle.press_core.specs.World.{new_world};
-ghost use Rattle.press_theorem.specs.Events.{HappenAll, HappenFromNew, HappenFromNewUpTo, HappenUpTo, event_of, handing};
+ghost use Rattle.press_theorem.specs.Events.{ComesFromNew, HappenAll, HappenUpTo, event_of, handing};
 
 use press_bits::Bitmap;
 use press_core::{OperatorCommand, Press, TurnError, laws};
@@ -50,17 +50,18 @@ pub fn carry_out_events<S: SheetSink>(
     ensures all { OnOk result (HappenAll press.old (map event_of events.now) press.new
         (handing (S.told sheets.old) (S.told sheets.new) responses.old.items responses.new.items)) }
     ensures from_new { OnOk result ((engines : ℕ) → IsTrue (are_engines engines)
-        → press.old ≡ new_world engines → HappenFromNew engines (map event_of events.now) press.new
-        (handing (S.told sheets.old) (S.told sheets.new) responses.old.items
-        responses.new.items)) }
+        → press.old ≡ new_world engines
+        → (happened : HappenAll (new_world engines) (map event_of events.now) press.new
+        (handing (S.told sheets.old) (S.told sheets.new) responses.old.items responses.new.items))
+        × ComesFromNew engines happened.happenings press.new) }
     ensures err { IfErr result (λ error. HappenUpTo error press.old (map event_of events.now)
         press.new
         (handing (S.told sheets.old) (S.told sheets.new) responses.old.items responses.new.items)) }
     ensures err_from_new { IfErr result (λ error. (engines : ℕ) → IsTrue (are_engines engines)
         → press.old ≡ new_world engines
-        → HappenFromNewUpTo error engines (map event_of events.now) press.new
-        (handing (S.told sheets.old) (S.told sheets.new) responses.old.items
-        responses.new.items)) }
+        → (happened : HappenUpTo error (new_world engines) (map event_of events.now) press.new
+        (handing (S.told sheets.old) (S.told sheets.new) responses.old.items responses.new.items))
+        × ComesFromNew engines (happened.happened.happenings ++ happened.stopped ∷ []) press.new) }
 {
     laws::sheets_are_given();
     laws::entries_are_bounded();

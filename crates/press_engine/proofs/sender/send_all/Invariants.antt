@@ -1,6 +1,7 @@
 use Rattle.std.proofs.Common.{drop, Result}
 use Rattle.press_sink.specs.SinkLog.{SinkLog, logs, HasFaultRoom}
-use Rattle.press_engine.specs.Engine.{Sends}
+use Rattle.press_sink.specs.Sending.{WentOut}
+use Rattle.press_engine.specs.Engine.{ending_of}
 use Rattle.press_engine.specs.Outputs.{all_outputs}
 use Rattle.press_engine.specs.declared.fault.EngineError.{EngineError}
 use Rattle.press_engine.proofs.sender.send_all.Given as goal
@@ -9,5 +10,5 @@ use Rattle.press_engine.proofs.sender.send_all.Given as goal
 abbrev pub invariant-loop-part : goal.invariant-loop-part
 invariant-loop-part g l = record {
   has_fault_room : HasFaultRoom (logs (g.S.SheetSink.told l.sheets) (g.R.ReplySink.told l.replies));
-  rest : (result : Result (Unit {0}) EngineError) (after : SinkLog) → Sends l.tag (all_outputs (drop l.part-index l.sent)) result (logs (g.S.SheetSink.told l.sheets) (g.R.ReplySink.told l.replies)) after → Sends l.tag (all_outputs l.sent) result (logs (g.S.SheetSink.told l.fn.sheets) (g.R.ReplySink.told l.fn.replies)) after;
+  rest : (result : Result (Unit {0}) EngineError) (after : SinkLog) → WentOut l.tag (all_outputs (drop l.part-index l.sent)) (ending_of result) (logs (g.S.SheetSink.told l.sheets) (g.R.ReplySink.told l.replies)) after → WentOut l.tag (all_outputs l.sent) (ending_of result) (logs (g.S.SheetSink.told l.fn.sheets) (g.R.ReplySink.told l.fn.replies)) after;
 }

@@ -1,12 +1,12 @@
 use Rattle.std.proofs.Common.{◌∙◌, Err, Ok, sym, ap}
 use Rattle.std.proofs.lemmas.Result.{err_from_is_err_and}
-use Rattle.press_engine.proofs.SendsLemmas.{Sends-copy, Sends-stopped_copy, Sends-no_copy, TookLast-copy, is_later, has_fault_room-then, copies_out-some}
+use Rattle.press_engine.proofs.SendsLemmas.{WentOut-copy, WentOut-stopped_copy, WentOut-no_copy, TookLast-copy, is_later, has_fault_room-then, copies_out-some}
 use Rattle.press_engine.proofs.sender.send_copies.Goals as goal
 
 pub returns-in_err-send_copy-clause-sends : goal.returns-in_err-send_copy-clause-sends
 returns-in_err-send_copy-clause-sends g c =
     let p = err_from_is_err_and c.from_residual.result c.from_residual.ensures.1 in
-    c.loop-copy.invariant.rest _ _ (Sends-stopped_copy c.args.finished.now.sheet c.args.tag c.loop-copy.copy c.args.finished.now.copies c.loop-copy.count c.next_count-count.result c.next_count-count.ensures c.send_copy.result _ p.0 _ _ c.loop-copy-test.true c.send_copy.ensures (c.in_err-send_copy.was ∙ ap Err (sym p.2)) p.1)
+    c.loop-copy.invariant.rest _ _ (WentOut-stopped_copy c.args.finished.now.sheet c.args.tag c.loop-copy.copy c.args.finished.now.copies c.loop-copy.count c.next_count-count.result c.next_count-count.ensures c.send_copy.result _ p.0 _ _ c.loop-copy-test.true c.send_copy.ensures (c.in_err-send_copy.was ∙ ap Err (sym p.2)) p.1)
 
 pub returns-in_err-send_copy-clause-memory : goal.returns-in_err-send_copy-clause-memory
 returns-in_err-send_copy-clause-memory g c stops = copies_out-some c.args.finished.now.sheet c.loop-copy.copy c.args.finished.now.copies c.args.finished.now.since_job c.loop-copy-test.true
@@ -17,9 +17,9 @@ send_copy-requires-clause-last g c = λ again. c.loop-copy.invariant.last (is_la
 pub loop-copy-preserved : goal.loop-copy-preserved
 loop-copy-preserved g c = record {
   has_fault_room = has_fault_room-then c.args.tag _ _ _ c.in_ok-send_copy.ensures c.loop-copy.invariant.has_fault_room;
-  rest = λ result after sends. c.loop-copy.invariant.rest result after (Sends-copy c.args.finished.now.sheet c.args.tag c.loop-copy.copy c.args.finished.now.copies c.loop-copy.count c.next_count-count.result c.next_count-count.ensures result _ _ after c.loop-copy-test.true c.in_ok-send_copy.ensures sends);
+  rest = λ result after sends. c.loop-copy.invariant.rest result after (WentOut-copy c.args.finished.now.sheet c.args.tag c.loop-copy.copy c.args.finished.now.copies c.loop-copy.count c.next_count-count.result c.next_count-count.ensures result _ _ after c.loop-copy-test.true c.in_ok-send_copy.ensures sends);
   last = λ _. TookLast-copy c.args.finished.now.sheet c.args.tag c.next_count-count.result _ _ c.in_ok-send_copy.ensures;
 }
 
 pub returns-clause-sends : goal.returns-clause-sends
-returns-clause-sends g c = c.loop-copy.invariant.rest (Ok tt) _ (Sends-no_copy c.args.finished.now.sheet c.args.tag c.loop-copy.copy c.args.finished.now.copies c.loop-copy.count _ c.loop-copy-test.false)
+returns-clause-sends g c = c.loop-copy.invariant.rest (Ok tt) _ (WentOut-no_copy c.args.finished.now.sheet c.args.tag c.loop-copy.copy c.args.finished.now.copies c.loop-copy.count _ c.loop-copy-test.false)

@@ -2,18 +2,19 @@ use Rattle.std.proofs.Common.{◌∙◌, ℕ, Option, [], ◌∷◌, Err, sym, a
 use Rattle.std.proofs.lemmas.Result.{err_from_is_err_and}
 use Rattle.press_pjl.specs.Replies.{page_reply}
 use Rattle.press_sink.specs.SinkLog.{logs}
-use Rattle.press_sink.specs.Sending.{Deliver, Reply}
-use Rattle.press_engine.specs.Engine.{Sends}
+use Rattle.press_sink.specs.Sending.{Deliver, Reply, WentOut}
+use Rattle.press_sink.proofs.SendingLemmas.{WentOut-then}
+use Rattle.press_engine.specs.Engine.{ending_of}
 use Rattle.press_engine.specs.Outputs.{copy_out, status_out}
-use Rattle.press_engine.proofs.SendsLemmas.{Sends-then, Sends-exit}
+use Rattle.press_engine.proofs.SendsLemmas.{WentOut-exit}
 use Rattle.press_engine.proofs.sender.send_copy.Goals as goal
 
 pub returns-in_err-deliver : goal.returns-in_err-deliver
 returns-in_err-deliver g c =
     let p = err_from_is_err_and c.from_residual.result c.from_residual.ensures.1 in
-    Sends-exit c.args.tag (Deliver c.args.sheet.now ∷ []) (status_out c.args.count) c.deliver.result c.from_residual.result p.0 _ _ c.deliver.ensures (c.in_err-deliver.was ∙ ap Err (sym p.2)) p.1
+    WentOut-exit c.args.tag (Deliver c.args.sheet.now ∷ []) (status_out c.args.count) c.deliver.result c.from_residual.result p.0 _ _ c.deliver.ensures (c.in_err-deliver.was ∙ ap Err (sym p.2)) p.1
 
 pub returns-in-Some : goal.returns-in-Some
 returns-in-Some g c =
-    let P : Option ℕ → Type 0 = λ count. Sends c.args.tag (copy_out c.args.sheet.now count) c.reply_status.result (logs (g.S.SheetSink.told c.args.sheets.now) (g.R.ReplySink.told c.args.replies.now)) (logs (g.S.SheetSink.told c.reply_status.new.sheets) (g.R.ReplySink.told c.reply_status.new.replies)) in
-    subst P (sym c.in-Some.is) (Sends-then c.args.tag (Deliver c.args.sheet.now ∷ []) (Reply (page_reply c.in-Some.since_job) ∷ []) c.reply_status.result _ _ _ c.in_ok-deliver.ensures c.reply_status.ensures)
+    let P : Option ℕ → Type 0 = λ count. WentOut c.args.tag (copy_out c.args.sheet.now count) (ending_of c.reply_status.result) (logs (g.S.SheetSink.told c.args.sheets.now) (g.R.ReplySink.told c.args.replies.now)) (logs (g.S.SheetSink.told c.reply_status.new.sheets) (g.R.ReplySink.told c.reply_status.new.replies)) in
+    subst P (sym c.in-Some.is) (WentOut-then c.args.tag (Deliver c.args.sheet.now ∷ []) (Reply (page_reply c.in-Some.since_job) ∷ []) (ending_of c.reply_status.result) _ _ _ c.in_ok-deliver.ensures c.reply_status.ensures)

@@ -5,7 +5,8 @@ use Rattle.std.proofs.lemmas.Result.{err_from_is_err_and}
 use Rattle.press_theorem.specs.declared.calls.Call.TheVariants.{Push}
 use Rattle.press_theorem.specs.Calls.{bytes_of}
 use Rattle.press_theorem.proofs.AtEndLemmas.{printed-means}
-use Rattle.press_theorem.proofs.ChainLemmas.{opened-going, pieces-next, CarriesOut-opened, CarriesOut-more, has_fault_room-after, finish-over, Prints-end, pieces-rest, PrintedTo-before, PrintedTo-none, PrintedTo-end}
+use Rattle.press_engine.proofs.SendsLemmas.{has_fault_room-then}
+use Rattle.press_theorem.proofs.ChainLemmas.{opened-going, pieces-next, CarriesOut-opened, CarriesOut-more, finish-over, Prints-end, pieces-rest, PrintedTo-before, PrintedTo-none, PrintedTo-end}
 use Rattle.press_theorem.proofs.calls.print_calls.Goals as goal
 
 pub loop-call-init : goal.loop-call-init
@@ -28,7 +29,7 @@ loop-call-preserved g c =
       given = _;
       goes = CarriesOut-more c.chain.ensures.calls (flat_map bytes_of (take i pieces)) (bytes_of call) _ c.loop-call.invariant.given more.0 c.args.tag c.loop-call.job c.make.new.job _ _ _ (pieces-next bytes_of pieces i first c.loop-call-test.true) goes more.1;
       going = c.in_ok-make.ensures.going;
-      has_fault_room = has_fault_room-after c.loop-call.job c.make.new.job (bytes_of call) more.0 c.args.tag _ _ more.1 c.loop-call.invariant.has_fault_room;
+      has_fault_room = has_fault_room-then c.args.tag _ _ _ more.1.went c.loop-call.invariant.has_fault_room;
     }
 
 pub returns-clause-ok : goal.returns-clause-ok

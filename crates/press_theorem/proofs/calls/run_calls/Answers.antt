@@ -4,7 +4,8 @@ use Rattle.std.proofs.lemmas.List.{take_all}
 use Rattle.std.proofs.lemmas.Result.{err_from_is_err_and}
 use Rattle.press_theorem.specs.declared.calls.Call.TheVariants.{Push}
 use Rattle.press_theorem.specs.Calls.{bytes_of}
-use Rattle.press_theorem.proofs.ChainLemmas.{opened-going, pieces-next, CarriesOut-opened, CarriesOut-more, has_fault_room-after, pieces-rest, PrintedTo-before, PrintsCalls-read, PrintsCalls-stopped, read-failed, read-over, runs-on}
+use Rattle.press_engine.proofs.SendsLemmas.{has_fault_room-then}
+use Rattle.press_theorem.proofs.ChainLemmas.{opened-going, pieces-next, CarriesOut-opened, CarriesOut-more, pieces-rest, PrintedTo-before, Printed-stopped, read-failed, read-over, runs-on}
 use Rattle.press_theorem.proofs.calls.run_calls.Goals as goal
 
 pub loop-call-init : goal.loop-call-init
@@ -33,7 +34,7 @@ loop-call-preserved g c =
       given = _;
       goes = CarriesOut-more c.chain.ensures.calls (flat_map bytes_of (take i pieces)) (bytes_of call) _ c.loop-call.invariant.given more.0 c.args.tag c.loop-call.job c.make.new.job _ _ _ (pieces-next bytes_of pieces i first c.loop-call-test.true) goes more.1;
       going = c.in_ok-make.ensures.going;
-      has_fault_room = has_fault_room-after c.loop-call.job c.make.new.job (bytes_of call) more.0 c.args.tag _ _ more.1 c.loop-call.invariant.has_fault_room;
+      has_fault_room = has_fault_room-then c.args.tag _ _ _ more.1.went c.loop-call.invariant.has_fault_room;
     }
 
 pub returns-in_err-make-clause-prints : goal.returns-in_err-make-clause-prints
@@ -44,7 +45,7 @@ returns-in_err-make-clause-prints g c =
     let call = get_or calls i first in
     let p = err_from_is_err_and c.from_residual.result c.from_residual.ensures.1 in
     rw (p.1, p.2)
-    (PrintsCalls-stopped (flat_map bytes_of calls) _ c.args.tag c.in_err-make.field-0.0 c.make.new.job _ _
+    (Printed-stopped (flat_map bytes_of calls) _ c.args.tag c.in_err-make.field-0.0 c.make.new.job.machine _ _
     (PrintedTo-before c.chain.ensures.prints (flat_map bytes_of (take i calls)) (bytes_of call) (flat_map bytes_of (drop (i + 1) calls)) (flat_map bytes_of calls) c.loop-call.invariant.given c.args.tag c.in_err-make.field-0.0 c.loop-call.job c.make.new.job _ _ _
     c.loop-call.invariant.going (pieces-rest bytes_of calls i first c.loop-call-test.true) c.loop-call.invariant.goes c.in_err-make.ensures.faults))
 
@@ -52,8 +53,8 @@ pub returns-clause-prints : goal.returns-clause-prints
 returns-clause-prints g c =
     let calls = c.args.calls.now in
     let i = c.loop-call.call-index in
-    PrintsCalls-read c.chain.ensures.prints (flat_map bytes_of (take i calls)) (flat_map bytes_of calls) c.loop-call.invariant.given _ _ c.args.tag c.run.result c.loop-call.job c.run.new.self _ _ _
-    (sym (ap (flat_map bytes_of) (take_all i calls c.loop-call-test.false))) c.loop-call.invariant.goes c.loop-call.invariant.going c.run.ensures.runs
+    rw (sym (ap (flat_map bytes_of) (take_all i calls c.loop-call-test.false)))
+    (c.chain.ensures.prints.runs_on (flat_map bytes_of (take i calls)) c.loop-call.invariant.given _ _ c.args.tag c.run.result c.loop-call.job c.run.new.self _ _ _ c.loop-call.invariant.goes c.loop-call.invariant.going c.run.ensures.runs)
 
 pub returns-clause-over : goal.returns-clause-over
 returns-clause-over g c = read-over c.loop-call.job c.run.new.self c.run.ensures.runs.bytes c.args.tag c.run.result _ _ c.run.ensures.runs.through

@@ -2,7 +2,8 @@ use Rattle.std.proofs.Common.{[], ◌+◌, sym, ap, get_or, take, drop}
 use Rattle.std.specs.List.{flat_map}
 use Rattle.std.proofs.lemmas.List.{take_all}
 use Rattle.std.proofs.lemmas.Result.{err_from_is_err_and}
-use Rattle.press_theorem.proofs.ChainLemmas.{opened-going, pieces-next, CarriesOut-opened, CarriesOut-more, has_fault_room-after, Prints-end, pieces-rest, PrintedTo-before, PrintedTo-none, PrintedTo-end, fed-fault}
+use Rattle.press_engine.proofs.SendsLemmas.{has_fault_room-then}
+use Rattle.press_theorem.proofs.ChainLemmas.{opened-going, pieces-next, CarriesOut-opened, CarriesOut-more, Prints-end, pieces-rest, PrintedTo-before, PrintedTo-none, PrintedTo-end, fed-fault}
 use Rattle.press_theorem.proofs.pieces.print_pieces.Goals as goal
 
 pub loop-piece-init : goal.loop-piece-init
@@ -23,7 +24,7 @@ loop-piece-preserved g c =
       given = _;
       goes = CarriesOut-more c.chain.ensures.calls (flat_map (λ piece. piece.now) (take i pieces)) (get_or pieces i (record { ref_ptr = (0, 0); now = [] })).now _ c.loop-piece.invariant.given more.0 c.args.tag c.loop-piece.job c.feed.new.self _ _ _ (pieces-next (λ piece. piece.now) pieces i (record { ref_ptr = (0, 0); now = [] }) c.loop-piece-test.true) goes more.1;
       going = more.2.going;
-      has_fault_room = has_fault_room-after c.loop-piece.job c.feed.new.self (get_or pieces i (record { ref_ptr = (0, 0); now = [] })).now more.0 c.args.tag _ _ more.1 c.loop-piece.invariant.has_fault_room;
+      has_fault_room = has_fault_room-then c.args.tag _ _ _ more.1.went c.loop-piece.invariant.has_fault_room;
     }
 
 pub returns-clause-ok : goal.returns-clause-ok

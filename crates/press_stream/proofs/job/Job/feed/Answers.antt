@@ -12,7 +12,7 @@ pub returns-clause-feeds : goal.returns-clause-feeds
 returns-clause-feeds g c =
     let going = (rw c.in_ok-check_going.was at c.check_going.ensures).1 in
     let drains = rw c.in_ok-drain.was at c.drain.ensures.drains in
-    Feeds-then c.args.self.now c.drain.new.self c.feed_by_parts.new.self c.args.piece.now drains.0 c.args.tag c.feed_by_parts.result _ _ _ going drains.1 (hungry_of c.args.self.now c.drain.new.self c.args.tag _ _ _ going drains) c.feed_by_parts.ensures
+    Feeds-then c.args.self.now c.drain.new.self c.feed_by_parts.new.self c.args.piece.now drains.0 c.args.tag c.feed_by_parts.result _ _ _ going drains.1 (hungry_of c.args.self.now c.drain.new.self going drains.2 drains.3) c.feed_by_parts.ensures
 
 pub returns-in_err-drain-clause-answered : goal.returns-in_err-drain-clause-answered
 returns-in_err-drain-clause-answered g c =

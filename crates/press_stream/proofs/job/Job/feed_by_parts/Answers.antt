@@ -1,7 +1,8 @@
 use Rattle.std.proofs.Common.{◌∙◌, ℕ, List, [], ◌++◌, take, drop, refl, sym, ap, append_assoc}
 use Rattle.std.proofs.lemmas.List.{take-append-drop, take_rest}
 use Rattle.std.proofs.lemmas.Result.{err_from_is_err_and}
-use Rattle.press_stream.proofs.Going.{CarriesOut-none, CarriesOut-then, has_fault_room-then}
+use Rattle.press_engine.proofs.SendsLemmas.{has_fault_room-then}
+use Rattle.press_stream.proofs.Going.{CarriesOut-none, CarriesOut-then}
 use Rattle.press_stream.proofs.Faults.{Takes-part, Feeds-part}
 use Rattle.press_stream.proofs.job.Job.feed_by_parts.Goals as goal
 
@@ -20,18 +21,19 @@ loop-rest-preserved g c =
     let so_far = c.loop-rest.invariant in
     let rest : List ℕ = c.loop-rest.rest.now in
     let count : ℕ = c.take-count.result in
-    let taken = Takes-part c.loop-rest.self c.take-count.new.self c.drain.new.self (take c.take-count.result c.loop-rest.rest.now) c.args.tag _ _ so_far.hungry c.take-count.ensures.taken (rw c.in_ok-drain.was at c.drain.ensures.drains) in
+    let drained = rw c.in_ok-drain.was at c.drain.ensures.drains in
+    let taken = Takes-part c.loop-rest.self c.take-count.new.self c.drain.new.self (take c.take-count.result c.loop-rest.rest.now) drained.0 c.args.tag _ _ so_far.hungry c.take-count.ensures.taken drained.1 drained.2 drained.3 in
     record {
       fed = so_far.fed ++ take c.take-count.result c.loop-rest.rest.now;
-      given = so_far.given ++ taken.0;
+      given = so_far.given ++ drained.0;
       piece =
           so_far.piece
           ∙ ap (λ (xs : List ℕ). so_far.fed ++ xs) (sym (take-append-drop c.take-count.result c.loop-rest.rest.now))
           ∙ sym (append_assoc so_far.fed (take c.take-count.result c.loop-rest.rest.now) (drop c.take-count.result c.loop-rest.rest.now))
           ∙ ap (λ (xs : List ℕ). (so_far.fed ++ take c.take-count.result c.loop-rest.rest.now) ++ xs) (sym (take_rest c.loop-rest.rest.now c.take-count.result));
-      goes = CarriesOut-then c.args.self.now c.loop-rest.self c.drain.new.self so_far.fed (take c.take-count.result c.loop-rest.rest.now) so_far.given taken.0 c.args.tag _ _ _ so_far.goes taken.1;
-      hungry = taken.2;
-      has_fault_room = has_fault_room-then taken.0 taken.1.items c.loop-rest.self c.drain.new.self c.args.tag _ _ taken.1.carried so_far.has_fault_room;
+      goes = CarriesOut-then c.args.self.now c.loop-rest.self c.drain.new.self so_far.fed (take c.take-count.result c.loop-rest.rest.now) so_far.given drained.0 c.args.tag _ _ _ so_far.goes taken.0;
+      hungry = taken.1;
+      has_fault_room = has_fault_room-then c.args.tag _ _ _ taken.0.went so_far.has_fault_room;
     }
 
 pub returns-in_err-drain : goal.returns-in_err-drain

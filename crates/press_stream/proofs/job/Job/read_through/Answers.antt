@@ -2,7 +2,8 @@ use Rattle.std.proofs.Common.{rules, arith, ℕ, ◌++◌, take, refl, subst}
 use Rattle.std.proofs.lemmas.Result.{err_from_is_err_and}
 use Rattle.std.specs.Io.KnownBytes.{Consumes}
 use Rattle.std.proofs.KnownBytes.{Consumes-trans}
-use Rattle.press_stream.proofs.Going.{CarriesOut-then, has_fault_room-then}
+use Rattle.press_engine.proofs.SendsLemmas.{has_fault_room-then}
+use Rattle.press_stream.proofs.Going.{CarriesOut-then}
 use Rattle.press_stream.proofs.RunLemmas.{RunsReader-drain, RunsReader-finish, RunsReader-feed}
 use Rattle.press_stream.proofs.Carries.{same_fault}
 use Rattle.press_stream.proofs.Faults.{Faults-now, no_read_fault, no_read_fault-fed}
@@ -39,7 +40,7 @@ loop-length-preserved g c =
       lost = Consumes-trans (g.R.Read.remaining c.args.reader.now) (g.R.Read.remaining c.loop-length.reader) (g.R.Read.remaining c.read_next.new.reader) so_far.bytes piece so_far.lost gives.1;
       goes = CarriesOut-then c.args.self.now c.loop-length.self c.feed.new.self so_far.bytes piece so_far.given fed.0 c.args.tag _ _ _ so_far.goes fed.1;
       hungry = fed.2;
-      has_fault_room = has_fault_room-then fed.0 fed.1.items c.loop-length.self c.feed.new.self c.args.tag _ _ fed.1.carried so_far.has_fault_room;
+      has_fault_room = has_fault_room-then c.args.tag _ _ _ fed.1.went so_far.has_fault_room;
       few = omega (arith, c.read_next.ensures.bound, so_far.few);
       going = search rules;
     }

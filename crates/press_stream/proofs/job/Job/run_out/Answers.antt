@@ -1,8 +1,9 @@
 use Rattle.std.proofs.Common.{[], ◌∙◌, Err, refl, ap, arith}
 use Rattle.std.proofs.lemmas.Result.{err_from_is_err_and}
 use Rattle.press_stream.specs.declared.fault.JobError.{JobError}
+use Rattle.press_engine.proofs.SendsLemmas.{has_fault_room-then}
 use Rattle.press_stream.proofs.Carries.{same_fault}
-use Rattle.press_stream.proofs.Going.{CarriesOut-none, has_fault_room-then, CarriesOut-ran, taken-fewer, taken-ended}
+use Rattle.press_stream.proofs.Going.{CarriesOut-none, CarriesOut-one, taken-fewer, taken-ended}
 use Rattle.press_stream.proofs.Faults.{FaultsBefore-after, FaultsBefore-step}
 use Rattle.press_stream.proofs.Inside.{not_idle}
 use Rattle.press_stream.proofs.RunningOut.{ran_inside, one_fewer, CarriesOut-more}
@@ -30,14 +31,14 @@ pub loop-self-preserved : goal.loop-self-preserved
 loop-self-preserved g c =
     let takes = rw c.in_ok-step.was at c.step.ensures.takes in
     let inside = not_idle c.is_idle.result _ c.is_idle.ensures.none c.loop-self-test.true in
-    let (kind, ran) = ran_inside c.loop-self.self c.step.new.self c.args.tag _ _ _ inside takes in
-    let goes = CarriesOut-ran c.loop-self.self c.step.new.self c.args.tag kind _ _ ran in
-    let fewer = taken-fewer c.loop-self.self c.step.new.self ran.did.given ran.did.takes in
+    let (kind, item, did, went) = ran_inside c.loop-self.self c.step.new.self c.args.tag _ _ _ inside takes in
+    let goes = CarriesOut-one c.loop-self.self c.step.new.self item kind c.args.tag _ _ did went in
+    let fewer = taken-fewer c.loop-self.self c.step.new.self did.given did.takes in
     record {
       goes = CarriesOut-more c.args.self.now c.loop-self.self c.step.new.self c.args.tag _ _ _ _ inside c.loop-self.invariant.goes takes;
       fewer = omega (arith, fewer, c.loop-self.invariant.fewer);
-      still = taken-ended c.loop-self.self c.step.new.self ran.did.given ran.did.takes ∙ c.loop-self.invariant.still;
-      has_fault_room = has_fault_room-then ran.did.given goes.items c.loop-self.self c.step.new.self c.args.tag _ _ goes.carried c.loop-self.invariant.has_fault_room;
+      still = taken-ended c.loop-self.self c.step.new.self did.given did.takes ∙ c.loop-self.invariant.still;
+      has_fault_room = has_fault_room-then c.args.tag _ _ _ goes.went c.loop-self.invariant.has_fault_room;
     }
 
 pub loop-self-smaller : goal.loop-self-smaller

@@ -1,7 +1,7 @@
 use Rattle.std.proofs.Common.{◌∙◌, Err, refl, ap}
 use Rattle.std.proofs.lemmas.Result.{err_from_is_err_and}
 use Rattle.press_stream.specs.declared.fault.JobError.{JobError}
-use Rattle.press_stream.proofs.Carries.{same_fault, RanOne-sent, Faults-taken, Faults-sent, wants-sent}
+use Rattle.press_stream.proofs.Carries.{same_fault, Takes-sent, Faults-taken, Faults-sent, wants-sent}
 use Rattle.press_stream.proofs.job.Job.step.Goals as goal
 
 pub returns-in_err-step-clause-takes : goal.returns-in_err-step-clause-takes
@@ -28,5 +28,5 @@ returns-in_err-hand_over-in-Ran-clause-memory g c =
 pub returns-in_ok-hand_over-in-Ran-clause-takes : goal.returns-in_ok-hand_over-in-Ran-clause-takes
 returns-in_ok-hand_over-in-Ran-clause-takes g c =
     let hands = c.hand_over in
-    RanOne-sent c.args.self.now c.take_step.new.self c.reuse.new.self c.in-Ran.step c.deref.result.now c.args.tag _ _ (rw (c.in_ok-step.was, c.in-Ran.is) at c.take_step.ensures.takes)
+    Takes-sent c.args.self.now c.take_step.new.self c.reuse.new.self c.in-Ran.step c.deref.result.now c.args.tag _ _ (rw (c.in_ok-step.was, c.in-Ran.is) at c.take_step.ensures.takes)
     (c.reuse.ensures ∙ (rw c.in_ok-hand_over-in-Ran.was at hands.ensures.left)) c.deref.ensures.value (rw c.in_ok-hand_over-in-Ran.was at hands.ensures.hands)
