@@ -18,8 +18,7 @@ use Rattle.press_debug.specs.Stops.{MetBy, StateMeets, StopsAt, ContinuesTo, Sto
 use Rattle.press_debug.proofs.PlaceLaws.{places_go_on}
 use Rattle.press_main.specs.declared.debugger_lines.DebuggerLine.{DebuggerLine}
 use Rattle.press_main.specs.declared.debugger_lines.DebuggerLine.TheVariants as line
-use Rattle.press_main.specs.DebuggerLines.{asked_of}
-use Rattle.press_main.specs.Debugging.{Seat, NeverMet, IsQuiet, DoesAsked, DoesLine, StandsIn, Answers, kinds_text}
+use Rattle.press_main.specs.Debugging.{Seat, NeverMet, IsQuiet, DoesAsked, DoesLine, StandsIn, kinds_text}
 
 -- ---- a watch that nothing meets
 
@@ -97,29 +96,6 @@ module _ (bytes : List ℕ) where
   pub stands_line : (asked : Option DebuggerLine) (old : Seat) (answer : List ℕ) (new : Seat) → DoesLine asked old answer new → StandsIn bytes old.steps → StandsIn bytes new.steps
   stands_line None old answer new (_, same) stands = stands_still old.steps new.steps (ap (λ (at : Seat). at.steps) same) stands
   stands_line (Some asked) old answer new does stands = stands_asked asked old answer new does stands
-
-  -- ---- one line more
-
-  pub Answers-then : (lines : List (List ℕ)) (one : List ℕ) (old : Seat) (answers : List ℕ) (mid : Seat) (answer : List ℕ) (new : Seat)
-      → Answers bytes lines old answers mid → DoesLine (asked_of one) mid answer new → StandsIn bytes new.steps → Answers bytes (lines ++ one ∷ []) old (answers ++ answer) new
-  Answers-then [] one old answers mid answer new (none, same) does stands = (
-    answer,
-    [],
-    new,
-    subst (λ (at : Seat). DoesLine (asked_of one) at answer new) same does,
-    stands,
-    (refl, refl),
-    ap (λ (some : List ℕ). some ++ answer) none ∙ sym (append-nil answer),
-  )
-  Answers-then (line ∷ lines) one old answers mid answer new (first, others, next, does_first, stands_first, answered, are) does stands = (
-    first,
-    others ++ answer,
-    next,
-    does_first,
-    stands_first,
-    Answers-then lines one next others mid answer new answered does stands,
-    ap (λ (some : List ℕ). some ++ answer) are ∙ append_assoc first others answer,
-  )
 
 -- ---- the lines of kinds
 

@@ -12,6 +12,7 @@ mod NumberingLemmas
 mod PagingLemmas
 pub mod PrintedLemmas
 mod SessionLemmas
+mod TalkLemmas
 mod WordLemmas
 mod WordsLemmas
 pub mod WorkedWords

@@ -20,7 +20,7 @@ use Rattle.press_main.specs.Files.{DoesNothing}
 use Rattle.press_main.specs.Program.{BeginsNothing, Does, OpensNothing, PrintsAFile}
 
 -- what two functions make, one after the other
-pub map-twice : {A B C : Type 0} (f : A → B) (g : B → C) (all : List A) → map (λ one. g (f one)) all ≡ map g (map f all)
+pub map-twice {ℓ} : {A B : Type 0} {C : Type ℓ} (f : A → B) (g : B → C) (all : List A) → map (λ one. g (f one)) all ≡ map g (map f all)
 map-twice f g [] = refl
 map-twice f g (one ∷ all) = ap (λ rest. g (f one) ∷ rest) (map-twice f g all)
 

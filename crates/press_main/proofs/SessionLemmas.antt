@@ -1,12 +1,10 @@
 -- Lines of a session, some after others.
-use Rattle.std.proofs.Common.{◌≡◌, ◌∙◌, ℕ, List, [], ◌∷◌, ◌++◌, codes, true, false, Option, Some, None, option_map, Result, Ok, Err, OnOk, IfErr, refl, sym, ap, subst, inl, inr}
+use Rattle.std.proofs.Common.{◌≡◌, ◌∙◌, ℕ, List, [], ◌∷◌, ◌++◌, codes, true, false, Option, Some, None, option_map, Ok, refl, sym, ap, subst, inl, inr}
 use Rattle.press_main.specs.Change.{change}
-use Rattle.std.specs.Io.KnownBytes.{Consumes, Appends}
-use Rattle.std.proofs.KnownBytes.{Appends-nil, Appends-trans, Consumes-nil, Consumes-trans}
+use Rattle.std.specs.Io.KnownBytes.{Appends}
 use Rattle.std.specs.List.{All}
 use Rattle.std.proofs.lemmas.List.{append_assoc, append-nil}
 use Rattle.std.proofs.lemmas.List.Elements.{All-append, All-cons, All-nil}
-use Rattle.press_asm.specs.Text.{lines_of}
 use Rattle.press_sink.specs.declared.sheet.Delivery.{Delivery}
 use Rattle.press_core.specs.declared.turn.Turn.{Turn}
 use Rattle.press_core.specs.declared.engines.BadEngines.{BadEngines}
@@ -14,15 +12,14 @@ use Rattle.press_core.specs.Engines.{are_engines}
 use Rattle.press_core.specs.Events.{TurnOn, Turned, Transition, Happens, IsAnswered, IsExecution}
 use Rattle.press_core.specs.Laws.{SheetsAreGiven}
 use Rattle.press_core.specs.World.{World, new_world}
-use Rattle.press_main.specs.declared.inputs.InputError.{InputError}
 use Rattle.press_main.specs.declared.jobs.JobFileError.TheVariants as fault
 use Rattle.press_main.specs.declared.sessions.SessionError.{SessionError}
-use Rattle.press_main.specs.declared.sessions.SessionError.TheVariants.{Engines, File}
+use Rattle.press_main.specs.declared.sessions.SessionError.TheVariants.{Engines, File, Output}
 use Rattle.press_main.specs.EntryListing.{entry_listing}
 use Rattle.press_main.specs.EventLines.{EventLine, event_of_line}
-use Rattle.press_main.specs.LineReading.{GivesLine}
-use Rattle.press_main.specs.Sessions.{Inputs, answer_text, answer_to, answers_to, happenings_in, handed_in, turn_text, AreLinesOf, TakesEvent, TakesAsked, TakesLines, Plays, PlaysToItsEnd, StopsAtLine, Ends, StopsEnding, StopsListing, StopsPlaying, Stops, standing}
-use Rattle.press_main.proofs.LineLemmas.{next-line, reads-no-more}
+use Rattle.press_main.specs.Sessions.{Inputs, answer_text, answer_to, answers_to, happenings_in, handed_in, turn_text, AreLinesOf, TakesEvent, TakesAsked, TakesLines, IsUnanswered, Plays, PlaysToItsEnd, StopsListing, StopsPlaying, Stops, Standing, standing, playing}
+use Rattle.press_main.specs.Talking.{Talking, AnswersLines, AnswersAll, AnswersSome, line_by_line}
+use Rattle.press_main.proofs.TalkLemmas.{IsSeen, AnswersAll-seen, AnswersSome-seen}
 
 -- the event of this happening has its answer
 abbrev has_answer : Transition → Type 0
@@ -106,194 +103,72 @@ TakesLines-event inputs line asked world next had has answer is taken =
 pub same_deliveries : (has had handed : List Delivery) → Some has ≡ option_map (λ (all : List Delivery). all ++ handed) (Some had) → has ≡ had ++ handed
 same_deliveries has had handed told = cc
 
--- The lines so far were carried out: what was read behind them is held.
-pub record IsPlayed (inputs : Inputs) (world : World) (had : List Delivery) (bytes left old : Option (List ℕ)) (held : List ℕ) (next : World) (has : List Delivery) (between : Option (List ℕ)) : Type 0 where
-  pub text : List ℕ
-  pub lines : List (List ℕ)
-  pub answers : List ℕ
-  pub read : Consumes bytes left text
-  pub cut : (more : List ℕ) → lines_of (text ++ more) ≡ lines ++ lines_of (held ++ more)
-  pub takes : TakesLines inputs lines (standing world had) (standing next has) answers
-  pub written : Appends old between answers
-
-pub IsPlayed-begun : (inputs : Inputs) (world : World) (had : List Delivery) (bytes old : Option (List ℕ)) (held : List ℕ) → held ≡ [] → IsPlayed inputs world had bytes bytes old held world had old
-IsPlayed-begun inputs world had bytes old held none = record {
-  text = [];
-  lines = [];
-  answers = [];
-  read = Consumes-nil bytes;
-  cut = λ more. ap (λ (held : List ℕ). lines_of (held ++ more)) (sym none);
-  takes = TakesLines-nothing inputs world had;
-  written = Appends-nil old;
-}
-
-pub IsPlayed-more : (inputs : Inputs) (world : World) (had : List Delivery) (bytes left old : Option (List ℕ)) (held : List ℕ) (middle : World) (between : List Delivery) (written : Option (List ℕ)) (rest : Option (List ℕ)) (holds line : List ℕ) (next : World) (has : List Delivery) (new : Option (List ℕ))
-    → IsPlayed inputs world had bytes left old held middle between written → GivesLine (Ok true) held holds left rest line
-    → ((answer : List ℕ) × TakesLines inputs (line ∷ []) (standing middle between) (standing next has) answer × Appends written new answer)
-    → IsPlayed inputs world had bytes rest old holds next has new
-IsPlayed-more inputs world had bytes left old held middle between written rest holds line next has new so_far given taken =
-    let read = given.0 in
-    record {
-      text = so_far.text ++ read;
-      lines = so_far.lines ++ line ∷ [];
-      answers = so_far.answers ++ taken.0;
-      read = Consumes-trans bytes left rest so_far.text read so_far.read given.1;
-      cut = λ more.
-          ap lines_of (append_assoc so_far.text read more) ∙ so_far.cut (read ++ more)
-          ∙ next-line line (holds ++ more) so_far.lines (held ++ (read ++ more)) given.2
-          (sym (append_assoc held read more) ∙ ap (λ (all : List ℕ). all ++ more) given.3 ∙ append_assoc line (10 ∷ holds) more);
-      takes = TakesLines-then inputs so_far.lines (line ∷ []) world middle next had between has so_far.answers taken.0 so_far.takes taken.1;
-      written = Appends-trans old written new so_far.answers taken.0 so_far.written taken.2;
-    }
-
--- the last line and the listing
-pub IsPlayed-ends : (inputs : Inputs) (world : World) (had : List Delivery) (bytes left old : Option (List ℕ)) (held : List ℕ) (middle : World) (between : List Delivery) (written : Option (List ℕ)) (rest : Option (List ℕ)) (holds line : List ℕ) (new : Option (List ℕ))
-    → IsPlayed inputs world had bytes left old held middle between written → GivesLine (Ok false) held holds left rest line
-    → Ends inputs (lines_of line) middle between written new → PlaysToItsEnd inputs (standing world had) bytes rest old new
-IsPlayed-ends inputs world had bytes left old held middle between written rest holds line new so_far given ends =
-    let read = given.0 in
-    let all : lines_of (so_far.text ++ read) ≡ so_far.lines ++ lines_of line = so_far.cut read ∙ ap (λ (bytes : List ℕ). so_far.lines ++ lines_of bytes) given.3 in
-    let takes = TakesLines-then inputs so_far.lines (lines_of line) world middle ends.next had between ends.has so_far.answers ends.answers so_far.takes ends.takes in
-    record {
-      text = so_far.text ++ read;
-      next = ends.next;
-      has = ends.has;
-      answers = so_far.answers ++ ends.answers;
-      read = record { lost = Consumes-trans bytes left rest so_far.text read so_far.read given.1; at_end = given.4 };
-      takes = subst (λ (lines : List (List ℕ)). TakesLines inputs lines (standing world had) (standing ends.next ends.has) (so_far.answers ++ ends.answers)) (sym all) takes;
-      written = subst (λ (some : List ℕ). Appends old new some) (sym (append_assoc so_far.answers ends.answers (entry_listing ends.has))) (Appends-trans old written new so_far.answers (ends.answers ++ entry_listing ends.has) so_far.written ends.written);
-    }
-
-pub IsPlayed-unread : (inputs : Inputs) (world : World) (had : List Delivery) (bytes left old : Option (List ℕ)) (held : List ℕ) (middle : World) (between : List Delivery) (written : Option (List ℕ)) (rest : Option (List ℕ)) (holds line : List ℕ) (error : InputError) (why : SessionError)
-    → why ≡ File (fault.Input error) → IsPlayed inputs world had bytes left old held middle between written → GivesLine (Err error) held holds left rest line
-    → StopsPlaying inputs (standing world had) bytes rest (change old written) why
-IsPlayed-unread inputs world had bytes left old held middle between written rest holds line error why is so_far given =
-    let last = reads-no-more error held holds left rest line so_far.text so_far.lines so_far.cut given in
-    record {
-      text = so_far.text ++ last.0;
-      lines = so_far.lines;
-      next = middle;
-      has = between;
-      answers = so_far.answers;
-      between = written;
-      read = Consumes-trans bytes left rest so_far.text last.0 so_far.read last.1;
-      takes = so_far.takes;
-      written = so_far.written;
-      stops = inr (inl (error, is, last.2, refl));
-    }
-
--- a line was not answered
-pub IsPlayed-stops : (inputs : Inputs) (world : World) (had : List Delivery) (bytes left old : Option (List ℕ)) (held : List ℕ) (middle : World) (between : List Delivery) (written : Option (List ℕ)) (rest : Option (List ℕ)) (holds line : List ℕ) (new : Option (List ℕ)) (why : SessionError)
-    → IsPlayed inputs world had bytes left old held middle between written → GivesLine (Ok true) held holds left rest line
-    → StopsAtLine inputs line (standing middle between) written new why → StopsPlaying inputs (standing world had) bytes rest (change old new) why
-IsPlayed-stops inputs world had bytes left old held middle between written rest holds line new why so_far given stops =
-    let read = given.0 in
-    record {
-      text = so_far.text ++ read;
-      lines = so_far.lines;
-      next = middle;
-      has = between;
-      answers = so_far.answers;
-      between = written;
-      read = Consumes-trans bytes left rest so_far.text read so_far.read given.1;
-      takes = so_far.takes;
-      written = so_far.written;
-      stops = inl (line, (lines_of holds, so_far.cut read ∙ next-line line holds so_far.lines (held ++ read) given.2 given.3), stops);
-    }
-
--- the last line was not answered, or not all was listed
-pub IsPlayed-stops_ending : (inputs : Inputs) (world : World) (had : List Delivery) (bytes left old : Option (List ℕ)) (held : List ℕ) (middle : World) (between : List Delivery) (written : Option (List ℕ)) (rest : Option (List ℕ)) (holds line : List ℕ) (new : Option (List ℕ)) (why : SessionError)
-    → IsPlayed inputs world had bytes left old held middle between written → GivesLine (Ok false) held holds left rest line
-    → StopsEnding inputs line (standing middle between) written new why → StopsPlaying inputs (standing world had) bytes rest (change old new) why
-IsPlayed-stops_ending inputs world had bytes left old held middle between written rest holds line new why so_far given (inl stops) =
-    let read = given.0 in
-    record {
-      text = so_far.text ++ read;
-      lines = so_far.lines;
-      next = middle;
-      has = between;
-      answers = so_far.answers;
-      between = written;
-      read = Consumes-trans bytes left rest so_far.text read so_far.read given.1;
-      takes = so_far.takes;
-      written = so_far.written;
-      stops =
-          inl (
-            line,
-            (
-              [],
-              so_far.cut read ∙ ap (λ (all : List ℕ). so_far.lines ++ lines_of all) given.3 ∙ ap (λ (others : List (List ℕ)). so_far.lines ++ others) stops.0
-                  ∙ sym (append-nil (so_far.lines ++ line ∷ [])),
-            ),
-            stops.1,
-          );
-    }
-IsPlayed-stops_ending inputs world had bytes left old held middle between written rest holds line new why so_far given (inr stops) =
-    let read = given.0 in
-    let all : lines_of (so_far.text ++ read) ≡ so_far.lines ++ lines_of line = so_far.cut read ∙ ap (λ (bytes : List ℕ). so_far.lines ++ lines_of bytes) given.3 in
-    record {
-      text = so_far.text ++ read;
-      lines = so_far.lines ++ lines_of line;
-      next = stops.next;
-      has = stops.has;
-      answers = so_far.answers ++ stops.answers;
-      between = stops.between;
-      read = Consumes-trans bytes left rest so_far.text read so_far.read given.1;
-      takes = TakesLines-then inputs so_far.lines (lines_of line) world middle stops.next had between stops.has so_far.answers stops.answers so_far.takes stops.takes;
-      written = Appends-trans old written stops.between so_far.answers stops.answers so_far.written stops.written;
-      stops = inr (inr (given.4, all, stops.stops));
-    }
-
 -- a turn was taken, and this is its line
 pub turn-taken : (world next : World) (engine most : ℕ) (turn : Turn) (had has handed : List Delivery) (line answer : List ℕ) → Happens world (TurnOn engine most) (Turned (Ok turn)) handed next → has ≡ had ++ handed → line ≡ turn_text turn.entry turn.steps → answer ≡ line → TakesEvent (TurnOn engine most) world had next has answer
 turn-taken world next engine most turn had has handed line answer happens all is same = (Turned (Ok turn), handed, happens, all, same ∙ is, tt)
 
-pub OnOk-lift : {X E : Type 0} (result : Result X E) (P Q : Type 0) → (P → Q) → OnOk result P → OnOk result Q
-OnOk-lift (Ok value) P Q f h = f h
-OnOk-lift (Err error) P Q f h = tt
+-- ---- the talk of a session
 
--- the listing behind the last line
-pub Ends-listed : {X E : Type 0} (result : Result X E) (inputs : Inputs) (lines others : List (List ℕ)) (world next : World) (had has : List Delivery) (answers : List ℕ) (old between new : Option (List ℕ))
-    → others ≡ lines → TakesLines inputs lines (standing world had) (standing next has) answers → Appends old between answers → OnOk result (Appends between new (entry_listing has)) → OnOk result (Ends inputs others world had old new)
-Ends-listed (Ok value) inputs lines others world next had has answers old between new are takes written listed = record {
-  next = next;
-  has = has;
-  answers = answers;
-  takes = subst (λ (all : List (List ℕ)). TakesLines inputs all (standing world had) (standing next has) answers) (sym are) takes;
-  written = Appends-trans old between new answers (entry_listing has) written listed;
-}
-Ends-listed (Err error) inputs lines others world next had has answers old between new are takes written listed = tt
+module _ {S I : Type 0} (bytes : I → Inputs) (inputs : S → I) (world : S → World) (delivered : S → List Delivery) where
+  abbrev stands : S → Standing
+  stands at = standing (world at) (delivered at)
 
-pub StopsEnding-listed : {X : Type 0} (result : Result X SessionError) (inputs : Inputs) (line : List ℕ) (lines : List (List ℕ)) (world next : World) (had has : List Delivery) (answers : List ℕ) (old between new : Option (List ℕ))
-    → lines_of line ≡ lines → TakesLines inputs lines (standing world had) (standing next has) answers → Appends old between answers → IfErr result (StopsListing has between new) → IfErr result (StopsEnding inputs line (standing world had) old new)
-StopsEnding-listed (Ok value) inputs line lines world next had has answers old between new are takes written stops = tt
-StopsEnding-listed (Err error) inputs line lines world next had has answers old between new are takes written stops =
-    inr (record {
-      next = next;
-      has = has;
-      answers = answers;
-      between = between;
-      takes = subst (λ (all : List (List ℕ)). TakesLines inputs all (standing world had) (standing next has) answers) (sym are) takes;
-      written = written;
-      stops = stops;
-    })
+  abbrev takes_line : S → List ℕ → List ℕ → S → Type 0
+  takes_line old line answer new = TakesLines (bytes (inputs old)) (line ∷ []) (stands old) (stands new) answer × (inputs new ≡ inputs old)
 
--- ---- from a press at its beginning
+  abbrev pub plays : Talking S SessionError
+  plays = line_by_line takes_line (λ at line. IsUnanswered (bytes (inputs at)) line (world at)) (λ error why. why ≡ File (fault.Input error)) (λ error why. why ≡ Output error)
 
-pub plays-given : SheetsAreGiven → (engines : ℕ) (inputs : Inputs) (world : World) (had : List Delivery) (bytes left old new : Option (List ℕ)) → are_engines engines ≡ true → world ≡ new_world engines → had ≡ []
-    → PlaysToItsEnd inputs (standing world had) bytes left old new → Plays engines inputs bytes left old new
-plays-given given engines inputs world had bytes left old new are begins none plays =
-    let played = subst (λ (w : World). PlaysToItsEnd inputs (standing w []) bytes left old new) begins (subst (λ l. PlaysToItsEnd inputs (standing world l) bytes left old new) none plays) in
-    record {
-      are = are;
-      played = played;
-      given = λ number. given.under (happenings_in played.takes.happenings) played.next number (record { engines = engines; are = are; leads = played.takes.leads });
-    }
+  TakesLines-all : (lines : List (List ℕ)) (old : S) (answers : List ℕ) (new : S) → AnswersLines takes_line lines old answers new
+      → TakesLines (bytes (inputs old)) lines (stands old) (stands new) answers × (inputs new ≡ inputs old)
+  TakesLines-all [] old answers new (none, same) =
+      (rw (none, same) (TakesLines-nothing (bytes (inputs old)) (world old) (delivered old)), ap inputs same)
+  TakesLines-all (line ∷ lines) old answers new (answer, others, next, (takes, keeps), answered, are) =
+      let rest = TakesLines-all lines next others new answered in
+      let these = subst (λ (some : I). TakesLines (bytes some) lines (stands next) (stands new) others) keeps rest.0 in
+      let all = TakesLines-then (bytes (inputs old)) (line ∷ []) lines (world old) (world next) (world new) (delivered old) (delivered next) (delivered new) answer others takes these in
+      (subst (λ (some : List ℕ). TakesLines (bytes (inputs old)) (line ∷ lines) (stands old) (stands new) some) (sym are) all, rest.1 ∙ keeps)
 
-pub stops-playing : (engines : ℕ) (inputs : Inputs) (world : World) (had : List Delivery) (bytes left old new : Option (List ℕ)) (why : SessionError) → are_engines engines ≡ true → world ≡ new_world engines → had ≡ []
-    → StopsPlaying inputs (standing world had) bytes left (change old new) why → Stops engines inputs bytes left (change old new) why
-stops-playing engines inputs world had bytes left old new why are begins none stops =
-    rw are (subst (λ (w : World). StopsPlaying inputs (standing w []) bytes left (change old new) why) begins (subst (λ l. StopsPlaying inputs (standing world l) bytes left (change old new) why) none stops))
+  is_seen : (first : S) → IsSeen plays (playing (bytes (inputs first))) stands first
+  is_seen first = record {
+    takes = λ lines answers last takes. (TakesLines-all lines first answers last takes).0;
+    line = λ lines answers last takes line answer next more.
+        subst (λ (some : I). TakesLines (bytes some) (line ∷ []) (stands last) (stands next) answer) (TakesLines-all lines first answers last takes).1 (TakesLines-all (line ∷ []) last answer next more).0;
+    refuses = λ lines answers last takes line why refuses. subst (λ (some : I). IsUnanswered (bytes some) line (world last) why) (TakesLines-all lines first answers last takes).1 refuses;
+    unread = λ error why is. is;
+    unwritten = λ error why is. is;
+  }
+
+  -- from a press at its beginning
+  module _ (engines : ℕ) (first : S) (had left old between new : Option (List ℕ)) (are : are_engines engines ≡ true) (begins : world first ≡ new_world engines) (none : delivered first ≡ []) where
+    at_start : stands first ≡ standing (new_world engines) []
+    at_start = ap (λ (w : World). standing w (delivered first)) begins ∙ ap (λ (had : List Delivery). standing (new_world engines) had) none
+
+    pub Plays-listed : SheetsAreGiven → (all : AnswersAll plays first had left old between) (last : S) → all.last ≡ last → Appends between new (entry_listing (delivered last)) → Plays engines (bytes (inputs first)) had left old new
+    Plays-listed given all last same listed =
+        let played : PlaysToItsEnd (bytes (inputs first)) (stands first) had left old new =
+        record { between = between; answered = AnswersAll-seen (is_seen first) had left old between all; listed = subst (λ (at : S). Appends between new (entry_listing (delivered at))) (sym same) listed } in
+        let played = subst (λ (at : Standing). PlaysToItsEnd (bytes (inputs first)) at had left old new) at_start played in
+        record {
+          are = are;
+          played = played;
+          given = λ number. given.under (happenings_in played.answered.takes.happenings) played.answered.last.world number (record { engines = engines; are = are; leads = played.answered.takes.leads });
+        }
+
+    stops_playing : (why : SessionError) → StopsPlaying (bytes (inputs first)) (stands first) had left (change old new) why → Stops engines (bytes (inputs first)) had left (change old new) why
+    stops_playing why stops = rw are (subst (λ (at : Standing). StopsPlaying (bytes (inputs first)) at had left (change old new) why) at_start stops)
+
+    pub Stops-some : (why : SessionError) → AnswersSome plays first had left (change old new) why → Stops engines (bytes (inputs first)) had left (change old new) why
+    Stops-some why some = stops_playing why (inl (AnswersSome-seen (is_seen first) had left old new why some))
+
+    pub Stops-listing : (why : SessionError) (all : AnswersAll plays first had left old between) (last : S) → all.last ≡ last → StopsListing (delivered last) between new why → Stops engines (bytes (inputs first)) had left (change old new) why
+    Stops-listing why all last same stops =
+        stops_playing why
+        (inr (record {
+          between = between;
+          answered = AnswersAll-seen (is_seen first) had left old between all;
+          stops = subst (λ (at : S). StopsListing (delivered at) between new why) (sym same) stops;
+        }))
 
 -- without a press
 pub stops-beginning : (engines : ℕ) (inputs : Inputs) (bytes old : Option (List ℕ)) (error : BadEngines) → are_engines engines ≡ false → Stops engines inputs bytes bytes (change old old) (Engines error)

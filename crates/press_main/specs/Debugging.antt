@@ -1,11 +1,8 @@
 -- Sessions with a debugger: what each line is answered, and what is written.
 use Rattle.std.specs.Prelude.{◌≡◌, ◌⊎◌, ℕ, Bool, false, List, [], ◌∷◌, ◌++◌, Option, Some, None, Result, Ok, Err, IfSome, codes, ⊤}
 use Rattle.std.specs.Fmt.{decimal, signed_decimal}
-use Rattle.std.specs.Io.KnownBytes.{Consumes, Appends}
-use Rattle.press_pbm.specs.Spelling.{AppendsPrefix}
 use Rattle.press_cmd.specs.declared.variant.Kind.{Kind}
 use Rattle.press_asm.specs.Kinds.{kind_line}
-use Rattle.press_asm.specs.Text.{lines_of}
 use Rattle.press_engine.specs.declared.view.View.{View}
 use Rattle.press_engine.specs.Engine.{view_of}
 use Rattle.press_engine.specs.Machine.{StepResult}
@@ -23,11 +20,9 @@ use Rattle.press_main.specs.declared.debugger_lines.DebuggerLine.{DebuggerLine}
 use Rattle.press_main.specs.declared.debugger_lines.DebuggerLine.TheVariants as line
 use Rattle.press_main.specs.declared.debugging.DebugError.{DebugError}
 use Rattle.press_main.specs.declared.debugging.DebugError.TheVariants.{Input, Output, NoMemory}
-use Rattle.press_main.specs.declared.inputs.InputError.{InputError}
 use Rattle.press_main.specs.Assembly.{ReadWhole}
 use Rattle.press_main.specs.DebuggerLines.{asked_of}
-use Rattle.press_main.specs.LineReading.{ReadsNoMore}
-use Rattle.press_main.specs.Lines.{BeginsWith}
+use Rattle.press_main.specs.Talking.{Talking, AnswersAll, AnswersSome, line_by_line}
 
 -- the debugger of a session: where it stands in its stream, and its breakpoints
 pub record Seat : Type 0 where
@@ -112,51 +107,18 @@ DoesLine (Some asked) old answer new = DoesAsked asked old answer new
 abbrev pub StandsIn : List ℕ → DebuggerState → Type 0
 StandsIn bytes now = ((items : List StepResult) × StandsBehind bytes items now) ⊎ (now.job.machine ≡ None)
 
--- Lines were answered in order, from one seat to another; behind each of them the debugger stands in the trace of these bytes.
-abbrev pub Answers : (bytes : List ℕ) → (lines : List (List ℕ)) → (old : Seat) → (answers : List ℕ) → (new : Seat) → Type 0
-Answers bytes [] old answers new = (answers ≡ []) × (new ≡ old)
-Answers bytes (line ∷ lines) old answers new =
-    (answer others : List ℕ) × (next : Seat) × DoesLine (asked_of line) old answer next × StandsIn bytes next.steps
-    × Answers bytes lines next others new × (answers ≡ answer ++ others)
+-- A line was answered, and behind it the debugger stands in the trace of these bytes.
+abbrev pub AnswersLine : (bytes : List ℕ) → (old : Seat) → (line answer : List ℕ) → (new : Seat) → Type 0
+AnswersLine bytes old line answer new = DoesLine (asked_of line) old answer new × StandsIn bytes new.steps
 
--- All lines that a reader had, to its end, were answered in order; the answers were written, and nothing else.
-pub record AnswersAll (bytes : List ℕ) (at : Seat) (had left old new : Option (List ℕ)) : Type 0 where
-  pub text : List ℕ
-  pub last : Seat
-  pub answers : List ℕ
-  pub read : ReadWhole had left text
-  pub answered : Answers bytes (lines_of text) at answers last
-  pub written : Appends old new answers
-
--- What was written of the answer of a line at which a session stopped: a prefix of it, where a write failed; else nothing.
-abbrev pub StopsAtLine : (line : List ℕ) → Seat → (old new : Option (List ℕ)) → DebugError → Type 0
-StopsAtLine line at old new (Output error) =
-    (next : Seat) × (answer : List ℕ) × DoesLine (asked_of line) at answer next × AppendsPrefix old new answer
-StopsAtLine line at old new NoMemory = new ≡ old
-StopsAtLine line at old new (Input error) = ⊥
-
--- Why a session stopped behind these lines of a text: at the next one, or where lines are read.
-abbrev pub StopsBehind : (text : List ℕ) → (lines : List (List ℕ)) → Seat → (old new : Option (List ℕ)) → DebugError → Type 0
-StopsBehind text lines at old new why =
-    ((line : List ℕ) × BeginsWith text (lines ++ line ∷ []) × StopsAtLine line at old new why)
-    ⊎ ((error : InputError) × (why ≡ Input error) × ReadsNoMore error text lines × (new ≡ old))
-
--- The first lines of what was read were answered, and their answers written; and why the session stopped behind them, and what was
--- written then.
-pub record AnswersSome (bytes : List ℕ) (at : Seat) (had left : Option (List ℕ)) (output : Change (Option (List ℕ))) (why : DebugError) : Type 0 where
-  pub text : List ℕ
-  pub lines : List (List ℕ)
-  pub last : Seat
-  pub answers : List ℕ
-  pub between : Option (List ℕ)
-  pub read : Consumes had left text
-  pub answered : Answers bytes lines at answers last
-  pub written : Appends output.before between answers
-  pub stops : StopsBehind text lines last between output.after why
+-- The talk of a debugger of the stream of these bytes.
+abbrev pub debugging : (bytes : List ℕ) → Talking Seat DebugError
+debugging bytes =
+    line_by_line (AnswersLine bytes) (λ at line why. why ≡ NoMemory) (λ error why. why ≡ Input error) (λ error why. why ≡ Output error)
 
 -- The stream that an input had was debugged, by all lines that a reader had.
 abbrev pub Debugs : (stream rest had left old new : Option (List ℕ)) → Type 0
-Debugs stream rest had left old new = (bytes : List ℕ) × ReadWhole stream rest bytes × AnswersAll bytes (opened bytes) had left old new
+Debugs stream rest had left old new = (bytes : List ℕ) × ReadWhole stream rest bytes × AnswersAll (debugging bytes) (opened bytes) had left old new
 
 -- why no debugger was opened: the stream cannot be opened or read, or memory ran out
 abbrev pub IsUnopened : DebugError → Type 0
@@ -168,4 +130,4 @@ IsUnopened (Output error) = ⊥
 abbrev pub StopsDebugging : (stream rest had left : Option (List ℕ)) (output : Change (Option (List ℕ))) → DebugError → Type 0
 StopsDebugging stream rest had left output why =
     (IsUnopened why × (left ≡ had) × (output.after ≡ output.before))
-    ⊎ ((bytes : List ℕ) × ReadWhole stream rest bytes × AnswersSome bytes (opened bytes) had left output why)
+    ⊎ ((bytes : List ℕ) × ReadWhole stream rest bytes × AnswersSome (debugging bytes) (opened bytes) had left output why)

@@ -16,6 +16,8 @@ use Rattle.press_writer.specs.declared.fault.WriterError.{WriterError}
 use Rattle.press_writer.specs.declared.fault.WriterError.TheVariants.{WriteFault, NoMemory}
 use Rattle.press_main.specs.Change.{Change}
 use Rattle.press_main.specs.Assembly.{ReadWhole}
+use Rattle.press_main.specs.NamedInputs.{NamedInput}
+use Rattle.press_main.specs.declared.inputs.InputError.TheVariants as input_fault
 use Rattle.press_main.specs.declared.jobs.JobFileError.{JobFileError}
 use Rattle.press_main.specs.declared.jobs.JobFileError.TheVariants as fault
 
@@ -42,9 +44,9 @@ abbrev pub HasImage : (had : Option (List ℕ)) → Page → Type 0
 HasImage had image = (left : Option (List ℕ)) × ImageRead had left image
 
 -- Each input had an image, and these are the images in the order of the inputs.
-abbrev pub HaveImages : (had : List (Option (List ℕ))) → List Page → Type 0
+abbrev pub HaveImages : List NamedInput → List Page → Type 0
 HaveImages [] [] = ⊤
-HaveImages (had ∷ others) (image ∷ images) = HasImage had image × HaveImages others images
+HaveImages (input ∷ inputs) (image ∷ images) = HasImage input.bytes image × HaveImages inputs images
 HaveImages _ _ = ⊥
 
 -- The ticket fits these images, and its job with them was written, which prints it.
@@ -83,7 +85,7 @@ MakesNoJob name ticket images before after why =
     ((refusal ticket images ≡ Some why) × (after ≡ before)) ⊎ MakesAPrefix name ticket images before after why
 
 -- A reader had a ticket and the inputs had images in their order, of which this holds.
-pub record HasTicket (had left : Option (List ℕ)) (inputs : List (Option (List ℕ))) (Of : JobTicket → List Page → Type 0) : Type 0 where
+pub record HasTicket (had left : Option (List ℕ)) (inputs : List NamedInput) (Of : JobTicket → List Page → Type 0) : Type 0 where
   pub ticket : JobTicket
   pub images : List Page
   pub ticket_read : TicketRead had left ticket
@@ -91,11 +93,11 @@ pub record HasTicket (had left : Option (List ℕ)) (inputs : List (Option (List
   pub job : Of ticket images
 
 -- The job of the ticket that a reader had was written, with the images that the inputs had in their order.
-abbrev pub WritesTheTicket : (had left : Option (List ℕ)) (inputs : List (Option (List ℕ))) (old new : Option (List ℕ)) → Type 0
+abbrev pub WritesTheTicket : (had left : Option (List ℕ)) (inputs : List NamedInput) (old new : Option (List ℕ)) → Type 0
 WritesTheTicket had left inputs old new = HasTicket had left inputs (λ ticket images. WritesAJob ticket images old new)
 
 -- The same was made an output of this name.
-abbrev pub MakesTheTicket : (name : List ℕ) (had left : Option (List ℕ)) (inputs : List (Option (List ℕ))) (before after : Option (List MadeOutput)) → Type 0
+abbrev pub MakesTheTicket : (name : List ℕ) (had left : Option (List ℕ)) (inputs : List NamedInput) (before after : Option (List MadeOutput)) → Type 0
 MakesTheTicket name had left inputs before after = HasTicket had left inputs (λ ticket images. MakesAJob name ticket images before after)
 
 -- Why a reader gave no ticket, by the fault: what it had is none; else it cannot be read, or memory ran out.
@@ -105,24 +107,21 @@ TicketRefused had left (fault.Ticket why) = NoTicketRead had left why
 TicketRefused had left (fault.Input why) = ⊤
 TicketRefused had left other = ⊥
 
--- Why an input gave no image, by the fault: what it had begins with no P4 file; else it cannot be opened.
-abbrev pub ImageRefused : (had : Option (List ℕ)) → JobFileError → Type 0
-ImageRefused had (fault.Image why) = (left : Option (List ℕ)) × Refused why had left
-ImageRefused had (fault.Input why) = ⊤
-ImageRefused had other = ⊥
+-- Why an input gave no image, by the fault: what it had begins with no P4 file; else it may be one that cannot be opened, or memory ran
+-- out.
+abbrev pub ImageRefused : NamedInput → JobFileError → Type 0
+ImageRefused input (fault.Image why) = (left : Option (List ℕ)) × Refused why input.bytes left
+ImageRefused input (fault.Input input_fault.ReadFault) = input.IsMissing
+ImageRefused input (fault.Input input_fault.NoMemory) = ⊤
+ImageRefused input other = ⊥
 
 -- The first inputs had images, and the one after them gave none.
-pub record LacksAnImage (inputs : List (Option (List ℕ))) (why : JobFileError) : Type 0 where
-  pub first : List (Option (List ℕ))
-  pub had : Option (List ℕ)
-  pub others : List (Option (List ℕ))
-  pub in_order : inputs ≡ first ++ had ∷ others
-  pub images : List Page
-  pub images_read : HaveImages first images
-  pub refused : ImageRefused had why
+abbrev pub LacksAnImage : List NamedInput → JobFileError → Type 0
+LacksAnImage [] why = ⊥
+LacksAnImage (input ∷ inputs) why = ImageRefused input why ⊎ ((image : Page) × HasImage input.bytes image × LacksAnImage inputs why)
 
 -- Why inputs gave no images: one gave none, or memory ran out.
-abbrev pub ImagesRefused : (inputs : List (Option (List ℕ))) → JobFileError → Type 0
+abbrev pub ImagesRefused : (inputs : List NamedInput) → JobFileError → Type 0
 ImagesRefused inputs why = LacksAnImage inputs why ⊎ (why ≡ fault.NoMemory)
 
 -- The reader gave no ticket, and nothing was written or made.
@@ -131,26 +130,26 @@ pub record StopsAtTheTicket {T : Type 0} (had left : Option (List ℕ)) (old new
   pub unwritten : new ≡ old
 
 -- The reader had a ticket, the inputs gave no images, and nothing was written or made.
-pub record StopsAtAnImage {T : Type 0} (had left : Option (List ℕ)) (inputs : List (Option (List ℕ))) (old new : T) (why : JobFileError) : Type 0 where
+pub record StopsAtAnImage {T : Type 0} (had left : Option (List ℕ)) (inputs : List NamedInput) (old new : T) (why : JobFileError) : Type 0 where
   pub ticket : JobTicket
   pub ticket_read : TicketRead had left ticket
   pub refused : ImagesRefused inputs why
   pub unwritten : new ≡ old
 
 -- The reader had a ticket and the inputs had images, and of its job with them this holds.
-abbrev pub StopsAtTheJob : (had left : Option (List ℕ)) (inputs : List (Option (List ℕ))) (Of : JobTicket → List Page → WriterError → Type 0) → JobFileError → Type 0
+abbrev pub StopsAtTheJob : (had left : Option (List ℕ)) (inputs : List NamedInput) (Of : JobTicket → List Page → WriterError → Type 0) → JobFileError → Type 0
 StopsAtTheJob had left inputs Of why =
     (error : WriterError) × (why ≡ fault.Writer error) × HasTicket had left inputs (λ ticket images. Of ticket images error)
 
 -- Why no job was written whole, and what was written then: the ticket is asked first, then the images in their order, and then
 -- whether they fit.
-abbrev pub StopsWriting : (had left : Option (List ℕ)) (inputs : List (Option (List ℕ))) (old new : Option (List ℕ)) → JobFileError → Type 0
+abbrev pub StopsWriting : (had left : Option (List ℕ)) (inputs : List NamedInput) (old new : Option (List ℕ)) → JobFileError → Type 0
 StopsWriting had left inputs old new why =
     StopsAtTheTicket had left old new why ⊎ StopsAtAnImage had left inputs old new why
     ⊎ StopsAtTheJob had left inputs (λ ticket images error. WritesNoJob ticket images old new error) why
 
 -- The same of an output of this name that was not made whole.
-abbrev pub StopsMakingJob : (name : List ℕ) (had left : Option (List ℕ)) (inputs : List (Option (List ℕ))) (made : Change (Option (List MadeOutput))) → JobFileError → Type 0
+abbrev pub StopsMakingJob : (name : List ℕ) (had left : Option (List ℕ)) (inputs : List NamedInput) (made : Change (Option (List MadeOutput))) → JobFileError → Type 0
 StopsMakingJob name had left inputs made why =
     StopsAtTheTicket had left made.before made.after why ⊎ StopsAtAnImage had left inputs made.before made.after why
     ⊎ StopsAtTheJob had left inputs (λ ticket images error. MakesNoJob name ticket images made.before made.after error) why

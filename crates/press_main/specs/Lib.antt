@@ -15,11 +15,13 @@ pub mod Lines
 pub mod Listed
 pub mod Listing
 pub mod Measured
+pub mod NamedInputs
 pub mod Numbering
 pub mod Paging
 pub mod Printing
 pub mod Program
 pub mod Sessions
+pub mod Talking
 pub mod Telling
 pub mod Traced
 pub mod View

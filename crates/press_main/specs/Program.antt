@@ -11,10 +11,13 @@ use Rattle.press_main.specs.Change.{Change, change, Edge, reading_from}
 use Rattle.press_main.specs.Assembly.{AssembledInto, StopsMaking, DisassembledTo, StopsDisassembling}
 use Rattle.press_main.specs.Debugging.{Debugs, StopsDebugging}
 use Rattle.press_main.specs.Defaults.{HoldsBehind, with_prefix}
-use Rattle.press_main.specs.Faults.{told_of_debugger, told_of_job, told_of_session, told_of_text}
+use Rattle.press_main.specs.declared.inputs.InputError.{InputError}
+use Rattle.press_main.specs.declared.inputs.InputError.TheVariants.{ReadFault}
+use Rattle.press_main.specs.Faults.{input_text, told_of_debugger, told_of_job, told_of_session, told_of_text}
 use Rattle.press_main.specs.Files.{PrintsFiles, PrintsNoFiles, DoesNothing}
 use Rattle.press_main.specs.Jobs.{MakesTheTicket, StopsMakingJob}
 use Rattle.press_main.specs.Listing.{PrintsListing}
+use Rattle.press_main.specs.NamedInputs.{NamedInput, named}
 use Rattle.press_main.specs.Paging.{Paging}
 use Rattle.press_main.specs.Sessions.{Plays, Stops}
 use Rattle.press_main.specs.Telling.{Ended, Tells, as_line}
@@ -37,14 +40,14 @@ Disassembling status told read written =
     (StopsDisassembling read.before read.after written.before written.after)
 
 -- The same of a ticket, of which an output of this name was made, the job with the images of these inputs.
-abbrev pub Writing : (name : Text) (status : ℕ) (told read : Change (Option (List ℕ))) (images : List (Option (List ℕ))) (made : Change (Option (List MadeOutput))) → Type 0
+abbrev pub Writing : (name : Text) (status : ℕ) (told read : Change (Option (List ℕ))) (images : List NamedInput) (made : Change (Option (List MadeOutput))) → Type 0
 Writing name status told read images made =
     Ended status told.before told.after told_of_job
     (MakesTheTicket name read.before read.after images made.before made.after)
     (StopsMakingJob name read.before read.after images made)
 
 -- A session with a press of so many engines was played to its end, or stopped, with the files of its messages among these inputs.
-abbrev pub Playing : (engines status : ℕ) (inputs : Text → Option (List ℕ)) (told read written : Change (Option (List ℕ))) → Type 0
+abbrev pub Playing : (engines status : ℕ) (inputs : Text → NamedInput) (told read written : Change (Option (List ℕ))) → Type 0
 Playing engines status inputs told read written =
     Ended status told.before told.after told_of_session
     (Plays engines inputs read.before read.after written.before written.after)
@@ -57,6 +60,13 @@ Debugging status stream told read written =
     (Debugs stream rest read.before read.after written.before written.after)
     (StopsDebugging stream rest read.before read.after written)
 
+-- No debugger was opened, no line was read and nothing written, and why: the input of the stream cannot be opened, which may be so; or
+-- memory ran out.
+abbrev pub DebugsNothing : (missing : Type 0) → (status : ℕ) → (told read written : Change (Option (List ℕ))) → Type 0
+DebugsNothing missing status told read written =
+    (error : InputError) × (error ≡ ReadFault → missing) × (status ≡ 1) × Tells told.before told.after (as_line (Some (input_text error)))
+    × (read.after ≡ read.before) × (written.after ≡ written.before)
+
 -- standard output takes nothing
 abbrev pub WritesNothing : Edge → Type 0
 WritesNothing edge = edge.written.after ≡ edge.written.before
@@ -65,39 +75,40 @@ WritesNothing edge = edge.written.after ≡ edge.written.before
 abbrev pub MakesNothing : Edge → Type 0
 MakesNothing edge = edge.made.after ≡ edge.made.before
 
--- What is asked for was made of what a reader had: its status, what was told, what standard output took, and the outputs that were made.
--- Standard output takes nothing where an output is named, and no output is made where none is; the inputs are what they have by their
--- names, and no output that is made is one of them.
-abbrev pub Makes : Made → (inputs : Text → Option (List ℕ)) → (status : ℕ) → Edge → Type 0
-Makes (Listed prefix) inputs status edge =
-    HoldsBehind prefix edge.read.before edge.read.after (λ had left. PrintsListing status edge.told (change had left) edge.written) × MakesNothing edge
-Makes (FilesBy prefix template) inputs status edge =
-    HoldsBehind prefix edge.read.before edge.read.after
-    (λ had left. PrintsFiles template status (reading_from had left edge) ⊎ PrintsNoFiles template status (reading_from had left edge))
-Makes (Answered engines) inputs status edge = Playing engines status inputs edge.told edge.read edge.written × MakesNothing edge
-Makes AsText inputs status edge = Disassembling status edge.told edge.read edge.written × MakesNothing edge
-Makes (DebuggedOf prefix name) inputs status edge =
-    Debugging status (with_prefix prefix (inputs name)) edge.told edge.read edge.written × MakesNothing edge
-Makes (TracedOf prefix) inputs status edge =
-    HoldsBehind prefix edge.read.before edge.read.after (λ had left. Tracing status edge.told (change had left) edge.written) × MakesNothing edge
-Makes (PageTo prefix steps name) inputs status edge =
-    HoldsBehind prefix edge.read.before edge.read.after (λ had left. Paging steps name status edge.told (change had left) edge.made) × WritesNothing edge
-Makes (StreamTo name) inputs status edge = Assembling name status edge.told edge.read edge.made × WritesNothing edge
-Makes (JobTo name images) inputs status edge = Writing name status edge.told edge.read (map inputs images) edge.made × WritesNothing edge
-
 -- Nothing was begun, and why: the input of this name cannot be opened, which may be so; or memory ran out.
 abbrev pub OpensNothing : (missing : Type 0) → (status : ℕ) → Edge → Type 0
 OpensNothing missing status edge = (missing × DoesNothing (Some read_fault) status edge) ⊎ DoesNothing None status edge
 
+-- What is asked for was made of what a reader had: its status, what was told, what standard output took, and the outputs that were made.
+-- Standard output takes nothing where an output is named, and no output is made where none is; the inputs are what they have by their
+-- names, and no output that is made is one of them.
+abbrev pub Makes : Made → (inputs : Text → Option (List ℕ)) → (missing : Text → Type 0) → (status : ℕ) → Edge → Type 0
+Makes (Listed prefix) inputs missing status edge =
+    HoldsBehind prefix edge.read.before edge.read.after (λ had left. PrintsListing status edge.told (change had left) edge.written) × MakesNothing edge
+Makes (FilesBy prefix template) inputs missing status edge =
+    HoldsBehind prefix edge.read.before edge.read.after
+    (λ had left. PrintsFiles template status (reading_from had left edge) ⊎ PrintsNoFiles template status (reading_from had left edge))
+Makes (Answered engines) inputs missing status edge = Playing engines status (named inputs missing) edge.told edge.read edge.written × MakesNothing edge
+Makes AsText inputs missing status edge = Disassembling status edge.told edge.read edge.written × MakesNothing edge
+Makes (DebuggedOf prefix name) inputs missing status edge =
+    (Debugging status (with_prefix prefix (inputs name)) edge.told edge.read edge.written ⊎ DebugsNothing (missing name) status edge.told edge.read edge.written)
+    × MakesNothing edge
+Makes (TracedOf prefix) inputs missing status edge =
+    HoldsBehind prefix edge.read.before edge.read.after (λ had left. Tracing status edge.told (change had left) edge.written) × MakesNothing edge
+Makes (PageTo prefix steps name) inputs missing status edge =
+    HoldsBehind prefix edge.read.before edge.read.after (λ had left. Paging steps name status edge.told (change had left) edge.made) × WritesNothing edge
+Makes (StreamTo name) inputs missing status edge = Assembling name status edge.told edge.read edge.made × WritesNothing edge
+Makes (JobTo name images) inputs missing status edge = Writing name status edge.told edge.read (map (named inputs missing) images) edge.made × WritesNothing edge
+
 -- What is asked for was made of the bytes of a file; or it cannot be opened. Standard input stays.
 abbrev pub MakesOfFile : Text → Made → (inputs : Text → Option (List ℕ)) → (missing : Text → Type 0) → (status : ℕ) → Edge → Type 0
 MakesOfFile name made inputs missing status edge =
-    ((edge.read.after ≡ edge.read.before) × (rest : Option (List ℕ)) × Makes made inputs status (reading_from (inputs name) rest edge))
+    ((edge.read.after ≡ edge.read.before) × (rest : Option (List ℕ)) × Makes made inputs missing status (reading_from (inputs name) rest edge))
     ⊎ OpensNothing (missing name) status edge
 
 -- What is asked for was done, of what standard input had or of a file.
 abbrev pub Performs : Source → Made → (inputs : Text → Option (List ℕ)) → (missing : Text → Type 0) → (status : ℕ) → Edge → Type 0
-Performs Standard made inputs missing status edge = Makes made inputs status edge
+Performs Standard made inputs missing status edge = Makes made inputs missing status edge
 Performs (FileNamed name) made inputs missing status edge = MakesOfFile name made inputs missing status edge
 
 -- Files of a stream are asked for, and the stream is itself a file, which one of them would replace.

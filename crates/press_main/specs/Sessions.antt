@@ -2,17 +2,15 @@
 use Rattle.std.specs.Prelude.{◌≡◌, ◌⊎◌, ℕ, List, [], ◌∷◌, ◌++◌, map, IsTrue, MatchBool, Option, Some, None, Ok, Err, codes, ⊤}
 use Rattle.std.specs.Fmt.{decimal}
 use Rattle.std.specs.List.{All}
-use Rattle.std.specs.Io.KnownBytes.{Consumes, IsAtEnd, Appends}
+use Rattle.std.specs.Io.KnownBytes.{Appends}
 use Rattle.press_pbm.specs.Spelling.{AppendsPrefix}
 use Rattle.press_sink.specs.declared.sheet.Delivery.{Delivery}
-use Rattle.press_asm.specs.Text.{lines_of}
 use Rattle.press_core.specs.declared.engines.BadEngines.{BadEngines}
 use Rattle.press_core.specs.Engines.{are_engines}
 use Rattle.press_core.specs.Events.{Event, Message, TurnOn, Operator, Transition, Happens, EventAnswer, Response, Turned, Nothing, IsAnswered, IsExecution}
 use Rattle.press_core.specs.Laws.{GivenUnder}
 use Rattle.press_core.specs.World.{World, new_world}
-use Rattle.press_main.specs.Change.{Change, change}
-use Rattle.press_main.specs.declared.inputs.InputError.{InputError}
+use Rattle.press_main.specs.Change.{Change}
 use Rattle.press_main.specs.declared.jobs.JobFileError.{JobFileError}
 use Rattle.press_main.specs.declared.jobs.JobFileError.TheVariants as fault
 use Rattle.press_main.specs.declared.sessions.Session.{Session}
@@ -23,8 +21,8 @@ use Rattle.press_main.specs.EntryListing.{entry_listing}
 use Rattle.press_main.specs.EntrySheets.{kept, entry_deliveries_of}
 use Rattle.press_main.specs.EventLines.{EventLine, MessageLine, TurnLine, OperatorLine, event_of_line}
 use Rattle.press_main.specs.Jobs.{HaveImages, ImagesRefused}
-use Rattle.press_main.specs.LineReading.{ReadsNoMore}
-use Rattle.press_main.specs.Lines.{BeginsWith}
+use Rattle.press_main.specs.NamedInputs.{NamedInput}
+use Rattle.press_main.specs.Talking.{Talking, AnswersAll, AnswersSome}
 
 -- the line of a turn: the entry that took steps, and how many
 abbrev pub turn_text : Option ℕ → ℕ → List ℕ
@@ -59,9 +57,9 @@ abbrev pub handed_in : List Transition → List Delivery
 handed_in [] = []
 handed_in (happening ∷ happenings) = happening.handed ++ handed_in happenings
 
--- What inputs have, by their names, where that is known.
-abbrev pub Inputs : Type 0
-Inputs = List ℕ → Option (List ℕ)
+-- The inputs, by their names.
+abbrev pub Inputs : Type 1
+Inputs = List ℕ → NamedInput
 
 -- an input had this text, to its end
 abbrev pub HasText : (had : Option (List ℕ)) → (text : List ℕ) → Type 0
@@ -69,7 +67,7 @@ HasText had text = (left : Option (List ℕ)) × ReadWhole had left text
 
 -- The event is what a line asks: a message has the text of the input of its file, and the images of the inputs that are named.
 abbrev pub IsAsked : Inputs → EventLine → Event → Type 0
-IsAsked inputs (MessageLine file names) (Message text images) = HasText (inputs file) text × HaveImages (map inputs names) images
+IsAsked inputs (MessageLine file names) (Message text images) = HasText (inputs file).bytes text × HaveImages (map inputs names) images
 IsAsked inputs (TurnLine engine most) (TurnOn which steps) = (which ≡ engine) × (steps ≡ most)
 IsAsked inputs (OperatorLine asked) (Operator command) = command ≡ asked
 IsAsked inputs asked event = ⊥
@@ -113,108 +111,67 @@ pub record TakesLines (inputs : Inputs) (lines : List (List ℕ)) (old new : Sta
   pub happened : All (λ happening. IsAnswered happening.answer) (happenings_in happenings)
   pub answered : answers ≡ answers_to happenings
 
--- All lines that a reader had, to its end, were carried out; their answers were written, and then the listing of all that was
--- delivered, and nothing else.
-pub record PlaysToItsEnd (inputs : Inputs) (first : Standing) (bytes left old new : Option (List ℕ)) : Type 0 where
-  pub text : List ℕ
-  pub next : World
-  pub has : List Delivery
-  pub answers : List ℕ
-  pub read : ReadWhole bytes left text
-  pub takes : TakesLines inputs (lines_of text) first (standing next has) answers
-  pub written : Appends old new (answers ++ entry_listing has)
-
 -- a fault of a file that is opened or read
 abbrev pub IsUnread : JobFileError → Type 0
 IsUnread (fault.Input why) = ⊤
 IsUnread why = ⊥
 
--- Why what a line asks has no answer: of a message, its file is read first, then the images in their order.
-abbrev pub HasFault : Inputs → EventLine → World → SessionError → Type 0
-HasFault inputs asked world NoMemory = ⊤
-HasFault inputs (MessageLine file names) world (File why) =
-    IsUnread why ⊎ ((text : List ℕ) × HasText (inputs file) text × ImagesRefused (map inputs names) why)
-HasFault inputs (TurnLine engine most) world (Turn error) =
+-- Why a message has no answer: its file is read first, then the images in their order.
+abbrev pub MessageFails : Inputs → (file : List ℕ) → (names : List (List ℕ)) → SessionError → Type 0
+MessageFails inputs file names (File why) = IsUnread why ⊎ ((text : List ℕ) × HasText (inputs file).bytes text × ImagesRefused (map inputs names) why)
+MessageFails inputs file names NoMemory = ⊤
+MessageFails inputs file names why = ⊥
+
+-- Why a turn has no answer: it has a fault, or memory ran out.
+abbrev pub TurnFails : (engine most : ℕ) → World → SessionError → Type 0
+TurnFails engine most world (Turn error) =
     (handed : List Delivery) × (next : World) × Happens world (TurnOn engine most) (Turned (Err error)) handed next
-HasFault inputs asked world why = ⊥
+TurnFails engine most world NoMemory = ⊤
+TurnFails engine most world why = ⊥
+
+-- Why what a line asks has no answer.
+abbrev pub HasFault : Inputs → EventLine → World → SessionError → Type 0
+HasFault inputs (MessageLine file names) world why = MessageFails inputs file names why
+HasFault inputs (TurnLine engine most) world why = TurnFails engine most world why
+HasFault inputs (OperatorLine command) world why = why ≡ NoMemory
 
 -- Why a line has no answer: what it asks has none, or memory ran out.
 abbrev pub IsUnanswered : Inputs → (line : List ℕ) → World → SessionError → Type 0
 IsUnanswered inputs line world why =
     ((asked : EventLine) × (event_of_line line ≡ Some asked) × HasFault inputs asked world why) ⊎ (why ≡ NoMemory)
 
--- What was written of the answer of a line at which a session stopped: a prefix of it, where a write failed; else nothing.
-abbrev pub StopsAtLine : Inputs → (line : List ℕ) → Standing → (old new : Option (List ℕ)) → SessionError → Type 0
-StopsAtLine inputs line now old new (Output error) =
-    (next : World) × (has : List Delivery) × (answer : List ℕ) × TakesLines inputs (line ∷ []) now (standing next has) answer
-    × AppendsPrefix old new answer
-StopsAtLine inputs line now old new why = IsUnanswered inputs line now.world why × (new ≡ old)
+-- The talk of a session, with these inputs.
+abbrev pub playing : Inputs → Talking Standing SessionError
+playing inputs = record {
+  Takes = λ lines old answers new. TakesLines inputs lines old new answers;
+  Refuses = λ at line why. IsUnanswered inputs line at.world why;
+  Unread = λ error why. why ≡ File (fault.Input error);
+  Unwritten = λ error why. why ≡ Output error;
+}
 
--- the line stands behind these lines of a text, and the session stopped there
-abbrev pub StopsAtALine : Inputs → (text : List ℕ) → List (List ℕ) → Standing → Change (Option (List ℕ)) → SessionError → Type 0
-StopsAtALine inputs text lines now output why =
-    (line : List ℕ) × BeginsWith text (lines ++ line ∷ []) × StopsAtLine inputs line now output.before output.after why
+-- All lines that a reader had, to its end, were carried out; their answers were written, and then the listing of all that was
+-- delivered, and nothing else.
+pub record PlaysToItsEnd (inputs : Inputs) (first : Standing) (bytes left old new : Option (List ℕ)) : Type 0 where
+  pub between : Option (List ℕ)
+  pub answered : AnswersAll (playing inputs) first bytes left old between
+  pub listed : Appends between new (entry_listing answered.last.delivered)
 
-abbrev pub StopsReading : (text : List ℕ) → List (List ℕ) → (old new : Option (List ℕ)) → SessionError → Type 0
-StopsReading text lines old new why =
-    (error : InputError) × (why ≡ File (fault.Input error)) × ReadsNoMore error text lines × (new ≡ old)
-
--- It stopped at its listing, behind all lines: a prefix of it was written, where a write failed; else nothing.
+-- What was written of a listing: a prefix of it, where a write failed; else nothing.
 abbrev pub StopsListing : (had : List Delivery) → (old new : Option (List ℕ)) → SessionError → Type 0
 StopsListing had old new (Output error) = AppendsPrefix old new (entry_listing had)
 StopsListing had old new NoMemory = new ≡ old
 StopsListing had old new why = ⊥
 
--- What was done behind the lines that end with a line feed: the last line, if there is one, and the listing.
-pub record Ends (inputs : Inputs) (lines : List (List ℕ)) (world : World) (had : List Delivery) (old new : Option (List ℕ)) : Type 0 where
-  pub next : World
-  pub has : List Delivery
-  pub answers : List ℕ
-  pub takes : TakesLines inputs lines (standing world had) (standing next has) answers
-  pub written : Appends old new (answers ++ entry_listing has)
-
--- Why it was not done: at the last line, or at the listing behind it.
-pub record StopsAtTheListing (inputs : Inputs) (lines : List (List ℕ)) (first : Standing) (old new : Option (List ℕ)) (why : SessionError) : Type 0 where
-  pub next : World
-  pub has : List Delivery
-  pub answers : List ℕ
+-- All lines were carried out, and their answers written; the session stopped at its listing.
+pub record StopsAtTheListing (inputs : Inputs) (first : Standing) (bytes left : Option (List ℕ)) (output : Change (Option (List ℕ))) (why : SessionError) : Type 0 where
   pub between : Option (List ℕ)
-  pub takes : TakesLines inputs lines first (standing next has) answers
-  pub written : Appends old between answers
-  pub stops : StopsListing has between new why
+  pub answered : AnswersAll (playing inputs) first bytes left output.before between
+  pub stops : StopsListing answered.last.delivered between output.after why
 
-abbrev pub StopsEnding : Inputs → (line : List ℕ) → Standing → (old new : Option (List ℕ)) → SessionError → Type 0
-StopsEnding inputs line now old new why =
-    ((lines_of line ≡ line ∷ []) × StopsAtLine inputs line now old new why) ⊎ StopsAtTheListing inputs (lines_of line) now old new why
-
--- what was read, what is left, and its lines so far
-pub record LinesRead : Type 0 where
-  pub left : Option (List ℕ)
-  pub text : List ℕ
-  pub lines : List (List ℕ)
-
-abbrev pub reading : (left : Option (List ℕ)) (text : List ℕ) (lines : List (List ℕ)) → LinesRead
-reading left text lines = record { left = left; text = text; lines = lines }
-
--- how a session stopped behind the lines that it had carried out
-abbrev pub StopsBehind : Inputs → LinesRead → Standing → Change (Option (List ℕ)) → SessionError → Type 0
-StopsBehind inputs read now output why =
-    StopsAtALine inputs read.text read.lines now output why ⊎ StopsReading read.text read.lines output.before output.after why
-    ⊎ (IsAtEnd read.left × (lines_of read.text ≡ read.lines) × StopsListing now.delivered output.before output.after why)
-
--- The first lines of what was read were carried out, and their answers written; and why the session stopped behind them, and what was
--- written then.
-pub record StopsPlaying (inputs : Inputs) (first : Standing) (bytes left : Option (List ℕ)) (output : Change (Option (List ℕ))) (why : SessionError) : Type 0 where
-  pub text : List ℕ
-  pub lines : List (List ℕ)
-  pub next : World
-  pub has : List Delivery
-  pub answers : List ℕ
-  pub between : Option (List ℕ)
-  pub read : Consumes bytes left text
-  pub takes : TakesLines inputs lines first (standing next has) answers
-  pub written : Appends output.before between answers
-  pub stops : StopsBehind inputs (reading left text lines) (standing next has) (change between output.after) why
+-- It stopped behind the first lines, or at its listing.
+abbrev pub StopsPlaying : Inputs → (first : Standing) → (bytes left : Option (List ℕ)) → Change (Option (List ℕ)) → SessionError → Type 0
+StopsPlaying inputs first bytes left output why =
+    AnswersSome (playing inputs) first bytes left output why ⊎ StopsAtTheListing inputs first bytes left output why
 
 -- what the press of a session delivered
 abbrev pub delivered_by : Session → List Delivery
@@ -225,7 +182,7 @@ delivered_by session = entry_deliveries_of (kept session.sheets)
 pub record Plays (engines : ℕ) (inputs : Inputs) (bytes left old new : Option (List ℕ)) : Type 0 where
   pub are : IsTrue (are_engines engines)
   pub played : PlaysToItsEnd inputs (standing (new_world engines) []) bytes left old new
-  pub given : (number : ℕ) → GivenUnder (new_world engines) (happenings_in played.takes.happenings) played.next number
+  pub given : (number : ℕ) → GivenUnder (new_world engines) (happenings_in played.answered.takes.happenings) played.answered.last.world number
 
 -- No press has so many engines, and nothing was read or written.
 abbrev pub DoesNotBegin : (bytes left old new : Option (List ℕ)) → SessionError → Type 0

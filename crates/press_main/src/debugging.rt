@@ -21,9 +21,9 @@ ghost use Rattle.press_main.specs.Telling.{Ended};
 
 use crate::debugger_lines::{DebuggerLine, asked_of};
 use crate::inputs::{InputError, read_all};
-use crate::line_reader::LineReader;
 use crate::lines::{WHAT, line_of};
-use crate::telling::{NO_OUTPUT, Teller, report, write_flushed};
+use crate::talking::{Talk, answer_lines};
+use crate::telling::{NO_OUTPUT, Teller, report};
 use press_asm::write_kind;
 use press_cmd::{Kind, LINE_FEED};
 use press_debug::{Break, BreakError, Debugger, Stop, Watch};
@@ -134,7 +134,7 @@ fn debug<I: Read, R: Read, W: Write>(
     let watch = Watch::new(|_view: &View<'_>| false);
     let debugger = opened(alloc, input, watch)?;
     let mut session = DebugSession { alloc, debugger };
-    session.run(reader, out)
+    answer_lines(alloc, &mut session, reader, out)
 }
 
 /// A debugger of the stream that a reader has.
@@ -161,60 +161,40 @@ struct DebugSession<F> {
     debugger: Debugger<F>,
 }
 
+impl<F: Fn(&View<'_>) -> bool + Drop> Talk for DebugSession<F> {
+    ghost use Rattle.std.specs.Prelude.{◌≡◌, Bool};
+    ghost use Rattle.std.specs.Borrow.{Bor};
+    ghost use Rattle.press_engine.specs.declared.view.View.{View};
+    ghost use Rattle.press_main.specs.DebuggerLines.{asked_of};
+    ghost use Rattle.press_main.specs.Debugging.{seat, DoesLine, NeverMet};
+    ghost use Rattle.press_main.specs.declared.debugging.DebugError.TheVariants.{NoMemory};
+
+    type Error = DebugError;
+
+    ghost IsReady = { λ session. F.IsAlwaysCallable session.debugger.watch.test
+        × ((view : Bor View) (met : Bool)
+        → F.post session.debugger.watch.test view met → NeverMet view.now met) };
+
+    ghost answers = { λ old line answer new. DoesLine (asked_of line)
+        (seat old.debugger.stepper old.debugger.breaks) answer
+        (seat new.debugger.stepper new.debugger.breaks) };
+
+    ghost refuses = { λ at line why. why ≡ NoMemory };
+
+    fn answer(&mut self, line: &[u8]) -> Result<Vec<u8>, DebugError> {
+        Ok(self.carry_out(line)?)
+    }
+}
+
 impl<F: Fn(&View<'_>) -> bool + Drop> DebugSession<F> {
-    ghost use Rattle.std.specs.Prelude.{List, ℕ, ◌≡◌, IfOk, IfErr, OnOk};
-    ghost use Rattle.std.specs.Io.KnownBytes.{Appends};
+    ghost use Rattle.std.specs.Prelude.{◌≡◌, IfOk};
     ghost use Rattle.press_debug.specs.Breaks.{Clears};
     ghost use Rattle.press_main.specs.DebuggerLines.{asked_of};
     ghost use Rattle.press_main.specs.declared.debugger_lines.DebuggerLine.TheVariants as asks;
-    ghost use Rattle.press_main.specs.Debugging.{seat, kinds_text, IsQuiet, StandsIn, TellsStop, DoesAsked, DoesLine, AnswersAll, AnswersSome, StopsAtLine};
-
-    /// Answers the lines that a reader has. A line is answered before more is read.
-    fn run<R: Read, W: Write>(&mut self, reader: &mut R, out: &mut W) -> Result<(), DebugError>
-        requires callable { F.IsAlwaysCallable self.old.debugger.watch.test }
-        requires quiet { IsQuiet (FnReturnsAt F.Fn self.old.debugger.watch.test) }
-        ensures ok { OnOk result ((bytes : List ℕ) → StandsIn bytes self.old.debugger.stepper
-            → AnswersAll bytes (seat self.old.debugger.stepper self.old.debugger.breaks)
-            (R.remaining reader.old) (R.remaining reader.new)
-            (W.contents out.old) (W.contents out.new)) }
-        ensures err { IfErr result (λ why.
-            (bytes : List ℕ) → StandsIn bytes self.old.debugger.stepper
-            → AnswersSome bytes (seat self.old.debugger.stepper self.old.debugger.breaks)
-            (R.remaining reader.old) (R.remaining reader.new)
-            (change (W.contents out.old) (W.contents out.new)) why) }
-    {
-        let mut lines = LineReader::new(self.alloc);
-        let mut line = Vec::new(self.alloc);
-        while lines.next(reader, &mut line)? {
-            self.carry_out(&line, out)?;
-        }
-        if line.is_empty() {
-            return Ok(());
-        }
-        self.carry_out(&line, out)
-    }
-
-    /// Does what a line asks, and writes the answer.
-    fn carry_out<W: Write>(&mut self, line: &[u8], out: &mut W) -> Result<(), DebugError>
-        requires callable { F.IsAlwaysCallable self.old.debugger.watch.test }
-        requires quiet { IsQuiet (FnReturnsAt F.Fn self.old.debugger.watch.test) }
-        ensures ok { OnOk result ((answer : List ℕ)
-            × DoesLine (asked_of line.now)
-            (seat self.old.debugger.stepper self.old.debugger.breaks) answer
-            (seat self.new.debugger.stepper self.new.debugger.breaks)
-            × Appends (W.contents out.old) (W.contents out.new) answer) }
-        ensures err { IfErr result (StopsAtLine line.now
-            (seat self.old.debugger.stepper self.old.debugger.breaks)
-            (W.contents out.old) (W.contents out.new)) }
-        ensures watch { self.new.debugger.watch ≡ self.old.debugger.watch }
-    {
-        let answer = self.answer(line)?;
-        write_flushed(out, &answer)?;
-        Ok(())
-    }
+    ghost use Rattle.press_main.specs.Debugging.{seat, kinds_text, IsQuiet, TellsStop, DoesAsked, DoesLine};
 
     /// Does what a line asks: the answer.
-    fn answer(&mut self, line: &[u8]) -> Result<Vec<u8>, AllocError>
+    fn carry_out(&mut self, line: &[u8]) -> Result<Vec<u8>, AllocError>
         requires callable { F.IsAlwaysCallable self.old.debugger.watch.test }
         requires quiet { IsQuiet (FnReturnsAt F.Fn self.old.debugger.watch.test) }
         ensures does { IfOk result (λ answer. DoesLine (asked_of line.now)

@@ -13,6 +13,7 @@ ghost use Rattle.press_main.specs.Jobs.{
   StopsWriting,
 };
 ghost use Rattle.press_main.specs.Faults.{told_of_job};
+ghost use Rattle.press_main.specs.NamedInputs.{named};
 ghost use Rattle.press_main.specs.Telling.{Ended};
 
 use crate::counted_read::CountedRead;
@@ -45,6 +46,7 @@ pub enum JobFileError {
 
 impl fmt::Display for JobFileError {
     ghost use Rattle.press_main.specs.Faults.{told_of_job};
+    ghost use Rattle.press_main.specs.NamedInputs.{named};
 
     ghost output = { told_of_job };
 
@@ -94,7 +96,8 @@ fn image_named<I: NamedInputs>(
     name: &[u8],
 ) -> Result<Bitmap, JobFileError>
     ensures image { IfOk result (λ image. HasImage (I.bytes inputs.now name.now) image) }
-    ensures refused { IfErr result (λ why. ImageRefused (I.bytes inputs.now name.now) why) }
+    ensures refused { IfErr result (λ why.
+        ImageRefused (named (I.bytes inputs.now) (I.missing inputs.now) name.now) why) }
 {
     let mut input = CountedRead::new(open_named(inputs, name)?);
     read_pbm(alloc, &mut input).map_err(JobFileError::Image)
@@ -111,9 +114,11 @@ pub fn images_named<I: NamedInputs>(
     names: &[&[u8]],
 ) -> Result<Vec<Bitmap>, JobFileError>
     ensures images { IfOk result (λ images.
-        HaveImages (map (λ name. I.bytes inputs.now name.now) names.now) images.items) }
+        HaveImages (map (λ name. named (I.bytes inputs.now) (I.missing inputs.now) name.now)
+        names.now) images.items) }
     ensures refused { IfErr result (λ why.
-        ImagesRefused (map (λ name. I.bytes inputs.now name.now) names.now) why) }
+        ImagesRefused (map (λ name. named (I.bytes inputs.now) (I.missing inputs.now) name.now)
+        names.now) why) }
 {
     let mut images = Vec::new(alloc);
     for name in names {
@@ -148,11 +153,11 @@ fn write_from<T: Read, I: NamedInputs, W: Write>(
     out: &mut W,
 ) -> Result<(), JobFileError>
     ensures ok { OnOk result (WritesTheTicket (T.remaining ticket.old) (T.remaining ticket.new)
-        (map (λ name. I.bytes inputs.now name.now) names.now)
+        (map (λ name. named (I.bytes inputs.now) (I.missing inputs.now) name.now) names.now)
         (W.contents out.old) (W.contents out.new)) }
     ensures err { IfErr result (λ why.
         StopsWriting (T.remaining ticket.old) (T.remaining ticket.new)
-        (map (λ name. I.bytes inputs.now name.now) names.now)
+        (map (λ name. named (I.bytes inputs.now) (I.missing inputs.now) name.now) names.now)
         (W.contents out.old) (W.contents out.new) why) }
 {
     let ticket = ticket_in(alloc, ticket)?;
@@ -173,10 +178,10 @@ pub fn write_files<T: Read, I: NamedInputs, W: Write, E: Teller>(
 ) -> u8
     ensures { Ended result (E.said err.old) (E.said err.new) told_of_job
         (WritesTheTicket (T.remaining ticket.old) (T.remaining ticket.new)
-        (map (λ name. I.bytes inputs.now name.now) names.now)
+        (map (λ name. named (I.bytes inputs.now) (I.missing inputs.now) name.now) names.now)
         (W.contents out.old) (W.contents out.new))
         (StopsWriting (T.remaining ticket.old) (T.remaining ticket.new)
-        (map (λ name. I.bytes inputs.now name.now) names.now)
+        (map (λ name. named (I.bytes inputs.now) (I.missing inputs.now) name.now) names.now)
         (W.contents out.old) (W.contents out.new)) }
 {
     match write_from(alloc, ticket, inputs, names, out) {

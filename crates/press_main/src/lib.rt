@@ -26,6 +26,7 @@ mod sessions;
 mod sparing;
 mod stream;
 mod taken;
+mod talking;
 mod telling;
 mod told_folder;
 mod traced;

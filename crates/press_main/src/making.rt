@@ -4,6 +4,7 @@ ghost use Rattle.press_main.specs.Change.{change};
 ghost use Rattle.press_main.specs.Assembly.{AssembledInto, StopsMaking};
 ghost use Rattle.press_main.specs.Jobs.{MakesAJob, MakesNoJob, MakesTheTicket, StopsMakingJob};
 ghost use Rattle.press_main.specs.Faults.{told_of_job, told_of_text};
+ghost use Rattle.press_main.specs.NamedInputs.{named};
 ghost use Rattle.press_main.specs.Telling.{Ended};
 
 use crate::assembly::{TextError, assembled};
@@ -68,10 +69,10 @@ pub fn job_file<T: Read, I: NamedInputs, O: NamedOutputs, E: Teller>(
 ) -> u8
     ensures { Ended result (E.said err.old) (E.said err.new) told_of_job
         (MakesTheTicket name.now (T.remaining ticket.old) (T.remaining ticket.new)
-        (map (λ name. I.bytes inputs.now name.now) names.now)
+        (map (λ name. named (I.bytes inputs.now) (I.missing inputs.now) name.now) names.now)
         (O.made outputs.old) (O.made outputs.new))
-        (StopsMakingJob name.now (T.remaining ticket.old) (T.remaining ticket.new) (map (λ name.
-        I.bytes inputs.now name.now) names.now)
+        (StopsMakingJob name.now (T.remaining ticket.old) (T.remaining ticket.new)
+        (map (λ name. named (I.bytes inputs.now) (I.missing inputs.now) name.now) names.now)
         (change (O.made outputs.old) (O.made outputs.new))) }
 {
     match make_ticket(alloc, ticket, inputs, names, outputs, name) {
@@ -91,10 +92,11 @@ fn make_ticket<T: Read, I: NamedInputs, O: NamedOutputs>(
 ) -> Result<(), JobFileError>
     ensures ok { OnOk result (MakesTheTicket name.now
         (T.remaining ticket.old) (T.remaining ticket.new)
-        (map (λ name. I.bytes inputs.now name.now) names.now)
+        (map (λ name. named (I.bytes inputs.now) (I.missing inputs.now) name.now) names.now)
         (O.made outputs.old) (O.made outputs.new)) }
     ensures err { IfErr result (λ why. StopsMakingJob name.now (T.remaining ticket.old)
-        (T.remaining ticket.new) (map (λ name. I.bytes inputs.now name.now) names.now)
+        (T.remaining ticket.new)
+        (map (λ name. named (I.bytes inputs.now) (I.missing inputs.now) name.now) names.now)
         (change (O.made outputs.old) (O.made outputs.new)) why) }
 {
     let ticket = ticket_in(alloc, ticket)?;

@@ -1,5 +1,7 @@
 //! Inputs that are opened by their names.
 ghost use Rattle.std.specs.Prelude.{◌≡◌, ℕ, List, Option, IfOk, IfErr};
+ghost use Rattle.std.specs.Str.{IsUtf8};
+ghost use Rattle.press_main.specs.declared.inputs.InputError.TheVariants.{ReadFault};
 
 use crate::inputs::InputError;
 use press_stream::PIECE;
@@ -83,7 +85,9 @@ fn is_regular<T: OpenFile>(file: &T) -> bool {
 ///
 /// `ReadFault` (304) where it cannot be opened; `NoMemory`.
 pub fn open_named<I: NamedInputs>(inputs: &I, word: &[u8]) -> Result<I::Input, InputError>
-    ensures { IfOk result (λ input. I.Input.remaining input ≡ I.bytes inputs.now word.now) }
+    ensures bytes { IfOk result (λ input. I.Input.remaining input ≡ I.bytes inputs.now word.now) }
+    ensures missing { IfErr result (λ error.
+        error ≡ ReadFault → IsUtf8 word.now → I.missing inputs.now word.now) }
 {
     match str::from_utf8(word) {
         Ok(name) => inputs.open(name),

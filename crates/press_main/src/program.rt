@@ -5,8 +5,9 @@ ghost use Rattle.std.specs.String.{string_bytes};
 ghost use Rattle.press_main.specs.Defaults.{HoldsBehind, with_prefix};
 ghost use Rattle.press_main.specs.Files.{PrintsFiles, PrintsNoFiles};
 ghost use Rattle.press_main.specs.Listing.{PrintsListing};
+ghost use Rattle.press_main.specs.NamedInputs.{named};
 ghost use Rattle.press_main.specs.Paging.{Paging};
-ghost use Rattle.press_main.specs.Program.{Debugging, Makes, Performs, RefusesBy, Runs, Writing};
+ghost use Rattle.press_main.specs.Program.{Debugging, DebugsNothing, Makes, Performs, RefusesBy, Runs, Writing};
 ghost use Rattle.press_main.specs.Traced.{Tracing};
 ghost use Rattle.press_main.specs.View.{made_seen, request_seen, status_of};
 
@@ -142,7 +143,7 @@ fn make<I: NamedInputs, O: NamedOutputs + Drop, R: Read, W: Write + Drop, E: Tel
     mut out: W,
     err: &mut E,
 ) -> Finished<W, O>
-    ensures { Makes (made_seen output.now) (I.bytes inputs.now) result.status
+    ensures { Makes (made_seen output.now) (I.bytes inputs.now) (I.missing inputs.now) result.status
         (around (E.said err.old) (E.said err.new) (R.remaining reader.old) (R.remaining reader.new)
         (W.contents out) (W.contents result.out) (O.made outputs) (O.made result.outputs)) }
 {
@@ -295,6 +296,10 @@ fn debug_file<I: NamedInputs, R: Read, W: Write, E: Teller>(
     ensures { Debugging result (with_prefix prefix.now (I.bytes inputs.now name.now))
         (change (E.said err.old) (E.said err.new))
         (change (R.remaining reader.old) (R.remaining reader.new))
+        (change (W.contents out.old) (W.contents out.new))
+        ⊎ DebugsNothing (I.missing inputs.now name.now) result
+        (change (E.said err.old) (E.said err.new))
+        (change (R.remaining reader.old) (R.remaining reader.new))
         (change (W.contents out.old) (W.contents out.new)) }
 {
     match inputs.open(name) {
@@ -337,7 +342,8 @@ fn write_file<R: Read, I: NamedInputs, O: NamedOutputs, E: Teller>(
     ensures { Writing name.now result
         (change (E.said err.old) (E.said err.new))
         (change (R.remaining reader.old) (R.remaining reader.new))
-        (map (I.bytes inputs.now) (map (λ image. image.now) images.now))
+        (map (named (I.bytes inputs.now) (I.missing inputs.now))
+        (map (λ image. image.now) images.now))
         (change (O.made outputs.old) (O.made outputs.new)) }
 {
     let Ok(words) = names_of(alloc, images) else {

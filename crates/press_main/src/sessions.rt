@@ -3,31 +3,25 @@ ghost use Rattle.std.specs.Prelude.{◌≡◌, ◌∷◌, ◌++◌, ℕ, List, [
 ghost use Rattle.press_main.specs.Change.{change};
 ghost use Rattle.std.specs.Io.KnownBytes.{Appends};
 ghost use Rattle.std.specs.String.{string_bytes};
-ghost use Rattle.press_asm.specs.Text.{lines_of};
 ghost use Rattle.press_core.specs.Events.{TurnOn, Operator};
 ghost use Rattle.press_main.specs.EntryListing.{entry_listing};
-ghost use Rattle.press_main.specs.EventLines.{MessageLine, TurnLine, line_seen};
-ghost use Rattle.press_main.specs.Lines.{HasNoFeed};
+ghost use Rattle.press_main.specs.EventLines.{MessageLine, line_seen};
 ghost use Rattle.press_main.specs.Sessions.{
   turn_text,
-  Inputs,
   TakesEvent,
   TakesAsked,
   TakesLines,
   HasFault,
+  TurnFails,
   IsUnanswered,
-  Ends,
-  PlaysToItsEnd,
-  StopsAtLine,
-  StopsEnding,
   StopsListing,
-  StopsPlaying,
   Plays,
   Stops,
   delivered_by,
   standing,
 };
 ghost use Rattle.press_main.specs.Faults.{told_of_session};
+ghost use Rattle.press_main.specs.NamedInputs.{named};
 ghost use Rattle.press_main.specs.Telling.{Ended};
 ghost use Rattle.press_main.specs.declared.sessions.SessionError.TheVariants.{NoMemory};
 
@@ -35,10 +29,10 @@ use crate::entry_sheets::EntrySheets;
 use crate::event_lines::{LineEvent, event_of};
 use crate::inputs::{InputError, read_all};
 use crate::jobs::{JobFileError, images_named};
-use crate::line_reader::LineReader;
 use crate::lines::{WHAT, line_of, words_of};
 use crate::listing::list_delivered;
 use crate::named_inputs::{NamedInputs, open_named};
+use crate::talking::{Talk, answer_lines};
 use crate::telling::{NO_OUTPUT, Teller, report, write_flushed};
 use press_core::{BadEngines, OperatorCommand, Press, Turn, TurnError, laws};
 use press_units::ToldFault;
@@ -160,9 +154,11 @@ pub fn press_lines<I: NamedInputs, R: Read, W: Write, E: Teller>(
     err: &mut E,
 ) -> u8
     ensures { Ended result (E.said err.old) (E.said err.new) told_of_session
-        (Plays engines (I.bytes inputs.now) (R.remaining reader.old) (R.remaining reader.new)
+        (Plays engines (named (I.bytes inputs.now) (I.missing inputs.now))
+        (R.remaining reader.old) (R.remaining reader.new)
         (W.contents out.old) (W.contents out.new))
-        (Stops engines (I.bytes inputs.now) (R.remaining reader.old) (R.remaining reader.new)
+        (Stops engines (named (I.bytes inputs.now) (I.missing inputs.now))
+        (R.remaining reader.old) (R.remaining reader.new)
         (change (W.contents out.old) (W.contents out.new))) }
 {
     match play(alloc, inputs, engines, reader, out) {
@@ -179,16 +175,47 @@ fn play<I: NamedInputs, R: Read, W: Write>(
     reader: &mut R,
     out: &mut W,
 ) -> Result<(), SessionError>
-    ensures ok { OnOk result (Plays engines (I.bytes inputs.now)
+    ensures ok { OnOk result (Plays engines
+        (named (I.bytes inputs.now) (I.missing inputs.now))
         (R.remaining reader.old) (R.remaining reader.new)
         (W.contents out.old) (W.contents out.new)) }
-    ensures err { IfErr result (Stops engines (I.bytes inputs.now) (R.remaining reader.old)
+    ensures err { IfErr result (Stops engines
+        (named (I.bytes inputs.now) (I.missing inputs.now)) (R.remaining reader.old)
         (R.remaining reader.new)
         (change (W.contents out.old) (W.contents out.new))) }
 {
     laws::sheets_are_given();
-    let mut session = Session::new(alloc, engines)?;
-    session.run(inputs, reader, out)
+    let session = Session::new(alloc, engines)?;
+    let mut talk = SessionTalk { inputs, session };
+    answer_lines(alloc, &mut talk, reader, out)?;
+    talk.session.list(out)
+}
+
+/// A session, and where the files of its messages are.
+#[derive(Drop)]
+struct SessionTalk<'a, I> {
+    inputs: &'a I,
+    session: Session,
+}
+
+impl<I: NamedInputs> Talk for SessionTalk<'_, I> {
+    ghost use Rattle.std.specs.Prelude.{◌≡◌, ◌∷◌, []};
+    ghost use Rattle.press_main.specs.Sessions.{TakesLines, IsUnanswered, standing, delivered_by};
+
+    type Error = SessionError;
+
+    ghost answers = { λ old line answer new.
+        TakesLines (named (I.bytes old.inputs.now) (I.missing old.inputs.now)) (line ∷ [])
+        (standing old.session.press (delivered_by old.session))
+        (standing new.session.press (delivered_by new.session)) answer
+        × (new.inputs ≡ old.inputs) };
+
+    ghost refuses = { λ at line. IsUnanswered
+        (named (I.bytes at.inputs.now) (I.missing at.inputs.now)) line at.session.press };
+
+    fn answer(&mut self, line: &[u8]) -> Result<Vec<u8>, SessionError> {
+        self.session.answer(self.inputs, line)
+    }
 }
 
 /// A press, and the sheets that it delivered.
@@ -217,72 +244,6 @@ impl Session {
         })
     }
 
-    /// Carries out the lines that a reader has, and lists the sheets. A line is carried out before more is read.
-    fn run<I: NamedInputs, R: Read, W: Write>(
-        &mut self,
-        inputs: &I,
-        reader: &mut R,
-        out: &mut W,
-    ) -> Result<(), SessionError>
-        ensures ok { OnOk result (PlaysToItsEnd (I.bytes inputs.now)
-            (standing self.old.press (delivered_by self.old)) (R.remaining reader.old)
-            (R.remaining reader.new)
-            (W.contents out.old) (W.contents out.new)) }
-        ensures err { IfErr result (λ why. StopsPlaying (I.bytes inputs.now)
-            (standing self.old.press (delivered_by self.old)) (R.remaining reader.old)
-            (R.remaining reader.new) (change (W.contents out.old) (W.contents out.new)) why) }
-    {
-        let mut lines = LineReader::new(self.alloc);
-        let mut line = Vec::new(self.alloc);
-        while lines.next(reader, &mut line)? {
-            self.carry_out(inputs, &line, out)?;
-        }
-        self.end(inputs, &line, out)
-    }
-
-    /// Carries out the last line, which has no line feed, if there is one, and lists the sheets.
-    fn end<I: NamedInputs, W: Write>(
-        &mut self,
-        inputs: &I,
-        line: &[u8],
-        out: &mut W,
-    ) -> Result<(), SessionError>
-        requires { HasNoFeed line.now }
-        ensures ok { OnOk result (Ends (I.bytes inputs.now) (lines_of line.now)
-            self.old.press (delivered_by self.old) (W.contents out.old) (W.contents out.new)) }
-        ensures err { IfErr result (StopsEnding (I.bytes inputs.now) line.now
-            (standing self.old.press (delivered_by self.old)) (W.contents out.old)
-            (W.contents out.new)) }
-    {
-        if line.is_empty() {
-            return self.list(out);
-        }
-        self.carry_out(inputs, line, out)?;
-        self.list(out)
-    }
-
-    /// Carries out a line, and writes its answer.
-    fn carry_out<I: NamedInputs, W: Write>(
-        &mut self,
-        inputs: &I,
-        line: &[u8],
-        out: &mut W,
-    ) -> Result<(), SessionError>
-        ensures ok { OnOk result ((answer : List ℕ)
-            × TakesLines (I.bytes inputs.now) (line.now ∷ [])
-            (standing self.old.press (delivered_by self.old))
-            (standing self.new.press (delivered_by self.new)) answer
-            × Appends (W.contents out.old) (W.contents out.new) answer) }
-        ensures err { IfErr result (λ why.
-            StopsAtLine (I.bytes inputs.now) line.now
-            (standing self.old.press (delivered_by self.old))
-            (W.contents out.old) (W.contents out.new) why) }
-    {
-        let answer = self.answer(inputs, line)?;
-        write_flushed(out, &answer)?;
-        Ok(())
-    }
-
     /// Lists the sheets.
     fn list<W: Write>(&self, out: &mut W) -> Result<(), SessionError>
         ensures ok { OnOk result (Appends (W.contents out.old) (W.contents out.new)
@@ -309,10 +270,11 @@ impl Session {
     /// Carries out a line: its answer.
     fn answer<I: NamedInputs>(&mut self, inputs: &I, line: &[u8]) -> Result<Vec<u8>, SessionError>
         ensures ok { IfOk result (λ answer.
-            TakesLines (I.bytes inputs.now) (line.now ∷ [])
+            TakesLines (named (I.bytes inputs.now) (I.missing inputs.now)) (line.now ∷ [])
             (standing self.old.press (delivered_by self.old))
             (standing self.new.press (delivered_by self.new)) answer.items) }
-        ensures err { IfErr result (IsUnanswered (I.bytes inputs.now) line.now self.old.press) }
+        ensures err { IfErr result (IsUnanswered
+            (named (I.bytes inputs.now) (I.missing inputs.now)) line.now self.old.press) }
     {
         let words = words_of(self.alloc, line)?;
         match event_of(&words) {
@@ -327,11 +289,13 @@ impl Session {
         inputs: &I,
         event: LineEvent<'_>,
     ) -> Result<Vec<u8>, SessionError>
-        ensures ok { IfOk result (λ answer. TakesAsked (I.bytes inputs.now) (line_seen event.entry)
+        ensures ok { IfOk result (λ answer. TakesAsked
+            (named (I.bytes inputs.now) (I.missing inputs.now)) (line_seen event.entry)
             (standing self.old.press (delivered_by self.old))
             (standing self.new.press (delivered_by self.new)) answer.items) }
         ensures err { IfErr result
-            (HasFault (I.bytes inputs.now) (line_seen event.entry) self.old.press) }
+            (HasFault (named (I.bytes inputs.now) (I.missing inputs.now))
+            (line_seen event.entry) self.old.press) }
     {
         match event {
             LineEvent::Message(file, images) => self.message(inputs, file, images),
@@ -348,11 +312,12 @@ impl Session {
         images: &[&[u8]],
     ) -> Result<Vec<u8>, SessionError>
         ensures ok { IfOk result (λ answer.
-            TakesAsked (I.bytes inputs.now) (MessageLine file.now (map (λ name. name.now)
-            images.now))
+            TakesAsked (named (I.bytes inputs.now) (I.missing inputs.now))
+            (MessageLine file.now (map (λ name. name.now) images.now))
             (standing self.old.press (delivered_by self.old))
             (standing self.new.press (delivered_by self.new)) answer.items) }
-        ensures err { IfErr result (HasFault (I.bytes inputs.now)
+        ensures err { IfErr result (HasFault
+            (named (I.bytes inputs.now) (I.missing inputs.now))
             (MessageLine file.now (map (λ name. name.now) images.now)) self.old.press) }
     {
         let mut input = open_named(inputs, file)?;
@@ -367,8 +332,7 @@ impl Session {
         ensures ok { IfOk result (λ answer. TakesEvent (TurnOn engine most)
             self.old.press (delivered_by self.old)
             self.new.press (delivered_by self.new) answer.items) }
-        ensures err { IfErr result (λ why.
-            (inputs : Inputs) → HasFault inputs (TurnLine engine most) self.old.press why) }
+        ensures err { IfErr result (TurnFails engine most self.old.press) }
     {
         let turn = self.press.turn_on(engine, most, &mut self.sheets)?;
         Ok(turn_line(self.alloc, turn)?.into_bytes())

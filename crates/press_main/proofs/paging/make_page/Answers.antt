@@ -1,4 +1,4 @@
-use Rattle.std.proofs.Common.{List, ℕ, subst, sym}
+use Rattle.std.proofs.Common.{List, ℕ, subst}
 use Rattle.press_main.specs.Paging.{StandsAt}
 use Rattle.press_main.proofs.PagingLemmas.{page_made, page_stopped}
 use Rattle.press_main.proofs.paging.make_page.Goals as goal

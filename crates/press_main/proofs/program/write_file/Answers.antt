@@ -2,6 +2,7 @@ use Rattle.std.proofs.Common.{◌≡◌, ◌∙◌, ℕ, List, Bor, Option, map,
 use Rattle.press_main.specs.Change.{change}
 use Rattle.press_sink.specs.Outputs.{MadeOutput}
 use Rattle.press_ticket.specs.declared.fault.TicketError.TheVariants as ticket_fault
+use Rattle.press_main.specs.NamedInputs.{NamedInput, named}
 use Rattle.press_main.specs.Program.{Writing}
 use Rattle.press_main.specs.declared.jobs.JobFileError.TheVariants as fault
 use Rattle.press_main.proofs.ProgramLemmas.{map-twice}
@@ -15,12 +16,12 @@ returns-in_default g c = record {
 
 pub returns : goal.returns
 returns g c =
-    let bytes = g.I.NamedInputs.bytes c.args.inputs.now in
+    let input = named (g.I.NamedInputs.bytes c.args.inputs.now) (g.I.NamedInputs.missing c.args.inputs.now) in
     let had = g.R.Read.remaining c.args.reader.now in
     let left = g.R.Read.remaining c.job_file.new.ticket in
     let before : Option (List MadeOutput) = g.O.NamedOutputs.made c.args.outputs.now in
     let after : Option (List MadeOutput) = g.O.NamedOutputs.made c.job_file.new.outputs in
     let now : Bor (List ℕ) → List ℕ = λ name. name.now in
-    let same : map (λ (name : Bor (List ℕ)). bytes name.now) c.deref.result.now ≡ map bytes (map now c.args.images.now) =
-    map-twice now bytes c.deref.result.now ∙ ap (map bytes) (ap (map now) c.deref.ensures.value ∙ c.in-Ok.ensures) in
-    subst (λ (inputs : List (Option (List ℕ))). Writing c.args.name.now c.job_file.result (change (g.E.Teller.said c.args.err.now) (g.E.Teller.said c.job_file.new.err)) (change had left) inputs (change before after)) same c.job_file.ensures
+    let same : map (λ (name : Bor (List ℕ)). input name.now) c.deref.result.now ≡ map input (map now c.args.images.now) =
+    map-twice now input c.deref.result.now ∙ ap (map input) (ap (map now) c.deref.ensures.value ∙ c.in-Ok.ensures) in
+    subst (λ (inputs : List NamedInput). Writing c.args.name.now c.job_file.result (change (g.E.Teller.said c.args.err.now) (g.E.Teller.said c.job_file.new.err)) (change had left) inputs (change before after)) same c.job_file.ensures
