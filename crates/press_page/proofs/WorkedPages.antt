@@ -8,15 +8,17 @@ use Rattle.std.specs.Prelude.{codes}
 use Rattle.press_page.specs.Environment.{factory, reset_environment, logical_page_of, closes_page, asked_page_size, set_page_size, with_page_size, asked_orientation, set_orientation, with_orientation, asked_duplex, set_duplex, with_duplex_mode, set_unit_of_measure, set_vertical_motion, set_line_termination, set_copies, asked_left, set_left_margin, set_top_margin, set_right_margin, set_text_length, skip_moves_top, set_perforation_skip, clear_margins, set_line_spacing, set_horizontal_motion, passes_text}
 use Rattle.press_page.specs.Margins.{default_text_length}
 use Rattle.press_page.specs.PageSetup.{physical_page, frame, logical_page, page_size_of, duplex_mode, with_duplex}
-use Rattle.press_page.specs.Place.{lies_on, to_physical, to_frame, cursor_dot}
+use Rattle.press_page.specs.Place.{lies_on, to_physical, to_frame, cursor_dot, lines_from}
 use Rattle.press_page.specs.declared.environment.PageEnv.{PageEnv}
 use Rattle.press_page.specs.declared.media.Binding.TheVariants.{LongEdge, ShortEdge}
 use Rattle.press_page.specs.declared.media.Orientation.TheVariants.{Portrait, Landscape, ReversePortrait, ReverseLandscape}
 use Rattle.press_page.specs.declared.media.PageSize.TheVariants.{A4, A3, Ledger}
 use Rattle.press_page.specs.declared.media.DuplexMode.TheVariants.{OneSided, TwoSidedLongEdge, TwoSidedShortEdge}
 use Rattle.press_page.specs.declared.media.Orientation.{Orientation}
+use Rattle.press_page.specs.declared.place.CursorDot.{CursorDot}
 use Rattle.press_page.specs.declared.place.Dot.{Dot}
 use Rattle.press_page.specs.declared.place.Extent.{Extent}
+use Rattle.press_page.specs.declared.place.FrameLines.{FrameLines}
 use Rattle.press_cursor.specs.declared.logical_page.LogicalPage.{LogicalPage}
 
 -- after power on
@@ -31,6 +33,10 @@ landscape = set_orientation (tenthousandths_of (codes "1")) letter
 abbrev dot : (column line : ℕ) → Dot
 dot column line = record { x = column; y = line }
 
+-- a dot on which the cursor lies, maybe above the upper edge
+abbrev cursor_at : (column : ℕ) (line : ℤ) → CursorDot
+cursor_at column line = record { x = column; y = line }
+
 abbrev placed : PageEnv → Dot → Option Dot
 placed env place = to_physical env.page_setup.orientation (physical_page env.page_setup) place
 
@@ -40,7 +46,7 @@ at_origin =
     moved_y (pos 0) false (logical_page_of landscape)
     (moved_x (pos 0) false (logical_page_of landscape) (home 0 1200 (logical_page_of landscape)))
 
-frame_of_origin : cursor_dot landscape.page_setup landscape.margins.top (position at_origin) ≡ dot 60 150
+frame_of_origin : cursor_dot landscape.page_setup landscape.margins.top (position at_origin) ≡ cursor_at 60 (pos 150)
 frame_of_origin = refl
 
 -- A rectangle of three columns and two lines there: dots x 150 and 151, y 3237 to 3239.
@@ -203,27 +209,40 @@ last_line_of_the_page = refl
 below_the_page : passes_text (pos 74401) 1200 without_skip ≡ true
 below_the_page = refl
 
--- the cursor's dot of the frame: a dot has 24 positions, and above the page's edge it is line 0
-abbrev lies : (x : ℕ) (y : ℤ) → Dot
+-- the cursor's dot of the frame: a dot has 24 positions
+abbrev lies : (x : ℕ) (y : ℤ) → CursorDot
 lies x y = cursor_dot letter.page_setup letter.margins.top (record { x = x; y = y })
 
-first_dot : lies 0 (pos 0) ≡ dot 75 150
+first_dot : lies 0 (pos 0) ≡ cursor_at 75 (pos 150)
 first_dot = refl
 
-still_the_first_dot : lies 23 (pos 23) ≡ dot 75 150
+still_the_first_dot : lies 23 (pos 23) ≡ cursor_at 75 (pos 150)
 still_the_first_dot = refl
 
-next_dot : lies 24 (pos 24) ≡ dot 76 151
+next_dot : lies 24 (pos 24) ≡ cursor_at 76 (pos 151)
 next_dot = refl
 
-last_dot : lies 57600 (pos 75600) ≡ dot 2475 3300
+last_dot : lies 57600 (pos 75600) ≡ cursor_at 2475 (pos 3300)
 last_dot = refl
 
-above_the_margin : lies 0 (neg_ℤ (pos 1)) ≡ dot 75 149
+above_the_margin : lies 0 (neg_ℤ (pos 1)) ≡ cursor_at 75 (pos 149)
 above_the_margin = refl
 
-upper_edge : lies 0 (neg_ℤ (pos 3600)) ≡ dot 75 0
+upper_edge : lies 0 (neg_ℤ (pos 3600)) ≡ cursor_at 75 (pos 0)
 upper_edge = refl
+
+-- above the edge the line is the floor, too: the first one there has the 24 positions nearest to the edge
+above_the_edge : map (λ n. lies 0 (neg_ℤ (pos n))) (3601 ∷ 3624 ∷ 3625 ∷ 3648 ∷ 3649 ∷ [])
+    ≡ map (λ n. cursor_at 75 (neg_ℤ (pos n))) (1 ∷ 1 ∷ 2 ∷ 2 ∷ 3 ∷ [])
+above_the_edge = refl
+
+-- a mark of four lines that begins below the edge, on it, two lines above it, four and five
+abbrev lines : (first count : ℕ) → FrameLines
+lines first count = record { first = first; count = count }
+
+four_lines : map (λ line. lines_from line 4) (pos 7 ∷ pos 0 ∷ neg_ℤ (pos 2) ∷ neg_ℤ (pos 4) ∷ neg_ℤ (pos 5) ∷ [])
+    ≡ lines 7 4 ∷ lines 0 4 ∷ lines 0 2 ∷ lines 0 0 ∷ lines 0 0 ∷ []
+four_lines = refl
 
 -- after `SET RESOLUTION=600`: the logical page and the margins are as before, in twice as many dots
 abbrev fine : PageEnv
@@ -239,16 +258,18 @@ fine_page : physical_page fine.page_setup ≡ record { width = 5100; height = 66
 fine_page = refl
 
 -- a dot has 12 positions there
-abbrev lies_fine : (x : ℕ) (y : ℤ) → Dot
+abbrev lies_fine : (x : ℕ) (y : ℤ) → CursorDot
 lies_fine x y = cursor_dot fine.page_setup fine.margins.top (record { x = x; y = y })
 
-fine_dots : map (λ n. lies_fine n (pos n)) (0 ∷ 11 ∷ 12 ∷ 24 ∷ 57600 ∷ []) ≡ dot 150 300 ∷ dot 150 300 ∷ dot 151 301 ∷ dot 152 302 ∷ dot 4950 5100 ∷ []
+fine_dots : map (λ n. lies_fine n (pos n)) (0 ∷ 11 ∷ 12 ∷ 24 ∷ 57600 ∷ [])
+    ≡ cursor_at 150 (pos 300) ∷ cursor_at 150 (pos 300) ∷ cursor_at 151 (pos 301) ∷ cursor_at 152 (pos 302) ∷ cursor_at 4950 (pos 5100) ∷ []
 fine_dots = refl
 
-fine_home : lies_fine 0 (pos 900) ≡ dot 150 375
+fine_home : lies_fine 0 (pos 900) ≡ cursor_at 150 (pos 375)
 fine_home = refl
 
-above_the_fine_margin : map (lies_fine 0) (neg_ℤ (pos 1) ∷ neg_ℤ (pos 3600) ∷ neg_ℤ (pos 3601) ∷ []) ≡ dot 150 299 ∷ dot 150 0 ∷ dot 150 0 ∷ []
+above_the_fine_margin : map (lies_fine 0) (neg_ℤ (pos 1) ∷ neg_ℤ (pos 3600) ∷ neg_ℤ (pos 3601) ∷ neg_ℤ (pos 3612) ∷ neg_ℤ (pos 3613) ∷ [])
+    ≡ map (cursor_at 150) (pos 299 ∷ pos 0 ∷ neg_ℤ (pos 1) ∷ neg_ℤ (pos 1) ∷ neg_ℤ (pos 2) ∷ [])
 above_the_fine_margin = refl
 
 -- no command changes it: ESC&l1O, ESC&l6A, ESC&l2S

@@ -1,14 +1,16 @@
 -- Placement: from a dot of the frame to a dot of the physical page and back (PCL 5 Printer Language Technical Reference
 -- Manual, the PCL coordinate system and Logical Page Orientation command; the offsets are this profile's).
-use Rattle.std.specs.Prelude.{◌≡◌, ◌↔◌, ℕ, ◌+◌, ◌-◌, ◌/◌, ℤ, pos, negsuc, ◌+ℤ◌, ◌&&◌, Bool, nat_lt, if◌then◌else◌, Option, Some, None}
-use Rattle.press_units.specs.Position.{positions_per_dot}
+use Rattle.std.specs.Prelude.{◌≡◌, ◌↔◌, ℕ, suc, ◌+◌, ◌-◌, ◌/◌, ℤ, pos, negsuc, ◌+ℤ◌, ◌&&◌, Bool, nat_lt, if◌then◌else◌, Option, Some, None}
+use Rattle.press_units.specs.Position.{dot_of, positions_per_dot}
 use Rattle.press_cursor.specs.declared.stack.CursorPosition.{CursorPosition}
 use Rattle.press_page.specs.PageSetup.{turned, offset}
 use Rattle.press_page.specs.declared.media.Orientation.{Orientation}
 use Rattle.press_page.specs.declared.media.Orientation.TheVariants.{Portrait, Landscape, ReversePortrait, ReverseLandscape}
 use Rattle.press_page.specs.declared.media.PageSetup.{PageSetup}
+use Rattle.press_page.specs.declared.place.CursorDot.{CursorDot}
 use Rattle.press_page.specs.declared.place.Dot.{Dot}
 use Rattle.press_page.specs.declared.place.Extent.{Extent}
+use Rattle.press_page.specs.declared.place.FrameLines.{FrameLines}
 
 -- whether a dot lies on a page of so many dots
 abbrev pub lies_on : Extent → Dot → Bool
@@ -48,14 +50,15 @@ ArePlacementsInverse orientation page =
     (inner physical : Dot)
     → (to_physical orientation page inner ≡ Some physical) ↔ (to_frame orientation page physical ≡ Some inner)
 
--- how far a position lies below the upper edge of the logical page
-abbrev pub below_edge : ℤ → ℕ
-below_edge (pos n) = n
-below_edge (negsuc n) = 0
-
--- The cursor's frame dot: the dot of the frame on which the cursor lies, under a top margin.
-abbrev pub cursor_dot : PageSetup → (top_margin : ℕ) → CursorPosition → Dot
+-- The cursor's frame dot: the dot of the frame on which the cursor lies, under a top margin. Its line is the floor also above
+-- the upper edge of the frame, where it is negative.
+abbrev pub cursor_dot : PageSetup → (top_margin : ℕ) → CursorPosition → CursorDot
 cursor_dot page_setup top_margin cursor = record {
   x = offset page_setup + cursor.x / positions_per_dot page_setup.resolution;
-  y = below_edge (cursor.y +ℤ pos top_margin) / positions_per_dot page_setup.resolution;
+  y = dot_of (cursor.y +ℤ pos top_margin) page_setup.resolution;
 }
+
+-- The lines of the frame that a mark of so many lines covers, from a line on: those above the upper edge are dropped.
+abbrev pub lines_from : ℤ → (count : ℕ) → FrameLines
+lines_from (pos line) count = record { first = line; count = count }
+lines_from (negsuc above) count = record { first = 0; count = count - suc above }

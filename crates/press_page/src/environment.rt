@@ -9,7 +9,7 @@ use crate::margins::{
     top_margin_of,
 };
 use crate::media::{DuplexMode, Orientation, PageSetup, PageSize};
-use crate::place::{Dot, below_edge};
+use crate::place::{CursorDot, cursor_line};
 use crate::settings::{
     DEFAULT_HORIZONTAL_MOTION, DEFAULT_VERTICAL_MOTION, Settings, copies_of, horizontal_motion_of,
     line_spacing_of, line_termination_of, measure_of, skip_change_of, vertical_motion_of,
@@ -79,15 +79,15 @@ impl PageEnv {
         self.page_setup.logical_page(self.margins.top)
     }
 
-    /// The dot of the frame on which the cursor lies.
-    pub fn cursor_dot(&self, cursor: CursorPosition) -> Dot
+    /// The dot of the frame on which the cursor lies, whose line is negative above the upper edge.
+    pub fn cursor_dot(&self, cursor: CursorPosition) -> CursorDot
         requires { unsigned_abs cursor.y < 2 ^ 33 }
         ensures { result ≡ cursor_dot self.now.page_setup self.now.margins.top cursor }
     {
-        let dot = u32::from(self.page_setup.resolution.positions_per_dot());
-        Dot {
-            x: self.page_setup.offset() + cursor.x / dot,
-            y: (below_edge(cursor.y, self.margins.top) / u64::from(dot)) as u32,
+        let resolution = self.page_setup.resolution;
+        CursorDot {
+            x: self.page_setup.offset() + cursor.x / u32::from(resolution.positions_per_dot()),
+            y: cursor_line(cursor.y, self.margins.top, resolution),
         }
     }
 

@@ -16,5 +16,5 @@ pub use environment::PageEnv;
 pub use margins::Margins;
 pub use media::{Binding, DuplexMode, Orientation, PAGE_SIZES, PageSetup, PageSize};
 pub use numbered::Numbered;
-pub use place::{Dot, Extent, placement_is_inverse};
+pub use place::{CursorDot, Dot, Extent, FrameLines, placement_is_inverse};
 pub use settings::{LineTermination, MOST_COPIES, Settings};

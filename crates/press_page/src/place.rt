@@ -2,9 +2,11 @@
 //! system).
 
 ghost use Rattle.std.specs.Prelude.{◌≡◌, ◌<◌, ◌^◌, ◌+ℤ◌, pos, unsigned_abs};
-ghost use Rattle.press_page.specs.Place.{lies_on, to_physical, ArePlacementsInverse, below_edge};
+ghost use Rattle.press_units.specs.Position.{dot_of};
+ghost use Rattle.press_page.specs.Place.{lies_on, to_physical, ArePlacementsInverse, lines_from};
 
 use crate::media::{Orientation, turned};
+use press_units::{Pos, Resolution, dot};
 
 /// The size of a page, in dots.
 #[derive(Clone, Copy, Debug, PartialEq, Eq)]
@@ -20,6 +22,23 @@ pub struct Dot {
     pub x: u32,
     /// How many dots below the upper edge.
     pub y: u32,
+}
+
+/// The dot of the frame on which the cursor lies.
+#[derive(Clone, Copy, Debug, PartialEq, Eq)]
+pub struct CursorDot {
+    /// How many dots right of the left edge.
+    pub x: u32,
+    /// How many dots below the upper edge; above it, a negative number.
+    pub y: i32,
+}
+
+/// Lines of the frame, one below the other.
+#[derive(Clone, Copy, Debug, PartialEq, Eq)]
+pub struct FrameLines {
+    /// How many lines below the upper edge the first one is.
+    pub first: u32,
+    pub count: u32,
 }
 
 impl Extent {
@@ -60,12 +79,30 @@ pub fn placement_is_inverse(orientation: Orientation, page: Extent)
     ensures { ArePlacementsInverse orientation page }
 {}
 
-/// How far a position lies below the upper edge of the logical page; above it, 0.
-pub(crate) fn below_edge(y: i64, top_margin: u32) -> u64
+/// The line of the frame on which the cursor lies, `y` below a top margin; above the upper edge, a negative number.
+pub(crate) fn cursor_line(y: i64, top_margin: u32, resolution: Resolution) -> i32
     requires { unsigned_abs y < 2 ^ 33 }
-    ensures below { result ≡ below_edge (y +ℤ pos top_margin) }
-    ensures bound { result < 2 ^ 34 }
+    ensures { result ≡ dot_of (y +ℤ pos top_margin) resolution }
 {
-    let below = y + i64::from(top_margin);
-    if below < 0 { 0 } else { below as u64 }
+    dot(Pos(y + i64::from(top_margin)), resolution) as i32
+}
+
+impl CursorDot {
+    /// The lines of the frame that a mark of so many lines covers, the first of them that of the dot. Lines above the upper
+    /// edge are dropped.
+    pub fn lines(self, count: u32) -> FrameLines
+        ensures { result ≡ lines_from self.y count }
+    {
+        if self.y < 0 {
+            FrameLines {
+                first: 0,
+                count: count.saturating_sub(self.y.unsigned_abs()),
+            }
+        } else {
+            FrameLines {
+                first: self.y as u32,
+                count,
+            }
+        }
+    }
 }
