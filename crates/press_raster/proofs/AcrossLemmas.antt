@@ -3,7 +3,7 @@ use Rattle.std.proofs.Common.{◌≡◌, ◌+◌, ◌*◌, ◌/◌, ◌-◌, ◌
 use Rattle.press_bits.specs.Mark.{Row, painted, row_dot}
 use Rattle.press_bits.specs.Page.{Page, HasNoDotOutside}
 use Rattle.press_page.specs.declared.media.Orientation.TheVariants.{Portrait}
-use Rattle.press_page.specs.declared.place.Dot.{Dot}
+use Rattle.press_page.specs.declared.place.FrameLines.{FrameLines}
 use Rattle.press_pattern.specs.declared.brush.Brush.{Brush}
 use Rattle.press_raster.specs.Mark.{row_on_frame}
 use Rattle.press_raster.proofs.StripLemmas.{painted_strip_no_columns, painted_strip_no_lines, painted_strip_cut, painted_raster}
@@ -13,18 +13,21 @@ pub covered_end : (left n side columns : ℕ) → columns ≡ min n (side - left
 covered_end left n side columns is = omega (arith, is)
 
 -- a row beside the frame leaves it as it was
-pub painted_beside : (frame : Page) (corner : Dot) (size columns : ℕ) (source : Row) (brush : Brush) → HasNoDotOutside frame →
-    columns ≡ min (size * source.dots) (frame.width - corner.x) →
-    (columns ≡ 0) ⊎ (frame.height ≤ corner.y) →
-    frame ≡ painted frame (row_on_frame corner size source brush frame)
-painted_beside frame corner size columns source brush inside is beside =
+pub painted_beside : (frame : Page) (left : ℕ) (lines : FrameLines) (size columns : ℕ) (source : Row) (brush : Brush) → HasNoDotOutside frame →
+    columns ≡ min (size * source.dots) (frame.width - left) →
+    (columns ≡ 0) ⊎ (min (lines.first + lines.count) frame.height ≤ lines.first) →
+    frame ≡ painted frame (row_on_frame left lines size source brush frame)
+painted_beside frame left lines size columns source brush inside is beside =
     elim beside [
       | inl none ↦
-          painted_strip_no_columns Portrait frame corner.x corner.y size (λ i. row_dot source.bits (i / size)) brush.tile brush.mode inside
-          ∙ painted_raster Portrait frame corner size 0 source (λ i. row_dot source.bits (i / size)) brush
-          (covered_end corner.x (size * source.dots) frame.width columns is ∙ ap (λ n. min (corner.x + n) frame.width) none) (λ i _. refl)
-      | inr below ↦
-          let cut : min (corner.y + 0) frame.height ≡ min (corner.y + size) frame.height = omega (arith, below) in
-          painted_strip_no_lines Portrait frame corner.x corner.y (size * source.dots) (λ i. row_dot source.bits (i / size)) brush.tile brush.mode inside
-          ∙ painted_strip_cut Portrait frame corner.x corner.y (size * source.dots) 0 (size * source.dots) size (λ i. row_dot source.bits (i / size)) brush.tile brush.mode refl cut
+          painted_strip_no_columns Portrait frame left lines.first lines.count (λ i. row_dot source.bits (i / size)) brush.tile brush.mode inside
+          ∙ painted_raster Portrait frame left lines size 0 source (λ i. row_dot source.bits (i / size)) brush
+          (covered_end left (size * source.dots) frame.width columns is ∙ ap (λ n. min (left + n) frame.width) none) (λ i _. refl)
+      | inr outside ↦
+          painted_strip_no_lines Portrait frame left lines.first (size * source.dots) (λ i. row_dot source.bits (i / size)) brush.tile brush.mode inside
+          ∙ painted_strip_cut Portrait frame left lines.first (size * source.dots) 0 (size * source.dots) lines.count (λ i. row_dot source.bits (i / size)) brush.tile brush.mode refl
+          (no_lines lines.first lines.count frame.height outside)
     ]
+  where
+    no_lines : (first count height : ℕ) → min (first + count) height ≤ first → min (first + 0) height ≡ min (first + count) height
+    no_lines first count height outside = omega (arith, outside)

@@ -1,5 +1,5 @@
 -- Rows that are drawn one below the other, and data of which no row has effect.
-use Rattle.std.proofs.Common.{◌≡◌, ◌∙◌, ◌+◌, ℕ, zero, suc, Bool, true, false, if◌then◌else◌, List, [], ◌∷◌, ◌++◌, length, replicate, Option, Some, None, refl, sym, ap, rules, arith}
+use Rattle.std.proofs.Common.{◌≡◌, ◌∙◌, ◌+◌, ℕ, zero, suc, Bool, true, false, if◌then◌else◌, List, [], ◌∷◌, ◌++◌, replicate, Option, Some, None, refl, sym, ap, rules, arith}
 use Rattle.std.specs.Prelude.{◌&&◌, is_some, is_none, nat_lt, min, pos}
 use Rattle.std.specs.List.{list_any}
 use Rattle.std.proofs.lemmas.Bool.{true≢false}
@@ -13,16 +13,18 @@ use Rattle.press_bits.proofs.MarkLemmas.{width-painted, height-painted}
 use Rattle.press_cursor.specs.Cursor.{moved_y}
 use Rattle.press_cursor.specs.CursorState.{CursorState}
 use Rattle.press_page.specs.Environment.{logical_page_of}
+use Rattle.press_page.specs.Place.{lines_from}
 use Rattle.press_page.specs.declared.environment.PageEnv.{PageEnv}
 use Rattle.press_page.specs.declared.media.Orientation.{Orientation}
+use Rattle.press_page.specs.declared.place.FrameLines.{FrameLines}
 use Rattle.press_pattern.specs.declared.brush.Brush.{Brush}
 use Rattle.press_canvas.specs.Turned.{page_of_frame}
 use Rattle.press_rows.specs.Blocks.{Item, count_rows}
 use Rattle.press_rows.specs.Row.{fitted, raster_row}
 use Rattle.press_rows.specs.declared.compression.Method.{Method}
-use Rattle.press_raster.specs.Drawing.{IsSetUp, drawn_by, layout, line_of, one_row_on, setup_of}
+use Rattle.press_raster.specs.Drawing.{IsSetUp, drawn_by, layout, lines_at, one_row_on, setup_of}
 use Rattle.press_raster.specs.Graphics.{RasterGraphics, graphics, is_below_height, most_rows, takes_row, trimmed, whitened}
-use Rattle.press_raster.specs.Mark.{raster_mark, row_on_frame}
+use Rattle.press_raster.specs.Mark.{raster_mark, row_strip, row_on_frame}
 use Rattle.press_raster.specs.Rows.{Drawn, drawn, with_item, with_items}
 use Rattle.press_raster.specs.Settings.{dot_size, row_height}
 use Rattle.press_raster.specs.Transfer.{row_corner, row_dots}
@@ -165,26 +167,28 @@ drawn-fitted setup environment settings brush width position seed drawing page w
     ∙ sym (fitted-trimmed (bytes_per_line setup.dots) seed))
 
 -- a row that is painted on the frame, has become the seed row and has moved the cursor, is the next item
-pub row_drawn : (setup : RowSetup) (brush : Brush) (drawing : Drawing) (frame after : BandedPage) (cursor moved : CursorState) (row : Method × List ℕ) (line : ℕ) (source bits seed : List ℕ) (position : RasterPosition) →
+pub row_drawn : (setup : RowSetup) (brush : Brush) (drawing : Drawing) (frame after : BandedPage) (cursor moved : CursorState) (row : Method × List ℕ) (lines : FrameLines) (source bits seed : List ℕ) (position : RasterPosition) →
     IsSetUp setup (layout frame) drawing → is_below_height setup.settings.source_height drawing.position.rows ≡ true →
     bits ≡ raster_row row.0 row.1 drawing.seed.items (bytes_per_line setup.dots) → source ≡ bits → seed ≡ bits →
-    line ≡ line_of setup.environment cursor.y → position ≡ one_row_on drawing.position →
+    lines ≡ lines_at setup cursor.y → position ≡ one_row_on drawing.position →
     moved ≡ moved_y (pos (row_height setup.settings.resolution)) true (logical_page_of setup.environment) cursor →
-    after.page ≡ painted frame.page (row_on_frame (record { x = setup.across.left; y = line }) setup.across.size (record { bits = source; dots = setup.dots }) brush frame.page) →
+    after.page ≡ painted frame.page (row_on_frame setup.across.left lines setup.across.size (record { bits = source; dots = setup.dots }) brush frame.page) →
     drawn (graphics (Some position) seed) (page_of_frame setup.environment.page_setup.orientation after.page) moved
     ≡ with_item setup.environment setup.settings brush (drawn_by setup drawing frame cursor) (Some row)
-row_drawn setup brush drawing frame after cursor moved row line source bits seed position is below bits_are source_is seed_is line_is position_is moved_is painting =
+row_drawn setup brush drawing frame after cursor moved row lines source bits seed position is below bits_are source_is seed_is lines_are position_is moved_is painting =
     let o : Orientation = setup.environment.page_setup.orientation in
     let page : Page = page_of_frame o frame.page in
     let on : RasterGraphics = record { left = drawing.position.left; rows = drawing.position.rows; seed = trimmed drawing.seed.items } in
     let place : RowPlace = place_at setup.environment setup.settings brush cursor in
     let left : setup.across.left ≡ (row_corner place on.left).x = ap (λ (s : RowSetup). s.across.left) is.same in
     let size : setup.across.size ≡ dot_size setup.settings.resolution setup.environment.page_setup.resolution = ap (λ (s : RowSetup). s.across.size) is.same in
+    let covered : lines ≡ lines_from (row_corner place on.left).y (dot_size setup.settings.resolution setup.environment.page_setup.resolution)
+    = lines_are ∙ ap (lines_from (row_corner place on.left).y) size in
     let dots : setup.dots ≡ row_dots place setup.settings on.left = ap (λ (s : RowSetup). s.dots) is.same in
     (λ i. drawn (graphics (Some (position_is i)) (seed_is i))
-    (row_turned o frame.page after.page (record { x = setup.across.left; y = line }) setup.across.size (record { bits = source; dots = setup.dots }) brush painting i) (moved_is i))
+    (row_turned o frame.page after.page setup.across.left lines setup.across.size (record { bits = source; dots = setup.dots }) brush painting i) (moved_is i))
     ∙ (λ i. drawn (graphics (Some (one_row_on drawing.position)) bits)
-    (painted page (raster_mark o page (record { x = left i; y = line_is i }) (size i) (record { bits = source_is i; dots = dots i }) brush))
+    (painted page (row_strip o page (left i) (covered i) (size i) (record { bits = source_is i; dots = dots i }) brush))
     (moved_y (pos (row_height setup.settings.resolution)) true (logical_page_of setup.environment) cursor))
     ∙ ap (with_bits setup.environment setup.settings brush on page cursor)
     (bits_are ∙ sym (raster_row-trimmed row.0 row.1 drawing.seed.items (bytes_per_line setup.dots)) ∙ ap (λ n. raster_row row.0 row.1 on.seed (bytes_per_line n)) dots)

@@ -4,7 +4,7 @@ use Rattle.std.specs.Prelude.{ℤ, pos, negsuc, ◌+ℤ◌, int_le, int_lt, if�
 use Rattle.std.proofs.Math.Nat.{suc-mul, mul-le-mul_right, le-mul_of_pos_right}
 use Rattle.std.proofs.lemmas.Bool.{cases_lt}
 use Rattle.std.proofs.lemmas.Int.{ints}
-use Rattle.press_units.specs.Position.{positions_per_dot}
+use Rattle.press_units.specs.Position.{dot_of, positions_per_dot}
 use Rattle.press_units.specs.declared.position.Resolution.{Resolution}
 use Rattle.press_units.specs.declared.position.Resolution.TheVariants as print
 use Rattle.press_bits.specs.Bands.{BandedPage, AreReady}
@@ -12,14 +12,16 @@ use Rattle.press_bits.specs.Page.{longest_side}
 use Rattle.press_cursor.specs.Bounds.{nearest_y}
 use Rattle.press_cursor.specs.declared.logical_page.LogicalPage.{LogicalPage}
 use Rattle.press_page.specs.Environment.{logical_page_of}
-use Rattle.press_page.specs.Place.{below_edge}
+use Rattle.press_page.specs.Place.{lines_from}
+use Rattle.press_page.specs.declared.place.FrameLines.{FrameLines}
 use Rattle.press_pattern.specs.declared.brush.Brush.{Brush}
 use Rattle.press_rows.specs.Blocks.{Item}
 use Rattle.press_raster.specs.Across.{AcrossReady}
-use Rattle.press_raster.specs.Drawing.{IsSetUp, Layout, RowsReady, laid_out, last_line, line_of, lines_of_row}
+use Rattle.press_raster.specs.Drawing.{IsSetUp, Layout, RowsReady, laid_out, last_line, lines_at, lines_of_row}
 use Rattle.press_raster.specs.Graphics.{takes_row}
 use Rattle.press_raster.specs.Rows.{Drawn, with_item, with_items, with_row}
 use Rattle.press_raster.specs.Settings.{dot_size, row_height}
+use Rattle.press_raster.specs.Transfer.{row_corner}
 use Rattle.press_raster.specs.Widening.{IsDotSize}
 use Rattle.press_raster.specs.declared.drawing.Drawing.{Drawing}
 use Rattle.press_raster.specs.declared.drawing.RowSetup.{RowSetup}
@@ -90,7 +92,12 @@ lines_apart print.Dpi600 h a b l least most = (omega (arith, least, most), omega
 
 -- ---- a move down
 
--- how far below the edge a position lies
+-- how far a position lies below the upper edge; above it, 0
+abbrev below_edge : ℤ → ℕ
+below_edge (pos n) = n
+below_edge (negsuc n) = 0
+
+-- it is the position, or the position lies above the edge
 below_edge_is : (z : ℤ) → ((int_le (pos 0) z ≡ true) × (z ≡ pos (below_edge z))) ⊎ ((int_lt z (pos 0) ≡ true) × (below_edge z ≡ 0))
 below_edge_is (pos n) = inl (grind (arith, ints), refl)
 below_edge_is (negsuc n) = inr (grind (arith, ints), refl)
@@ -106,14 +113,27 @@ moved_edge y h page =
 
 -- ---- rows one below the other
 
+-- the first line of the frame that is covered from a position on, and how many there are
+first_line : (y : ℤ) (page : Resolution) (size : ℕ) → (lines_from (dot_of y page) size).first ≡ below_edge y / positions_per_dot page
+first_line (pos n) page size = refl
+first_line (negsuc n) print.Dpi300 size = refl
+first_line (negsuc n) print.Dpi600 size = refl
+
+no_more_lines : (line : ℤ) (size : ℕ) → (lines_from line size).count ≤ size
+no_more_lines (pos n) size = omega arith
+no_more_lines (negsuc n) size = omega arith
+
 -- one of them, as a drawing is set up for it
-pub row_ready : (setup : RowSetup) (page : Layout) (drawing : Drawing) (y : ℤ) (line : ℕ) → IsSetUp setup page drawing → line ≡ line_of setup.environment y → RowsReady setup page y 1 →
-    AcrossReady setup.across (laid_out page) line setup.across.size
-row_ready setup page drawing y line is here ready some =
+pub row_ready : (setup : RowSetup) (page : Layout) (drawing : Drawing) (y : ℤ) (lines : FrameLines) → IsSetUp setup page drawing → lines ≡ lines_at setup y → RowsReady setup page y 1 →
+    AcrossReady setup.across (laid_out page) lines.first lines.count
+row_ready setup page drawing y lines is here ready some =
     let size : setup.across.size ≡ dot_size setup.settings.resolution setup.environment.page_setup.resolution = ap (λ (s : RowSetup). s.across.size) is.same in
     let fits = (size_fits setup.settings.resolution setup.environment.page_setup.resolution).0 in
-    strip_within (laid_out page) ready.first ready.lines line setup.across.size
-    (omega (arith, here, ready.begins)) (omega (arith, here, ready.ends, size, fits)) (ready.ready some)
+    let first : lines.first ≡ (lines_at setup y).first = ap (λ (l : FrameLines). l.first) here in
+    let count : lines.count ≡ (lines_at setup y).count = ap (λ (l : FrameLines). l.count) here in
+    let fewer : (lines_at setup y).count ≤ setup.across.size = no_more_lines (row_corner (record { environment = setup.environment; y = y }) 0).y setup.across.size in
+    strip_within (laid_out page) ready.first ready.lines lines.first lines.count
+    (omega (arith, first, ready.begins)) (omega (arith, first, count, fewer, ready.ends, size, fits)) (ready.ready some)
 
 -- fewer of them
 pub rows_ready-fewer : (setup : RowSetup) (page : Layout) (y : ℤ) (m n : ℕ) → m ≤ n → RowsReady setup page y n → RowsReady setup page y m
@@ -138,13 +158,15 @@ rows_ready-moved setup page y n ready =
     let edge = moved_edge y h logical in
     let apart = lines_apart setup.environment.page_setup.resolution h (below_edge (y +ℤ pos top)) (below_edge (nearest_y (y +ℤ pos h) logical +ℤ pos top)) logical.length edge.0 edge.1 in
     let more : suc n * lines_of_row setup ≡ n * lines_of_row setup + lines_of_row setup = suc-mul n (lines_of_row setup) in
+    let before = first_line (y +ℤ pos top) setup.environment.page_setup.resolution setup.across.size in
+    let after = first_line (nearest_y (y +ℤ pos h) logical +ℤ pos top) setup.environment.page_setup.resolution setup.across.size in
     record {
       first = ready.first;
       lines = ready.lines;
       ready = ready.ready;
-      begins = omega (arith, ready.begins, ready.begins_last, apart.0);
+      begins = omega (arith, ready.begins, ready.begins_last, apart.0, before, after);
       begins_last = ready.begins_last;
-      ends = omega (arith, ready.ends, more, apart.1);
+      ends = omega (arith, ready.ends, more, apart.1, before, after);
     }
 
 -- rows behind an item
@@ -170,8 +192,8 @@ rows_ready-after setup brush page d item (suc n) m k is ready =
 
 -- the lines that are made ready: those of so many rows, or of as many as a page has lines
 pub rows_ready-made : (setup : RowSetup) (page : Layout) (y : ℤ) (rows count first lines : ℕ) → rows ≡ min longest_side count →
-    first ≡ min (line_of setup.environment y) (last_line setup.environment) →
-    page.height ≤ longest_side → lines ≡ min page.height ((line_of setup.environment y - first) + rows * lines_of_row setup) →
+    first ≡ min (lines_at setup y).first (last_line setup.environment) →
+    page.height ≤ longest_side → lines ≡ min page.height (((lines_at setup y).first - first) + rows * lines_of_row setup) →
     AcrossReady setup.across (laid_out page) first lines → RowsReady setup page y count
 rows_ready-made setup page y rows count first lines most from small long ready =
     let s : ℕ = lines_of_row setup in

@@ -12,13 +12,13 @@ use Rattle.press_page.specs.PageSetup.{turned}
 use Rattle.press_page.specs.Place.{placed_dot}
 use Rattle.press_page.specs.declared.media.Orientation.{Orientation}
 use Rattle.press_page.specs.declared.media.Orientation.TheVariants.{Portrait, Landscape, ReversePortrait, ReverseLandscape}
-use Rattle.press_page.specs.declared.place.Dot.{Dot}
 use Rattle.press_page.specs.declared.place.Extent.{Extent}
+use Rattle.press_page.specs.declared.place.FrameLines.{FrameLines}
 use Rattle.press_pattern.specs.Tiling.{Tiling, tile_dot, tile_line}
 use Rattle.press_pattern.specs.declared.brush.Brush.{Brush}
 use Rattle.press_canvas.specs.Turned.{page_of_frame}
 use Rattle.press_canvas.proofs.FrameLemmas.{painted_frame}
-use Rattle.press_raster.specs.Mark.{strip_source, strip_mark, raster_mark, row_on_frame}
+use Rattle.press_raster.specs.Mark.{strip_source, strip_mark, row_strip, row_on_frame}
 
 -- the frame of a page of these sizes
 abbrev pub frame_of : Orientation → (width height : ℕ) → Extent
@@ -199,18 +199,18 @@ painted_strip_line orientation page before after left top columns n dots tile mo
     high = ap (λ (p : Page). p.height) so_far ∙ height-painted page (strip_mark orientation page.width page.height left top columns n dots tile mode)
 
 -- a strip of the columns of a raster row that lie on the page is the row
-pub painted_raster : (orientation : Orientation) (page : Page) (corner : Dot) (size columns : ℕ) (source : Row) (dots : ℕ → Bool) (brush : Brush) →
-    min (corner.x + size * source.dots) (frame_of orientation page.width page.height).width ≡ min (corner.x + columns) (frame_of orientation page.width page.height).width →
+pub painted_raster : (orientation : Orientation) (page : Page) (left : ℕ) (lines : FrameLines) (size columns : ℕ) (source : Row) (dots : ℕ → Bool) (brush : Brush) →
+    min (left + size * source.dots) (frame_of orientation page.width page.height).width ≡ min (left + columns) (frame_of orientation page.width page.height).width →
     ((i : ℕ) → i < columns → dots i ≡ row_dot source.bits (i / size)) →
-    painted page (strip_mark orientation page.width page.height corner.x corner.y columns size dots brush.tile brush.mode)
-    ≡ painted page (raster_mark orientation page corner size source brush)
-painted_raster orientation page corner size columns source dots brush cut same =
-    painted_strip_same orientation page corner.x corner.y columns size dots (λ i. row_dot source.bits (i / size)) brush.tile brush.mode same
-    ∙ painted_strip_cut orientation page corner.x corner.y columns size (size * source.dots) size (λ i. row_dot source.bits (i / size)) brush.tile brush.mode (sym cut) refl
+    painted page (strip_mark orientation page.width page.height left lines.first columns lines.count dots brush.tile brush.mode)
+    ≡ painted page (row_strip orientation page left lines size source brush)
+painted_raster orientation page left lines size columns source dots brush cut same =
+    painted_strip_same orientation page left lines.first columns lines.count dots (λ i. row_dot source.bits (i / size)) brush.tile brush.mode same
+    ∙ painted_strip_cut orientation page left lines.first columns lines.count (size * source.dots) lines.count (λ i. row_dot source.bits (i / size)) brush.tile brush.mode (sym cut) refl
 
 -- a row that is painted on the frame is painted on its page
-pub row_turned : (orientation : Orientation) (frame after : Page) (corner : Dot) (size : ℕ) (source : Row) (brush : Brush) →
-    after ≡ painted frame (row_on_frame corner size source brush frame) →
-    page_of_frame orientation after ≡ painted (page_of_frame orientation frame) (raster_mark orientation (page_of_frame orientation frame) corner size source brush)
-row_turned orientation frame after corner size source brush is =
-    ap (page_of_frame orientation) is ∙ painted_frame orientation frame (row_on_frame corner size source brush frame)
+pub row_turned : (orientation : Orientation) (frame after : Page) (left : ℕ) (lines : FrameLines) (size : ℕ) (source : Row) (brush : Brush) →
+    after ≡ painted frame (row_on_frame left lines size source brush frame) →
+    page_of_frame orientation after ≡ painted (page_of_frame orientation frame) (row_strip orientation (page_of_frame orientation frame) left lines size source brush)
+row_turned orientation frame after left lines size source brush is =
+    ap (page_of_frame orientation) is ∙ painted_frame orientation frame (row_on_frame left lines size source brush frame)

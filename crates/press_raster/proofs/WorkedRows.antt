@@ -1,17 +1,20 @@
 -- Worked raster rows, computed on the definitions.
-use Rattle.std.proofs.Common.{◌≡◌, ℕ, ◌*◌, ◌/◌, Bool, pos, true, false, [], ◌∷◌, Option, Some, None, map, refl}
+use Rattle.std.proofs.Common.{◌≡◌, ℕ, ◌+◌, ◌*◌, ◌/◌, Bool, pos, neg_ℤ, true, false, [], ◌∷◌, Option, Some, None, map, refl}
 use Rattle.std.specs.Prelude.{codes}
 use Rattle.press_units.specs.Value.{tenthousandths_of}
 use Rattle.press_units.specs.declared.position.Resolution.TheVariants.{Dpi300, Dpi600}
+use Rattle.press_bits.specs.DotRule.{both_transparent}
 use Rattle.press_bits.specs.Mark.{row_dot, byte_dot}
+use Rattle.press_bits.specs.Page.{blank}
 use Rattle.press_page.specs.Environment.{factory, reset_environment}
+use Rattle.press_pattern.specs.Brush.{black_brush}
 use Rattle.press_rows.specs.DeltaRow.{deltas, replacements, laid_over}
 use Rattle.press_rows.specs.Row.{raster_row}
 use Rattle.press_rows.specs.declared.compression.Method.TheVariants.{Unencoded, DeltaRow}
 use Rattle.press_raster.specs.Graphics.{RasterGraphics, started, moved_down}
 use Rattle.press_raster.specs.Mark.{strip_source}
 use Rattle.press_raster.specs.Settings.{initial, raster_resolutions, resolution_of, row_height, set_resolution, set_source_width, set_source_height, set_method, dot_size}
-use Rattle.press_raster.specs.Transfer.{row_corner, row_of_data, row_dots, transferred}
+use Rattle.press_raster.specs.Transfer.{row_corner, row_of_data, row_dots, transfer_mark, transferred}
 use Rattle.press_raster.specs.declared.raster.RowPlace.{RowPlace}
 use Rattle.press_raster.specs.declared.settings.RasterResolution.TheVariants.{Dpi75, Dpi100, Dpi150, Dpi200}
 use Rattle.press_raster.specs.declared.settings.RasterResolution.TheVariants as rows
@@ -34,7 +37,7 @@ row_of_data_80 : row_of_data home eight_wide Unencoded (0x80 ∷ []) on ≡ reco
 unfolding raster_row
 row_of_data_80 = refl
 
-home_corner : row_corner home 0 ≡ record { x = 75; y = 187 }
+home_corner : row_corner home 0 ≡ record { x = 75; y = pos 187 }
 home_corner = refl
 
 four_dots : dot_size eight_wide.resolution Dpi300 ≡ 4
@@ -63,6 +66,24 @@ last_white = refl
 outside : source 74 187 ∷ source 107 187 ∷ source 75 186 ∷ source 75 191 ∷ [] ≡ None ∷ None ∷ None ∷ None ∷ []
 unfolding strip_source
 outside = refl
+
+-- The same row that begins so many lines above the page: its part on the page is painted.
+abbrev above : (lines : ℕ) → RowPlace
+above lines = record { environment = reset_environment factory; y = neg_ℤ (pos (3600 + 24 * lines)) }
+
+corner_above : row_corner (above 2) 0 ≡ record { x = 75; y = neg_ℤ (pos 2) }
+corner_above = refl
+
+abbrev source_from : RowPlace → ℕ → ℕ → Option Bool
+source_from place = (transfer_mark place eight_wide (black_brush both_transparent) Unencoded (0x80 ∷ []) on (blank 2550 3300)).source
+
+half_above : map (source_from (above 2) 75) (0 ∷ 1 ∷ 2 ∷ 3 ∷ []) ≡ Some true ∷ Some true ∷ None ∷ None ∷ []
+unfolding strip_source row_dot byte_dot raster_row
+half_above = refl
+
+wholly_above : map (λ lines. source_from (above lines) 75 0) (0 ∷ 3 ∷ 4 ∷ 5 ∷ []) ≡ Some true ∷ Some true ∷ None ∷ None ∷ []
+unfolding strip_source row_dot byte_dot raster_row
+wholly_above = refl
 
 -- without a source width a row ends at the right edge of the logical page: (2550 - 150) / 4 dots
 whole_width : row_dots home initial 0 ≡ 600
@@ -94,7 +115,7 @@ heights = refl
 abbrev fine_home : RowPlace
 fine_home = record { environment = reset_environment (record factory { resolution = Dpi600 }); y = pos 900 }
 
-fine_corner : row_corner fine_home 0 ≡ record { x = 150; y = 375 }
+fine_corner : row_corner fine_home 0 ≡ record { x = 150; y = pos 375 }
 fine_corner = refl
 
 fine_width : map (λ n. row_dots fine_home (set_resolution Dpi600 (tenthousandths_of n) initial) 0) (codes "75" ∷ codes "200" ∷ codes "600" ∷ []) ≡ 600 ∷ 1600 ∷ 4800 ∷ []

@@ -8,7 +8,9 @@ use Rattle.press_bits.specs.Bands.{BandedPage}
 use Rattle.press_bits.specs.Lines.{bytes_per_line}
 use Rattle.press_cursor.specs.CursorState.{CursorState}
 use Rattle.press_page.specs.PageSetup.{logical_width, logical_length}
+use Rattle.press_page.specs.Place.{lines_from}
 use Rattle.press_page.specs.declared.environment.PageEnv.{PageEnv}
+use Rattle.press_page.specs.declared.place.FrameLines.{FrameLines}
 use Rattle.press_canvas.specs.Turned.{page_of_frame}
 use Rattle.press_raster.specs.Across.{HasRoom, AcrossReady, across_of}
 use Rattle.press_raster.specs.Graphics.{graphics, most_rows}
@@ -64,9 +66,10 @@ drawn_by setup drawing frame cursor =
 abbrev pub one_row_on : RasterPosition → RasterPosition
 one_row_on position = record position { rows = min most_rows (position.rows + 1) }
 
--- the line of the frame on which a row begins
-abbrev pub line_of : PageEnv → (y : ℤ) → ℕ
-line_of environment y = (row_corner (record { environment = environment; y = y }) 0).y
+-- the lines of the frame that a row at this y covers
+abbrev pub lines_at : RowSetup → (y : ℤ) → FrameLines
+lines_at setup y =
+    lines_from (row_corner (record { environment = setup.environment; y = y }) 0).y setup.across.size
 
 -- the line of the frame at the lower edge of the logical page
 abbrev pub last_line : PageEnv → ℕ
@@ -83,6 +86,6 @@ pub record RowsReady (setup : RowSetup) (page : Layout) (y : ℤ) (rows : ℕ) :
   pub first : ℕ
   pub lines : ℕ
   pub ready : AcrossReady setup.across (laid_out page) first lines
-  pub begins : first ≤ line_of setup.environment y
+  pub begins : first ≤ (lines_at setup y).first
   pub begins_last : first ≤ last_line setup.environment
-  pub ends : min page.height (line_of setup.environment y + rows * lines_of_row setup) ≤ first + lines
+  pub ends : min page.height ((lines_at setup y).first + rows * lines_of_row setup) ≤ first + lines

@@ -7,7 +7,7 @@ use Rattle.press_bits.specs.Mark.{Mark, Row, painted}
 use Rattle.press_bits.specs.Page.{Page}
 use Rattle.press_page.specs.PageSetup.{logical_width}
 use Rattle.press_page.specs.Place.{cursor_dot}
-use Rattle.press_page.specs.declared.place.Dot.{Dot}
+use Rattle.press_page.specs.declared.place.CursorDot.{CursorDot}
 use Rattle.press_pattern.specs.declared.brush.Brush.{Brush}
 use Rattle.press_rows.specs.Row.{raster_row}
 use Rattle.press_rows.specs.declared.compression.Method.{Method}
@@ -34,8 +34,8 @@ row_of_data place settings method «data» on =
     let dots = row_dots place settings on.left in
     record { bits = raster_row method «data» on.seed (bytes_per_line dots); dots = dots }
 
--- The row's upper left dot in the frame: the cursor's, were it where rows begin.
-abbrev pub row_corner : RowPlace → (left : ℕ) → Dot
+-- The row's upper left dot: the cursor's, were it where rows begin. It may lie above the frame.
+abbrev pub row_corner : RowPlace → (left : ℕ) → CursorDot
 row_corner place left =
     cursor_dot place.environment.page_setup place.environment.margins.top
     (record { x = left; y = place.y })

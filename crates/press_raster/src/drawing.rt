@@ -9,7 +9,7 @@ ghost use Rattle.press_page.specs.Environment.{logical_page_of};
 ghost use Rattle.press_rows.specs.Blocks.{count_rows};
 ghost use Rattle.press_rows.specs.Row.{fitted};
 ghost use Rattle.press_raster.specs.Across.{HasRoom};
-ghost use Rattle.press_raster.specs.Drawing.{IsSetUp, RowsReady, drawn_by, last_line, layout, line_of, lines_of_row};
+ghost use Rattle.press_raster.specs.Drawing.{IsSetUp, RowsReady, drawn_by, last_line, layout, lines_at, lines_of_row};
 ghost use Rattle.press_raster.specs.Drawing.{one_row_on, setup_of};
 ghost use Rattle.press_raster.specs.Graphics.{is_below_height};
 ghost use Rattle.press_raster.specs.Rows.{with_item, with_items};
@@ -20,7 +20,7 @@ use crate::settings::{RasterSettings, RowCoding};
 use crate::strip::{Across, make_room, paint_across};
 use press_bits::{Bands, DotRow, MAX_SIDE, line_bytes};
 use press_cursor::Cursor;
-use press_page::PageEnv;
+use press_page::{FrameLines, PageEnv};
 use press_pattern::Brush;
 use press_rows::{Blocks, Method, Run, decode};
 use press_units::Pos;
@@ -63,15 +63,15 @@ impl RowSetup {
         }
     }
 
-    /// The line of the frame on which a row begins at the cursor.
-    fn line(&self, cursor: &Cursor) -> u32
-        ensures { result ≡ line_of self.now.environment cursor.now.y }
+    /// The lines of the frame that a row at the cursor covers.
+    fn lines(&self, cursor: &Cursor) -> FrameLines
+        ensures { result ≡ lines_at self.now cursor.now.y }
     {
         let place = RowPlace {
             environment: self.environment,
             y: cursor.y(),
         };
-        place.corner(0).y
+        place.corner(0).lines(self.across.size)
     }
 
     /// The line of the frame at the lower edge of the logical page.
@@ -103,7 +103,7 @@ impl RowSetup {
         ensures ready { OnOk result ((count : ℕ) → rows ≡ min longest_side count
             → RowsReady self.now (layout frame.new) cursor.now.y count) }
     {
-        let line = self.line(cursor);
+        let line = self.lines(cursor).first;
         let first = line.min(self.last_line());
         let lines = (line - first) as usize + rows * self.lines_of_row();
         let lines = lines.min(frame.height() as usize) as u32;
@@ -233,8 +233,8 @@ impl Drawing {
         let bits = &self.row;
         let dots = setup.dots;
         let source = DotRow { bits, dots };
-        let line = setup.line(cursor);
-        let painted = paint_across(frame, setup.across, line, source, brush, &mut self.scratch)?;
+        let lines = setup.lines(cursor);
+        let painted = paint_across(frame, setup.across, lines, source, brush, &mut self.scratch)?;
         let moved = setup.move_down(cursor);
         let taken = self.take_row();
         Ok(painted | moved | taken)

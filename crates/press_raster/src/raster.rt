@@ -13,7 +13,7 @@ use crate::settings::{RasterSettings, RowCoding};
 use press_bits::Bitmap;
 use press_canvas::Canvas;
 use press_cursor::{Cursor, CursorPosition};
-use press_page::{Dot, PageEnv};
+use press_page::{CursorDot, PageEnv};
 use press_pattern::Brush;
 use press_rows::{Blocks, Method, Run};
 use press_units::{GREATEST_VALUE, Pos};
@@ -42,8 +42,8 @@ pub struct RowPlace {
 }
 
 impl RowPlace {
-    /// The row's upper left dot in the frame, where rows begin at a distance from the left edge of the logical page.
-    pub(crate) fn corner(&self, left: u32) -> Dot
+    /// The row's upper left dot, where rows begin at a distance from the left edge of the logical page.
+    pub(crate) fn corner(&self, left: u32) -> CursorDot
         requires { unsigned_abs self.now.y < 2 ^ 33 }
         ensures { result ≡ row_corner self.now left }
     {

@@ -11,7 +11,7 @@ ghost use Rattle.press_raster.specs.Widening.{IsDotSize};
 
 use crate::widening::widen;
 use press_bits::{Bands, DotRow, cut_length};
-use press_page::Dot;
+use press_page::{Dot, FrameLines};
 use press_pattern::Brush;
 use std::alloc::AllocError;
 
@@ -75,17 +75,22 @@ impl Across {
         }
     }
 
-    /// Whether a row from a line of the frame on marks nothing: it lies beside the frame, or is white and transparent.
-    fn marks_nothing(self, frame: &Bands, line: u32, source: DotRow<'_>, brush: &Brush<'_>) -> bool
+    /// Whether a row on lines of the frame marks nothing: it lies beside the frame, or is white and transparent.
+    fn marks_nothing(
+        self,
+        frame: &Bands,
+        lines: FrameLines,
+        source: DotRow<'_>,
+        brush: &Brush<'_>,
+    ) -> bool
         requires columns { self.columns
             ≡ covered_columns frame.now.page.width self.left self.size source.dots }
         ensures unmarked { result ≡ true → frame.now.page ≡ painted frame.now.page
-            (row_on_frame (record { x = self.left; y = line }) self.size (row source.entry)
-            brush.now
+            (row_on_frame self.left lines self.size (row source.entry) brush.now
             frame.now.page) }
         ensures met { result ≡ false → 1 ≤ self.columns }
     {
-        if frame.height() <= line {
+        if cut_length(lines.first, lines.count as usize, frame.height()) == 0 {
             return true;
         }
         if self.columns == 0 {
@@ -122,12 +127,12 @@ pub(crate) fn make_room(bytes: &mut Vec<u8>, count: usize) -> Result<(), AllocEr
     Ok(())
 }
 
-/// Paints a raster row that crosses the frame from a line on, each of its dots so many dots wide and high. Dots outside the frame
-/// are dropped. Takes no memory.
+/// Paints a raster row on lines of the frame, each of its dots so many dots wide. Dots outside the frame are dropped. Takes no
+/// memory.
 fn paint_wide(
     frame: &mut Bands,
     across: Across,
-    line: u32,
+    lines: FrameLines,
     source: DotRow<'_>,
     brush: &Brush<'_>,
     scratch: &mut Vec<u8>,
@@ -136,31 +141,30 @@ fn paint_wide(
     requires size { IsDotSize across.size }
     requires columns { across.columns
         ≡ covered_columns frame.old.page.width across.left across.size source.dots }
-    requires ready { AcrossReady across frame.old line across.size }
+    requires ready { AcrossReady across frame.old lines.first lines.count }
     requires room { HasRoom across scratch.old.items }
     ensures painted { frame.new.page ≡ painted frame.old.page
-        (row_on_frame (record { x = across.left; y = line }) across.size
-        (row source.entry) brush.now frame.old.page) }
+        (row_on_frame across.left lines across.size (row source.entry) brush.now frame.old.page) }
     ensures ready { frame.new.ready ≡ frame.old.ready }
     ensures room { HasRoom across scratch.new.items }
 {
     let dots = across.columns as usize;
     let corner = Dot {
         x: across.left,
-        y: line,
+        y: lines.first,
     };
-    let size = across.size as usize;
+    let (size, lines) = (across.size as usize, lines.count as usize);
     if size == 1 {
         let bits = source.bits;
-        paint_lines(frame, corner, size, DotRow { bits, dots }, brush);
+        paint_lines(frame, corner, lines, DotRow { bits, dots }, brush);
         return;
     }
     widen(source, size, scratch);
     let bits = &*scratch;
-    paint_lines(frame, corner, size, DotRow { bits, dots }, brush);
+    paint_lines(frame, corner, lines, DotRow { bits, dots }, brush);
 }
 
-/// Paints a raster row from a line of the frame on, as `paint_wide` does, makes the lines ready that it needs, and says whether it
+/// Paints a raster row on lines of the frame, as `paint_wide` does, makes the lines ready that it needs, and says whether it
 /// may mark the frame: a white row may not where white is transparent, nor one beside the frame, and neither takes memory.
 ///
 /// # Errors
@@ -169,7 +173,7 @@ fn paint_wide(
 pub(crate) fn paint_across(
     frame: &mut Bands,
     across: Across,
-    line: u32,
+    lines: FrameLines,
     source: DotRow<'_>,
     brush: &Brush<'_>,
     scratch: &mut Vec<u8>,
@@ -179,19 +183,18 @@ pub(crate) fn paint_across(
         ≡ covered_columns frame.old.page.width across.left across.size source.dots }
     requires room { HasRoom across scratch.old.items }
     ensures painted { OnOk result (frame.new.page ≡ painted frame.old.page
-        (row_on_frame (record { x = across.left; y = line }) across.size
-        (row source.entry) brush.now frame.old.page)) }
+        (row_on_frame across.left lines across.size (row source.entry) brush.now frame.old.page)) }
     ensures unmarked { result ≡ Ok false → frame.new.page ≡ frame.old.page }
     ensures same_page { OnErr result (frame.new.page ≡ frame.old.page) }
-    ensures takes_none { AcrossReady across frame.old line across.size → IsOk result }
-    ensures ready { AcrossReady across frame.old line across.size
+    ensures takes_none { AcrossReady across frame.old lines.first lines.count → IsOk result }
+    ensures ready { AcrossReady across frame.old lines.first lines.count
         → frame.new.ready ≡ frame.old.ready }
     ensures room { HasRoom across scratch.new.items }
 {
-    if across.marks_nothing(frame, line, source, brush) {
+    if across.marks_nothing(frame, lines, source, brush) {
         return Ok(false);
     }
-    across.ready(frame, line, across.size)?;
-    paint_wide(frame, across, line, source, brush, scratch);
+    across.ready(frame, lines.first, lines.count)?;
+    paint_wide(frame, across, lines, source, brush, scratch);
     Ok(true)
 }

@@ -18,16 +18,16 @@ paint_across-requires-clause-size c =
 
 pub returns-in_err-painted-clause-takes_none : goal.returns-in_err-painted-clause-takes_none
 returns-in_err-painted-clause-takes_none c = λ ready.
-    absurd (true≢false (sym (c.in_err-painted.ensures.takes_none (row_ready c.args.setup.now (layout c.args.frame.now) c.args.self.now c.args.cursor.now.y c.line-line.result c.requires c.line-line.ensures ready))))
+    absurd (true≢false (sym (c.in_err-painted.ensures.takes_none (row_ready c.args.setup.now (layout c.args.frame.now) c.args.self.now c.args.cursor.now.y c.lines-lines.result c.requires c.lines-lines.ensures ready))))
 
 pub returns-in_err-painted-clause-layout : goal.returns-in_err-painted-clause-layout
 returns-in_err-painted-clause-layout c = λ ready.
-    absurd (true≢false (sym (c.in_err-painted.ensures.takes_none (row_ready c.args.setup.now (layout c.args.frame.now) c.args.self.now c.args.cursor.now.y c.line-line.result c.requires c.line-line.ensures ready))))
+    absurd (true≢false (sym (c.in_err-painted.ensures.takes_none (row_ready c.args.setup.now (layout c.args.frame.now) c.args.self.now c.args.cursor.now.y c.lines-lines.result c.requires c.lines-lines.ensures ready))))
 
 pub returns-clause-layout : goal.returns-clause-layout
 returns-clause-layout c = λ ready.
     layout-painted c.args.frame.now c.paint_across.new.frame _ c.in_ok-painted.ensures.painted
-    (c.paint_across.ensures.ready (row_ready c.args.setup.now (layout c.args.frame.now) c.args.self.now c.args.cursor.now.y c.line-line.result c.requires c.line-line.ensures ready))
+    (c.paint_across.ensures.ready (row_ready c.args.setup.now (layout c.args.frame.now) c.args.self.now c.args.cursor.now.y c.lines-lines.result c.requires c.lines-lines.ensures ready))
 
 pub returns-clause-item : goal.returns-clause-item
 returns-clause-item c =
@@ -35,8 +35,8 @@ returns-clause-item c =
     let drawing : Drawing = c.args.self.now in
     let written = with_items_is drawing.row c.decode.new.out (c.decode.auto.out ∙ c.deref_mut.ensures.len) in
     let long : length c.deref_mut.result.now ≡ bytes_per_line setup.dots = ap length c.deref_mut.ensures.value ∙ c.requires.row in
-    row_drawn setup c.args.brush.now drawing c.args.frame.now c.paint_across.new.frame c.args.cursor.now c.move_down-moved.new.cursor (c.args.row.method, c.args.row.bytes.now) c.line-line.result
+    row_drawn setup c.args.brush.now drawing c.args.frame.now c.paint_across.new.frame c.args.cursor.now c.move_down-moved.new.cursor (c.args.row.method, c.args.row.bytes.now) c.lines-lines.result
     c.deref-2.result.now c.decode.new.out c.take_row-taken.new.self.seed.items c.take_row-taken.new.self.position
     c.requires (sym c.takes_row.ensures ∙ c.if-not-takes_row.false)
     (c.decode.ensures.row ∙ (λ i. raster_row c.args.row.method c.args.row.bytes.now (c.deref.ensures.value i) (long i)))
-    (c.deref-2.ensures.value ∙ written) (c.take_row-taken.ensures.seed ∙ written) c.line-line.ensures c.take_row-taken.ensures.position c.move_down-moved.ensures.down c.in_ok-painted.ensures.painted
+    (c.deref-2.ensures.value ∙ written) (c.take_row-taken.ensures.seed ∙ written) c.lines-lines.ensures c.take_row-taken.ensures.position c.move_down-moved.ensures.down c.in_ok-painted.ensures.painted
