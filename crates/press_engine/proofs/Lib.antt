@@ -14,6 +14,7 @@ pub mod WholeLemmas
 pub mod WorkedJobs
 pub mod WorkedStreams
 pub mod WorkedMacros
+pub mod WorkedRectangles
 mod NestingLemmas
 pub mod PageKeptLemmas
 pub mod StepLaws

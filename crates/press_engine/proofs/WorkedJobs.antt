@@ -1,7 +1,7 @@
 -- Worked streams with lines of the job language, computed on the definitions: what goes out from power on.
 use Prim.Native.Char.{code}
 use Prim.Native.String.{String}
-use Rattle.std.proofs.Common.{◌≡◌, ℕ, ◌-◌, ◌*◌, List, [], ◌∷◌, ◌++◌, replicate, Some, None, refl}
+use Rattle.std.proofs.Common.{◌≡◌, ℕ, ◌-◌, ◌*◌, List, [], ◌∷◌, ◌++◌, pos, replicate, Some, None, refl}
 use Rattle.std.specs.Fmt.{digits}
 use Rattle.std.specs.Prelude.{codes}
 use Rattle.press_bits.specs.Page.{Page, blank}
@@ -10,7 +10,7 @@ use Rattle.press_bits.specs.Mark.{painted}
 use Rattle.press_cmd.specs.Token.{Token, Escape, Grouped, Ungrouped, Control, PjlLine, Uel}
 use Rattle.press_fill.specs.Fill.{fill_mark}
 use Rattle.press_page.specs.declared.media.Orientation.TheVariants.{Portrait}
-use Rattle.press_page.specs.declared.place.Dot.{Dot}
+use Rattle.press_page.specs.declared.place.CursorDot.{CursorDot}
 use Rattle.press_pattern.specs.Brush.{black_brush}
 use Rattle.press_pattern.specs.Solid.{solid_black}
 use Rattle.press_raster.specs.Mark.{raster_mark}
@@ -146,16 +146,16 @@ row_of_a_dot =
     Grouped (code "*") (code "t") (codes "200") (code "R") [] ∷ Grouped (code "*") (code "r") (codes "1") (code "A") []
     ∷ Grouped (code "*") (code "b") (codes "1") (code "W") (0x80 ∷ []) ∷ form_feed ∷ []
 
-abbrev with_row : Page → (corner : Dot) (size bytes : ℕ) → Page
+abbrev with_row : Page → (corner : CursorDot) (size bytes : ℕ) → Page
 with_row page corner size bytes =
     painted page
     (raster_mark Portrait page corner size (record { bits = 0x80 ∷ replicate (bytes - 1) 0; dots = 8 * bytes }) (black_brush both_transparent))
 
-a_row_at_200 : told (line "@PJL SET RESOLUTION=600" ∷ row_of_a_dot) ≡ front (with_row fine_letter (record { x = 150; y = 375 }) 3 200) ∷ []
+a_row_at_200 : told (line "@PJL SET RESOLUTION=600" ∷ row_of_a_dot) ≡ front (with_row fine_letter (record { x = 150; y = pos 375 }) 3 200) ∷ []
 unfolding trace_each trace_at raster_row
 a_row_at_200 = refl
 
-no_row_at_200 : told row_of_a_dot ≡ front (with_row letter (record { x = 75; y = 187 }) 4 75) ∷ []
+no_row_at_200 : told row_of_a_dot ≡ front (with_row letter (record { x = 75; y = pos 187 }) 4 75) ∷ []
 unfolding trace_each trace_at raster_row
 no_row_at_200 = refl
 
@@ -169,7 +169,7 @@ five_rows =
 abbrev row_at : (line byte : ℕ) → Page → Page
 row_at line byte page =
     painted page
-    (raster_mark Portrait page (record { x = 75; y = line }) 1 (record { bits = byte ∷ replicate 299 0; dots = 2400 }) (black_brush both_transparent))
+    (raster_mark Portrait page (record { x = 75; y = pos line }) 1 (record { bits = byte ∷ replicate 299 0; dots = 2400 }) (black_brush both_transparent))
 
 rows_of_blocks :
     told (Grouped (code "*") (code "t") (codes "300") (code "R") [] ∷ Grouped (code "*") (code "r") (codes "0") (code "A") []

@@ -4,8 +4,8 @@ use Rattle.std.specs.Ordering.{int_eq}
 use Rattle.press_cursor.specs.Cursor.{position}
 use Rattle.press_fill.specs.Fill.{filled}
 use Rattle.press_fill.specs.declared.rect.Rect.{Rect}
-use Rattle.press_page.specs.Place.{cursor_dot}
-use Rattle.press_page.specs.declared.place.Dot.{Dot}
+use Rattle.press_page.specs.Place.{cursor_dot, lines_from}
+use Rattle.press_page.specs.declared.place.CursorDot.{CursorDot}
 use Rattle.press_pattern.specs.Brush.{brush_of}
 use Rattle.press_pattern.specs.declared.pattern.Pattern.{Pattern}
 use Rattle.press_engine.specs.declared.state.State.{State}
@@ -15,16 +15,17 @@ use Rattle.press_engine.specs.Patterns.{exists, kind_of_number, pattern_of_kind,
 use Rattle.press_engine.specs.Rectangle.{dots_up}
 
 -- the dot of the frame on which the cursor lies
-abbrev pub corner : State → Dot
+abbrev pub corner : State → CursorDot
 corner state = cursor_dot state.environment.page_setup state.environment.margins.top (position state.cursor)
 
--- the rectangle at the cursor, in dots of the frame
+-- the rectangle at the cursor, in dots of the frame: what lies above the frame is dropped
 abbrev pub rect_now : State → Rect
 rect_now state =
     let corner = corner state in
     let dots = dots_up state.environment.page_setup.resolution in
     let rectangle = state.drawing.rectangle in
-    record { x = corner.x; y = corner.y; width = dots rectangle.width; height = dots rectangle.height }
+    let lines = lines_from corner.y (dots rectangle.height) in
+    record { x = corner.x; y = lines.first; width = dots rectangle.width; height = lines.count }
 
 -- the rectangle at the cursor painted with a pattern; the page has a mark then, and the cursor stays
 abbrev pub fill_rectangle : Pattern → State → State
@@ -34,11 +35,11 @@ fill_rectangle pattern state =
           (brush_of state.patterns pattern state.drawing.mode) (page_now state));
     }
 
--- It is filled if the pattern exists, and it has a width and a height.
+-- It is filled if the pattern exists, and both of its sizes are above 0.
 abbrev pub fill_with : Pattern → State → Effect
 fill_with pattern state =
-    let rect = rect_now state in
-    if exists pattern state && nat_lt 0 rect.width && nat_lt 0 rect.height
+    let rectangle = state.drawing.rectangle in
+    if exists pattern state && nat_lt 0 rectangle.width && nat_lt 0 rectangle.height
     then MayAllocate (fill_rectangle pattern state) else Changes state
 
 -- the pattern that a number names: 5 the current one, others a kind under the pattern ID

@@ -16,18 +16,19 @@ impl State {
     ghost use Rattle.press_engine.specs.Engine.{TakesMemory};
     ghost use Rattle.press_engine.specs.Filling.{rect_now, fill_rectangle, fill_with, fill_pattern, fill};
 
-    /// The rectangle at the cursor, in dots of the frame.
+    /// The rectangle at the cursor, in dots of the frame. What lies above the frame is dropped.
     fn rect_now(&self) -> Rect
         ensures { result ≡ rect_now self.now }
     {
         let corner = self.environment.cursor_dot(self.cursor.position());
         let resolution = self.environment.page_setup.resolution;
         let rectangle = self.drawing.rectangle;
+        let lines = corner.lines(dots_up(resolution, rectangle.height));
         Rect {
             x: corner.x,
-            y: corner.y,
+            y: lines.first,
             width: dots_up(resolution, rectangle.width),
-            height: dots_up(resolution, rectangle.height),
+            height: lines.count,
         }
     }
 
@@ -50,14 +51,14 @@ impl State {
         Ok(())
     }
 
-    /// Fills the rectangle at the cursor with a pattern, if that exists and the rectangle has a width and a height.
+    /// Fills the rectangle at the cursor with a pattern, if that exists and both sizes of the rectangle are above 0.
     fn fill_with(&mut self, alloc: Global, pattern: Pattern) -> Result<Effect, AllocError>
         ensures effect { IfOk result (λ effect.
             effect_of self.new effect ≡ fill_with pattern self.old) }
         ensures memory { IsErr result → TakesMemory (fill_with pattern self.old) }
     {
-        let rect = self.rect_now();
-        if !self.has_pattern(pattern) || rect.width == 0 || rect.height == 0 {
+        let rectangle = self.drawing.rectangle;
+        if !self.has_pattern(pattern) || rectangle.width == 0 || rectangle.height == 0 {
             return Ok(Effect::Changes);
         }
         self.fill_rectangle(alloc, pattern)?;
