@@ -165,11 +165,13 @@ impl Bands {
         })
     }
 
-    /// Bands that are made from now on take the memory of those of another page.
+    /// Bands that are made from now on take the memory of those of another page, if that is as wide.
     pub(crate) fn reuse(&mut self, other: Bands)
         ensures { self.new ≡ self.old }
     {
-        self.spare = other.bands;
+        if other.width == self.width {
+            self.spare = other.bands;
+        }
     }
 
     /// How many dots a line has.

@@ -6,21 +6,17 @@ ghost use Rattle.press_bits.specs.Bands.{Grows, MakesBands};
 
 use crate::band::Band;
 use std::alloc::{AllocError, Global};
-use std::mem;
 
-/// A white band, in the memory of the spare one of its number, where there is one.
-fn white_band(
-    spare: &mut Vec<Band>,
-    alloc: Global,
-    index: usize,
-    count: usize,
-) -> Result<Band, AllocError>
+/// A white band, in the memory of a spare one, where there is one.
+fn white_band(spare: &mut Vec<Band>, alloc: Global, count: usize) -> Result<Band, AllocError>
     ensures { IfOk result (λ band. band ≡ replicate count 0) }
 {
-    if index >= spare.len() {
-        return Band::white(alloc, count);
+    while let Some(band) = spare.pop() {
+        if band.is_there() {
+            return band.whitened(count);
+        }
     }
-    mem::replace(&mut spare[index], Band::missing(alloc)).whitened(count)
+    Band::white(alloc, count)
 }
 
 /// Makes a band that is not there.
@@ -38,7 +34,7 @@ fn make_band(
     if bands[index].is_there() {
         return Ok(());
     }
-    bands[index] = white_band(spare, alloc, index, count)?;
+    bands[index] = white_band(spare, alloc, count)?;
     Ok(())
 }
 
