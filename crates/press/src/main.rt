@@ -9,7 +9,7 @@ use std::io::{self, BufWriter, ErrorKind};
 use std::process::ExitCode;
 
 /// How many bytes one write to standard output takes.
-const BUFFER: usize = 65_536;
+const BUFFER: usize = 4_096;
 
 /// The name of the file that standard input is.
 const STANDARD_INPUT: &str = "/dev/stdin";

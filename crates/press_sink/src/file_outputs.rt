@@ -10,7 +10,7 @@ use std::os::unix::fs::MetadataExt;
 use std::path::AsPath;
 
 /// How many bytes one write takes.
-const BUFFER: usize = 65_536;
+const BUFFER: usize = 4_096;
 
 /// The longest name that Linux takes, in bytes.
 const LONGEST_NAME: usize = 4_096;
