@@ -4,7 +4,7 @@ use Rattle.press_cmd.specs.Token.{Token, Uel}
 use Rattle.press_cmd.specs.declared.variant.Kind.{Kind}
 use Rattle.press_scan.specs.ScannerState.{ScannerState, buffer_size}
 use Rattle.press_sink.specs.SinkLog.{SinkLog}
-use Rattle.press_sink.specs.Sending.{Output, Ending, Complete, AtSheet, AtReply, ForMemory, WentOut}
+use Rattle.press_sink.specs.Sending.{Ending, Complete, AtSheet, AtReply, ForMemory, WentOut}
 use Rattle.press_sink.proofs.SendingLemmas.{WentOut-no_memory}
 use Rattle.press_engine.specs.declared.effect.Sent.{Sent}
 use Rattle.press_engine.specs.declared.effect.StepOutput.{StepOutput}

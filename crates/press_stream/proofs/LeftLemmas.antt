@@ -5,7 +5,6 @@ use Rattle.press_cmd.specs.Token.{Token}
 use Rattle.press_cmd.specs.Split.{ClosedFrom, Closed}
 use Rattle.press_cmd.proofs.Splits.{closed_once}
 use Rattle.press_cmd.specs.declared.variant.Kind.{Kind}
-use Rattle.press_sink.specs.SinkLog.{SinkLog}
 use Rattle.press_engine.specs.declared.activation.Activation.{Activation}
 use Rattle.press_engine.specs.declared.machine.Machine.{Machine}
 use Rattle.press_engine.specs.Machine.{StepResult, macro_levels, power_on}

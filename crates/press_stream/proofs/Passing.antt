@@ -1,5 +1,5 @@
 -- Commands of one byte each that a job takes at once.
-use Rattle.std.proofs.Common.{◌≡◌, ◌∙◌, ◌≤◌, ◌+◌, ℕ, List, [], ◌∷◌, ◌++◌, length, Bool, true, false, Option, Some, None, IsSome, IfSome, IsTrue, refl, sym, ap, subst, arith, append-nil}
+use Rattle.std.proofs.Common.{◌≡◌, ◌∙◌, ◌≤◌, ℕ, List, [], ◌∷◌, ◌++◌, length, Bool, false, Option, Some, None, IsSome, IfSome, IsTrue, refl, sym, ap, subst, arith, append-nil}
 use Rattle.std.specs.Prelude.{option_map}
 use Rattle.std.specs.List.{AllByRecursion}
 use Rattle.press_cmd.specs.Token.{Token, Escape, Grouped, Ungrouped, Control, Text, Broken, Uel, PjlLine, ForeignByte}
@@ -7,7 +7,6 @@ use Rattle.press_cmd.specs.Split.{Steps}
 use Rattle.press_scan.specs.declared.passing.Passed.{Passed}
 use Rattle.press_scan.specs.Passing.{PassesEach, IsOneByte, PassesOver}
 use Rattle.press_scan.specs.ScannerState.{ScannerState}
-use Rattle.press_sink.specs.SinkLog.{SinkLog}
 use Rattle.press_sink.specs.Sending.{Output, Complete, WentOut}
 use Rattle.press_sink.proofs.SendingLemmas.{WentOut-none}
 use Rattle.press_engine.specs.declared.activation.Activation.{Activation}
@@ -16,11 +15,11 @@ use Rattle.press_engine.specs.declared.state.State.{State}
 use Rattle.press_engine.specs.Machine.{StepResult}
 use Rattle.press_engine.specs.Passing.{HasNoEffect, SkipsBytes, SkipsControls, passed}
 use Rattle.press_engine.specs.Stack.{continuation}
-use Rattle.press_engine.specs.Trace.{last_machine, joined, trace, run_all}
+use Rattle.press_engine.specs.Trace.{last_machine, trace, run_all}
 use Rattle.press_engine.proofs.PassingLaws.{passing_is_counted}
 use Rattle.press_stream.specs.Answers.{PassesOn}
-use Rattle.press_stream.specs.Meaning.{left, Owes, CarriesOut}
-use Rattle.press_stream.specs.State.{JobState, most_commands}
+use Rattle.press_stream.specs.Meaning.{left, Owes}
+use Rattle.press_stream.specs.State.{JobState}
 use Rattle.press_stream.specs.Steps.{CarriesIdle}
 use Rattle.press_stream.proofs.Going.{CarriesOut-none, passes-to_end}
 

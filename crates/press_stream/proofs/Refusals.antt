@@ -1,5 +1,5 @@
 -- What the refusals of a job leave, and what they tell of the sinks.
-use Rattle.std.proofs.Common.{◌≡◌, ◌≢◌, ◌↔◌, ◌∙◌, ℕ, List, [], ◌++◌, Option, Some, None, IsSome, IsErrOf, IfErr, OnErr, Result, Ok, Err, true, false, refl, sym, ap}
+use Rattle.std.proofs.Common.{◌≡◌, ◌∙◌, ℕ, List, [], ◌++◌, Option, Some, None, IsSome, OnErr, Result, Ok, Err, true, false, refl, sym, ap}
 use Rattle.std.proofs.lemmas.Bool.{true≢false}
 use Rattle.press_cmd.specs.Token.{Token}
 use Rattle.press_sink.specs.SinkLog.{SinkLog, under}

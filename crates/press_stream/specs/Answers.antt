@@ -1,8 +1,7 @@
 -- What a job answers.
-use Rattle.std.specs.Prelude.{◌≡◌, ◌≢◌, ◌≤◌, ◌+◌, ℕ, List, [], ◌∷◌, ◌++◌, Option, Some, None, IsSome, Result, Ok, Err, true, false, ◌⊎◌, ⊤, ◌↔◌, IsErrOf, IfErr}
+use Rattle.std.specs.Prelude.{◌≡◌, ◌≢◌, ◌≤◌, ℕ, List, [], ◌∷◌, ◌++◌, Option, Some, None, IsSome, Result, Ok, Err, true, false, ◌⊎◌, ⊤, ◌↔◌, IsErrOf, IfErr}
 use Rattle.std.specs.Io.KnownBytes.{Consumes, IsAtEnd}
 use Rattle.press_cmd.specs.Token.{Token, Uel}
-use Rattle.press_cmd.specs.declared.variant.Kind.{Kind}
 use Rattle.press_scan.specs.Gives.{IsDone, IsNext}
 use Rattle.press_sink.specs.SinkLog.{SinkLog, SinkUse, under}
 use Rattle.press_sink.specs.Sending.{Ending, Complete, AtSheet, AtReply, ForMemory, Refused, sheet_faults_after, reply_faults_after, WentOut}
