@@ -2,11 +2,9 @@
 -- compute: at each command that looks a macro up it is put in by what a map says of it.
 use Prim.Native.Char.{Char, code}
 use Prim.Native.String.{String}
-use Rattle.std.proofs.Common.{◌≡◌, ◌∙◌, ℕ, suc, false, true, List, [], ◌∷◌, ◌++◌, Some, None, option_map, map, refl, ap}
-use Rattle.std.proofs.lemmas.Cmp.{nat_cmp_total}
+use Rattle.std.proofs.Common.{◌≡◌, ◌∙◌, ℕ, suc, false, true, List, [], ◌∷◌, ◌++◌, Some, None, map, refl, ap}
 use Rattle.std.proofs.lemmas.List.{append-nil}
 use Rattle.std.specs.FinMap as maps
-use Rattle.std.specs.FinMap.{get-insert}
 use Rattle.std.specs.Prelude.{codes, if◌then◌else◌}
 use Rattle.press_bits.specs.DotRule.{both_transparent}
 use Rattle.press_bits.specs.Mark.{painted}
@@ -14,7 +12,9 @@ use Rattle.press_bits.specs.Page.{Page, blank}
 use Rattle.press_cmd.specs.Token.{Token, Grouped, Control, Uel}
 use Rattle.press_cmd.specs.Kinds.{kind_of}
 use Rattle.press_fill.specs.Fill.{fill_mark}
-use Rattle.press_macros.specs.Macros.{Macro, Macros, abandoned, body_of}
+use Rattle.press_store.specs.Things.{stored}
+use Rattle.press_store.proofs.StoreLemmas.{found-stored}
+use Rattle.press_macros.specs.Macros.{Macros, abandoned, body_of}
 use Rattle.press_page.specs.declared.media.Orientation.TheVariants.{Portrait}
 use Rattle.press_pattern.specs.Solid.{solid_black}
 use Rattle.press_sink.specs.Sending.{Output, Deliver}
@@ -59,13 +59,10 @@ form_feed = Control 12
 
 -- The macro that was defined is found under its ID.
 abbrev one_macro : (id : ℕ) → List Token → Macros
-one_macro id commands =
-    record { stored = maps.insert maps.empty id (record { commands = commands; permanent = false }); definition = None }
+one_macro id commands = record { stored = stored maps.empty id commands; definition = None }
 
 macro_is_found : (commands : List Token) → body_of (one_macro 1 commands) 1 ≡ Some commands
-macro_is_found commands =
-    ap (option_map (λ (found : Macro). found.commands))
-    (get-insert nat_cmp_total maps.empty 1 (record { commands = commands; permanent = false }) 1)
+macro_is_found commands = found-stored maps.empty 1 commands
 
 -- A call of a macro that is found gives the items of its body.
 abbrev call_end : (before : Machine) → Machine → StepResult
@@ -289,9 +286,7 @@ close_with_overlay command commands cause before state closes found =
     ∙ ap (λ body. close_items_with body cause (with_state state (taken command before))) found
 
 second_macro_is_found : (commands : List Token) → body_of (one_macro 2 commands) 2 ≡ Some commands
-second_macro_is_found commands =
-    ap (option_map (λ (found : Macro). found.commands))
-    (get-insert nat_cmp_total maps.empty 2 (record { commands = commands; permanent = false }) 2)
+second_macro_is_found commands = found-stored maps.empty 2 commands
 
 -- ESC&f2y0X, ESC*c4a1b0P, FF, ESC&f1X, ESC&f4X: a macro with a form feed is laid under every page
 abbrev four_dots : List Token

@@ -12,7 +12,8 @@ use Rattle.press_cmd.specs.declared.variant.Kind.TheVariants as kinds
 use Rattle.press_fill.specs.Fill.{fill_mark}
 use Rattle.press_macros.specs.Macros.{Macros, no_macros, abandoned, permanent_macros}
 use Rattle.press_pattern.specs.Solid.{solid_black}
-use Rattle.press_pattern.specs.Store.{UserPatterns, permanent_only}
+use Rattle.press_store.specs.Things.{permanent_only}
+use Rattle.press_pattern.specs.Store.{UserPatterns}
 use Rattle.press_sink.specs.Sending.{Output, Deliver}
 use Rattle.press_engine.specs.declared.machine.Last.TheVariants as lasts
 use Rattle.press_page.specs.declared.media.Orientation.{Orientation}

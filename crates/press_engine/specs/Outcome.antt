@@ -8,7 +8,7 @@ use Rattle.press_cmd.specs.Token.{Token}
 use Rattle.press_macros.specs.Macros.{Macros, no_macros, permanent_macros}
 use Rattle.press_page.specs.Environment.{reset_environment, logical_page_of}
 use Rattle.press_page.specs.declared.environment.PageEnv.{PageEnv}
-use Rattle.press_pattern.specs.Store.{permanent_only}
+use Rattle.press_store.specs.Things.{permanent_only}
 use Rattle.press_pjl.specs.Lines as lines
 use Rattle.press_pjl.specs.declared.environment.PjlEnv.{PjlEnv}
 use Rattle.press_sink.specs.Sending.{Output}

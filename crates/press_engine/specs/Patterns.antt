@@ -3,7 +3,8 @@
 use Rattle.std.specs.Prelude.{ℕ, ℤ, Bool, true, false, ◌&&◌, is_some, if◌then◌else◌, List, [], ◌∷◌, Option, Some, None}
 use Rattle.std.specs.FinMap as maps
 use Rattle.press_page.specs.Numbers.{named}
-use Rattle.press_pattern.specs.Store.{UserPatterns, tile_of, with_definition, made, permanent_only}
+use Rattle.press_store.specs.Things.{made, permanent_only}
+use Rattle.press_pattern.specs.Store.{UserPatterns, tile_of, with_definition}
 use Rattle.press_pattern.specs.UserData.{has_header, has_rows}
 use Rattle.press_pattern.specs.declared.pattern.PatternKind.{PatternKind}
 use Rattle.press_pattern.specs.declared.pattern.PatternKind.TheVariants as kinds

@@ -1,3 +1,2 @@
 mod RecordLemmas
-mod StoreLemmas
 pub mod WorkedMacros

@@ -112,3 +112,7 @@ pushed-records (Err _) command records sound appended same = subst AreRecords (s
 pub OnErr-map : {X E : Type 0} (r : Result X E) (P Q : Type 0) → (P → Q) → OnErr r P → OnErr r Q
 OnErr-map (Ok _) P Q f h = tt
 OnErr-map (Err _) P Q f h = f h
+
+pub OnOk-map : {X E : Type 0} (r : Result X E) (P Q : Type 0) → (P → Q) → OnOk r P → OnOk r Q
+OnOk-map (Ok _) P Q f h = f h
+OnOk-map (Err _) P Q f h = tt

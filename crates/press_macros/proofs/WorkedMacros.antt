@@ -1,10 +1,11 @@
 -- Definitions, control commands and bodies of macros, computed.
-use Rattle.std.proofs.Common.{◌≡◌, ℕ, [], ◌∷◌, Some, None, true, false, option_map, refl, ap, ◌∙◌, rules}
+use Rattle.std.proofs.Common.{◌≡◌, ℕ, [], ◌∷◌, Some, None, true, false, refl, ◌∙◌, rules}
 use Rattle.std.specs.FinMap as maps
 use Rattle.std.specs.FinMap.{gets}
 use Rattle.press_cmd.specs.Token.{Control, Text}
-use Rattle.press_macros.specs.Macros.{Macros, no_macros, defining, definition_begun, recorded, definition_ended, abandoned, body_of, macro_made, without, permanent_macros, is_permanent_macro}
-use Rattle.press_macros.proofs.StoreLemmas.{get-permanent_stored}
+use Rattle.press_macros.specs.Macros.{Macros, no_macros, defining, definition_begun, recorded, definition_ended, abandoned, body_of, macro_made, without, permanent_macros}
+use Rattle.press_store.specs.Things.{is_permanent}
+use Rattle.press_store.proofs.StoreLemmas.{found-permanent_only}
 
 -- a macro that was defined under an ID, with one control byte
 abbrev defined : Macros → ℕ → ℕ → Macros
@@ -28,18 +29,18 @@ a_dropped_definition = grind (gets, rules)
 pub the_open_definition : defining (recorded (definition_begun two 1) (Control 12)) ≡ Some 1
 the_open_definition = refl
 
-pub permanent_one : is_permanent_macro (maps.get two.stored 1) ≡ true
+pub permanent_one : is_permanent (maps.get two.stored 1) ≡ true
 permanent_one = grind (gets, rules)
 
 -- a permanent macro that is defined again is temporary
-pub redefined : maps.get (defined two 1 12).stored 1 ≡ Some (record { commands = Control 12 ∷ []; permanent = false })
+pub redefined : maps.get (defined two 1 12).stored 1 ≡ Some (record { value = Control 12 ∷ []; permanent = false })
 redefined = grind (gets, rules)
 
 pub permanent_stays : body_of (permanent_macros two) 1 ≡ Some (Control 10 ∷ [])
-permanent_stays = ap (option_map (λ m. m.commands)) (get-permanent_stored two.stored 1) ∙ grind (gets, rules)
+permanent_stays = found-permanent_only two.stored 1 ∙ grind (gets, rules)
 
 pub temporary_goes : body_of (permanent_macros two) 2 ≡ None
-temporary_goes = ap (option_map (λ m. m.commands)) (get-permanent_stored two.stored 2) ∙ grind (gets, rules)
+temporary_goes = found-permanent_only two.stored 2 ∙ grind (gets, rules)
 
 pub one_deleted : body_of (without two 1) 1 ≡ None
 one_deleted = grind (gets, rules)

@@ -1,10 +1,9 @@
--- How proofs tell two stores of macros apart: the code of commands, macros and stores.
-use Rattle.std.specs.Prelude.{◌≡◌, ℕ, List, [], Bool, Option, cond, ◌==◌, refl}
-use Rattle.std.specs.Ordering.{nat_cmp}
-use Rattle.std.specs.Coded.{Coded, code_by, coded×, coded_ℕ, coded_bool, coded_list, coded_option}
-use Rattle.std.specs.FinMap as maps
+-- How proofs tell two stores of macros apart: the code of commands, definitions and stores.
+use Rattle.std.specs.Prelude.{◌≡◌, ℕ, List, [], Option, cond, ◌==◌, refl}
+use Rattle.std.specs.Coded.{Coded, code_by, coded×, coded_ℕ, coded_list, coded_option}
 use Rattle.press_cmd.specs.Token.{Token, Escape, Grouped, Ungrouped, Control, Text, Broken, Uel, PjlLine, ForeignByte}
-use Rattle.press_macros.specs.Macros.{Macro, Definition, Macros}
+use Rattle.press_store.specs.Things.{Things, things_code}
+use Rattle.press_macros.specs.Macros.{Definition, Macros}
 
 -- A command as its number among the nine, three numbers, and two lists.
 abbrev CommandParts : Type 0
@@ -46,11 +45,6 @@ command_code =
     code_by CommandParts (coded× coded_ℕ (coded× coded_ℕ (coded× coded_ℕ (coded× coded_ℕ (coded× (coded_list coded_ℕ) (coded_list coded_ℕ))))))
     command_parts from_parts from_parts-command_parts
 
-abbrev pub macro_code : Coded Macro
-macro_code =
-    code_by (List Token × Bool) (coded× (coded_list command_code) coded_bool)
-    (λ m. (m.commands, m.permanent)) (λ p. record { commands = p.0; permanent = p.1 }) (λ _. refl)
-
 abbrev pub definition_code : Coded Definition
 definition_code =
     code_by (ℕ × List Token) (coded× coded_ℕ (coded_list command_code))
@@ -58,5 +52,5 @@ definition_code =
 
 abbrev pub macros_code : Coded Macros
 macros_code =
-    code_by (maps.FinMap nat_cmp Macro × Option Definition) (coded× (maps.code coded_ℕ macro_code) (coded_option definition_code))
+    code_by (Things (List Token) × Option Definition) (coded× (things_code (coded_list command_code)) (coded_option definition_code))
     (λ m. (m.stored, m.definition)) (λ p. record { stored = p.0; definition = p.1 }) (λ _. refl)

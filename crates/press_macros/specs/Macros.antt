@@ -1,22 +1,17 @@
 -- The store of macros (PCL 5 Printer Language Technical Reference Manual, "Macros": Macro ID and Macro Control commands).
-use Rattle.std.specs.Prelude.{ℕ, List, [], ◌∷◌, ◌++◌, Bool, false, Option, Some, None, option_map}
-use Rattle.std.specs.Ordering.{nat_cmp}
+use Rattle.std.specs.Prelude.{ℕ, List, [], ◌∷◌, ◌++◌, Bool, Option, Some, None, option_map}
 use Rattle.std.specs.FinMap as maps
+use Rattle.press_store.specs.Things.{Things, found, stored, made, permanent_only}
 use Rattle.press_cmd.specs.Token.{Token}
-
--- A macro: the commands that were recorded, in order, and whether it is permanent. A temporary one does not outlive a reset.
-pub record Macro : Type 0 where
-  pub commands : List Token
-  pub permanent : Bool
 
 -- A macro definition that was begun and has not ended: the macro ID, and the commands recorded so far.
 pub record Definition : Type 0 where
   pub id : ℕ
   pub commands : List Token
 
--- The macros under their IDs, and the definition that is open, if one is.
+-- The macros under their IDs, each the commands that were recorded, in order; and the definition that is open, if one is.
 pub record Macros : Type 0 where
-  pub stored : maps.FinMap nat_cmp Macro
+  pub stored : Things (List Token)
   pub definition : Option Definition
 
 -- No macro, and no open definition.
@@ -40,14 +35,10 @@ abbrev pub recorded : Macros → Token → Macros
 recorded macros command =
     record { stored = macros.stored; definition = option_map (λ d. with_command d command) macros.definition }
 
--- The macro that a definition makes: it is temporary.
-abbrev pub macro_of : Definition → Macro
-macro_of d = record { commands = d.commands; permanent = false }
-
--- With the macro of a definition under its ID, in place of an older one.
-abbrev pub with_macro_of : Option Definition → maps.FinMap nat_cmp Macro → maps.FinMap nat_cmp Macro
-with_macro_of None stored = stored
-with_macro_of (Some d) stored = maps.insert stored d.id (macro_of d)
+-- With the macro of a definition under its ID, in place of an older one. It is temporary.
+abbrev pub with_macro_of : Option Definition → Things (List Token) → Things (List Token)
+with_macro_of None macros = macros
+with_macro_of (Some d) macros = stored macros d.id d.commands
 
 -- Value 1 ends the definition.
 abbrev pub definition_ended : Macros → Macros
@@ -59,35 +50,20 @@ abandoned macros = record { stored = macros.stored; definition = None }
 
 -- The commands of the macro under this ID, if there is one.
 abbrev pub body_of : Macros → (id : ℕ) → Option (List Token)
-body_of macros id = option_map (λ m. m.commands) (maps.get macros.stored id)
+body_of macros id = found macros.stored id
 
 -- Value 6 deletes all macros.
 abbrev pub all_deleted : Macros → Macros
 all_deleted macros = record { stored = maps.empty; definition = macros.definition }
 
--- Whether what was found is permanent.
-abbrev pub is_permanent_macro : Option Macro → Bool
-is_permanent_macro None = false
-is_permanent_macro (Some m) = m.permanent
-
--- The permanent macros alone.
-abbrev pub permanent_stored : maps.FinMap nat_cmp Macro → maps.FinMap nat_cmp Macro
-permanent_stored stored = maps.retain_keys stored (λ id. is_permanent_macro (maps.get stored id))
-
 -- Value 7 deletes the temporary macros.
 abbrev pub permanent_macros : Macros → Macros
-permanent_macros macros = record { stored = permanent_stored macros.stored; definition = macros.definition }
+permanent_macros macros = record { stored = permanent_only macros.stored; definition = macros.definition }
 
 -- Value 8 deletes the macro under this ID.
 abbrev pub without : Macros → (id : ℕ) → Macros
 without macros id = record { stored = maps.remove macros.stored id; definition = macros.definition }
 
--- With a macro that was found under this ID made permanent or temporary.
-abbrev pub found_macro_made : maps.FinMap nat_cmp Macro → (id : ℕ) → Bool → Option Macro → maps.FinMap nat_cmp Macro
-found_macro_made stored id permanent None = stored
-found_macro_made stored id permanent (Some m) = maps.insert stored id (record { commands = m.commands; permanent = permanent })
-
 -- Values 9 and 10 make the macro under this ID, if there is one, temporary and permanent.
 abbrev pub macro_made : Macros → (id : ℕ) → (permanent : Bool) → Macros
-macro_made macros id permanent =
-    record { stored = found_macro_made macros.stored id permanent (maps.get macros.stored id); definition = macros.definition }
+macro_made macros id permanent = record { stored = made macros.stored id permanent; definition = macros.definition }

@@ -8,8 +8,8 @@ ghost use Rattle.press_macros.specs.Macros.{all_deleted, permanent_macros, macro
 use crate::body::Body;
 use crate::open_definition::OpenDefinition;
 use crate::stored_macro::StoredMacro;
-use indexmap::IndexMap;
 use press_cmd::Command;
+use press_store::Store;
 use std::alloc::{AllocError, Global};
 use std::marker::Model;
 
@@ -19,15 +19,11 @@ use std::marker::Model;
 /// Source: PCL 5 Printer Language Technical Reference Manual, Macros.
 #[derive(Drop)]
 pub struct MacroStore {
-    stored: IndexMap<u16, StoredMacro>,
+    stored: Store<StoredMacro>,
     definition: Option<OpenDefinition>,
 }
 
 impl Model for MacroStore {
-    ghost use Rattle.std.specs.FinMap as maps;
-    ghost use Rattle.std.specs.List.{IsDistinct};
-    ghost use Rattle.std.specs.Map.{keys_of};
-    ghost use Rattle.std.specs.Prelude.{nat_eq};
     ghost use Rattle.press_macros.specs.Macros.{Macros};
     ghost use Rattle.press_macros.specs.Coding.{macros_code};
 
@@ -35,12 +31,7 @@ impl Model for MacroStore {
 
     ghost coded = { macros_code };
 
-    ghost view = { λ s. record {
-      stored = maps.from_entries s.stored.entries;
-      definition = s.definition;
-    } };
-
-    ghost invariant = { λ s. IsDistinct nat_eq (keys_of s.stored.entries) };
+    ghost view = { λ s. record { stored = s.stored.things; definition = s.definition } };
 }
 
 impl MacroStore {
@@ -49,7 +40,7 @@ impl MacroStore {
         ensures { result ≡ no_macros }
     {
         MacroStore {
-            stored: IndexMap::new(alloc),
+            stored: Store::new(alloc),
             definition: None,
         }
     }
@@ -67,7 +58,7 @@ impl MacroStore {
             None => None,
         };
         Ok(MacroStore {
-            stored: self.stored.clone()?,
+            stored: self.stored.copy()?,
             definition,
         })
     }
@@ -90,7 +81,7 @@ impl MacroStore {
         requires { IsNone (defining self.old) }
         ensures { self.new ≡ definition_begun self.old id }
     {
-        self.definition = Some(OpenDefinition::new(*self.stored.allocator(), id));
+        self.definition = Some(OpenDefinition::new(self.stored.allocator(), id));
     }
 
     /// Records a command in the open definition, behind those before it. A definition has to be open.
@@ -122,16 +113,13 @@ impl MacroStore {
         ensures ended { OnOk result (self.new ≡ definition_ended self.old) }
         ensures unchanged { OnErr result (self.new ≡ self.old) }
     {
-        self.stored.reserve(1)?;
+        self.stored.reserve()?;
         let Some(definition) = self.definition.take() else {
             return Ok(());
         };
         let id = definition.id();
         match definition.end() {
-            Ok(made) => {
-                self.stored.insert(id, made)?;
-                Ok(())
-            }
+            Ok(made) => { self.stored.store(id, made) }
             Err(definition) => {
                 self.definition = Some(definition);
                 Err(AllocError)
@@ -156,7 +144,7 @@ impl MacroStore {
         ensures body { IfOk result (λ body. body ≡ body_of self.now id) }
         ensures memory { IsErr result → IsSome (body_of self.now id) }
     {
-        match self.stored.get(&id) {
+        match self.stored.get(id) {
             Some(found) => Ok(Some(found.body()?)),
             None => Ok(None),
         }
@@ -168,7 +156,7 @@ impl MacroStore {
     pub fn delete(&mut self, id: u16)
         ensures { self.new ≡ without self.old id }
     {
-        self.stored.swap_remove(&id);
+        self.stored.delete(id);
     }
 
     /// Deletes all macros. An open definition stays open.
@@ -177,7 +165,7 @@ impl MacroStore {
     pub fn delete_all(&mut self)
         ensures { self.new ≡ all_deleted self.old }
     {
-        self.stored.clear();
+        self.stored.delete_all();
     }
 
     /// Deletes the macros that are not permanent. An open definition stays open.
@@ -186,11 +174,7 @@ impl MacroStore {
     pub fn delete_temporary(&mut self)
         ensures { self.new ≡ permanent_macros self.old }
     {
-        self.stored.retain(
-            |_id: &u16, stored: &mut StoredMacro| -> bool
-                ensures { (result ≡ stored.old.permanent) × (stored.new ≡ stored.old) }
-            { stored.is_permanent() },
-        );
+        self.stored.delete_temporary();
     }
 
     /// Makes the macro with this ID permanent or temporary, if there is one.
@@ -199,8 +183,6 @@ impl MacroStore {
     pub fn set_permanent(&mut self, id: u16, permanent: bool)
         ensures { self.new ≡ macro_made self.old id permanent }
     {
-        if let Some(stored) = self.stored.get_mut(&id) {
-            stored.set_permanent(permanent);
-        }
+        self.stored.set_permanent(id, permanent);
     }
 }

@@ -2,7 +2,7 @@
 
 ghost use Rattle.std.specs.Prelude.{◌≡◌, [], IfOk, IfErr, OnOk, OnErr};
 ghost use Rattle.press_cmd.specs.View.{token};
-ghost use Rattle.press_macros.specs.Macros.{with_command, macro_of};
+ghost use Rattle.press_macros.specs.Macros.{with_command};
 
 use crate::records::Records;
 use crate::stored_macro::StoredMacro;
@@ -53,7 +53,7 @@ impl OpenDefinition {
 
     /// The macro that was defined. An error gives the definition back.
     pub fn end(self) -> Result<StoredMacro, Self>
-        ensures ended { IfOk result (λ made. made ≡ macro_of self) }
+        ensures ended { IfOk result (λ made. made ≡ self.commands) }
         ensures unchanged { IfErr result (λ definition. definition ≡ self) }
     {
         let OpenDefinition { id, commands } = self;

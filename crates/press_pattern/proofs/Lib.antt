@@ -1,3 +1,2 @@
 pub mod TileLemmas
 pub mod HatchLemmas
-mod StoreLemmas

@@ -12,11 +12,9 @@ mod pattern;
 mod patterns;
 mod tile;
 mod user_data;
-mod user_pattern;
 
 pub use brush::Brush;
 pub use fault::DefineError;
 pub use pattern::{Pattern, PatternKind};
 pub use patterns::Patterns;
 pub use tile::{OwnedTile, Tile};
-pub use user_pattern::UserPattern;

@@ -2,20 +2,20 @@
 
 ghost use Rattle.std.specs.Prelude.{◌≡◌, ◌↔◌, true, false, option_map, option_copied, OnOk, OnErr, IfOk, IsErrOf};
 ghost use Rattle.std.specs.FinMap as maps;
+ghost use Rattle.press_store.specs.Things.{made, permanent_only};
 ghost use Rattle.press_pattern.specs.Tiling.{tile_row};
 ghost use Rattle.press_pattern.specs.UserData.{has_header, has_rows};
-ghost use Rattle.press_pattern.specs.Store.{tile_of, with_definition, made, permanent_only};
+ghost use Rattle.press_pattern.specs.Store.{tile_of, with_definition};
 ghost use Rattle.press_pattern.specs.Brush.{brush_of};
 
 use crate::brush::{Brush, mode_of};
 use crate::fault::DefineError;
 use crate::fixed;
 use crate::pattern::{Pattern, PatternKind};
-use crate::tile::Tile;
+use crate::tile::{OwnedTile, Tile};
 use crate::user_data::read_tile;
-use crate::user_pattern::UserPattern;
-use indexmap::IndexMap;
 use press_bits::Mode;
+use press_store::Store;
 use std::alloc::{AllocError, Global};
 use std::marker::Model;
 
@@ -25,24 +25,19 @@ use std::marker::Model;
 /// Source: PCL 5 Printer Language Technical Reference Manual, The PCL Print Model.
 #[derive(Drop)]
 pub struct Patterns {
-    user: IndexMap<u16, UserPattern>,
+    user: Store<OwnedTile>,
 }
 
 impl Model for Patterns {
-    ghost use Rattle.std.specs.Coded.{coded_ℕ};
-    ghost use Rattle.std.specs.FinMap as maps;
-    ghost use Rattle.std.specs.List.{IsDistinct};
-    ghost use Rattle.std.specs.Map.{keys_of};
-    ghost use Rattle.std.specs.Prelude.{nat_eq};
-    ghost use Rattle.press_pattern.specs.Store.{UserPatterns, user_pattern_code};
+    ghost use Rattle.press_pattern.specs.Store.{UserPatterns};
+    ghost use Rattle.press_pattern.specs.Tiling.{tiling_code};
+    ghost use Rattle.press_store.specs.Things.{things_code};
 
     ghost Value = { UserPatterns };
 
-    ghost coded = { maps.code coded_ℕ user_pattern_code };
+    ghost coded = { things_code tiling_code };
 
-    ghost view = { λ patterns. maps.from_entries patterns.user.entries };
-
-    ghost invariant = { λ patterns. IsDistinct nat_eq (keys_of patterns.user.entries) };
+    ghost view = { λ patterns. patterns.user.things };
 }
 
 impl Patterns {
@@ -51,7 +46,7 @@ impl Patterns {
         ensures { result ≡ maps.empty }
     {
         Patterns {
-            user: IndexMap::new(alloc),
+            user: Store::new(alloc),
         }
     }
 
@@ -64,7 +59,7 @@ impl Patterns {
         ensures { IfOk result (λ patterns. patterns ≡ self.now) }
     {
         Ok(Patterns {
-            user: self.user.clone()?,
+            user: self.user.copy()?,
         })
     }
 
@@ -86,49 +81,37 @@ impl Patterns {
         ensures short_data { IsErrOf result DefineError.ShortData
             ↔ ((has_header bytes.now ≡ true) × (has_rows bytes.now ≡ false)) }
     {
-        let tile = read_tile(*self.user.allocator(), bytes)?;
-        let pattern = UserPattern {
-            tile,
-            permanent: false,
-        };
-        match self.user.insert(id, pattern) {
-            Ok(_) => Ok(()),
-            Err(_) => Err(DefineError::NoMemory),
-        }
+        let tile = read_tile(self.user.allocator(), bytes)?;
+        self.user.store(id, tile)?;
+        Ok(())
     }
 
     /// Deletes the user-defined pattern with this ID, if there is one.
     pub fn delete(&mut self, id: u16)
         ensures { self.new ≡ maps.remove self.old id }
     {
-        self.user.swap_remove(&id);
+        self.user.delete(id);
     }
 
     /// Deletes all user-defined patterns.
     pub fn delete_all(&mut self)
         ensures { self.new ≡ maps.empty }
     {
-        self.user.clear();
+        self.user.delete_all();
     }
 
     /// Deletes the user-defined patterns that are not permanent.
     pub fn delete_temporary(&mut self)
         ensures { self.new ≡ permanent_only self.old }
     {
-        self.user.retain(
-            |_id: &u16, pattern: &mut UserPattern| -> bool
-                ensures { (result ≡ pattern.old.permanent) × (pattern.new ≡ pattern.old) }
-            { pattern.permanent },
-        );
+        self.user.delete_temporary();
     }
 
     /// Makes the user-defined pattern with this ID permanent or temporary, if there is one.
     pub fn set_permanent(&mut self, id: u16, permanent: bool)
         ensures { self.new ≡ made self.old id permanent }
     {
-        if let Some(pattern) = self.user.get_mut(&id) {
-            pattern.permanent = permanent;
-        }
+        self.user.set_permanent(id, permanent);
     }
 
     /// The tile of a pattern, if it exists.
@@ -141,8 +124,8 @@ impl Patterns {
             PatternKind::Shading => fixed::shading(pattern.id),
             PatternKind::CrossHatch => fixed::cross_hatch(pattern.id),
             PatternKind::User => {
-                let found = self.user.get(&pattern.id)?;
-                Some(found.tile.as_tile())
+                let found = self.user.get(pattern.id)?;
+                Some(found.as_tile())
             }
         }
     }
@@ -163,7 +146,7 @@ impl Patterns {
 
     /// Where the patterns take their memory.
     pub fn allocator(&self) -> Global {
-        *self.user.allocator()
+        self.user.allocator()
     }
 
     /// The bytes of a pattern's tile for line `y` of the frame, if the pattern exists; see [`Tile::row`].

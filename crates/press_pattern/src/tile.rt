@@ -7,6 +7,7 @@ ghost use Rattle.press_bits.specs.Mark.{row};
 ghost use Rattle.press_pattern.specs.Tiling.{IsWhiteTile, tile_line, tile_row};
 
 use press_bits::{DotRow, line_bytes};
+use press_store::Duplicate;
 use std::alloc::{AllocError, Global};
 use std::marker::Model;
 
@@ -158,5 +159,11 @@ impl OwnedTile {
             height: self.height,
             rows: self.rows.clone()?,
         })
+    }
+}
+
+impl Duplicate for OwnedTile {
+    fn duplicate(&self) -> Result<Self, AllocError> {
+        self.copy()
     }
 }

@@ -1,9 +1,8 @@
 use Rattle.std.proofs.Common.{◌∙◌, ◌++◌, ◌∷◌, [], ap, rules}
-use Rattle.indexmap.proofs.MapLemmas.{OnOk-map}
 use Rattle.press_cmd.specs.View.{token}
 use Rattle.press_cmd.proofs.Sound.{sound}
 use Rattle.press_macros.specs.RecordsOnce.{the-commands}
-use Rattle.press_macros.proofs.RecordLemmas.{spelled-more, sound-more, pushed-records, OnErr-map}
+use Rattle.press_macros.proofs.RecordLemmas.{spelled-more, sound-more, pushed-records, OnOk-map, OnErr-map}
 use Rattle.press_macros.proofs.records.Records.push.Goals as goal
 
 pub invariant_of-self-inside : goal.invariant_of-self-inside

@@ -1,0 +1,2 @@
+-- Things under their IDs, each temporary or permanent.
+pub mod Things
