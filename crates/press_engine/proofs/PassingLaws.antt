@@ -1,7 +1,6 @@
 -- Commands of the stream that have no effect.
 use Rattle.std.proofs.Common.{◌≡◌, ◌∙◌, ℕ, suc, List, [], ◌∷◌, ◌++◌, length, Bool, true, false, refl, ap, arith}
 use Rattle.std.specs.Prelude.{if◌then◌else◌}
-use Rattle.std.specs.List.{AllByRecursion}
 use Rattle.press_cmd.specs.Token.{Token}
 use Rattle.press_cmd.specs.Kinds.{kind_of}
 use Rattle.press_engine.specs.declared.machine.Last.TheVariants as lasts

@@ -1,16 +1,15 @@
 -- Each item of a trace is one step, and the first of a command takes that command.
-use Rattle.std.proofs.Common.{◌≡◌, ◌∙◌, ℕ, zero, suc, List, [], ◌∷◌, ◌++◌, Option, Some, None, false, refl, sym, ap, subst}
+use Rattle.std.proofs.Common.{◌≡◌, ◌∙◌, ℕ, zero, suc, List, [], ◌∷◌, ◌++◌, Option, Some, None, false, refl}
 use Rattle.press_cmd.specs.Kinds.{kind_of}
 use Rattle.press_cmd.specs.Token.{Token}
 use Rattle.press_engine.specs.declared.effect.EjectCause.{EjectCause}
 use Rattle.press_engine.specs.declared.effect.Source.TheVariants as sources
-use Rattle.press_engine.specs.declared.machine.Last.{Last}
 use Rattle.press_engine.specs.declared.machine.Machine.{Machine}
 use Rattle.press_engine.specs.declared.state.State.{State}
 use Rattle.press_engine.specs.Calls.{overlay_body}
 use Rattle.press_engine.specs.Counts.{counted}
 use Rattle.press_engine.specs.Outcome.{Effect, Changes, MayAllocate, GivesReply, Stays, Closes, Starts}
-use Rattle.press_engine.specs.Machine.{StepResult, silent, then_run, with_state, taken, last_of, enter_body, leave_body, overlay_levels, enter_overlay, leave_overlay, finish_without_overlay, macro_levels, source_at}
+use Rattle.press_engine.specs.Machine.{StepResult, silent, with_state, taken, last_of, enter_body, leave_body, overlay_levels, enter_overlay, leave_overlay, finish_without_overlay, macro_levels, source_at}
 use Rattle.press_engine.specs.PageKept.{PageStays, TakesFirst, OthersKeepThePage, kind_may_change_page}
 use Rattle.press_engine.specs.Steps.{CountFrom}
 use Rattle.press_engine.specs.Table.{effect_on}

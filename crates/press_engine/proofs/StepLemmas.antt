@@ -9,7 +9,6 @@ use Rattle.press_cmd.specs.declared.variant.Kind.{Kind}
 use Rattle.press_engine.specs.declared.effect.EjectCause.{EjectCause}
 use Rattle.press_engine.specs.declared.effect.Sent.{Sent}
 use Rattle.press_engine.specs.declared.effect.Source.TheVariants.{Stream}
-use Rattle.press_engine.specs.declared.fault.EngineError.{EngineError}
 use Rattle.press_engine.specs.declared.activation.Activation.{Activation}
 use Rattle.press_engine.specs.declared.activation.ActivationEnd.{ActivationEnd}
 use Rattle.press_engine.specs.declared.activation.ActivationEnd.TheVariants as ends_by
@@ -133,10 +132,6 @@ sound-inner activation command rest outer activations still machine all nested i
       ready = step-ready activation command rest outer still machine is;
       nested = subst IsNested (sym is) (unwind-nested (begin.started ++ (record activation { body = rest } ∷ outer)) begin.item started);
     }
-
--- an answer tells one error
-pub same_error : {X : Type 0} (result : Result X EngineError) (one other : EngineError) → result ≡ Err one → result ≡ Err other → one ≡ other
-same_error result one other p q = cc
 
 -- an answer that was an error
 pub is_err-of : {X E : Type 0} (result : Result X E) (error : E) → result ≡ Err error → IsErr result

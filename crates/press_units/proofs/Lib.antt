@@ -1,4 +1,5 @@
 pub mod EntryLemmas
+pub mod ExitLemmas
 pub mod FieldLemmas
 pub mod FieldTest
 pub mod DecimalLemmas

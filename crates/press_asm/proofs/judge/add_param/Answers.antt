@@ -1,6 +1,7 @@
 use Rattle.std.proofs.Common.{◌≡◌, ◌∙◌, length, refl, sym, inl}
 use Rattle.std.proofs.lemmas.Bool.{false≢true}
-use Rattle.std.proofs.lemmas.Result.{on_ok_weaker, IfErr-weaker, err_from_is_err_and}
+use Rattle.std.proofs.lemmas.Result.{on_ok_weaker, IfErr-weaker}
+use Rattle.press_units.proofs.ExitLemmas.{exit-is}
 use Rattle.press_cmd.specs.Carried.{data_count}
 use Rattle.press_cmd.specs.View.{param_token}
 use Rattle.press_asm.proofs.Adding.{param_added, param_digits, param_count, param_no_exit}
@@ -22,8 +23,7 @@ returns-then-not-is_field-clause-err c = λ field. false≢true (c.if-not-is_fie
 pub returns-in_err-payload-clause-err : goal.returns-in_err-payload-clause-err
 returns-in_err-payload-clause-err c =
     let w = c.args.word.now in
-    let p = err_from_is_err_and c.from_residual.result c.from_residual.ensures.1 in
-    rw (p.1, p.2) (param_digits w.character w.group w.field.now w.end c.args.digits.now _ (c.if-not-is_field.ensures.field.0 refl) c.in_err-payload.ensures.err)
+    rw (exit-is c.from_residual.ensures.1) (param_digits w.character w.group w.field.now w.end c.args.digits.now _ (c.if-not-is_field.ensures.field.0 refl) c.in_err-payload.ensures.err)
 
 pub returns-then-len-data_count-clause-err : goal.returns-then-len-data_count-clause-err
 returns-then-len-data_count-clause-err c =

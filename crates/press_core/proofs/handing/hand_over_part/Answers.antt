@@ -1,5 +1,5 @@
 use Rattle.std.proofs.Common.{Err, sym, subst}
-use Rattle.std.proofs.lemmas.Result.{err_from_is_err_and}
+use Rattle.press_units.proofs.ExitLemmas.{exit-is}
 use Rattle.press_sink.specs.Sending.{sheets_of}
 use Rattle.press_sink.proofs.SendingLemmas.{sheets_of-append}
 use Rattle.press_engine.specs.Outputs.{finished_of}
@@ -9,11 +9,10 @@ use Rattle.press_core.proofs.handing.hand_over_part.Goals as goal
 
 pub returns-in_err-hand_over_finished-in-Sheets : goal.returns-in_err-hand_over_finished-in-Sheets
 returns-in_err-hand_over_finished-in-Sheets g c =
-    let p = err_from_is_err_and c.from_residual.result c.from_residual.ensures.1 in
     let hands = c.hand_over_finished in
     let closed = c.in-Sheets.closed in
     let alone = c.in-Sheets.alone in
-    rw (c.in-Sheets.is, p.1, p.2)
+    rw (c.in-Sheets.is, exit-is c.from_residual.ensures.1)
     (subst (λ sheets. HandsOver sheets (Err c.in_err-hand_over_finished-in-Sheets.field-0.0) (handing c.args.number (g.S.SheetSink.told c.args.sink.now) (g.S.SheetSink.told hands.new.sink)) c.args.delivered.now hands.new.delivered)
     (sym (sheets_of-append (finished_of closed) (finished_of alone)))
     (HandsOver-stopped c.args.number (sheets_of (finished_of closed)) (sheets_of (finished_of alone)) _ _ _ _ _ c.in_err-hand_over_finished-in-Sheets.ensures))

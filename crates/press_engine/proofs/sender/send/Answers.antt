@@ -1,5 +1,5 @@
-use Rattle.std.proofs.Common.{◌∙◌, ◌≢◌, [], Err, sym, ap, subst}
-use Rattle.std.proofs.lemmas.Result.{err_from_is_err_and}
+use Rattle.std.proofs.Common.{◌≢◌, [], sym, subst}
+use Rattle.press_units.proofs.ExitLemmas.{exit-is, exit-was}
 use Rattle.press_sink.specs.SinkLog.{logs}
 use Rattle.press_sink.specs.Sending.{WentOut}
 use Rattle.press_sink.proofs.SendingLemmas.{WentOut-then}
@@ -11,15 +11,13 @@ use Rattle.press_engine.proofs.sender.send.Goals as goal
 
 pub returns-in_err-send_finished-in-Sheets-clause-sends : goal.returns-in_err-send_finished-in-Sheets-clause-sends
 returns-in_err-send_finished-in-Sheets-clause-sends g c =
-    let p = err_from_is_err_and c.from_residual.result c.from_residual.ensures.1 in
     let P : Sent → Type 0 = λ sent. WentOut c.args.tag (outputs_of sent) (ending_of c.from_residual.result) (logs (g.S.SheetSink.told c.args.sheets.now) (g.R.ReplySink.told c.args.replies.now)) (logs (g.S.SheetSink.told c.send_finished.new.sheets) (g.R.ReplySink.told c.send_finished.new.replies)) in
-    subst P (sym c.in-Sheets.is) (WentOut-exit c.args.tag (finished_of c.in-Sheets.closed) (finished_of c.in-Sheets.alone) c.send_finished.result c.from_residual.result p.0 _ _ c.send_finished.ensures.sends (c.in_err-send_finished-in-Sheets.was ∙ ap Err (sym p.2)) p.1)
+    subst P (sym c.in-Sheets.is) (WentOut-exit c.args.tag (finished_of c.in-Sheets.closed) (finished_of c.in-Sheets.alone) c.send_finished.result c.from_residual.result _ _ _ c.send_finished.ensures.sends c.in_err-send_finished-in-Sheets.was (exit-is c.from_residual.ensures.1))
 
 pub returns-in_err-send_finished-in-Sheets-clause-memory : goal.returns-in_err-send_finished-in-Sheets-clause-memory
 returns-in_err-send_finished-in-Sheets-clause-memory g c stops =
-    let p = err_from_is_err_and c.from_residual.result c.from_residual.ensures.1 in
     let P : Sent → Type 0 = λ sent. outputs_of sent ≢ [] in
-    subst P (sym c.in-Sheets.is) (some-before (finished_of c.in-Sheets.closed) (finished_of c.in-Sheets.alone) (c.send_finished.ensures.memory (c.in_err-send_finished-in-Sheets.was ∙ ap Err (sym p.2) ∙ sym p.1 ∙ stops)))
+    subst P (sym c.in-Sheets.is) (some-before (finished_of c.in-Sheets.closed) (finished_of c.in-Sheets.alone) (c.send_finished.ensures.memory (exit-was c.in_err-send_finished-in-Sheets.was c.from_residual.ensures.1 stops)))
 
 pub returns-in_ok-send_finished-in-Sheets-clause-sends : goal.returns-in_ok-send_finished-in-Sheets-clause-sends
 returns-in_ok-send_finished-in-Sheets-clause-sends g c =

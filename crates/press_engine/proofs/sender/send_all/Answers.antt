@@ -1,5 +1,5 @@
-use Rattle.std.proofs.Common.{◌≡◌, ◌∙◌, ◌∷◌, ◌+◌, List, Ok, Err, suc, drop, sym, ap, subst, drop-cons, add-one}
-use Rattle.std.proofs.lemmas.Result.{err_from_is_err_and}
+use Rattle.std.proofs.Common.{◌≡◌, ◌∙◌, ◌∷◌, ◌+◌, List, Ok, suc, drop, sym, ap, subst, drop-cons, add-one}
+use Rattle.press_units.proofs.ExitLemmas.{exit-is, exit-was}
 use Rattle.press_sink.specs.Sending.{Output, WentOut}
 use Rattle.press_sink.proofs.SendingLemmas.{WentOut-then}
 use Rattle.press_sink.specs.SinkLog.{logs}
@@ -24,23 +24,21 @@ loop-part-preserved g c =
 
 pub returns-in_err-send-clause-sends : goal.returns-in_err-send-clause-sends
 returns-in_err-send-clause-sends g c =
-    let p = err_from_is_err_and c.from_residual.result c.from_residual.ensures.1 in
     let rest = drop (c.loop-part.part-index + 1) c.args.sent.now in
     let left : drop c.loop-part.part-index c.args.sent.now ≡ c.part-item.result ∷ rest =
     drop-cons c.args.sent.now c.loop-part.part-index c.part-item.result c.loop-part-test.true
     ∙ rw (add-one c.loop-part.part-index) (ap (λ (x : Sent). x ∷ drop (suc c.loop-part.part-index) c.args.sent.now) (sym c.part-item.is)) in
     let P : List Output → Type 0 = λ outputs. WentOut c.args.tag outputs (ending_of c.from_residual.result) (logs (g.S.SheetSink.told c.loop-part.sheets) (g.R.ReplySink.told c.loop-part.replies)) (logs (g.S.SheetSink.told c.send.new.sheets) (g.R.ReplySink.told c.send.new.replies)) in
     c.loop-part.invariant.rest c.from_residual.result _ (subst P (sym (ap all_outputs left))
-    (WentOut-exit c.args.tag (outputs_of c.part-item.result) (all_outputs rest) c.send.result c.from_residual.result p.0 _ _ c.send.ensures.sends (c.in_err-send.was ∙ ap Err (sym p.2)) p.1))
+    (WentOut-exit c.args.tag (outputs_of c.part-item.result) (all_outputs rest) c.send.result c.from_residual.result _ _ _ c.send.ensures.sends c.in_err-send.was (exit-is c.from_residual.ensures.1)))
 
 pub returns-in_err-send-clause-memory : goal.returns-in_err-send-clause-memory
 returns-in_err-send-clause-memory g c stops =
-    let p = err_from_is_err_and c.from_residual.result c.from_residual.ensures.1 in
     let rest = drop (c.loop-part.part-index + 1) c.args.sent.now in
     let left : drop c.loop-part.part-index c.args.sent.now ≡ c.part-item.result ∷ rest =
     drop-cons c.args.sent.now c.loop-part.part-index c.part-item.result c.loop-part-test.true
     ∙ rw (add-one c.loop-part.part-index) (ap (λ (x : Sent). x ∷ drop (suc c.loop-part.part-index) c.args.sent.now) (sym c.part-item.is)) in
-    all_outputs-some c.args.sent.now c.loop-part.part-index c.part-item.result rest left (c.send.ensures.memory (c.in_err-send.was ∙ ap Err (sym p.2) ∙ sym p.1 ∙ stops))
+    all_outputs-some c.args.sent.now c.loop-part.part-index c.part-item.result rest left (c.send.ensures.memory (exit-was c.in_err-send.was c.from_residual.ensures.1 stops))
 
 pub returns-clause-sends : goal.returns-clause-sends
 returns-clause-sends g c =

@@ -1,12 +1,11 @@
-use Rattle.std.proofs.Common.{◌∙◌, Err, Ok, sym, ap}
-use Rattle.std.proofs.lemmas.Result.{err_from_is_err_and}
+use Rattle.std.proofs.Common.{Ok}
+use Rattle.press_units.proofs.ExitLemmas.{exit-is}
 use Rattle.press_engine.proofs.SendsLemmas.{WentOut-copy, WentOut-stopped_copy, WentOut-no_copy, TookLast-copy, is_later, has_fault_room-then, copies_out-some}
 use Rattle.press_engine.proofs.sender.send_copies.Goals as goal
 
 pub returns-in_err-send_copy-clause-sends : goal.returns-in_err-send_copy-clause-sends
 returns-in_err-send_copy-clause-sends g c =
-    let p = err_from_is_err_and c.from_residual.result c.from_residual.ensures.1 in
-    c.loop-copy.invariant.rest _ _ (WentOut-stopped_copy c.args.finished.now.sheet c.args.tag c.loop-copy.copy c.args.finished.now.copies c.loop-copy.count c.next_count-count.result c.next_count-count.ensures c.send_copy.result _ p.0 _ _ c.loop-copy-test.true c.send_copy.ensures (c.in_err-send_copy.was ∙ ap Err (sym p.2)) p.1)
+    c.loop-copy.invariant.rest _ _ (WentOut-stopped_copy c.args.finished.now.sheet c.args.tag c.loop-copy.copy c.args.finished.now.copies c.loop-copy.count c.next_count-count.result c.next_count-count.ensures c.send_copy.result _ _ _ _ c.loop-copy-test.true c.send_copy.ensures c.in_err-send_copy.was (exit-is c.from_residual.ensures.1))
 
 pub returns-in_err-send_copy-clause-memory : goal.returns-in_err-send_copy-clause-memory
 returns-in_err-send_copy-clause-memory g c stops = copies_out-some c.args.finished.now.sheet c.loop-copy.copy c.args.finished.now.copies c.args.finished.now.since_job c.loop-copy-test.true

@@ -1,5 +1,5 @@
-use Rattle.std.proofs.Common.{◌∙◌, ℕ, Option, [], ◌∷◌, Err, sym, ap, subst}
-use Rattle.std.proofs.lemmas.Result.{err_from_is_err_and}
+use Rattle.std.proofs.Common.{ℕ, Option, [], ◌∷◌, sym, subst}
+use Rattle.press_units.proofs.ExitLemmas.{exit-is}
 use Rattle.press_pjl.specs.Replies.{page_reply}
 use Rattle.press_sink.specs.SinkLog.{logs}
 use Rattle.press_sink.specs.Sending.{Deliver, Reply, WentOut}
@@ -11,8 +11,7 @@ use Rattle.press_engine.proofs.sender.send_copy.Goals as goal
 
 pub returns-in_err-deliver : goal.returns-in_err-deliver
 returns-in_err-deliver g c =
-    let p = err_from_is_err_and c.from_residual.result c.from_residual.ensures.1 in
-    WentOut-exit c.args.tag (Deliver c.args.sheet.now ∷ []) (status_out c.args.count) c.deliver.result c.from_residual.result p.0 _ _ c.deliver.ensures (c.in_err-deliver.was ∙ ap Err (sym p.2)) p.1
+    WentOut-exit c.args.tag (Deliver c.args.sheet.now ∷ []) (status_out c.args.count) c.deliver.result c.from_residual.result _ _ _ c.deliver.ensures c.in_err-deliver.was (exit-is c.from_residual.ensures.1)
 
 pub returns-in-Some : goal.returns-in-Some
 returns-in-Some g c =

@@ -1,5 +1,5 @@
 use Rattle.std.proofs.Common.{[]}
-use Rattle.std.proofs.lemmas.Result.{err_from_is_err_and}
+use Rattle.press_units.proofs.ExitLemmas.{exit-is}
 use Rattle.press_sink.specs.SinkLog.{logs}
 use Rattle.press_stream.proofs.Faults.{FaultsBefore-step}
 use Rattle.press_theorem.proofs.ChainLemmas.{fed, fed-faults, fed-going, on_err, on_failed, pushed, pushed-going, pushed-fault, stepped, stepped-going, stopped-failed}
@@ -48,6 +48,5 @@ returns-in_err-step-in-Step-clause-failed g c =
 
 pub returns-in_err-step-in-Step-clause-faults : goal.returns-in_err-step-in-Step-clause-faults
 returns-in_err-step-in-Step-clause-faults g c =
-    let p = err_from_is_err_and c.from_residual.result c.from_residual.ensures.1 in
-    rw (p.1, p.2)
+    rw (exit-is c.from_residual.ensures.1)
     (rw c.in-Step.is (FaultsBefore-step c.args.job.now c.step.new.self c.args.tag c.in_err-step-in-Step.field-0.0 _ _ c.in_err-step-in-Step.ensures.takes))

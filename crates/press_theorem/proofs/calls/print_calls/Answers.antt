@@ -1,7 +1,7 @@
 use Rattle.std.proofs.Common.{[], ◌+◌, sym, ap, get_or, take, drop}
 use Rattle.std.specs.List.{flat_map}
 use Rattle.std.proofs.lemmas.List.{take_all}
-use Rattle.std.proofs.lemmas.Result.{err_from_is_err_and}
+use Rattle.press_units.proofs.ExitLemmas.{exit-is}
 use Rattle.press_theorem.specs.declared.calls.Call.TheVariants.{Push}
 use Rattle.press_theorem.specs.Calls.{bytes_of}
 use Rattle.press_theorem.proofs.AtEndLemmas.{printed-means}
@@ -52,8 +52,7 @@ make-requires-clause-going g c = c.loop-call.invariant.going
 
 pub returns-in_err-job-clause-err : goal.returns-in_err-job-clause-err
 returns-in_err-job-clause-err g c =
-    let p = err_from_is_err_and c.from_residual.result c.from_residual.ensures.1 in
-    rw (p.1, p.2) (PrintedTo-none c.chain.ensures.calls c.chain.ensures.prints (flat_map bytes_of c.args.calls.now) c.args.tag _)
+    rw (exit-is c.from_residual.ensures.1) (PrintedTo-none c.chain.ensures.calls c.chain.ensures.prints (flat_map bytes_of c.args.calls.now) c.args.tag _)
 
 pub returns-in_err-make-clause-err : goal.returns-in_err-make-clause-err
 returns-in_err-make-clause-err g c =
@@ -61,8 +60,7 @@ returns-in_err-make-clause-err g c =
     let i = c.loop-call.call-index in
     let first = Push (record { ref_ptr = (0, 0); now = [] }) in
     let call = get_or calls i first in
-    let p = err_from_is_err_and c.from_residual-in_err-make.result c.from_residual-in_err-make.ensures.1 in
-    rw (p.1, p.2)
+    rw (exit-is c.from_residual-in_err-make.ensures.1)
     (PrintedTo-before c.chain.ensures.prints (flat_map bytes_of (take i calls)) (bytes_of call) (flat_map bytes_of (drop (i + 1) calls)) (flat_map bytes_of calls) c.loop-call.invariant.given c.args.tag c.in_err-make.field-0.0 c.loop-call.job c.make.new.job _ _ _
     c.loop-call.invariant.going (pieces-rest bytes_of calls i first c.loop-call-test.true) c.loop-call.invariant.goes c.in_err-make.ensures.faults)
 
@@ -70,7 +68,6 @@ pub returns-in_err-finish-clause-err : goal.returns-in_err-finish-clause-err
 returns-in_err-finish-clause-err g c =
     let calls = c.args.calls.now in
     let i = c.loop-call.call-index in
-    let p = err_from_is_err_and c.from_residual-in_err-finish.result c.from_residual-in_err-finish.ensures.1 in
-    rw (p.1, p.2)
+    rw (exit-is c.from_residual-in_err-finish.ensures.1)
     (PrintedTo-end c.chain.ensures.prints (flat_map bytes_of (take i calls)) (flat_map bytes_of calls) c.loop-call.invariant.given c.args.tag c.in_err-finish.field-0.0 c.loop-call.job c.finish.new.self _ _ _
     (sym (ap (flat_map bytes_of) (take_all i calls c.loop-call-test.false))) c.loop-call.invariant.goes c.in_err-finish.ensures.finishes)

@@ -1,7 +1,7 @@
 use Rattle.std.proofs.Common.{[], ◌+◌, sym, ap, get_or, take, drop}
 use Rattle.std.specs.List.{flat_map}
 use Rattle.std.proofs.lemmas.List.{take_all}
-use Rattle.std.proofs.lemmas.Result.{err_from_is_err_and}
+use Rattle.press_units.proofs.ExitLemmas.{exit-is}
 use Rattle.press_theorem.specs.declared.calls.Call.TheVariants.{Push}
 use Rattle.press_theorem.specs.Calls.{bytes_of}
 use Rattle.press_engine.proofs.SendsLemmas.{has_fault_room-then}
@@ -43,8 +43,7 @@ returns-in_err-make-clause-prints g c =
     let i = c.loop-call.call-index in
     let first = Push (record { ref_ptr = (0, 0); now = [] }) in
     let call = get_or calls i first in
-    let p = err_from_is_err_and c.from_residual.result c.from_residual.ensures.1 in
-    rw (p.1, p.2)
+    rw (exit-is c.from_residual.ensures.1)
     (Printed-stopped (flat_map bytes_of calls) _ c.args.tag c.in_err-make.field-0.0 c.make.new.job.machine _ _
     (PrintedTo-before c.chain.ensures.prints (flat_map bytes_of (take i calls)) (bytes_of call) (flat_map bytes_of (drop (i + 1) calls)) (flat_map bytes_of calls) c.loop-call.invariant.given c.args.tag c.in_err-make.field-0.0 c.loop-call.job c.make.new.job _ _ _
     c.loop-call.invariant.going (pieces-rest bytes_of calls i first c.loop-call-test.true) c.loop-call.invariant.goes c.in_err-make.ensures.faults))

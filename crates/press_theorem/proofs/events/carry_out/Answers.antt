@@ -1,4 +1,4 @@
-use Rattle.std.proofs.lemmas.Result.{err_from_is_err_and}
+use Rattle.press_units.proofs.ExitLemmas.{exit-is}
 use Rattle.press_theorem.proofs.EventLemmas.{message-cut, message-happened, message-unanswered, turn-happened, turn-stopped, operator-happened}
 use Rattle.press_theorem.proofs.events.carry_out.Goals as goal
 
@@ -18,20 +18,17 @@ returns-in-Operator-clause-all g c =
 
 pub returns-in_err-response-in-Message-clause-err : goal.returns-in_err-response-in-Message-clause-err
 returns-in_err-response-in-Message-clause-err g c =
-    let p = err_from_is_err_and c.from_residual.result c.from_residual.ensures.1 in
-    rw (p.1, p.2)
+    rw (exit-is c.from_residual.ensures.1)
     (rw c.in-Message.is (message-unanswered c.args.press.now c.message.new.self c.in-Message.text.now c.in-Message.images.now _ c.args.responses.now.items c.in_err-response-in-Message.ensures))
 
 pub returns-in_err-append_line-in-Message-clause-err : goal.returns-in_err-append_line-in-Message-clause-err
 returns-in_err-append_line-in-Message-clause-err g c =
-    let p = err_from_is_err_and c.from_residual-in_err-append_line-in-Message.result c.from_residual-in_err-append_line-in-Message.ensures.1 in
-    rw (p.1, p.2)
+    rw (exit-is c.from_residual-in_err-append_line-in-Message.ensures.1)
     (rw c.in-Message.is
     (message-cut c.args.press.now c.message.new.self c.in-Message.text.now c.in-Message.images.now c.message.result c.in_ok-response-in-Message.response _ c.deref.result.now c.args.responses.now.items c.append_line.new.out.items c.in_ok-response-in-Message.was c.message.ensures c.deref.ensures.value
     c.in_err-append_line-in-Message.ensures.err))
 
 pub returns-in_err-turn_on-in-Turn-clause-err : goal.returns-in_err-turn_on-in-Turn-clause-err
 returns-in_err-turn_on-in-Turn-clause-err g c =
-    let p = err_from_is_err_and c.from_residual-in_err-turn_on-in-Turn.result c.from_residual-in_err-turn_on-in-Turn.ensures.1 in
-    rw (p.1, p.2)
+    rw (exit-is c.from_residual-in_err-turn_on-in-Turn.ensures.1)
     (rw c.in-Turn.is (turn-stopped c.in_err-turn_on-in-Turn.field-0.0 c.args.press.now c.turn_on.new.self c.in-Turn.engine c.in-Turn.most _ _ c.args.responses.now.items c.in_err-turn_on-in-Turn.ensures.turn))

@@ -1,6 +1,6 @@
 use Rattle.std.proofs.Common.{◌+◌, [], ◌∷◌, map, take, drop, subst}
 use Rattle.std.proofs.lemmas.List.{take_all}
-use Rattle.std.proofs.lemmas.Result.{err_from_is_err_and}
+use Rattle.press_units.proofs.ExitLemmas.{exit-is}
 use Rattle.press_theorem.specs.Events.{HappenAll, event_of, handing}
 use Rattle.press_theorem.proofs.EventLemmas.{HappenAll-none, HappenAll-then, HappenUpTo-behind, has_fault_room-then, events-next, events-rest, from-new, up-to-from-new}
 use Rattle.press_theorem.proofs.events.carry_out_events.Goals as goal
@@ -45,8 +45,7 @@ returns-in_err-carry_out-clause-err g c =
     let events = c.args.events.now in
     let i = c.loop-event.event-index in
     let event = c.event-item.result in
-    let p = err_from_is_err_and c.from_residual.result c.from_residual.ensures.1 in
-    rw (p.1, p.2)
+    rw (exit-is c.from_residual.ensures.1)
     (HappenUpTo-behind c.in_err-carry_out.field-0.0 c.args.press.now c.loop-event.press c.carry_out.new.press (map event_of (take i events)) (event_of event ∷ []) (map event_of (drop (i + 1) events)) (map event_of events) (told c.args.sheets.now) (told c.loop-event.sheets) (told c.carry_out.new.sheets) c.args.responses.now.items c.loop-event.responses.items c.carry_out.new.responses.items
     (events-rest event_of events i event c.loop-event-test.true c.event-item.is) c.loop-event.invariant.happened c.in_err-carry_out.ensures.err)
 
@@ -56,8 +55,7 @@ returns-in_err-carry_out-clause-err_from_new g c =
     let events = c.args.events.now in
     let i = c.loop-event.event-index in
     let event = c.event-item.result in
-    let p = err_from_is_err_and c.from_residual.result c.from_residual.ensures.1 in
-    rw (p.1, p.2)
+    rw (exit-is c.from_residual.ensures.1)
     (λ engines are new. up-to-from-new c.sheets_are_given.ensures c.entries_are_bounded.ensures c.args.press.now c.in_err-carry_out.field-0.0 engines (map event_of events) c.carry_out.new.press (told c.args.sheets.now) (told c.carry_out.new.sheets) c.args.responses.now.items c.carry_out.new.responses.items are new
     (HappenUpTo-behind c.in_err-carry_out.field-0.0 c.args.press.now c.loop-event.press c.carry_out.new.press (map event_of (take i events)) (event_of event ∷ []) (map event_of (drop (i + 1) events)) (map event_of events) (told c.args.sheets.now) (told c.loop-event.sheets) (told c.carry_out.new.sheets) c.args.responses.now.items c.loop-event.responses.items c.carry_out.new.responses.items
     (events-rest event_of events i event c.loop-event-test.true c.event-item.is) c.loop-event.invariant.happened c.in_err-carry_out.ensures.err))

@@ -1,7 +1,7 @@
 use Rattle.std.proofs.Common.{[], ◌+◌, sym, ap, get_or, take, drop}
 use Rattle.std.specs.List.{flat_map}
 use Rattle.std.proofs.lemmas.List.{take_all}
-use Rattle.std.proofs.lemmas.Result.{err_from_is_err_and}
+use Rattle.press_units.proofs.ExitLemmas.{exit-is}
 use Rattle.press_engine.proofs.SendsLemmas.{has_fault_room-then}
 use Rattle.press_theorem.proofs.ChainLemmas.{opened-going, pieces-next, CarriesOut-opened, CarriesOut-more, Prints-end, pieces-rest, PrintedTo-before, PrintedTo-none, PrintedTo-end, fed-fault}
 use Rattle.press_theorem.proofs.pieces.print_pieces.Goals as goal
@@ -35,16 +35,14 @@ returns-clause-ok g c =
 
 pub returns-in_err-job-clause-err : goal.returns-in_err-job-clause-err
 returns-in_err-job-clause-err g c =
-    let p = err_from_is_err_and c.from_residual.result c.from_residual.ensures.1 in
-    rw (p.1, p.2) (PrintedTo-none c.chain.ensures.calls c.chain.ensures.prints (flat_map (λ piece. piece.now) c.args.pieces.now) c.args.tag _)
+    rw (exit-is c.from_residual.ensures.1) (PrintedTo-none c.chain.ensures.calls c.chain.ensures.prints (flat_map (λ piece. piece.now) c.args.pieces.now) c.args.tag _)
 
 pub returns-in_err-feed-clause-err : goal.returns-in_err-feed-clause-err
 returns-in_err-feed-clause-err g c =
     let pieces = c.args.pieces.now in
     let i = c.loop-piece.piece-index in
     let piece = get_or pieces i (record { ref_ptr = (0, 0); now = [] }) in
-    let p = err_from_is_err_and c.from_residual-in_err-feed.result c.from_residual-in_err-feed.ensures.1 in
-    rw (p.1, p.2)
+    rw (exit-is c.from_residual-in_err-feed.ensures.1)
     (PrintedTo-before c.chain.ensures.prints (flat_map (λ piece. piece.now) (take i pieces)) piece.now (flat_map (λ piece. piece.now) (drop (i + 1) pieces)) (flat_map (λ piece. piece.now) pieces) c.loop-piece.invariant.given c.args.tag c.in_err-feed.field-0.0 c.loop-piece.job c.feed.new.self _ _ _
     c.loop-piece.invariant.going (pieces-rest (λ piece. piece.now) pieces i (record { ref_ptr = (0, 0); now = [] }) c.loop-piece-test.true) c.loop-piece.invariant.goes
     (fed-fault c.loop-piece.job c.feed.new.self piece.now c.args.tag c.in_err-feed.field-0.0 _ _ c.loop-piece.invariant.going c.in_err-feed.ensures.feeds))
@@ -53,7 +51,6 @@ pub returns-in_err-finish-clause-err : goal.returns-in_err-finish-clause-err
 returns-in_err-finish-clause-err g c =
     let pieces = c.args.pieces.now in
     let i = c.loop-piece.piece-index in
-    let p = err_from_is_err_and c.from_residual-in_err-finish.result c.from_residual-in_err-finish.ensures.1 in
-    rw (p.1, p.2)
+    rw (exit-is c.from_residual-in_err-finish.ensures.1)
     (PrintedTo-end c.chain.ensures.prints (flat_map (λ piece. piece.now) (take i pieces)) (flat_map (λ piece. piece.now) pieces) c.loop-piece.invariant.given c.args.tag c.in_err-finish.field-0.0 c.loop-piece.job c.finish.new.self _ _ _
     (sym (ap (flat_map (λ piece. piece.now)) (take_all i pieces c.loop-piece-test.false))) c.loop-piece.invariant.goes c.in_err-finish.ensures.finishes)

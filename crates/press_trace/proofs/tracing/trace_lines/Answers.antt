@@ -1,5 +1,5 @@
 use Rattle.std.proofs.Common.{Option, ℕ, option_map, Vec, Global, subst}
-use Rattle.std.proofs.lemmas.Result.{err_from_is_err_and}
+use Rattle.press_units.proofs.ExitLemmas.{exit-is}
 use Rattle.press_trace.specs.Tracing.{Tells}
 use Rattle.press_trace.proofs.Fewer.{fewer_left}
 use Rattle.press_trace.proofs.Telling.{begun, nothing_told, all_told, no_memory, more_told, no_output}
@@ -7,8 +7,7 @@ use Rattle.press_trace.proofs.tracing.trace_lines.Goals as goal
 
 pub returns-in_err-tracer-clause-stops : goal.returns-in_err-tracer-clause-stops
 returns-in_err-tracer-clause-stops g c =
-    let p = err_from_is_err_and c.from_residual.result c.from_residual.ensures.1 in
-    rw (p.1, p.2) (nothing_told c.args.bytes.now (g.W.Write.contents c.args.out.now))
+    rw (exit-is c.from_residual.ensures.1) (nothing_told c.args.bytes.now (g.W.Write.contents c.args.out.now))
 
 pub loop-tracer-init : goal.loop-tracer-init
 loop-tracer-init g c =
@@ -16,15 +15,13 @@ loop-tracer-init g c =
 
 pub returns-in_err-line-clause-stops : goal.returns-in_err-line-clause-stops
 returns-in_err-line-clause-stops g c =
-    let p = err_from_is_err_and c.from_residual-in_err-line.result c.from_residual-in_err-line.ensures.1 in
-    rw (p.1, p.2)
+    rw (exit-is c.from_residual-in_err-line.ensures.1)
     (no_memory c.args.bytes.now (g.W.Write.contents c.args.out.now) (g.W.Write.contents c.loop-tracer.out) c.loop-tracer.tracer c.loop-tracer.invariant)
 
 pub returns-in_err-write_whole-clause-stops : goal.returns-in_err-write_whole-clause-stops
 returns-in_err-write_whole-clause-stops g c =
-    let p = err_from_is_err_and c.from_residual-in_err-write_whole.result c.from_residual-in_err-write_whole.ensures.1 in
     let tells = subst (λ (line : Option (Vec ℕ Global)). Tells c.loop-tracer.tracer (option_map (λ (text : Vec ℕ Global). text.items) line) c.next_line.new.self) c.in-Some.is c.in_ok-line.ensures.tells in
-    rw (p.1, p.2)
+    rw (exit-is c.from_residual-in_err-write_whole.ensures.1)
     (no_output c.args.bytes.now (g.W.Write.contents c.args.out.now) (g.W.Write.contents c.loop-tracer.out) c.loop-tracer.tracer c.loop-tracer.invariant
     c.next_line.new.self c.in-Some.line.items tells (g.W.Write.contents c.write_whole.new.output) _ (rw c.deref.ensures.value at c.in_err-write_whole.ensures))
 

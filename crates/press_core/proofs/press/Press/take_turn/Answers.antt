@@ -1,5 +1,5 @@
 use Rattle.std.proofs.Common.{◌∙◌, ℕ, List, [], Some, Ok, Err, ap, subst, sym, refl}
-use Rattle.std.proofs.lemmas.Result.{err_from_is_err_and}
+use Rattle.press_units.proofs.ExitLemmas.{exit-is}
 use Rattle.press_sink.specs.declared.sheet.Delivery.{Delivery}
 use Rattle.press_core.specs.declared.turn.Turn.{Turn}
 use Rattle.press_core.specs.declared.turn.TurnError.TheVariants.{NoMemory}
@@ -9,8 +9,7 @@ use Rattle.press_core.proofs.press.Press.take_turn.Goals as goal
 
 pub returns-in_err-number : goal.returns-in_err-number
 returns-in_err-number g c =
-    let p = err_from_is_err_and c.from_residual.result c.from_residual.ensures.1 in
-    let is = p.1 ∙ ap Err p.2 in
+    let is = exit-is c.from_residual.ensures.1 in
     subst (λ r. (handed : List Delivery) × TakesTurn c.args.self.now c.args.engine c.args.most r handed c.next_running.new.self
     × WereHandedOut handed r (g.S.SheetSink.told c.args.sink.now) (g.S.SheetSink.told c.args.sink.now)) (sym is) (
       [],
@@ -20,8 +19,7 @@ returns-in_err-number g c =
 
 pub returns-in_err-steps : goal.returns-in_err-steps
 returns-in_err-steps g c =
-    let p = err_from_is_err_and c.from_residual-in_err-steps.result c.from_residual-in_err-steps.ensures.1 in
-    let is = p.1 ∙ ap Err p.2 in
+    let is = exit-is c.from_residual-in_err-steps.ensures.1 in
     let took = c.in_err-steps.ensures in
     subst (λ r. (handed : List Delivery) × TakesTurn c.args.self.now c.args.engine c.args.most r handed c.take_steps.new.self
     × WereHandedOut handed r (g.S.SheetSink.told c.args.sink.now) (g.S.SheetSink.told c.take_steps.new.sink)) (sym is) (

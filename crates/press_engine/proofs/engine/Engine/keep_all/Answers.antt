@@ -1,6 +1,5 @@
 use Rattle.std.proofs.Common.{◌≡◌, ◌∙◌}
 use Rattle.std.specs.Box.{with_value}
-use Rattle.press_engine.specs.declared.machine.Machine.{Machine}
 use Rattle.press_engine.proofs.engine.Engine.keep_all.Goals as goal
 
 pub loop-part-preserved : goal.loop-part-preserved

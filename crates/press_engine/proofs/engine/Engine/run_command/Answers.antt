@@ -1,19 +1,17 @@
-use Rattle.std.proofs.Common.{◌≡◌, ◌≢◌, ◌∙◌, [], None, Ok, Err, sym, ap, rules}
-use Rattle.std.proofs.lemmas.Result.{err_from_is_err_and}
+use Rattle.std.proofs.Common.{◌≡◌, ◌≢◌, [], None, Ok, rules}
+use Rattle.press_units.proofs.ExitLemmas.{exit-is, exit-was}
 use Rattle.press_cmd.specs.View.{token}
 use Rattle.press_engine.specs.Engine.{machine_of, bodies}
 use Rattle.press_engine.specs.Machine.{macro_levels}
 use Rattle.press_engine.specs.Stack.{continuation}
 use Rattle.press_engine.specs.Trace.{trace_at}
 use Rattle.press_engine.proofs.ItemsLemmas.{ready-some}
-use Rattle.press_engine.proofs.StepLemmas.{same_error}
 use Rattle.press_engine.proofs.WholeLemmas.{next-leaves, stop-leaves, none-leaves, runs-of, runs-stopped, alive-then, counts-then, fewer-steps, wants-more, failed-none, stopped-none}
 use Rattle.press_engine.proofs.engine.Engine.run_command.Goals as goal
 
 pub returns-in_err-step-clause-runs : goal.returns-in_err-step-clause-runs
 returns-in_err-step-clause-runs g c =
-    let p = err_from_is_err_and c.from_residual.result c.from_residual.ensures.1 in
-    runs-stopped (machine_of c.args.self.now) (token c.args.command) c.args.tag c.step.result c.from_residual.result c.in_err-step.field-0.0 (machine_of c.step.new.self) (bodies c.step.new.self) _ _ c.step.ensures.takes c.in_err-step.was (p.1 ∙ ap Err p.2)
+    runs-stopped (machine_of c.args.self.now) (token c.args.command) c.args.tag c.step.result c.from_residual.result c.in_err-step.field-0.0 (machine_of c.step.new.self) (bodies c.step.new.self) _ _ c.step.ensures.takes c.in_err-step.was (exit-is c.from_residual.ensures.1)
 
 pub returns-in_err-step-clause-none : goal.returns-in_err-step-clause-none
 returns-in_err-step-clause-none g c =
@@ -60,18 +58,15 @@ loop-self-preserved g c =
 pub returns-in_err-step_inner-clause-runs : goal.returns-in_err-step_inner-clause-runs
 returns-in_err-step_inner-clause-runs g c =
     let exit = c.from_residual-in_err-step_inner in
-    let p = err_from_is_err_and exit.result exit.ensures.1 in
     let new = c.step_inner.new.self in
     c.loop-self.invariant.rest exit.result (machine_of new) _
-    (stop-leaves (continuation (bodies c.loop-self.self)) c.args.tag (machine_of c.loop-self.self) c.step_inner.result exit.result c.in_err-step_inner.field-0.0 (machine_of new) (bodies new) _ _ c.loop-self.invariant.alive c.step_inner.ensures.takes c.in_err-step_inner.was (p.1 ∙ ap Err p.2))
+    (stop-leaves (continuation (bodies c.loop-self.self)) c.args.tag (machine_of c.loop-self.self) c.step_inner.result exit.result c.in_err-step_inner.field-0.0 (machine_of new) (bodies new) _ _ c.loop-self.invariant.alive c.step_inner.ensures.takes c.in_err-step_inner.was (exit-is exit.ensures.1))
 
 pub returns-in_err-step_inner-clause-failed : goal.returns-in_err-step_inner-clause-failed
-returns-in_err-step_inner-clause-failed g c =
-    let exit = c.from_residual-in_err-step_inner in
-    let p = err_from_is_err_and exit.result exit.ensures.1 in (
-      λ is. absurd (c.loop-self.invariant.alive (c.step_inner.ensures.failed.0 (c.in_err-step_inner.was ∙ ap Err (sym p.2 ∙ same_error _ _ _ p.1 is)))),
-      λ none. absurd (c.loop-self.invariant.lives none),
-    )
+returns-in_err-step_inner-clause-failed g c = (
+  λ is. absurd (c.loop-self.invariant.alive (c.step_inner.ensures.failed.0 (exit-was c.in_err-step_inner.was c.from_residual-in_err-step_inner.ensures.1 is))),
+  λ none. absurd (c.loop-self.invariant.lives none),
+)
 
 pub returns-in_err-step_inner-clause-memory : goal.returns-in_err-step_inner-clause-memory
 returns-in_err-step_inner-clause-memory g c stops =
