@@ -5,4 +5,4 @@ pub mod FormLaws
 pub mod Assembling
 pub mod Adding
 pub mod LineStands
-mod WorkedKinds
+mod worked

@@ -10,7 +10,7 @@ pub mod Splits
 pub mod LineTest
 pub mod ReadBack
 pub mod StreamsOf
-pub mod WorkedStreams
+pub mod worked
 pub mod ExitTest
 pub mod Appending
 pub mod StoredLemmas

@@ -23,6 +23,4 @@ mod StepsLemmas
 mod TurnChanges
 mod TurnLemmas
 mod WorkLemmas
-pub mod WorkedEngines
-pub mod WorkedHistory
-pub mod WorkedMessages
+pub mod worked

@@ -1,1 +1,1 @@
-pub mod WorkedMoves
+pub mod worked

@@ -11,10 +11,7 @@ pub mod StepLemmas
 pub mod TraceLaws
 pub mod ValueLemmas
 pub mod WholeLemmas
-pub mod WorkedJobs
-pub mod WorkedStreams
-pub mod WorkedMacros
-pub mod WorkedRectangles
+pub mod worked
 mod NestingLemmas
 pub mod PageKeptLemmas
 pub mod StepLaws

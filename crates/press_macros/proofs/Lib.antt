@@ -1,2 +1,2 @@
 mod RecordLemmas
-pub mod WorkedMacros
+pub mod worked

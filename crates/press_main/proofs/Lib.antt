@@ -15,5 +15,5 @@ mod SessionLemmas
 mod TalkLemmas
 mod WordLemmas
 mod WordsLemmas
-pub mod WorkedWords
+pub mod worked
 pub mod ProgramLemmas

@@ -1,2 +1,1 @@
-pub mod WorkedPages
-pub mod WorkedPlaces
+pub mod worked

@@ -1,2 +1,2 @@
 pub mod NumberLemmas
-pub mod WorkedLines
+pub mod worked

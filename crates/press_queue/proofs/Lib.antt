@@ -5,4 +5,4 @@ mod KeyLemmas
 mod NumberLemmas
 mod PutLemmas
 mod RowLemmas
-pub mod WorkedQueue
+pub mod worked

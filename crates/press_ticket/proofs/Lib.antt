@@ -4,4 +4,4 @@ mod LeastLemmas
 mod NextLemmas
 mod PageLemmas
 mod RangeLemmas
-pub mod WorkedTickets
+pub mod worked

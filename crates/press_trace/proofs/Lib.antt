@@ -8,5 +8,4 @@ pub mod Standing
 pub mod Telling
 pub mod Fewer
 pub mod RebuiltLemmas
-pub mod WorkedLines
-pub mod WorkedTraces
+pub mod worked

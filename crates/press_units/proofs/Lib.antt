@@ -3,4 +3,4 @@ pub mod ExitLemmas
 pub mod FieldLemmas
 pub mod FieldTest
 pub mod DecimalLemmas
-pub mod WorkedFields
+pub mod worked

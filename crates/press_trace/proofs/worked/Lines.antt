@@ -17,7 +17,7 @@ use Rattle.press_engine.specs.declared.view.View.{View}
 use Rattle.press_engine.specs.Engine.{view_of}
 use Rattle.press_engine.specs.Machine.{StepResult, power_on}
 use Rattle.press_engine.specs.Trace.{last_machine, trace_each, trace_at, trace_in_overlay}
-use Rattle.press_engine.proofs.WorkedMacros.{call, called, fed_items, first, first_feed, first_items, form_feed, macro_control, macro_id, sequence, with_overlay}
+use Rattle.press_engine.proofs.worked.Macros.{call, called, fed_items, first, first_feed, first_items, form_feed, macro_control, macro_id, sequence, with_overlay}
 use Rattle.press_trace.specs.Lines.{line_members}
 use Rattle.press_trace.specs.Places.{Piece, Placed, from_on, machine_after, placed_at, placed_exit, placed_from}
 

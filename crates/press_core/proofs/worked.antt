@@ -1,0 +1,4 @@
+-- Worked rows.
+pub mod Engines
+pub mod History
+pub mod Messages

@@ -1,0 +1,3 @@
+-- Worked rows.
+pub mod Pages
+pub mod Places

@@ -1,0 +1,3 @@
+-- Worked rows.
+pub mod Lines
+pub mod Traces
