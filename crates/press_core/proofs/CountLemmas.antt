@@ -15,13 +15,13 @@ use Rattle.press_core.specs.declared.turn.Turn.{Turn}
 use Rattle.press_core.specs.declared.turn.TurnError.{TurnError}
 use Rattle.press_core.specs.declared.turn.TurnError.TheVariants.{NoEngine}
 use Rattle.press_core.specs.Events.{Event, EventAnswer, Transition, Happens, IsRun, IsExecution, Message, Nothing, Operator, Response, TurnOn, Turned, operated}
-use Rattle.press_core.specs.Listings.{entry_id}
 use Rattle.press_core.specs.Messages.{Heading, Headed, heading_of, message_in}
+use Rattle.press_core.specs.Parameters.{and_then}
 use Rattle.press_core.specs.Response.{Additions, adding}
 use Rattle.press_core.specs.Rows as table
 use Rattle.press_core.specs.Turns.{EntrySteps, TakesTurn, TakesTurnOn, TurnAt, at_turn, completed, is_idle, progress_in_job, steps_of, with_turn}
-use Rattle.press_core.specs.Work.{at_progress, new_work, with_delivered}
-use Rattle.press_core.specs.World.{World, given_up, has_engine, new_world, off_engine, with_new_work, with_work, without_gone}
+use Rattle.press_core.specs.Work.{at_progress, with_delivered}
+use Rattle.press_core.specs.World.{World, given_up, has_engine, new_world, off_engine, with_work, without_gone}
 use Rattle.press_core.proofs.AbortLemmas.{length-aborted_running}
 use Rattle.press_core.proofs.EngineLemmas.{length-left_by, length-none, length-slice_set}
 
@@ -31,24 +31,26 @@ AsMany old new = length new.engines ≡ length old.engines
 
 -- ---- messages
 
-named-many : {A : Type 0} (found : Result A Refused) (world : World) (row : A → table.MessageAnswer) → ((a : A) → AsMany world (row a).1) → AsMany world (table.with_named found world row).1
-named-many (Err refused) world row next = refl
+-- behind what a message is answered
+abbrev AnswersMany : World → table.MessageAnswer → Type 0
+AnswersMany world (Err refused) = Unit {0}
+AnswersMany world (Ok (additions, after)) = AsMany world after
+
+named-many : {A : Type 0} (found : Result A Refused) (world : World) (row : A → table.MessageAnswer) → ((a : A) → AnswersMany world (row a)) → AnswersMany world (and_then row found)
+named-many (Err refused) world row next = tt
 named-many (Ok a) world row next = next a
 
-row-many : {A : Type 0} (answer : rows.QueueAnswer A) (world : World) (row : A → World → table.MessageAnswer)
-    → ((a : A) (after : World) → AsMany world after → AsMany world (row a after).1) → AsMany world (table.after_queue_row answer world row).1
-row-many (queue, Err refusal) world row next = refl
+row-many : {A : Type 0} (answer : rows.QueueAnswer A) (world : World) (row : A × World → table.MessageAnswer)
+    → ((a : A) (after : World) → AsMany world after → AnswersMany world (row (a, after))) → AnswersMany world (and_then row (table.after_queue world answer))
+row-many (queue, Err refusal) world row next = tt
 row-many (queue, Ok a) world row next = next a _ refl
 
 entry-many : (found : Result ℕ Refused) (world : World) (row : ℕ → rows.QueueAnswer (Unit {0})) (follows : ℕ → World → table.MessageAnswer)
-    → ((number : ℕ) (after : World) → AsMany world after → AsMany world (follows number after).1)
-    → AsMany world (table.with_named found world (λ number. table.after_queue_row (row number) world (λ _ after. follows number after))).1
+    → ((number : ℕ) (after : World) → AsMany world after → AnswersMany world (follows number after))
+    → AnswersMany world (and_then (λ number. and_then (λ done. follows number done.1) (table.after_queue world (row number))) found)
 entry-many found world row follows next = named-many found world _ (λ number. row-many (row number) world _ (λ a after many. next number after many))
 
--- what is added to the response of a message that submits, and of one that removes
-abbrev told_entry : ℕ → Additions
-told_entry number = adding (codes "QueueEntryID") (string (entry_id number))
-
+-- what is added to the response of a message that removes
 abbrev told_removed : Additions
 told_removed = adding (codes "Status") (string (codes "Removed"))
 
@@ -57,16 +59,16 @@ abbrev named : Data → World → Result ℕ Refused
 named message world = table.named_entry message world.queue
 
 -- a command to one entry with a number
-number-many : (key : List ℕ) (message : Data) (world : World) (row : ℕ → ℤ → QueueState → rows.QueueAnswer (Unit {0})) → AsMany world (table.entry_number_row key message world row).1
+number-many : (key : List ℕ) (message : Data) (world : World) (row : ℕ → ℤ → QueueState → rows.QueueAnswer (Unit {0})) → AnswersMany world (table.entry_number_row key message world row)
 number-many key message world row =
-    named-many (table.named_entry_with key message world.queue) world (λ both. table.after_queue_row (row both.0 both.1 world.queue) world (λ _ after. table.accepting after))
-    (λ both. row-many (row both.0 both.1 world.queue) world (λ _ after. table.accepting after) (λ a after many. many))
+    named-many (table.named_entry_with key message world.queue) world (λ both. and_then (λ done. table.accepting done.1) (table.after_queue world (row both.0 both.1 world.queue)))
+    (λ both. row-many (row both.0 both.1 world.queue) world (λ done. table.accepting done.1) (λ a after many. many))
 
-answered-many : (message_type : MessageType) (message : Data) (images : List Page) (world : World) → AsMany world (table.response_row message_type message images world).1
+answered-many : (message_type : MessageType) (message : Data) (images : List Page) (world : World) → AnswersMany world (table.response_row message_type message images world)
 answered-many types.SubmitQueueEntry message images world =
     named-many (table.submission message images) world
-    (λ both. table.after_queue_row (rows.submit both.1 world.queue) world (λ number after. table.telling (told_entry number) (with_new_work number (new_work both.0 images) after)))
-    (λ both. row-many (rows.submit both.1 world.queue) world (λ number after. table.telling (told_entry number) (with_new_work number (new_work both.0 images) after)) (λ number after many. many))
+    (λ both. and_then (λ done. table.entered done.0 both.0 images done.1) (table.after_queue world (rows.submit both.1 world.queue)))
+    (λ both. row-many (rows.submit both.1 world.queue) world (λ done. table.entered done.0 both.0 images done.1) (λ number after many. many))
 answered-many types.HoldQueueEntry message images world =
     entry-many (named message world) world (λ number. rows.hold number world.queue) (λ number after. table.accepting after) (λ number after many. many)
 answered-many types.SuspendQueueEntry message images world =
@@ -89,14 +91,14 @@ answered-many types.FlushQueue message images world = refl
 answered-many types.QueueStatus message images world = refl
 answered-many types.Status message images world = refl
 
-responding-world : (heading : Heading) (answer : table.MessageAnswer) → (table.responding heading answer).1 ≡ answer.1
-responding-world heading (Ok addition, world) = refl
-responding-world heading (Err refused, world) = refl
+responding-many : (heading : Heading) (world : World) (answer : table.MessageAnswer) → AnswersMany world answer → AsMany world (table.responding heading world answer).1
+responding-many heading world (Ok (addition, after)) many = many
+responding-many heading world (Err refused) many = refl
 
 headed-many : (message : Data) (found : Headed) (images : List Page) (world : World) → AsMany world (table.responding_to found message images world).1
 headed-many message (Err stopped) images world = refl
 headed-many message (Ok headed) images world =
-    ap (λ (w : World). length w.engines) (responding-world headed.0 (table.response_row headed.1 message images world)) ∙ answered-many headed.1 message images world
+    responding-many headed.0 world (table.response_row headed.1 message images world) (answered-many headed.1 message images world)
 
 in-many : (found : Option Data) (images : List Page) (world : World) → AsMany world (table.responding_in found images world).1
 in-many None images world = refl

@@ -13,7 +13,7 @@ use Rattle.press_core.specs.World.{World}
 -- a message of a type, as it was answered
 pub message_happens : (text : List ℕ) (images : List Page) (world next : World) (message : Data) (heading : Heading) (message_type : MessageType) (result : Result (Vec ℕ Global) AllocError)
     → message_in text ≡ Some message → heading_of message ≡ Ok (heading, message_type)
-    → IfOk result (λ bytes. (bytes.items, next) ≡ responding heading (response_row message_type message images world)) → OnErr result (next ≡ world)
+    → IfOk result (λ bytes. (bytes.items, next) ≡ responding heading world (response_row message_type message images world)) → OnErr result (next ≡ world)
     → OnOk result (IfSome (ticket_of_type message_type message images) (λ ticket. IsPrintable ticket images))
     → Happens world (Message text images) (response_to result) [] next
 message_happens text images world next message heading message_type (Ok bytes) is headed responds same printable = (

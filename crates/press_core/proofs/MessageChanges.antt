@@ -3,7 +3,7 @@ use Rattle.std.proofs.Common.{◌≡◌, ◌++◌, ◌+◌, ℕ, ℤ, nat_eq, na
 use Rattle.std.specs.Prelude.{codes}
 use Rattle.std.specs.Map.{lookup}
 use Rattle.std.specs.Result.{result_ok}
-use Rattle.serde_json.specs.Data.{Data, string}
+use Rattle.serde_json.specs.Data.{Data}
 use Rattle.press_bits.specs.Page.{Page}
 use Rattle.press_queue.specs.Entries.{entry_numbered}
 use Rattle.press_queue.specs.EveryQueue.{IsQueue}
@@ -17,12 +17,11 @@ use Rattle.press_core.specs.declared.flag.FlagCommand.TheVariants as flags
 use Rattle.press_core.specs.declared.message_type.MessageType.{MessageType}
 use Rattle.press_core.specs.declared.message_type.MessageType.TheVariants as types
 use Rattle.press_core.specs.Engines.{RunsOnEngines}
-use Rattle.press_core.specs.Listings.{entry_id}
 use Rattle.press_core.specs.Messages.{Heading, Headed, heading_of, message_in}
-use Rattle.press_core.specs.Response.{adding}
+use Rattle.press_core.specs.Parameters.{and_then}
 use Rattle.press_core.specs.Rows as table
 use Rattle.press_core.specs.Work.{IsPrintable, new_work}
-use Rattle.press_core.specs.World.{World, with_new_work, with_queue}
+use Rattle.press_core.specs.World.{World, with_queue}
 use Rattle.press_core.proofs.ChangeLemmas.{QueueChanges, abort-changes, enters-changes, flush-changes, hold-changes, idle, remove-changes, resume-changes, set_position-changes, set_priority-changes, suspend-changes}
 use Rattle.press_core.proofs.EngineLemmas.{RunsAsBefore, on_engines-kept, on_engines-left}
 use Rattle.press_core.proofs.RunsLemmas.{abort-but, flush-runs, hold-runs, remove-runs, resume-runs, set_position-runs, set_priority-runs, submitted-runs, suspend-but}
@@ -40,21 +39,26 @@ becomes_same submits world whole = record { queue = whole.numbers.queue_is; on_e
 
 -- ---- what follows a refusal
 
-named-becomes : {A : Type 0} (submits : Option (JobTicket × List Page)) (found : Result A Refused) (world : World) (row : A → table.MessageAnswer) → IsWholeWorld world
-    → ((a : A) → found ≡ Ok a → Becomes submits world (row a).1) → Becomes submits world (table.with_named found world row).1
-named-becomes submits (Err refused) world row whole next = becomes_same submits world whole
-named-becomes submits (Ok a) world row whole next = next a refl
+-- so it is of a world behind what a message is answered
+abbrev AnswersBecome : Option (JobTicket × List Page) → World → table.MessageAnswer → Type 0
+AnswersBecome submits world (Err refused) = Unit {0}
+AnswersBecome submits world (Ok (additions, after)) = Becomes submits world after
 
-row-becomes : {A : Type 0} (submits : Option (JobTicket × List Page)) (answer : rows.QueueAnswer A) (world : World) (row : A → World → table.MessageAnswer) → IsWholeWorld world
-    → ((a : A) (queue : QueueState) → answer ≡ (queue, Ok a) → Becomes submits world (row a (with_queue queue world)).1) → Becomes submits world (table.after_queue_row answer world row).1
-row-becomes submits (queue, Err refusal) world row whole next = becomes_same submits world whole
-row-becomes submits (queue, Ok a) world row whole next = next a queue refl
+named-becomes : {A : Type 0} (submits : Option (JobTicket × List Page)) (found : Result A Refused) (world : World) (row : A → table.MessageAnswer)
+    → ((a : A) → found ≡ Ok a → AnswersBecome submits world (row a)) → AnswersBecome submits world (and_then row found)
+named-becomes submits (Err refused) world row next = tt
+named-becomes submits (Ok a) world row next = next a refl
+
+row-becomes : {A : Type 0} (submits : Option (JobTicket × List Page)) (answer : rows.QueueAnswer A) (world : World) (row : A × World → table.MessageAnswer)
+    → ((a : A) (queue : QueueState) → answer ≡ (queue, Ok a) → AnswersBecome submits world (row (a, with_queue queue world))) → AnswersBecome submits world (and_then row (table.after_queue world answer))
+row-becomes submits (queue, Err refusal) world row next = tt
+row-becomes submits (queue, Ok a) world row next = next a queue refl
 
 -- a command that changes the queue alone
 queue-becomes : (submits : Option (JobTicket × List Page)) (answer : rows.QueueAnswer (Unit {0})) (world : World) → IsWholeWorld world → IsQueue answer.0
     → RunsAsBefore world.queue answer.0 → QueueChanges submits world.queue world.works answer.0
-    → Becomes submits world (table.after_queue_row answer world (λ _ after. table.accepting after)).1
-queue-becomes submits (queue, Err refusal) world whole queue_is runs changes = becomes_same submits world whole
+    → AnswersBecome submits world (and_then (λ done. table.accepting done.1) (table.after_queue world answer))
+queue-becomes submits (queue, Err refusal) world whole queue_is runs changes = tt
 queue-becomes submits (queue, Ok a) world whole queue_is runs changes =
     record { queue = queue_is; on_engines = on_engines-kept world.queue queue world.engines runs whole.on_engines; each = changes }
 
@@ -66,12 +70,11 @@ submits_in images ticket = option_map (λ ticket. (ticket, images)) ticket
 
 submit-becomes : EachRowKeepsTheQueue → (images : List Page) (found : Result (JobTicket × ℤ) Refused) (world : World) → IsWholeWorld world
     → IfSome (option_map (λ both. both.0) (result_ok found)) (λ ticket. IsPrintable ticket images)
-    → Becomes (submits_in images (option_map (λ both. both.0) (result_ok found))) world
-    (table.with_named found world (λ both. table.after_queue_row (rows.submit both.1 world.queue) world (λ number after.
-    table.telling (adding (codes "QueueEntryID") (string (entry_id number))) (with_new_work number (new_work both.0 images) after)))).1
-submit-becomes law images (Err refused) world whole printable = becomes_same _ world whole
+    → AnswersBecome (submits_in images (option_map (λ both. both.0) (result_ok found))) world
+    (and_then (λ both. and_then (λ done. table.entered done.0 both.0 images done.1) (table.after_queue world (rows.submit both.1 world.queue))) found)
+submit-becomes law images (Err refused) world whole printable = tt
 submit-becomes law images (Ok both) world whole printable =
-    row-becomes (Some (both.0, images)) (rows.submit both.1 world.queue) world _ whole (λ number queue is.
+    row-becomes (Some (both.0, images)) (rows.submit both.1 world.queue) world _ (λ number queue is.
     let submitted = submitted_is both.1 world.queue queue number (sym is) in
     record {
       queue = subst IsQueue (ap (λ r. r.0) is) (law.submit both.1 world.queue whole.numbers.queue_is);
@@ -101,35 +104,35 @@ flag-becomes law flags.Close world whole =
 
 response_row-becomes : EachRowKeepsTheQueue → (message_type : MessageType) (message : Data) (images : List Page) (world : World) → IsWholeWorld world
     → IfSome (table.ticket_of_type message_type message images) (λ ticket. IsPrintable ticket images)
-    → Becomes (submits_in images (table.ticket_of_type message_type message images)) world (table.response_row message_type message images world).1
+    → AnswersBecome (submits_in images (table.ticket_of_type message_type message images)) world (table.response_row message_type message images world)
 response_row-becomes law types.SubmitQueueEntry message images world whole printable = submit-becomes law images (table.submission message images) world whole printable
 response_row-becomes law types.HoldQueueEntry message images world whole printable =
-    named-becomes None (table.named_entry message world.queue) world _ whole (λ number _.
+    named-becomes None (table.named_entry message world.queue) world _ (λ number _.
     queue-becomes None (rows.hold number world.queue) world whole (law.hold number world.queue whole.numbers.queue_is) (hold-runs number world.queue)
     (hold-changes None world.queue world.works number whole.numbers))
 response_row-becomes law types.ResumeQueueEntry message images world whole printable =
-    named-becomes None (table.named_entry message world.queue) world _ whole (λ number _.
+    named-becomes None (table.named_entry message world.queue) world _ (λ number _.
     queue-becomes None (rows.resume number world.queue) world whole (law.resume number world.queue whole.numbers.queue_is) (resume-runs number world.queue)
     (resume-changes None world.queue world.works number whole.numbers))
 response_row-becomes law types.SuspendQueueEntry message images world whole printable =
-    named-becomes None (table.named_entry message world.queue) world _ whole (λ number _.
-    row-becomes None (rows.suspend number world.queue) world _ whole (λ a queue is.
+    named-becomes None (table.named_entry message world.queue) world _ (λ number _.
+    row-becomes None (rows.suspend number world.queue) world _ (λ a queue is.
     record {
       queue = subst IsQueue (ap (λ r. r.0) is) (law.suspend number world.queue whole.numbers.queue_is);
       on_engines = on_engines-left number world.queue queue world.engines (suspend-but number world.queue queue (sym is)) whole.on_engines;
       each = subst (λ (q : QueueState). QueueChanges None world.queue world.works q) (ap (λ r. r.0) is) (suspend-changes None world.queue world.works number whole.numbers);
     }))
 response_row-becomes law types.AbortQueueEntry message images world whole printable =
-    named-becomes None (table.named_entry message world.queue) world _ whole (λ number _.
-    row-becomes None (rows.abort number world.queue) world _ whole (λ a queue is.
+    named-becomes None (table.named_entry message world.queue) world _ (λ number _.
+    row-becomes None (rows.abort number world.queue) world _ (λ a queue is.
     record {
       queue = subst IsQueue (ap (λ r. r.0) is) (law.abort number world.queue whole.numbers.queue_is);
       on_engines = on_engines-left number world.queue queue world.engines (abort-but number world.queue queue (sym is)) whole.on_engines;
       each = abort-changes None number world.queue queue world.works whole.numbers is;
     }))
 response_row-becomes law types.RemoveQueueEntry message images world whole printable =
-    named-becomes None (table.named_entry message world.queue) world _ whole (λ number _.
-    row-becomes None (rows.remove number world.queue) world _ whole (λ a queue is.
+    named-becomes None (table.named_entry message world.queue) world _ (λ number _.
+    row-becomes None (rows.remove number world.queue) world _ (λ a queue is.
     record {
       queue = subst IsQueue (ap (λ r. r.0) is) (law.remove number world.queue whole.numbers.queue_is);
       on_engines =
@@ -138,11 +141,11 @@ response_row-becomes law types.RemoveQueueEntry message images world whole print
       each = remove-changes None number world.queue queue world.works whole.numbers is;
     }))
 response_row-becomes law types.SetQueueEntryPriority message images world whole printable =
-    named-becomes None (table.named_entry_with (codes "Priority") message world.queue) world _ whole (λ both _.
+    named-becomes None (table.named_entry_with (codes "Priority") message world.queue) world _ (λ both _.
     queue-becomes None (rows.set_priority both.0 both.1 world.queue) world whole (law.set_priority both.0 both.1 world.queue whole.numbers.queue_is)
     (set_priority-runs both.0 both.1 world.queue whole.numbers.queue_is.distinct) (set_priority-changes None world.queue world.works both.0 both.1 whole.numbers))
 response_row-becomes law types.SetQueueEntryPosition message images world whole printable =
-    named-becomes None (table.named_entry_with (codes "Position") message world.queue) world _ whole (λ both _.
+    named-becomes None (table.named_entry_with (codes "Position") message world.queue) world _ (λ both _.
     queue-becomes None (rows.set_position both.0 both.1 world.queue) world whole (law.set_position both.0 both.1 world.queue whole.numbers.queue_is)
     (set_position-runs both.0 both.1 world.queue whole.numbers.queue_is.distinct) (set_position-changes None world.queue world.works both.0 both.1 whole.numbers))
 response_row-becomes law types.HoldQueue message images world whole printable = flag-becomes law flags.Hold world whole
@@ -160,16 +163,17 @@ response_row-becomes law types.Status message images world whole printable = bec
 
 -- ---- the response
 
-responding-world : (heading : Heading) (answer : table.MessageAnswer) → (table.responding heading answer).1 ≡ answer.1
-responding-world heading (Ok addition, world) = refl
-responding-world heading (Err refused, world) = refl
+responding-becomes : (submits : Option (JobTicket × List Page)) (heading : Heading) (world : World) (answer : table.MessageAnswer) → IsWholeWorld world
+    → AnswersBecome submits world answer → Becomes submits world (table.responding heading world answer).1
+responding-becomes submits heading world (Ok (addition, after)) whole becomes = becomes
+responding-becomes submits heading world (Err refused) whole becomes = becomes_same submits world whole
 
 headed-becomes : EachRowKeepsTheQueue → (message : Data) (found : Headed) (images : List Page) (world : World) → IsWholeWorld world
     → IfSome (table.ticket_of_headed found message images) (λ ticket. IsPrintable ticket images)
     → Becomes (submits_in images (table.ticket_of_headed found message images)) world (table.responding_to found message images world).1
 headed-becomes law message (Err stopped) images world whole printable = becomes_same None world whole
 headed-becomes law message (Ok headed) images world whole printable =
-    subst (Becomes (submits_in images (table.ticket_of_type headed.1 message images)) world) (sym (responding-world headed.0 (table.response_row headed.1 message images world)))
+    responding-becomes (submits_in images (table.ticket_of_type headed.1 message images)) headed.0 world (table.response_row headed.1 message images world) whole
     (response_row-becomes law headed.1 message images world whole printable)
 
 in-becomes : EachRowKeepsTheQueue → (found : Option Data) (images : List Page) (world : World) → IsWholeWorld world

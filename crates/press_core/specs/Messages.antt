@@ -1,5 +1,6 @@
 -- What a message says of itself, and which messages there are (CIP4 JDF 1.5, queue commands and queries of JMF; this profile).
-use Rattle.std.specs.Prelude.{ℕ, List, [], ◌∷◌, Option, Some, None, Result, Ok, Err, bytes_eq, codes, option_and_then, unwrap_or}
+use Rattle.std.specs.Prelude.{ℕ, List, [], ◌∷◌, Option, None, Result, ok_or, bytes_eq, codes, option_map, option_and_then, unwrap_or}
+use Rattle.std.specs.Result.{result_map_both}
 use Rattle.std.specs.Map.{lookup}
 use Rattle.serde_json.specs.Data.{Data}
 use Rattle.serde_json.specs.Find.{get, as_str}
@@ -9,7 +10,7 @@ use Rattle.press_core.specs.declared.fault.ParameterFault.TheVariants.{Absent, W
 use Rattle.press_core.specs.declared.fault.Refused.{Refused}
 use Rattle.press_core.specs.declared.message_type.MessageType.{MessageType}
 use Rattle.press_core.specs.declared.message_type.MessageType.TheVariants as types
-use Rattle.press_core.specs.Parameters.{Found, if_object, text_parameter}
+use Rattle.press_core.specs.Parameters.{Found, and_then, if_object, text_parameter}
 
 -- The types of messages, by their names.
 abbrev pub message_types : List (List ℕ × MessageType)
@@ -68,17 +69,15 @@ unknown_type = refused_with unknown_code
 abbrev pub Headed : Type 0
 Headed = Result (Heading × MessageType) (Heading × Refused)
 
-abbrev pub of_type : Heading → Option MessageType → Headed
-of_type heading None = Err (heading, unknown_type)
-of_type heading (Some message_type) = Ok (heading, message_type)
+-- the value of a parameter, or why the message is refused, with as much of the heading as it has
+abbrev pub or_refused_under : {A : Type 0} → Heading → Found A → Result A (Heading × Refused)
+or_refused_under heading found = result_map_both (λ value. value) (λ fault. (heading, for_parameter fault)) found
+
+abbrev pub of_type : Heading → Headed
+of_type heading = ok_or (option_map (λ message_type. (heading, message_type)) (type_named heading.type_name)) (heading, unknown_type)
 
 abbrev pub with_type : (id : List ℕ) → Found (List ℕ) → Headed
-with_type id (Err fault) = Err (headed [] id, for_parameter fault)
-with_type id (Ok name) = of_type (headed name id) (type_named name)
-
-abbrev pub with_id : (type_name : List ℕ) → Found (List ℕ) → Data → Headed
-with_id type_name (Err fault) message = Err (headed type_name [], for_parameter fault)
-with_id type_name (Ok id) message = with_type id (text_parameter (codes "Type") message)
+with_type id name = and_then (λ name. of_type (headed name id)) (or_refused_under (headed [] id) name)
 
 -- the type's name, where it is a text, and none else
 abbrev pub given_type : Data → List ℕ
@@ -86,7 +85,9 @@ given_type message = unwrap_or (option_and_then as_str (get (codes "Type") messa
 
 -- The ID is asked for first, then the type.
 abbrev pub heading_of : Data → Headed
-heading_of message = with_id (given_type message) (text_parameter (codes "ID") message) message
+heading_of message =
+    and_then (λ id. with_type id (text_parameter (codes "Type") message))
+    (or_refused_under (headed (given_type message) []) (text_parameter (codes "ID") message))
 
 -- the object of a text, where it is UTF-8 and JSON that nests at most 127 deep
 abbrev pub message_in : List ℕ → Option Data

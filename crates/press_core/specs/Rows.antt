@@ -24,35 +24,21 @@ use Rattle.press_core.specs.declared.message_type.MessageType.{MessageType}
 use Rattle.press_core.specs.declared.message_type.MessageType.TheVariants as types
 use Rattle.press_core.specs.Listings.{entry_id, number_with_id, listed_queue, listed_device, listed_devices}
 use Rattle.press_core.specs.Messages.{Heading, Headed, heading_of, message_in, no_message, refused_with, for_fault, for_parameter}
-use Rattle.press_core.specs.Parameters.{Found, optional_parameter, both_found, text_parameter, whole_parameter, object_parameter}
+use Rattle.press_core.specs.Parameters.{Found, and_then, optional_parameter, both_found, text_parameter, whole_parameter, object_parameter}
 use Rattle.press_core.specs.Response.{Additions, adding, accepted_text, refused_text, no_heading}
 use Rattle.press_core.specs.Work.{new_work}
 use Rattle.press_core.specs.World.{World, with_queue, with_new_work, without_gone, off_engine, given_up, device, devices}
 
--- What a message is answered, and the world after it: what the response adds, or why nothing was done.
+-- What a message is answered: what the response adds, and the world after it; or why nothing was done.
 abbrev pub MessageAnswer : Type 0
-MessageAnswer = Result Additions Refused × World
+MessageAnswer = Result (Additions × World) Refused
 
--- nothing changes
-abbrev pub refusing : Refused → World → MessageAnswer
-refusing refused world = (Err refused, world)
+abbrev pub telling : Additions → World → MessageAnswer
+telling additions world = Ok (additions, world)
 
 -- the world changes, and the response adds nothing
 abbrev pub accepting : World → MessageAnswer
-accepting world = (Ok [], world)
-
-abbrev pub telling : Additions → World → MessageAnswer
-telling additions world = (Ok additions, world)
-
--- what follows where a message names what it has to
-abbrev pub with_named : {A : Type 0} → Result A Refused → World → (A → MessageAnswer) → MessageAnswer
-with_named (Err refused) world row = refusing refused world
-with_named (Ok value) world row = row value
-
--- what a value leads to, where there is one
-abbrev pub and_then : {A B : Type 0} → (A → Result B Refused) → Result A Refused → Result B Refused
-and_then next (Err refused) = Err refused
-and_then next (Ok value) = next value
+accepting world = telling [] world
 
 -- the value of a parameter, or why the message is refused
 abbrev pub or_refused : {A : Type 0} → Found A → Result A Refused
@@ -62,10 +48,9 @@ or_refused found = result_map_both (λ value. value) for_parameter found
 abbrev pub for_queue : Refusal → Refused
 for_queue refusal = refused_with (return_code_of refusal)
 
--- what follows where the queue carried a command out, with its value
-abbrev pub after_queue_row : {A : Type 0} → rows.QueueAnswer A → World → (A → World → MessageAnswer) → MessageAnswer
-after_queue_row (queue, Err refusal) world row = refusing (for_queue refusal) world
-after_queue_row (queue, Ok value) world row = row value (with_queue queue world)
+-- the value of a command that the queue carried out, and the world with that queue; or its refusal
+abbrev pub after_queue : {A : Type 0} → World → rows.QueueAnswer A → Result (A × World) Refused
+after_queue world answer = result_map_both (λ value. (value, with_queue answer.0 world)) for_queue answer.1
 
 -- the number of the entry that has this ID: 21 where there is none
 abbrev pub entry_number_of : List ℕ → QueueState → Result ℕ Refused
@@ -87,14 +72,14 @@ named_entry_with key message queue =
 -- a command to one entry: the queue's row, and what follows for the world
 abbrev pub entry_row : Data → World → (ℕ → QueueState → rows.QueueAnswer (Unit {0})) → (ℕ → World → MessageAnswer) → MessageAnswer
 entry_row message world row next =
-    with_named (named_entry message world.queue) world (λ number.
-    after_queue_row (row number world.queue) world (λ _ after. next number after))
+    and_then (λ number. and_then (λ done. next number done.1) (after_queue world (row number world.queue)))
+    (named_entry message world.queue)
 
 -- the same with a number beside the entry
 abbrev pub entry_number_row : List ℕ → Data → World → (ℕ → ℤ → QueueState → rows.QueueAnswer (Unit {0})) → MessageAnswer
 entry_number_row key message world row =
-    with_named (named_entry_with key message world.queue) world (λ both.
-    after_queue_row (row both.0 both.1 world.queue) world (λ _ after. accepting after))
+    and_then (λ both. and_then (λ done. accepting done.1) (after_queue world (row both.0 both.1 world.queue)))
+    (named_entry_with key message world.queue)
 
 -- A ticket that can be printed with these images.
 abbrev pub fitting : JobTicket → Option WriterError → Result JobTicket Refused
@@ -102,8 +87,9 @@ fitting ticket None = Ok ticket
 fitting ticket (Some error) = Err (for_fault (writers.fault_number error))
 
 abbrev pub fitting_ticket : List Page → Result JobTicket TicketError → Result JobTicket Refused
-fitting_ticket images (Err error) = Err (for_fault (tickets.fault_number error))
-fitting_ticket images (Ok ticket) = fitting ticket (refusal ticket images)
+fitting_ticket images read =
+    and_then (λ ticket. fitting ticket (refusal ticket images))
+    (result_map_both (λ ticket. ticket) (λ error. for_fault (tickets.fault_number error)) read)
 
 -- the priority of an entry where none is given
 abbrev pub default_priority : ℤ
@@ -121,12 +107,15 @@ submission message images =
     and_then (λ both. and_then (λ ticket. Ok (ticket, both.1)) (fitting_ticket images (ticket_from both.0)))
     (or_refused (submitted_parameters message))
 
+-- an entry that the queue took, with what it is to print
+abbrev pub entered : (number : ℕ) → JobTicket → List Page → World → MessageAnswer
+entered number ticket images world =
+    telling (adding (codes "QueueEntryID") (string (entry_id number))) (with_new_work number (new_work ticket images) world)
+
 abbrev pub submit_row : Data → List Page → World → MessageAnswer
 submit_row message images world =
-    with_named (submission message images) world (λ both.
-    after_queue_row (rows.submit both.1 world.queue) world (λ number after.
-    telling (adding (codes "QueueEntryID") (string (entry_id number)))
-    (with_new_work number (new_work both.0 images) after)))
+    and_then (λ both. and_then (λ done. entered done.0 both.0 images done.1) (after_queue world (rows.submit both.1 world.queue)))
+    (submission message images)
 
 -- a command that sets a flag of the queue
 abbrev pub flagged : FlagCommand → QueueState → QueueState
@@ -162,13 +151,13 @@ response_row types.QueueStatus message images world = telling (adding (codes "Qu
 response_row types.Status message images world = telling (devices_added world) world
 
 -- The response to a message of this heading, and the world after it.
-abbrev pub responding : Heading → MessageAnswer → List ℕ × World
-responding heading (Ok additions, world) = (accepted_text heading additions, world)
-responding heading (Err refused, world) = (refused_text heading refused, world)
+abbrev pub responding : Heading → World → MessageAnswer → List ℕ × World
+responding heading world (Ok (additions, after)) = (accepted_text heading additions, after)
+responding heading world (Err refused) = (refused_text heading refused, world)
 
 abbrev pub responding_to : Headed → Data → List Page → World → List ℕ × World
 responding_to (Err stopped) message images world = (refused_text stopped.0 stopped.1, world)
-responding_to (Ok headed) message images world = responding headed.0 (response_row headed.1 message images world)
+responding_to (Ok headed) message images world = responding headed.0 world (response_row headed.1 message images world)
 
 abbrev pub responding_in : Option Data → List Page → World → List ℕ × World
 responding_in None images world = (refused_text no_heading no_message, world)
@@ -180,8 +169,7 @@ ticket_of_type types.SubmitQueueEntry message images = option_map (λ both. both
 ticket_of_type other message images = None
 
 abbrev pub ticket_of_headed : Headed → Data → List Page → Option JobTicket
-ticket_of_headed (Err stopped) message images = None
-ticket_of_headed (Ok headed) message images = ticket_of_type headed.1 message images
+ticket_of_headed found message images = option_and_then (λ headed. ticket_of_type headed.1 message images) (result_ok found)
 
 abbrev pub ticket_in : (text : List ℕ) → List Page → Option JobTicket
 ticket_in text images = option_and_then (λ message. ticket_of_headed (heading_of message) message images) (message_in text)

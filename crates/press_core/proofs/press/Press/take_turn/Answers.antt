@@ -1,4 +1,4 @@
-use Rattle.std.proofs.Common.{◌∙◌, ℕ, List, [], Some, Ok, Err, ap, subst, sym, refl}
+use Rattle.std.proofs.Common.{ℕ, List, [], Some, Ok, Err, subst, sym, refl}
 use Rattle.press_units.proofs.ExitLemmas.{exit-is}
 use Rattle.press_sink.specs.declared.sheet.Delivery.{Delivery}
 use Rattle.press_core.specs.declared.turn.Turn.{Turn}
