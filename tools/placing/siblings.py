@@ -78,8 +78,8 @@ KINDS = (
          {name: () for name in ("print", "asm", "disasm", "debug", "write", "press", "trace", "page")},
          ("subcommands",), "",
          {"crates/press_main/specs/Program.antt": "what it promises", "crates/press_main/src/sparing.rt": "which inputs its output may not be", "crates/press_main/src/making.rt": "how its output is made",
-          "crates/press_main/specs/Files.antt": "which files it makes", "crates/press_main/specs/View.antt": "its request as contracts see it",
-          "crates/press_main/specs/Faults.antt": "what it tells", "docs/FAULTS.md": "which faults it tells",
+          "crates/press_files/specs/Files.antt": "which files it makes", "crates/press_words/specs/View.antt": "its request as contracts see it",
+          "crates/press_forms/specs/Faults.antt": "what it tells", "docs/FAULTS.md": "which faults it tells",
           "tools/model/program.py": "its words, by somebody who has not read the code"},
          listed=False),
 )

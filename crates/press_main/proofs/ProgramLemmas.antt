@@ -1,28 +1,23 @@
 -- What is done for words, and the inputs of names.
-use Rattle.std.proofs.Common.{Bor, ◌≡◌, ℕ, List, [], ◌∷◌, map, Option, Some, None, ap, refl, inl, inr}
-use Rattle.press_main.specs.Change.{around}
+use Rattle.std.proofs.Common.{Bor, ◌≡◌, ℕ, List, Option, Some, None, refl, inl, inr}
+use Rattle.press_files.specs.Change.{around}
 use Rattle.clap.specs.Words.{Text}
 use Rattle.press_sink.specs.Faults.{sink_number}
 use Rattle.press_sink.specs.declared.fault.SinkError.{SinkError}
 use Rattle.press_sink.specs.declared.fault.SinkError.TheVariants.{SinkFault, NoMemory}
-use Rattle.press_main.specs.declared.inputs.InputError.{InputError}
-use Rattle.press_main.specs.declared.inputs.InputError.TheVariants as input_fault
+use Rattle.press_files.specs.declared.inputs.InputError.{InputError}
+use Rattle.press_files.specs.declared.inputs.InputError.TheVariants as input_fault
 use Rattle.std.specs.Prelude.{Vec}
 use Rattle.std.specs.declared.alloc.Global.{Global}
-use Rattle.press_main.specs.declared.words.Input.TheVariants as sources
-use Rattle.press_main.specs.declared.words.Output.TheVariants as makes
-use Rattle.press_main.specs.declared.words.Request.{Request}
-use Rattle.press_main.specs.Faults.{input_number}
-use Rattle.press_main.specs.View.{made_seen, request_seen, source_seen}
-use Rattle.press_main.specs.Words.{Arguments}
+use Rattle.press_words.specs.declared.words.Input.TheVariants as sources
+use Rattle.press_words.specs.declared.words.Output.TheVariants as makes
+use Rattle.press_words.specs.declared.words.Request.{Request}
+use Rattle.press_files.specs.Faults.{input_number}
+use Rattle.press_words.specs.View.{made_seen, request_seen, source_seen}
+use Rattle.press_words.specs.Words.{Arguments}
 use Rattle.press_sink.specs.Outputs.{MadeOutput}
-use Rattle.press_main.specs.Files.{DoesNothing}
+use Rattle.press_files.specs.Files.{DoesNothing}
 use Rattle.press_main.specs.Program.{BeginsNothing, Does, OpensNothing, PrintsAFile}
-
--- what two functions make, one after the other
-pub map-twice {ℓ} : {A B : Type 0} {C : Type ℓ} (f : A → B) (g : B → C) (all : List A) → map (λ one. g (f one)) all ≡ map g (map f all)
-map-twice f g [] = refl
-map-twice f g (one ∷ all) = ap (λ rest. g (f one) ∷ rest) (map-twice f g all)
 
 abbrev Bytes : Type 0
 Bytes = Option (List ℕ)

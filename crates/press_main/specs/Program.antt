@@ -7,23 +7,26 @@ use Rattle.press_sink.specs.Outputs.{MadeOutput}
 use Rattle.press_sink.specs.declared.fault.SinkError.TheVariants.{SinkFault}
 use Rattle.press_stream.specs.Faults.{read_fault}
 use Rattle.press_trace.specs.Faults.{output_text}
-use Rattle.press_main.specs.Change.{Change, change, Edge, reading_from}
-use Rattle.press_main.specs.Assembly.{AssembledInto, StopsMaking, DisassembledTo, StopsDisassembling}
-use Rattle.press_main.specs.Debugging.{Debugs, StopsDebugging}
-use Rattle.press_main.specs.Defaults.{HoldsBehind, with_prefix}
-use Rattle.press_main.specs.declared.inputs.InputError.{InputError}
-use Rattle.press_main.specs.declared.inputs.InputError.TheVariants.{ReadFault}
-use Rattle.press_main.specs.Faults.{input_text, told_of_debugger, told_of_job, told_of_session, told_of_text}
-use Rattle.press_main.specs.Files.{PrintsFiles, PrintsNoFiles, DoesNothing}
-use Rattle.press_main.specs.Jobs.{MakesTheTicket, StopsMakingJob}
-use Rattle.press_main.specs.Listing.{PrintsListing}
-use Rattle.press_main.specs.NamedInputs.{NamedInput, named}
-use Rattle.press_main.specs.Paging.{Paging}
-use Rattle.press_main.specs.Sessions.{Plays, Stops}
-use Rattle.press_main.specs.Telling.{Ended, Tells, as_line}
-use Rattle.press_main.specs.Traced.{Tracing}
-use Rattle.press_main.specs.View.{AsksHelp}
-use Rattle.press_main.specs.Words.{Source, Standard, FileNamed, Made, Listed, FilesBy, Answered, AsText, DebuggedOf, TracedOf, PageTo, StreamTo, JobTo, Arguments, arguments}
+use Rattle.press_files.specs.Change.{Change, change, Edge, reading_from}
+use Rattle.press_forms.specs.Assembly.{AssembledInto, StopsMaking, DisassembledTo, StopsDisassembling}
+use Rattle.press_sessions.specs.Debugging.{Debugs, StopsDebugging}
+use Rattle.press_words.specs.Defaults.{HoldsBehind, with_prefix}
+use Rattle.press_files.specs.declared.inputs.InputError.{InputError}
+use Rattle.press_files.specs.declared.inputs.InputError.TheVariants.{ReadFault}
+use Rattle.press_files.specs.Faults.{input_text}
+use Rattle.press_forms.specs.Faults.{told_of_text}
+use Rattle.press_jobs.specs.Faults.{told_of_job}
+use Rattle.press_sessions.specs.Faults.{told_of_debugger, told_of_session}
+use Rattle.press_files.specs.Files.{PrintsFiles, PrintsNoFiles, DoesNothing}
+use Rattle.press_jobs.specs.Jobs.{MakesTheTicket, StopsMakingJob}
+use Rattle.press_files.specs.Listing.{PrintsListing}
+use Rattle.press_files.specs.NamedInputs.{NamedInput, named}
+use Rattle.press_forms.specs.Paging.{Paging}
+use Rattle.press_sessions.specs.Sessions.{Plays, Stops}
+use Rattle.press_files.specs.Telling.{Ended, Tells, as_line}
+use Rattle.press_forms.specs.Traced.{Tracing}
+use Rattle.press_words.specs.View.{AsksHelp}
+use Rattle.press_words.specs.Words.{Source, Standard, FileNamed, Made, Listed, FilesBy, Answered, AsText, DebuggedOf, TracedOf, PageTo, StreamTo, JobTo, Arguments, arguments}
 
 -- A text was assembled into an output of this name, or not.
 abbrev pub Assembling : (name : Text) (status : ℕ) (told read : Change (Option (List ℕ))) (made : Change (Option (List MadeOutput))) → Type 0

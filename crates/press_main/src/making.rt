@@ -1,17 +1,17 @@
 //! Outputs that are made of a text, and of a ticket.
 ghost use Rattle.std.specs.Prelude.{map, IfErr, OnOk};
-ghost use Rattle.press_main.specs.Change.{change};
-ghost use Rattle.press_main.specs.Assembly.{AssembledInto, StopsMaking};
-ghost use Rattle.press_main.specs.Jobs.{MakesAJob, MakesNoJob, MakesTheTicket, StopsMakingJob};
-ghost use Rattle.press_main.specs.Faults.{told_of_job, told_of_text};
-ghost use Rattle.press_main.specs.NamedInputs.{named};
-ghost use Rattle.press_main.specs.Telling.{Ended};
+ghost use Rattle.press_files.specs.Change.{change};
+ghost use Rattle.press_forms.specs.Assembly.{AssembledInto, StopsMaking};
+ghost use Rattle.press_jobs.specs.Jobs.{MakesAJob, MakesNoJob, MakesTheTicket, StopsMakingJob};
+ghost use Rattle.press_forms.specs.Faults.{told_of_text};
+ghost use Rattle.press_jobs.specs.Faults.{told_of_job};
+ghost use Rattle.press_files.specs.NamedInputs.{named};
+ghost use Rattle.press_files.specs.Telling.{Ended};
 
-use crate::assembly::{TextError, assembled};
-use crate::jobs::{JobFileError, images_named, ticket_in};
-use crate::named_inputs::NamedInputs;
-use crate::telling::{Teller, report};
 use press_bits::Bitmap;
+use press_files::{NamedInputs, Teller, report};
+use press_forms::{TextError, assembled};
+use press_jobs::{JobFileError, images_named, ticket_in};
 use press_sink::{NamedOutputs, write_output};
 use press_ticket::Ticket;
 use press_writer::{WriterError, check, write_job};

@@ -1,30 +1,24 @@
 //! What the words ask for, done.
 ghost use Rattle.std.specs.Prelude.{◌≡◌, ◌⊎◌, map, IfOk};
-ghost use Rattle.press_main.specs.Change.{around, change};
+ghost use Rattle.press_files.specs.Change.{around, change};
 ghost use Rattle.std.specs.String.{string_bytes};
-ghost use Rattle.press_main.specs.Defaults.{HoldsBehind, with_prefix};
-ghost use Rattle.press_main.specs.Files.{PrintsFiles, PrintsNoFiles};
-ghost use Rattle.press_main.specs.Listing.{PrintsListing};
-ghost use Rattle.press_main.specs.NamedInputs.{named};
-ghost use Rattle.press_main.specs.Paging.{Paging};
+ghost use Rattle.press_words.specs.Defaults.{HoldsBehind, with_prefix};
+ghost use Rattle.press_files.specs.Files.{PrintsFiles, PrintsNoFiles};
+ghost use Rattle.press_files.specs.Listing.{PrintsListing};
+ghost use Rattle.press_files.specs.NamedInputs.{named};
+ghost use Rattle.press_forms.specs.Paging.{Paging};
 ghost use Rattle.press_main.specs.Program.{Debugging, DebugsNothing, Makes, Performs, RefusesBy, Runs, Writing};
-ghost use Rattle.press_main.specs.Traced.{Tracing};
-ghost use Rattle.press_main.specs.View.{made_seen, request_seen, status_of};
+ghost use Rattle.press_forms.specs.Traced.{Tracing};
+ghost use Rattle.press_words.specs.View.{made_seen, request_seen, status_of};
 
-use crate::assembly::disasm_bytes;
-use crate::debugging::debug_lines;
-use crate::files::{Finished, print_files};
-use crate::listing::print_list;
 use crate::making::{asm_file, job_file};
-use crate::named_inputs::NamedInputs;
-use crate::paging::page_file;
-use crate::sessions::press_lines;
 use crate::sparing::spare_inputs;
-use crate::telling::{NO_OUTPUT, Teller, report};
-use crate::traced::tell_trace;
-use crate::words::{Input, Output, REFUSED, Refusal, Request, request_of};
+use press_files::{Finished, NO_OUTPUT, NamedInputs, Teller, print_files, print_list, report};
+use press_forms::{disasm_bytes, page_file, tell_trace};
+use press_sessions::{debug_lines, press_lines};
 use press_sink::NamedOutputs;
 use press_units::NO_MEMORY;
+use press_words::{Input, Output, REFUSED, Refusal, Request, request_of};
 use std::alloc::{AllocError, Global};
 use std::io::{self, Read, Write};
 

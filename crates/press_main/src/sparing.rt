@@ -2,10 +2,10 @@
 ghost use Rattle.std.specs.Prelude.{◌≡◌, IfErr};
 ghost use Rattle.press_sink.specs.declared.fault.SinkError.TheVariants.{NoMemory, SinkFault};
 ghost use Rattle.press_main.specs.Program.{PrintsAFile};
-ghost use Rattle.press_main.specs.View.{request_seen};
+ghost use Rattle.press_words.specs.View.{request_seen};
 
-use crate::words::{Input, Output, Request};
 use press_sink::{NamedOutputs, SinkError};
+use press_words::{Input, Output, Request};
 
 /// Notes the inputs of a request that makes files, so that none of these replaces one of them.
 ///

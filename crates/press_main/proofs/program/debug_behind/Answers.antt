@@ -1,7 +1,7 @@
 use Rattle.std.proofs.Common.{rules, ◌∙◌, List, ℕ, Option, subst, sym}
-use Rattle.press_main.specs.Change.{change}
+use Rattle.press_files.specs.Change.{change}
 use Rattle.press_main.specs.Program.{Debugging}
-use Rattle.press_main.proofs.DefaultsLemmas.{with_prefix-none, with_prefix-some}
+use Rattle.press_words.proofs.DefaultsLemmas.{with_prefix-none, with_prefix-some}
 use Rattle.press_main.proofs.program.debug_behind.Goals as goal
 
 pub returns-then-is_empty : goal.returns-then-is_empty

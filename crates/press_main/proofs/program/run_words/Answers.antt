@@ -1,7 +1,7 @@
 use Rattle.std.proofs.Common.{◌≡◌, ◌∙◌, Bor, List, ℕ, Some, ap, map, refl, sym}
 use Rattle.std.specs.String.{string_bytes}
-use Rattle.press_main.specs.View.{request_seen}
-use Rattle.press_main.specs.Words.{arguments}
+use Rattle.press_words.specs.View.{request_seen}
+use Rattle.press_words.specs.Words.{arguments}
 use Rattle.press_main.proofs.ProgramLemmas.{begins-nothing, runs-nothing, runs-own}
 use Rattle.press_main.proofs.program.run_words.Goals as goal
 

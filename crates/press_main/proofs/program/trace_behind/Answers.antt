@@ -1,7 +1,7 @@
 use Rattle.std.proofs.Common.{◌∙◌, List, ℕ, Option, sym}
-use Rattle.press_main.specs.Change.{change}
-use Rattle.press_main.specs.Traced.{Tracing}
-use Rattle.press_main.proofs.DefaultsLemmas.{holds-behind}
+use Rattle.press_files.specs.Change.{change}
+use Rattle.press_forms.specs.Traced.{Tracing}
+use Rattle.press_words.proofs.DefaultsLemmas.{holds-behind}
 use Rattle.press_main.proofs.program.trace_behind.Goals as goal
 
 pub returns : goal.returns

@@ -1,11 +1,11 @@
 use Rattle.std.proofs.Common.{◌≡◌, ◌∙◌, ℕ, List, Bor, Option, map, ap, refl, subst, inl, arith}
-use Rattle.press_main.specs.Change.{change}
+use Rattle.press_files.specs.Change.{change}
 use Rattle.press_sink.specs.Outputs.{MadeOutput}
 use Rattle.press_ticket.specs.declared.fault.TicketError.TheVariants as ticket_fault
-use Rattle.press_main.specs.NamedInputs.{NamedInput, named}
+use Rattle.press_files.specs.NamedInputs.{NamedInput, named}
 use Rattle.press_main.specs.Program.{Writing}
-use Rattle.press_main.specs.declared.jobs.JobFileError.TheVariants as fault
-use Rattle.press_main.proofs.ProgramLemmas.{map-twice}
+use Rattle.press_jobs.specs.declared.jobs.JobFileError.TheVariants as fault
+use Rattle.press_files.proofs.MapLemmas.{map-twice}
 use Rattle.press_main.proofs.program.write_file.Goals as goal
 
 pub returns-in_default : goal.returns-in_default

@@ -1,0 +1,7 @@
+mod AgainLemmas
+mod EntryLines
+mod FilesLemmas
+pub mod ListingLemmas
+pub mod MapLemmas
+mod NumberingLemmas
+pub mod PrintedLemmas

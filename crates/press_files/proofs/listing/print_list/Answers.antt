@@ -1,0 +1,9 @@
+use Rattle.std.proofs.Common.{◌∙◌, sym}
+use Rattle.press_files.proofs.ListingLemmas.{lists-printed, status-written}
+use Rattle.press_files.proofs.listing.print_list.Goals as goal
+
+pub returns-then-stream-clause-lists : goal.returns-then-stream-clause-lists
+returns-then-stream-clause-lists g c = λ zero.
+    let stream = c.list_stream-stream.result in
+    lists-printed stream.printed stream.written (g.R.Read.remaining c.args.reader.now) _ (g.W.Write.contents c.args.out.now) (g.W.Write.contents c.list_stream-stream.new.out) c.list_stream-stream.ensures
+    (sym (status-written stream.printed stream.written c.told_status-status.result c.if-stream.true c.told_status-status.ensures.status) ∙ zero)

@@ -1,0 +1,14 @@
+use Rattle.std.proofs.Common.{◌≡◌, ◌∙◌, ◌-◌, List, length, slice_get, ap, rules}
+use Rattle.press_sink.specs.declared.sheet.Delivery.{Delivery}
+use Rattle.press_files.specs.declared.listing_sink.ListedSheet.{ListedSheet}
+use Rattle.press_files.specs.Listed.{delivery_of, listed}
+use Rattle.press_files.proofs.AgainLemmas.{told-last}
+use Rattle.press_files.proofs.listing_sink.ListingSinkSheetSink.deliver_again.Goals as goal
+
+pub returns : goal.returns
+returns c =
+    let one : Delivery = record { tag = c.args.tag; sheet = c.args.sheet.now } in
+    let last = c.in-Some.ensures.value ∙ ap (λ (all : List ListedSheet). slice_get all (length all - 1)) c.deref.ensures.value in
+    let same : delivery_of c.again-again.result ≡ one =
+    c.again-again.ensures ∙ told-last delivery_of (listed c.args.self.now) c.in-Some.last.now one _ last c.requires.last.1 in
+    search (rules, same)

@@ -1,0 +1,107 @@
+-- Streams that are printed to files.
+use Rattle.std.specs.Prelude.{◌≡◌, ◌⊎◌, ℕ, zero, suc, List, [], ◌∷◌, ◌++◌, Option, Some, None, refl}
+use Rattle.std.specs.Coded.{Coded, code_by, coded×, coded_ℕ}
+use Rattle.press_cmd.specs.Token.{Token}
+use Rattle.press_cmd.specs.Split.{Closed}
+use Rattle.press_sink.specs.PrintedSheet.{PrintedSheet, printed_sheet_code}
+use Rattle.press_sink.specs.declared.sheet.Delivery.{Delivery}
+use Rattle.press_sink.specs.SinkLog.{SheetLog, ReplyLog, logs, under}
+use Rattle.press_sink.specs.Sending.{sheets_of, sheets_in}
+use Rattle.press_sink.specs.Outputs.{MadeOutput, IsPrefix, with_outputs, sheet_outputs}
+use Rattle.press_sink.specs.Template.{NameParts, IsTemplate, IsNoTemplate, number_after, side_count}
+use Rattle.press_engine.specs.declared.machine.Machine.{Machine}
+use Rattle.press_stream.specs.declared.fault.JobError.{JobError}
+use Rattle.press_stream.specs.Meaning.{meaning_of, with_exit}
+use Rattle.press_stream.specs.Printed.{Printed}
+use Rattle.press_units.specs.Faults.{fault_text}
+use Rattle.press_sink.specs.Faults.{template_number}
+use Rattle.press_sink.specs.declared.fault.TemplateError.TheVariants.{BadTemplate}
+use Rattle.press_files.specs.Change.{Change, change, Edge}
+use Rattle.press_files.specs.Printing.{status_of_fault, TellsFault}
+use Rattle.press_files.specs.Telling.{Tells, as_line}
+
+-- deliveries are stored as the pairs of their tags and sheets
+abbrev pub delivery_code : Coded Delivery
+delivery_code =
+    code_by (ℕ × PrintedSheet) (coded× coded_ℕ printed_sheet_code)
+    (λ delivery. (delivery.tag, delivery.sheet))
+    (λ parts. record { tag = parts.0; sheet = parts.1 })
+    (λ _. refl)
+
+-- what a writer tells as a reply sink: the bytes that it holds, and so many replies that failed
+abbrev pub replies_written : Option (List ℕ) → ℕ → ReplyLog
+replies_written contents faults = record { replied = contents; faults = faults }
+
+-- A stream was printed to a sheet sink under tag 0, and its replies were written: so much of it went out, by the error that
+-- there was or was not, and the status is 0 exactly where there was none. Then the writer took all the replies, and nothing
+-- else. The error is what was told.
+pub record PrintsTo (status : ℕ) (told read : Change (Option (List ℕ))) (sheets : Change SheetLog) (written : Change (Option (List ℕ))) : Type 0 where
+  pub error : Option JobError
+  pub machine : Option Machine
+  pub faults : ℕ
+  pub printed : Printed [] read.before read.after error machine
+      (under 0 (logs sheets.before (replies_written written.before 0)) (logs sheets.after (replies_written written.after faults)))
+  pub answers : status ≡ status_of_fault error
+  pub tells : TellsFault error told.before told.after
+
+-- The outputs of sheets in their order, the first front of which has this number.
+abbrev pub sheets_outputs : NameParts → ℕ → List PrintedSheet → List MadeOutput
+sheets_outputs parts number [] = []
+sheets_outputs parts number (sheet ∷ sheets) = sheet_outputs parts number sheet ++ sheets_outputs parts (number_after (side_count sheet) number) sheets
+
+-- the number of the side behind these sheets, the first front of which has this number
+abbrev pub number_behind : ℕ → List PrintedSheet → ℕ
+number_behind number [] = number
+number_behind number (sheet ∷ sheets) = number_behind (number_after (side_count sheet) number) sheets
+
+-- What stands behind the outputs of sheets that a sink took, by its faults: nothing; or a prefix of the outputs of one sheet more,
+-- whose front has this number.
+abbrev pub ComesBehind : (faults : ℕ) → List MadeOutput → NameParts → ℕ → Type 0
+ComesBehind zero behind parts number = behind ≡ []
+ComesBehind (suc faults) behind parts number = (sheet : PrintedSheet) × IsPrefix behind (sheet_outputs parts number sheet)
+
+-- What was made of the sheets that a sink took, numbered from 1: the outputs of all of them, and nothing else, but for a prefix of
+-- those of the sheet at which it had a fault.
+pub record MakesSheets (parts : NameParts) (sheets : List PrintedSheet) (faults : ℕ) (before after : Option (List MadeOutput)) : Type 0 where
+  pub behind : List MadeOutput
+  pub comes : ComesBehind faults behind parts (number_behind 1 sheets)
+  pub made : after ≡ with_outputs (sheets_outputs parts 1 sheets ++ behind) before
+
+-- what a sink of files tells that took these sheets
+abbrev pub files_told : List Delivery → ℕ → SheetLog
+files_told deliveries faults = record { delivered = Some deliveries; faults = faults }
+
+-- A stream was printed to files by a template of these parts: what went out of it is what the sink took, and that was made.
+pub record PrintsBy (parts : NameParts) (status : ℕ) (edge : Edge) : Type 0 where
+  pub deliveries : List Delivery
+  pub faults : ℕ
+  pub prints : PrintsTo status edge.told edge.read (change (files_told [] 0) (files_told deliveries faults)) edge.written
+  pub makes : ∥ MakesSheets parts (sheets_in deliveries) faults edge.made.before edge.made.after ∥₁
+
+-- The same by a text, which is a template.
+pub record PrintsFiles (template : List ℕ) (status : ℕ) (edge : Edge) : Type 0 where
+  pub parts : NameParts
+  pub is_template : IsTemplate template parts
+  pub by_parts : PrintsBy parts status edge
+
+-- The files of a stream of these bytes were made by a template, and nothing else: the sides of the sheets that its meaning delivers,
+-- in order, each under the name with its number, and each the P4 file of its page.
+pub record MakesFiles (template : List ℕ) (bytes : List ℕ) (before after : Option (List MadeOutput)) : Type 0 where
+  pub parts : NameParts
+  pub is_template : IsTemplate template parts
+  pub commands : List Token
+  pub closed : Closed bytes commands
+  pub made : after ≡ with_outputs (sheets_outputs parts 1 (sheets_of (meaning_of (with_exit commands)).outputs)) before
+
+-- Nothing was read, nothing was written or made, the status is 1, and this fault was told, or that memory ran out.
+pub record DoesNothing (number : Option ℕ) (status : ℕ) (edge : Edge) : Type 0 where
+  pub answers : status ≡ 1
+  pub told : Tells edge.told.before edge.told.after (as_line (Some (fault_text number)))
+  pub unread : edge.read.after ≡ edge.read.before
+  pub unwritten : edge.written.after ≡ edge.written.before
+  pub unmade : edge.made.after ≡ edge.made.before
+
+-- Nothing was begun of a text: it is no template, or memory ran out.
+abbrev pub PrintsNoFiles : (template : List ℕ) (status : ℕ) (edge : Edge) → Type 0
+PrintsNoFiles template status edge =
+    (IsNoTemplate template × DoesNothing (template_number BadTemplate) status edge) ⊎ DoesNothing None status edge

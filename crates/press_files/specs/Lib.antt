@@ -1,0 +1,14 @@
+pub mod Change
+pub mod EntryListing
+pub mod EntrySheets
+pub mod Faults
+pub mod Files
+pub mod Folders
+pub mod Inputs
+pub mod Listed
+pub mod Listing
+pub mod Measured
+pub mod NamedInputs
+pub mod Numbering
+pub mod Printing
+pub mod Telling

@@ -1,0 +1,83 @@
+-- The listing of sheets.
+use Rattle.std.specs.Prelude.{◌≡◌, ℕ, ◌+◌, Bool, true, false, List, [], ◌∷◌, ◌++◌, Option, Some, None, Result, codes}
+use Rattle.std.specs.Fmt.{decimal}
+use Rattle.std.specs.Io.KnownBytes.{Appends}
+use Rattle.press_bits.specs.Page.{Page}
+use Rattle.press_cmd.specs.Token.{Token}
+use Rattle.press_cmd.specs.Split.{Closed}
+use Rattle.press_sink.specs.PrintedSheet.{PrintedSheet}
+use Rattle.press_sink.specs.declared.sheet.Delivery.{Delivery}
+use Rattle.press_sink.specs.SinkLog.{SinkLog, logs, under}
+use Rattle.press_sink.specs.Sending.{Output, sheets_of, sheets_in, reply_bytes_of}
+use Rattle.press_stream.specs.declared.fault.JobError.{JobError}
+use Rattle.press_stream.specs.State.{JobState}
+use Rattle.press_stream.specs.Answers.{fault_of}
+use Rattle.press_stream.specs.Meaning.{meaning_of, with_exit}
+use Rattle.press_stream.specs.Printed.{Printed}
+use Rattle.press_trace.specs.Faults.{output_text}
+use Rattle.press_files.specs.Change.{Change}
+use Rattle.press_files.specs.Printing.{machine_of, status_of_fault, TellsFault}
+use Rattle.press_files.specs.Telling.{Tells, as_line}
+use Rattle.press_files.specs.declared.measures.Measures.{Measures}
+use Rattle.press_files.specs.Measured.{measures_of}
+
+-- The line of a side: the number of its sheet, which side it is, width and height in dots, and how many dots are black.
+unfoldable pub measured_line : ℕ → List ℕ → Measures → List ℕ
+measured_line number side measures =
+    codes "sheet " ++ (decimal number ++ (codes " " ++ (side ++ (codes " " ++ (decimal measures.width ++ (codes "x" ++ (decimal measures.height
+    ++ (codes " black " ++ (decimal measures.black ++ 10 ∷ [])))))))))
+
+abbrev pub side_line : ℕ → List ℕ → Page → List ℕ
+side_line number side page = measured_line number side (measures_of page)
+
+-- the line of a back, if there is one
+abbrev pub back_line : ℕ → Option Page → List ℕ
+back_line number None = []
+back_line number (Some back) = side_line number (codes "back") back
+
+-- the lines of a sheet: its front, and its back where it has one
+abbrev pub sheet_lines : ℕ → PrintedSheet → List ℕ
+sheet_lines number sheet = side_line number (codes "front") sheet.front ++ back_line number sheet.back
+
+-- the lines of sheets in their order, the first of which has this number
+abbrev pub lines_from : ℕ → List PrintedSheet → List ℕ
+lines_from number [] = []
+lines_from number (sheet ∷ sheets) = sheet_lines number sheet ++ lines_from (number + 1) sheets
+
+-- The listing of outputs: the lines of their sheets, numbered from 1, and then the bytes of their replies.
+abbrev pub listing_of : List Output → List ℕ
+listing_of outputs = lines_from 1 (sheets_of outputs) ++ reply_bytes_of outputs
+
+-- Where a writer's bytes are known: it wrote the listing of the meaning of a stream of these bytes, and nothing else.
+abbrev pub Lists : List ℕ → Option (List ℕ) → Option (List ℕ) → Type 0
+Lists bytes old new = (commands : List Token) × Closed bytes commands × Appends old new (listing_of (meaning_of (with_exit commands)).outputs)
+
+-- what the sinks of a listing tell that took these sheets and replies
+abbrev pub took : List Delivery → List ℕ → SinkLog
+took deliveries replies = logs (record { delivered = Some deliveries; faults = 0 }) (record { replied = Some replies; faults = 0 })
+
+-- A stream was printed, and unless its listing cannot be written, what went out of it, by the fault that it had or had not, is
+-- listed, and nothing else is written.
+pub record ListsPrinted (printed : Result JobState JobError) (written : Bool) (had left old new : Option (List ℕ)) : Type 0 where
+  pub deliveries : List Delivery
+  pub replies : List ℕ
+  pub prints : Printed [] had left (fault_of printed) (machine_of printed) (under 0 (took [] []) (took deliveries replies))
+  pub lists : written ≡ true → Appends old new (lines_from 1 (sheets_in deliveries) ++ replies)
+
+-- the status after a stream and its listing
+abbrev pub status_of_listing : Option JobError → (written : Bool) → ℕ
+status_of_listing error true = status_of_fault error
+status_of_listing error false = 1
+
+-- What was told after a stream and its listing: the fault of the stream, if it had one, and then that the listing cannot be written.
+abbrev pub TellsListing : Option JobError → (written : Bool) → (said says : Option (List ℕ)) → Type 0
+TellsListing error true said says = TellsFault error said says
+TellsListing error false said says = (between : Option (List ℕ)) × TellsFault error said between × Tells between says (as_line (Some output_text))
+
+-- The same, with its status: 0 exactly where the stream had no fault and its listing was written; and what was told.
+pub record PrintsListing (status : ℕ) (told read output : Change (Option (List ℕ))) : Type 0 where
+  pub printed : Result JobState JobError
+  pub written : Bool
+  pub stream : ListsPrinted printed written read.before read.after output.before output.after
+  pub answers : status ≡ status_of_listing (fault_of printed) written
+  pub tells : TellsListing (fault_of printed) written told.before told.after

@@ -1,0 +1,104 @@
+//! Streams that are printed to files.
+ghost use Rattle.std.specs.Prelude.{◌≡◌, ◌≤◌, ◌<◌, ◌⊎◌, IfSome};
+ghost use Rattle.press_files.specs.Change.{around, change};
+ghost use Rattle.press_sink.specs.Kept.{name_parts, next_number, file_faults, outputs_of};
+ghost use Rattle.press_sink.specs.SinkLog.{most_faults};
+ghost use Rattle.press_sink.specs.Template.{IsNoTemplate};
+ghost use Rattle.press_files.specs.Files.{MakesFiles, PrintsBy, PrintsFiles, PrintsNoFiles, PrintsTo};
+
+use crate::stream::{print_stream, told_status};
+use crate::telling::{Teller, report};
+use crate::told_folder::{Folder, ToldFolder};
+use press_sink::{FolderSink, NamedOutputs, SheetSink, WriteReplies};
+use std::alloc::Global;
+use std::io::{Read, Write};
+use std::marker::Brand;
+
+/// How what was asked for ended: the status, and the writer of its answers and the outputs that it made, which are handed back.
+#[derive(Drop)]
+pub struct Finished<W, O> {
+    pub status: u8,
+    pub out: W,
+    pub outputs: O,
+}
+
+/// Prints the stream that a reader has to files: a P4 file for each side, whose name is the template with the number of the
+/// side, from 1 on, in place of `%d`. Replies go to `out`, each when it is asked for, and a fault stands on `err`. A text that
+/// is no template (121) is told before the stream is read. The status is 0, or 1 after a fault.
+pub fn print_files<O: NamedOutputs + Drop, R: Read, W: Write + Drop, E: Teller>(
+    alloc: Global,
+    outputs: O,
+    reader: &mut R,
+    template: &str,
+    out: W,
+    err: &mut E,
+) -> Finished<W, O>
+    ensures status { result.status ≤ 1 }
+    ensures fault { IsNoTemplate template.now → result.status ≡ 1 }
+    ensures unread { IsNoTemplate template.now → R.remaining reader.new ≡ R.remaining reader.old }
+    ensures files { result.status ≡ 0 → IfSome (R.remaining reader.old) (λ bytes.
+        MakesFiles template.now bytes (O.made outputs) (O.made result.outputs)) }
+    ensures prints { PrintsFiles template.now result.status
+        (around (E.said err.old) (E.said err.new) (R.remaining reader.old) (R.remaining reader.new)
+        (W.contents out) (W.contents result.out) (O.made outputs) (O.made result.outputs))
+        ⊎ PrintsNoFiles template.now result.status
+        (around (E.said err.old) (E.said err.new) (R.remaining reader.old)
+        (R.remaining reader.new) (W.contents out) (W.contents result.out) (O.made outputs)
+        (O.made result.outputs)) }
+{
+    match FolderSink::open(alloc, outputs, template) {
+        Ok(sink) => print_by::<O, R, W, E, Brand>(alloc, sink, reader, out, err),
+        Err(unopened) => Finished {
+            status: report(&unopened.error, err),
+            out,
+            outputs: unopened.outputs,
+        },
+    }
+}
+
+/// Prints the stream that a reader has by a folder sink. The call's proof says which folder it is.
+fn print_by<O: NamedOutputs + Drop, R: Read, W: Write + Drop, E: Teller, D: Folder>(
+    alloc: Global,
+    sink: FolderSink<O>,
+    reader: &mut R,
+    out: W,
+    err: &mut E,
+) -> Finished<W, O>
+    requires names { name_parts sink ≡ D.parts }
+    requires begun { O.made (outputs_of sink) ≡ D.begun }
+    requires first { next_number sink ≡ 1 }
+    requires faults { file_faults sink ≡ 0 }
+    ensures { PrintsBy D.parts result.status
+        (around (E.said err.old) (E.said err.new) (R.remaining reader.old) (R.remaining reader.new)
+        (W.contents out) (W.contents result.out) D.begun (O.made result.outputs)) }
+{
+    let mut sheets: ToldFolder<O, D> = ToldFolder::new(sink);
+    let (status, out) = print_to(alloc, reader, &mut sheets, out, err);
+    Finished {
+        status,
+        out,
+        outputs: sheets.into_outputs(),
+    }
+}
+
+/// Prints the stream that a reader has to a sheet sink, and writes each reply when it is asked for. A fault stands on `err`. The
+/// answer has the status, and the writer of the replies.
+fn print_to<R: Read, S: SheetSink, W: Write + Drop, E: Teller>(
+    alloc: Global,
+    reader: &mut R,
+    sheets: &mut S,
+    out: W,
+    err: &mut E,
+) -> (u8, W)
+    requires { (S.told sheets.old).faults < most_faults }
+    ensures { PrintsTo result.0
+        (change (E.said err.old) (E.said err.new))
+        (change (R.remaining reader.old) (R.remaining reader.new))
+        (change (S.told sheets.old) (S.told sheets.new))
+        (change (W.contents out) (W.contents result.1)) }
+{
+    let mut replies = WriteReplies::new(out);
+    let printed = print_stream(alloc, reader, 0, sheets, &mut replies);
+    let status = told_status(&printed, err);
+    (status, replies.into_inner())
+}

@@ -1,0 +1,23 @@
+//! What the program reads and writes: inputs by their names, faults that are told in a line, and the files and the listing of a
+//! stream.
+#![tactic(auto)]
+
+mod entry_sheets;
+mod files;
+mod inputs;
+mod listing;
+mod listing_sink;
+mod measures;
+mod named_inputs;
+mod stream;
+mod taken;
+mod telling;
+mod told_folder;
+
+pub use entry_sheets::EntrySheets;
+pub use files::{Finished, print_files};
+pub use inputs::{InputError, read_all};
+pub use listing::{list_delivered, print_list};
+pub use named_inputs::{NamedFile, NamedFiles, NamedInputs, open_named};
+pub use stream::print_stream;
+pub use telling::{NO_OUTPUT, Teller, report, write_flushed};

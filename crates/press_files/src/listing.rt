@@ -1,0 +1,171 @@
+//! The listings of streams and of presses.
+ghost use Rattle.std.specs.Prelude.{◌≡◌, ◌≤◌, ◌++◌, IfSome, OnOk};
+ghost use Rattle.press_files.specs.Change.{change};
+ghost use Rattle.std.specs.Io.KnownBytes.{Appends};
+ghost use Rattle.press_files.specs.Listing.{measured_line, sheet_lines, lines_from, Lists, ListsPrinted, PrintsListing};
+ghost use Rattle.press_files.specs.Listed.{deliveries_of};
+ghost use Rattle.press_files.specs.EntryListing.{entry_mark, entry_measured_line, entry_sheet_lines, entry_lines, entry_listing};
+ghost use Rattle.press_files.specs.EntrySheets.{kept, entry_deliveries_of};
+ghost use Rattle.press_sink.specs.Sending.{sheets_in};
+
+use crate::entry_sheets::{EntrySheet, EntrySheets};
+use crate::listing_sink::{ListedSheet, ListingSink};
+use crate::measures::Measures;
+use crate::stream::{print_stream, told_status};
+use crate::telling::{NO_OUTPUT, Teller, report};
+use press_sink::ListReplies;
+use press_stream::{Job, JobError};
+use std::alloc::Global;
+use std::io::{self, Read, Write};
+
+/// Prints the stream that a reader has, and lists its sheets: a line for each side, `sheet 1 front 2550x3300 black 6` (the
+/// number of the sheet from 1, `front` or `back`, width and height in dots, and how many dots are black), and then the
+/// replies. After a fault the sheets before it are listed, and the fault stands on `err`. The answer is the status: 0, or 1
+/// after a fault.
+pub fn print_list<R: Read, W: Write, E: Teller>(
+    alloc: Global,
+    reader: &mut R,
+    out: &mut W,
+    err: &mut E,
+) -> u8
+    ensures status { result ≤ 1 }
+    ensures lists { result ≡ 0 → IfSome (R.remaining reader.old) (λ bytes.
+        Lists bytes (W.contents out.old) (W.contents out.new)) }
+    ensures printed { PrintsListing result
+        (change (E.said err.old) (E.said err.new))
+        (change (R.remaining reader.old) (R.remaining reader.new))
+        (change (W.contents out.old) (W.contents out.new)) }
+{
+    let stream = list_stream(alloc, reader, out);
+    let status = told_status(&stream.printed, err);
+    if stream.written {
+        status
+    } else {
+        report(&NO_OUTPUT, err)
+    }
+}
+
+/// A stream that was printed and listed: how it ended, and whether its listing was written.
+#[derive(Drop)]
+struct ListedStream {
+    printed: Result<Job, JobError>,
+    written: bool,
+}
+
+/// Prints the stream that a reader has, and lists what went out of it, whatever fault it had.
+fn list_stream<R: Read, W: Write>(alloc: Global, reader: &mut R, out: &mut W) -> ListedStream
+    ensures { ListsPrinted result.printed result.written (R.remaining reader.old)
+        (R.remaining reader.new) (W.contents out.old) (W.contents out.new) }
+{
+    let mut sheets = ListingSink::new(alloc);
+    let mut replies = ListReplies::new(alloc);
+    let printed = print_stream(alloc, reader, 0, &mut sheets, &mut replies);
+    let written = list(out, sheets.sheets(), replies.bytes()).is_ok();
+    ListedStream { printed, written }
+}
+
+/// Lists the sides of the sheets, and then the replies.
+fn list<W: Write>(out: &mut W, sheets: &[ListedSheet], replies: &[u8]) -> io::Result<()>
+    ensures { OnOk result (Appends (W.contents out.old) (W.contents out.new)
+        (lines_from 1 (sheets_in (deliveries_of sheets.now)) ++ replies.now)) }
+{
+    list_sheets(out, sheets)?;
+    out.write_all(replies)?;
+    out.flush()
+}
+
+/// Lists the sides of the sheets, which are numbered from 1.
+fn list_sheets<W: Write>(out: &mut W, sheets: &[ListedSheet]) -> io::Result<()>
+    ensures { OnOk result (Appends (W.contents out.old) (W.contents out.new)
+        (lines_from 1 (sheets_in (deliveries_of sheets.now)))) }
+{
+    for (index, sheet) in sheets.iter().enumerate() {
+        list_sheet(out, index + 1, sheet)?;
+    }
+    Ok(())
+}
+
+/// Lists the sides of one sheet.
+fn list_sheet<W: Write>(out: &mut W, number: usize, sheet: &ListedSheet) -> io::Result<()>
+    ensures { OnOk result (Appends (W.contents out.old) (W.contents out.new)
+        (sheet_lines number sheet.now.sheet.value)) }
+{
+    list_side(out, number, "front", &sheet.front)?;
+    match &sheet.back {
+        Some(back) => list_side(out, number, "back", back),
+        None => Ok(()),
+    }
+}
+
+/// Writes the line of one side.
+#[tactic(auto, unfolding(crate::specs::Listing::measured_line))]
+fn list_side<W: Write>(
+    out: &mut W,
+    number: usize,
+    side: &str,
+    measures: &Measures,
+) -> io::Result<()>
+    ensures { OnOk result (Appends (W.contents out.old) (W.contents out.new)
+        (measured_line number side.now measures.now)) }
+{
+    let width = measures.width;
+    let height = measures.height;
+    let black = measures.black;
+    writeln!(out, "sheet {number} {side} {width}x{height} black {black}")
+}
+
+/// Lists the sides of the sheets that a press delivered, in the order of delivery: each line as `print --list` has it, behind the
+/// ID of the entry, and with the number of the sheet among those of the entry.
+pub fn list_delivered<W: Write>(out: &mut W, sheets: &EntrySheets) -> io::Result<()>
+    ensures { OnOk result (Appends (W.contents out.old) (W.contents out.new)
+        (entry_listing (entry_deliveries_of (kept sheets.now)))) }
+{
+    list_entries(out, sheets.sheets())
+}
+
+/// Lists the sides of sheets of entries.
+fn list_entries<W: Write>(out: &mut W, sheets: &[EntrySheet]) -> io::Result<()>
+    ensures { OnOk result (Appends (W.contents out.old) (W.contents out.new)
+        (entry_lines sheets.now)) }
+{
+    for sheet in sheets {
+        list_entry_sheet(out, sheet)?;
+    }
+    out.flush()
+}
+
+/// Lists the sides of one sheet of an entry.
+fn list_entry_sheet<W: Write>(out: &mut W, sheet: &EntrySheet) -> io::Result<()>
+    ensures { OnOk result (Appends (W.contents out.old) (W.contents out.new)
+        (entry_sheet_lines sheet.now.sheet.tag sheet.now.number sheet.now.sheet.sheet.value)) }
+{
+    let entry = sheet.sheet.tag;
+    list_entry_side(out, entry, sheet.number, "front", &sheet.sheet.front)?;
+    match &sheet.sheet.back {
+        Some(back) => list_entry_side(out, entry, sheet.number, "back", back),
+        None => Ok(()),
+    }
+}
+
+/// Writes the line of one side of a sheet of an entry.
+fn list_entry_side<W: Write>(
+    out: &mut W,
+    entry: u64,
+    number: usize,
+    side: &str,
+    measures: &Measures,
+) -> io::Result<()>
+    ensures { OnOk result (Appends (W.contents out.old) (W.contents out.new)
+        (entry_measured_line entry number side.now measures.now)) }
+{
+    write_entry(out, entry)?;
+    list_side(out, number, side, measures)
+}
+
+/// Writes the ID of an entry, and a space.
+fn write_entry<W: Write>(out: &mut W, entry: u64) -> io::Result<()>
+    ensures { OnOk result (Appends (W.contents out.old) (W.contents out.new)
+        (entry_mark entry)) }
+{
+    write!(out, "Q{entry} ")
+}

@@ -1,0 +1,96 @@
+//! Inputs that are opened by their names.
+ghost use Rattle.std.specs.Prelude.{◌≡◌, ℕ, List, Option, IfOk, IfErr};
+ghost use Rattle.std.specs.Str.{IsUtf8};
+ghost use Rattle.press_files.specs.declared.inputs.InputError.TheVariants.{ReadFault};
+
+use crate::inputs::InputError;
+use press_stream::PIECE;
+use std::alloc::Global;
+use std::fs::{self, Files, OpenFile};
+use std::io::{self, BufReader, Read};
+use std::str;
+
+/// Where inputs are opened by their names.
+pub trait NamedInputs {
+    ghost use Rattle.press_files.specs.declared.inputs.InputError.TheVariants.{ReadFault};
+
+    /// What the input of this name has, where that is known.
+    ghost bytes: { Self → List ℕ → Option (List ℕ) };
+
+    /// That the input of this name may be one that cannot be opened.
+    ghost missing: { Self → List ℕ → Type 0 };
+
+    type Input: Read + Drop;
+
+    /// Opens the input of this name.
+    ///
+    /// # Errors
+    ///
+    /// `ReadFault` (304) where it cannot be opened; `NoMemory`.
+    fn open(&self, name: &str) -> Result<Self::Input, InputError>
+        ensures bytes { IfOk result (λ input.
+            Self.Input.remaining input ≡ bytes self.now name.now) }
+        ensures missing { IfErr result (λ error. error ≡ ReadFault → missing self.now name.now) };
+}
+
+/// The files of a file system. What a file has is not known.
+#[derive(Drop)]
+pub struct NamedFiles<'a, F> {
+    pub alloc: Global,
+    pub files: &'a F,
+}
+
+/// A file of these, of which a piece is read at once. From a pipe or a device no more is read than is asked for, since what stands behind an
+/// image there may be that of another reader. What it has is not known.
+#[derive(Drop)]
+pub struct NamedFile<T> {
+    file: BufReader<T>,
+}
+
+impl<T: Read> Read for NamedFile<T> {
+    fn read(&mut self, buf: &mut [u8]) -> io::Result<usize> {
+        self.file.read(buf)
+    }
+}
+
+impl<F: Files> NamedInputs for NamedFiles<'_, F> {
+    ghost use Rattle.std.specs.Prelude.{None, ⊤};
+
+    ghost bytes = { λ _ _. None };
+
+    ghost missing = { λ _ _. ⊤ };
+
+    type Input = NamedFile<F::File>;
+
+    fn open(&self, name: &str) -> Result<NamedFile<F::File>, InputError> {
+        let Ok(file) = fs::open(self.files, name) else {
+            return Err(InputError::ReadFault);
+        };
+        let ahead = if is_regular(&file) { PIECE } else { 0 };
+        match BufReader::with_capacity(self.alloc, ahead, file) {
+            Ok(file) => Ok(NamedFile { file }),
+            Err(_) => Err(InputError::NoMemory),
+        }
+    }
+}
+
+/// Whether what is open is a file, and no pipe or device.
+fn is_regular<T: OpenFile>(file: &T) -> bool {
+    file.metadata().is_ok_and(|found| found.is_file())
+}
+
+/// Opens the input whose name is this word. A word that is no text names none.
+///
+/// # Errors
+///
+/// `ReadFault` (304) where it cannot be opened; `NoMemory`.
+pub fn open_named<I: NamedInputs>(inputs: &I, word: &[u8]) -> Result<I::Input, InputError>
+    ensures bytes { IfOk result (λ input. I.Input.remaining input ≡ I.bytes inputs.now word.now) }
+    ensures missing { IfErr result (λ error.
+        error ≡ ReadFault → IsUtf8 word.now → I.missing inputs.now word.now) }
+{
+    match str::from_utf8(word) {
+        Ok(name) => inputs.open(name),
+        Err(_) => Err(InputError::ReadFault),
+    }
+}

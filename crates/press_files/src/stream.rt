@@ -1,0 +1,48 @@
+//! Streams that are printed from a reader to two sinks.
+ghost use Rattle.std.specs.Prelude.{◌≡◌, []};
+ghost use Rattle.press_sink.specs.SinkLog.{logs, HasFaultRoom, under};
+ghost use Rattle.press_stream.specs.Answers.{fault_of};
+ghost use Rattle.press_stream.specs.Printed.{Printed};
+ghost use Rattle.press_files.specs.Printing.{machine_of, status_of_fault, TellsFault};
+
+use crate::telling::{Teller, report};
+use press_sink::{ReplySink, SheetSink};
+use press_stream::{Job, JobError};
+use std::alloc::Global;
+use std::io::Read;
+
+/// Prints the stream that a reader has, from power on: its sheets are delivered under the tag, and the job is handed back.
+///
+/// # Errors
+///
+/// `ReadFault` (304): a read failed; the commands that were whole by then were carried out. `SinkFault` (301) and
+/// `ReplyFault` (302): a sink had a fault, and nothing came after it.
+pub fn print_stream<R: Read, S: SheetSink, P: ReplySink>(
+    alloc: Global,
+    reader: &mut R,
+    tag: u64,
+    sheets: &mut S,
+    replies: &mut P,
+) -> Result<Job, JobError>
+    requires { HasFaultRoom (logs (S.told sheets.old) (P.told replies.old)) }
+    ensures { Printed [] (R.remaining reader.old) (R.remaining reader.new) (fault_of result)
+        (machine_of result)
+        (under tag (logs (S.told sheets.old) (P.told replies.old))
+        (logs (S.told sheets.new) (P.told replies.new))) }
+{
+    press_stream::laws::chain();
+    let mut job = Job::open(alloc)?;
+    job.run(reader, tag, sheets, replies)?;
+    Ok(job)
+}
+
+/// Tells the fault that printing a stream had, if it had one. The answer is the status: 0, or 1 after a fault.
+pub fn told_status<E: Teller>(printed: &Result<Job, JobError>, err: &mut E) -> u8
+    ensures status { result ≡ status_of_fault (fault_of printed.now) }
+    ensures told { TellsFault (fault_of printed.now) (E.said err.old) (E.said err.new) }
+{
+    match printed {
+        Ok(_) => 0,
+        Err(fault) => report(fault, err),
+    }
+}

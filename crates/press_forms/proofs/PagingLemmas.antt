@@ -1,0 +1,88 @@
+-- A stream behind so many of its steps.
+use Rattle.std.proofs.Common.{◌≡◌, ◌∙◌, ◌≤◌, ◌+◌, ℕ, List, [], ◌∷◌, ◌++◌, length, length-append, take, Option, Some, Result, Err, IfErr, IfSome, IsErrAnd, refl, sym, ap, subst, arith}
+use Rattle.press_files.specs.Change.{change}
+use Rattle.std.proofs.lemmas.Result.{err_from_is_err_and}
+use Rattle.std.proofs.lemmas.List.{take_all}
+use Rattle.std.proofs.Math.Seq.{take-append_seam}
+use Rattle.press_pbm.specs.Spelling.{file_of}
+use Rattle.press_sink.specs.Outputs.{MadeOutput, holding, with_outputs}
+use Rattle.press_engine.specs.declared.machine.Machine.{Machine}
+use Rattle.press_engine.specs.Closing.{page_now}
+use Rattle.press_engine.specs.Machine.{StepResult, power_on}
+use Rattle.press_engine.specs.Trace.{last_machine}
+use Rattle.press_stream.specs.State.{IsOver}
+use Rattle.press_debug.specs.Places.{StandsBehind, PlacesGoOn}
+use Rattle.press_debug.specs.Steps.{DebuggerState, Advances, at_start}
+use Rattle.press_debug.proofs.Taking.{at_machine}
+use Rattle.press_files.specs.Inputs.{ReadWhole}
+use Rattle.press_forms.specs.declared.paging.PagingError.{PagingError}
+use Rattle.press_forms.specs.declared.paging.PagingError.TheVariants.{Input, WriteFault, NoMemory}
+use Rattle.press_forms.specs.Paging.{HasPage, MakesPage, PagedInto, StandsAt, StopsPaging, page_behind}
+
+-- It stands behind so many items.
+pub record StandsBehindSo (bytes : List ℕ) (count : ℕ) (now : DebuggerState) : Type 0 where
+  pub items : List StepResult
+  pub many : length items ≡ count
+  pub behind : StandsBehind bytes items now
+
+pub begins_so : PlacesGoOn → (bytes : List ℕ) (now : DebuggerState) → now ≡ at_start bytes → StandsBehindSo bytes 0 now
+begins_so law bytes now is = record { items = []; many = refl; behind = subst (StandsBehind bytes []) (sym is) (law.begins bytes) }
+
+pub goes_so : PlacesGoOn → (bytes : List ℕ) (count : ℕ) (item : StepResult) (old new : DebuggerState) → StandsBehindSo bytes count old → Advances old (item ∷ []) new → StandsBehindSo bytes (count + 1) new
+goes_so law bytes count item old new so advances = record {
+  items = so.items ++ item ∷ [];
+  many = length-append so.items (item ∷ []) ∙ ap (λ (n : ℕ). n + 1) so.many;
+  behind = law.goes_on bytes so.items (item ∷ []) old new so.behind advances;
+}
+
+-- as many steps were taken as were asked for
+pub stands_at : (bytes : List ℕ) (steps : ℕ) (now : DebuggerState) → StandsBehindSo bytes steps now → StandsAt bytes steps now
+stands_at bytes steps now so =
+    let prefix : take steps (so.items ++ so.behind.others) ≡ so.items =
+    ap (λ (n : ℕ). take n (so.items ++ so.behind.others)) (sym so.many) ∙ take-append_seam so.items so.behind.others in
+    record {
+      items = so.items ++ so.behind.others;
+      trace = so.behind.are;
+      state = so.behind.state ∙ ap (λ (items : List StepResult). Some (last_machine power_on items)) (sym prefix);
+    }
+
+-- no step was left, before as many were taken
+pub stands_at_end : PlacesGoOn → (bytes : List ℕ) (count steps : ℕ) (now : DebuggerState) → count ≤ steps → StandsBehindSo bytes count now → IsOver now.job → StandsAt bytes steps now
+stands_at_end law bytes count steps now few so over = record {
+  items = so.items;
+  trace = law.at_end bytes so.items now so.behind over;
+  state = so.behind.state ∙ ap (λ (items : List StepResult). Some (last_machine power_on items)) (sym (take_all steps so.items (omega (arith, few, so.many))));
+}
+
+-- ---- its page, made an output
+
+module _ (had left : Option (List ℕ)) (bytes : List ℕ) (read : ReadWhole had left bytes) (steps : ℕ) (now : DebuggerState) where
+  has_page : (at : StandsAt bytes steps now) → HasPage steps had left (page_behind steps at.items)
+  has_page at = record { bytes = bytes; read = read; items = at.items; trace = at.trace; open_page = refl }
+
+  -- the machine of the page
+  abbrev machine_of : StandsAt bytes steps now → Machine
+  machine_of at = last_machine power_on (take steps at.items)
+
+  pub page_made : (name : List ℕ) (before after : Option (List MadeOutput)) → StandsAt bytes steps now
+      → IfSome now.job.machine (λ machine. after ≡ with_outputs (holding name (file_of (page_now machine.state)) ∷ []) before)
+      → PagedInto steps name had left before after
+  page_made name before after at makes = (
+    page_behind steps at.items,
+    has_page at,
+    at_machine now.job.machine (λ machine. after ≡ with_outputs (holding name (file_of (page_now machine.state)) ∷ []) before) (machine_of at) at.state makes,
+  )
+
+  no_page : (name : List ℕ) (before after : Option (List MadeOutput)) (why : PagingError) → (at : StandsAt bytes steps now)
+      → MakesPage (page_now (machine_of at).state) name (Err why) before after → StopsPaging steps name had left (change before after) why
+  no_page name before after WriteFault at prefix = (page_behind steps at.items, has_page at, prefix)
+  no_page name before after NoMemory at same = same
+  no_page name before after (Input why) at makes = absurd makes
+
+  pub page_stopped : (name : List ℕ) (before after : Option (List MadeOutput)) (result : Result ℕ PagingError) (error : PagingError)
+      → StandsAt bytes steps now → IfSome now.job.machine (λ machine. MakesPage (page_now machine.state) name (Err error) before after)
+      → IsErrAnd result (λ why. why ≡ error) → IfErr result (λ why. StopsPaging steps name had left (change before after) why)
+  page_stopped name before after result error at makes is =
+      let found = err_from_is_err_and result is in
+      let here = at_machine now.job.machine (λ machine. MakesPage (page_now machine.state) name (Err error) before after) (machine_of at) at.state makes in
+      rw found.1 (subst (λ (why : PagingError). StopsPaging steps name had left (change before after) why) (sym found.2) (no_page name before after error at here))

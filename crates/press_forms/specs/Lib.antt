@@ -1,0 +1,4 @@
+pub mod Assembly
+pub mod Faults
+pub mod Paging
+pub mod Traced

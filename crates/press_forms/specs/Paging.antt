@@ -1,0 +1,70 @@
+-- The page that is open at a step of a stream, made an output.
+use Rattle.std.specs.Prelude.{◌≡◌, ◌≢◌, ◌<◌, ◌⊎◌, ℕ, List, [], ◌∷◌, ◌++◌, Option, Some, Result, Ok, Err, codes, take}
+use Rattle.std.specs.Fmt.{decimal}
+use Rattle.std.specs.Io.KnownBytes.{Appends}
+use Rattle.press_bits.specs.Page.{Page}
+use Rattle.press_pbm.specs.Spelling.{file_of}
+use Rattle.press_sink.specs.Outputs.{MadeOutput, MakesPrefix, holding, with_outputs}
+use Rattle.press_engine.specs.Closing.{page_now}
+use Rattle.press_engine.specs.Machine.{StepResult, power_on}
+use Rattle.press_engine.specs.Trace.{last_machine}
+use Rattle.press_stream.specs.Traced.{IsTraceOf}
+use Rattle.press_debug.specs.Steps.{DebuggerState}
+use Rattle.press_files.specs.Change.{Change}
+use Rattle.press_files.specs.Inputs.{ReadWhole}
+use Rattle.press_forms.specs.Faults.{told_of_page}
+use Rattle.press_files.specs.Telling.{Tells, as_line}
+use Rattle.press_forms.specs.declared.paging.PagingError.{PagingError}
+use Rattle.press_forms.specs.declared.paging.PagingError.TheVariants.{Input, WriteFault, NoMemory}
+
+-- The page that is open behind so many items of a trace, or behind all of them where there are fewer: blank where no mark was made.
+abbrev pub page_behind : (steps : ℕ) → List StepResult → Page
+page_behind steps items = page_now (last_machine power_on (take steps items)).state
+
+-- What a reader had is a stream, and this page is open behind so many items of its trace.
+pub record HasPage (steps : ℕ) (had left : Option (List ℕ)) (page : Page) : Type 0 where
+  pub bytes : List ℕ
+  pub read : ReadWhole had left bytes
+  pub items : List StepResult
+  pub trace : IsTraceOf bytes items
+  pub open_page : page ≡ page_behind steps items
+
+-- An output of this name was made, the P4 file of the page that is open behind so many steps of the stream of a reader.
+abbrev pub PagedInto : (steps : ℕ) (name : List ℕ) (had left : Option (List ℕ)) (before after : Option (List MadeOutput)) → Type 0
+PagedInto steps name had left before after =
+    (page : Page) × HasPage steps had left page × (after ≡ with_outputs (holding name (file_of page) ∷ []) before)
+
+-- What was made where no page was, by the fault: a prefix of its output, where that cannot be made or written; else nothing.
+abbrev pub StopsPaging : (steps : ℕ) (name : List ℕ) (had left : Option (List ℕ)) (made : Change (Option (List MadeOutput))) → PagingError → Type 0
+StopsPaging steps name had left made WriteFault =
+    (page : Page) × HasPage steps had left page × MakesPrefix (holding name (file_of page) ∷ []) made.before made.after
+StopsPaging steps name had left made (Input why) = made.after ≡ made.before
+StopsPaging steps name had left made NoMemory = made.after ≡ made.before
+
+-- A stream of these bytes of which so many steps were taken, or all where it has fewer.
+pub record StandsAt (bytes : List ℕ) (steps : ℕ) (now : DebuggerState) : Type 0 where
+  pub items : List StepResult
+  pub trace : IsTraceOf bytes items
+  pub state : now.job.machine ≡ Some (last_machine power_on (take steps items))
+
+-- An output of this name was made of a page, or not, and this is why.
+abbrev pub MakesPage : (page : Page) (name : List ℕ) → Result (Unit {0}) PagingError → (before after : Option (List MadeOutput)) → Type 0
+MakesPage page name (Ok _) before after = after ≡ with_outputs (holding name (file_of page) ∷ []) before
+MakesPage page name (Err WriteFault) before after = MakesPrefix (holding name (file_of page) ∷ []) before after
+MakesPage page name (Err NoMemory) before after = after ≡ before
+MakesPage page name (Err (Input why)) before after = ⊥
+
+-- what is told where a stream has fewer steps: how many it has
+abbrev pub end_text : (taken : ℕ) → List ℕ
+end_text taken = codes "the stream ends behind step " ++ (decimal taken ++ 10 ∷ [])
+
+-- Nothing was told; or that fewer steps could be taken.
+abbrev pub TellsEnd : (steps : ℕ) (said says : Option (List ℕ)) → Type 0
+TellsEnd steps said says = (says ≡ said) ⊎ ((taken : ℕ) × (taken < steps) × Appends said says (end_text taken))
+
+-- The page at a step was made an output of this name, and at most the end of the stream was told; or it was not, and why is what was told.
+pub record Paging (steps : ℕ) (name : List ℕ) (status : ℕ) (told read : Change (Option (List ℕ))) (made : Change (Option (List MadeOutput))) : Type 0 where
+  pub done : status ≡ 0 → TellsEnd steps told.before told.after × PagedInto steps name read.before read.after made.before made.after
+  pub stops : status ≢ 0
+      → (status ≡ 1) × (why : PagingError) × Tells told.before told.after (as_line (told_of_page why))
+      × StopsPaging steps name read.before read.after made why

@@ -1,0 +1,163 @@
+//! Assembly text to bytes, and back.
+ghost use Rattle.std.specs.Prelude.{◌≡◌, IfOk, IfErr, OnOk};
+ghost use Rattle.std.specs.String.{string_bytes};
+ghost use Rattle.press_forms.specs.Assembly.{Assembled, AssembledTo, TextRefused, StopsAssembling, Disassembled, DisassembledTo, StreamUnread, StopsDisassembling};
+ghost use Rattle.press_forms.specs.Faults.{told_of_text};
+ghost use Rattle.press_files.specs.Telling.{Ended};
+
+use press_asm::{AssembleError, assemble};
+use press_disasm::disassemble;
+use press_files::{InputError, NO_OUTPUT, Teller, read_all, report, write_flushed};
+use press_pbm::WRITE_FAULT;
+use press_units::ToldFault;
+use std::alloc::{AllocError, Global};
+use std::error::Error;
+use std::fmt;
+use std::io::{Read, Write};
+
+/// Why an input was not assembled or disassembled.
+#[derive(Debug, Drop)]
+pub enum TextError {
+    /// The input was not read to its end.
+    Input(InputError),
+    /// The text is refused.
+    Refused(AssembleError),
+    /// The stream of a text cannot be written, or its file not made.
+    WriteFault,
+    /// The text of a stream cannot be written.
+    NoOutput,
+    NoMemory,
+}
+
+impl fmt::Display for TextError {
+    ghost use Rattle.press_forms.specs.Faults.{told_of_text};
+
+    ghost output = { told_of_text };
+
+    fn fmt<W: fmt::Write>(&self, f: &mut fmt::Formatter<W>) -> fmt::Result {
+        match self {
+            TextError::Input(error) => write!(f, "{error}"),
+            TextError::Refused(error) => write!(f, "{error}"),
+            TextError::WriteFault => write!(f, "{}", ToldFault(Some(WRITE_FAULT))),
+            TextError::NoOutput => write!(f, "{NO_OUTPUT}"),
+            TextError::NoMemory => write!(f, "{}", ToldFault(None)),
+        }
+    }
+}
+
+impl Error for TextError {}
+
+impl From<InputError> for TextError {
+    ghost use Rattle.std.specs.Prelude.{◌≡◌};
+    ghost use Rattle.press_forms.specs.declared.assembly.TextError.TheVariants.{Input};
+
+    ghost from_gives = { λ fault error. error ≡ Input fault };
+
+    fn from(fault: InputError) -> TextError {
+        TextError::Input(fault)
+    }
+}
+
+impl From<AllocError> for TextError {
+    ghost use Rattle.std.specs.Prelude.{◌≡◌};
+    ghost use Rattle.press_forms.specs.declared.assembly.TextError.TheVariants.{NoMemory};
+
+    ghost from_gives = { λ _ error. error ≡ NoMemory };
+
+    fn from(_error: AllocError) -> TextError {
+        TextError::NoMemory
+    }
+}
+
+/// The bytes of the assembly text that a reader has.
+pub fn assembled<R: Read>(alloc: Global, reader: &mut R) -> Result<Vec<u8>, TextError>
+    ensures ok { IfOk result (λ bytes.
+        Assembled (R.remaining reader.old) (R.remaining reader.new) bytes.items) }
+    ensures err { IfErr result (λ why.
+        TextRefused (R.remaining reader.old) (R.remaining reader.new) why) }
+{
+    let text = read_all(alloc, reader)?;
+    assemble(alloc, &text).map_err(TextError::Refused)
+}
+
+/// Writes the bytes of the assembly text that a reader has to `out`.
+fn assemble_to<R: Read, W: Write>(
+    alloc: Global,
+    reader: &mut R,
+    out: &mut W,
+) -> Result<(), TextError>
+    ensures ok { OnOk result (AssembledTo (R.remaining reader.old) (R.remaining reader.new)
+        (W.contents out.old) (W.contents out.new)) }
+    ensures err { IfErr result (λ why.
+        StopsAssembling (R.remaining reader.old) (R.remaining reader.new)
+        (W.contents out.old) (W.contents out.new) why) }
+{
+    let bytes = assembled(alloc, reader)?;
+    write_flushed(out, &bytes).map_err(|_| TextError::WriteFault)
+}
+
+/// Writes the bytes of the assembly text that a reader has to `out`, and a fault to `err`. Of a text that is refused nothing is
+/// written. The answer is the status: 0, or 1 after a fault.
+pub fn asm_text<R: Read, W: Write, E: Teller>(
+    alloc: Global,
+    reader: &mut R,
+    out: &mut W,
+    err: &mut E,
+) -> u8
+    ensures { Ended result (E.said err.old) (E.said err.new) told_of_text
+        (AssembledTo (R.remaining reader.old) (R.remaining reader.new)
+        (W.contents out.old) (W.contents out.new))
+        (StopsAssembling (R.remaining reader.old) (R.remaining reader.new)
+        (W.contents out.old) (W.contents out.new)) }
+{
+    match assemble_to(alloc, reader, out) {
+        Ok(()) => 0,
+        Err(error) => report(&error, err),
+    }
+}
+
+/// The assembly text of the stream that a reader has.
+fn disassembled<R: Read>(alloc: Global, reader: &mut R) -> Result<String, TextError>
+    ensures ok { IfOk result (λ text.
+        Disassembled (R.remaining reader.old) (R.remaining reader.new) (string_bytes text)) }
+    ensures err { IfErr result StreamUnread }
+{
+    let bytes = read_all(alloc, reader)?;
+    Ok(disassemble(alloc, &bytes)?)
+}
+
+/// Writes the assembly text of the stream that a reader has to `out`.
+fn disassemble_to<R: Read, W: Write>(
+    alloc: Global,
+    reader: &mut R,
+    out: &mut W,
+) -> Result<(), TextError>
+    ensures ok { OnOk result (DisassembledTo (R.remaining reader.old) (R.remaining reader.new)
+        (W.contents out.old) (W.contents out.new)) }
+    ensures err { IfErr result (λ why.
+        StopsDisassembling (R.remaining reader.old) (R.remaining reader.new)
+        (W.contents out.old) (W.contents out.new) why) }
+{
+    let text = disassembled(alloc, reader)?;
+    write_flushed(out, text.as_bytes()).map_err(|_| TextError::NoOutput)
+}
+
+/// Writes the assembly text of the stream that a reader has to `out`, and a fault to `err`. Where the stream was not read to its
+/// end nothing is written. The answer is the status: 0, or 1 after a fault.
+pub fn disasm_bytes<R: Read, W: Write, E: Teller>(
+    alloc: Global,
+    reader: &mut R,
+    out: &mut W,
+    err: &mut E,
+) -> u8
+    ensures { Ended result (E.said err.old) (E.said err.new) told_of_text
+        (DisassembledTo (R.remaining reader.old) (R.remaining reader.new)
+        (W.contents out.old) (W.contents out.new))
+        (StopsDisassembling (R.remaining reader.old) (R.remaining reader.new)
+        (W.contents out.old) (W.contents out.new)) }
+{
+    match disassemble_to(alloc, reader, out) {
+        Ok(()) => 0,
+        Err(error) => report(&error, err),
+    }
+}

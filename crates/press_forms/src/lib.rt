@@ -1,0 +1,10 @@
+//! Streams in other forms: as assembly text and back, as a trace, and as the page that is open behind a step.
+#![tactic(auto)]
+
+mod assembly;
+mod paging;
+mod traced;
+
+pub use assembly::{TextError, asm_text, assembled, disasm_bytes};
+pub use paging::{PagingError, page_file};
+pub use traced::{TracedError, tell_trace};

@@ -1,0 +1,197 @@
+//! The page that is open at a step of a stream, made an output.
+ghost use Rattle.std.specs.Prelude.{◌≡◌, ◌<◌, IfOk, IfErr, IfSome, OnOk};
+ghost use Rattle.press_files.specs.Change.{change};
+ghost use Rattle.press_engine.specs.Closing.{page_now};
+ghost use Rattle.press_engine.specs.Place.{blank_page};
+ghost use Rattle.press_forms.specs.Paging.{MakesPage, PagedInto, Paging, StandsAt, StopsPaging};
+ghost use Rattle.press_forms.specs.declared.paging.PagingError.{PagingError};
+
+use press_bits::{Bitmap, BlankError};
+use press_debug::laws::places;
+use press_debug::{Stepper, Taken};
+use press_files::{InputError, Teller, read_all, report};
+use press_page::PageSetup;
+use press_pbm::{WRITE_FAULT, WritePbmError};
+use press_sink::{NamedOutputs, write_page};
+use press_units::ToldFault;
+use std::alloc::{AllocError, Global};
+use std::error::Error;
+use std::fmt;
+use std::io::{Read, Write};
+
+/// Why no page was made an output.
+#[derive(Debug, Drop)]
+pub enum PagingError {
+    /// The stream was not read to its end.
+    Input(InputError),
+    /// The output cannot be made or written.
+    WriteFault,
+    NoMemory,
+}
+
+impl fmt::Display for PagingError {
+    ghost use Rattle.press_forms.specs.Faults.{told_of_page};
+
+    ghost output = { told_of_page };
+
+    fn fmt<W: fmt::Write>(&self, f: &mut fmt::Formatter<W>) -> fmt::Result {
+        match self {
+            PagingError::Input(error) => write!(f, "{error}"),
+            PagingError::WriteFault => write!(f, "{}", ToldFault(Some(WRITE_FAULT))),
+            PagingError::NoMemory => write!(f, "{}", ToldFault(None)),
+        }
+    }
+}
+
+impl Error for PagingError {}
+
+impl From<InputError> for PagingError {
+    ghost use Rattle.std.specs.Prelude.{◌≡◌};
+    ghost use Rattle.press_forms.specs.declared.paging.PagingError.TheVariants.{Input};
+
+    ghost from_gives = { λ fault error. error ≡ Input fault };
+
+    fn from(fault: InputError) -> PagingError {
+        PagingError::Input(fault)
+    }
+}
+
+impl From<AllocError> for PagingError {
+    ghost use Rattle.std.specs.Prelude.{◌≡◌};
+    ghost use Rattle.press_forms.specs.declared.paging.PagingError.TheVariants.{NoMemory};
+
+    ghost from_gives = { λ _ error. error ≡ NoMemory };
+
+    fn from(_error: AllocError) -> PagingError {
+        PagingError::NoMemory
+    }
+}
+
+impl From<WritePbmError> for PagingError {
+    ghost use Rattle.std.specs.Prelude.{◌≡◌};
+    ghost use Rattle.press_forms.specs.declared.paging.PagingError.TheVariants.{WriteFault};
+
+    ghost from_gives = { λ _ error. error ≡ WriteFault };
+
+    fn from(_error: WritePbmError) -> PagingError {
+        PagingError::WriteFault
+    }
+}
+
+/// That a stream ends behind so many steps, as it is told.
+#[derive(Drop)]
+struct EndsBehind(u64);
+
+impl fmt::Display for EndsBehind {
+    ghost use Rattle.std.specs.Prelude.{Some};
+    ghost use Rattle.press_forms.specs.Paging.{end_text};
+
+    ghost output = { λ end. Some (end_text end.0) };
+
+    fn fmt<W: fmt::Write>(&self, f: &mut fmt::Formatter<W>) -> fmt::Result {
+        let taken = self.0;
+        writeln!(f, "the stream ends behind step {taken}")
+    }
+}
+
+/// Makes the output of this name, the P4 file of the page that is open behind so many table steps of the stream that a reader has:
+/// blank where no mark was made. Where the stream has fewer steps it is the page behind the last, and `err` is told how many there
+/// are. A fault is told to `err`, too. The answer is the status: 0, or 1 after a fault.
+///
+/// Source: PCL 5 Printer Language Technical Reference Manual, The PCL Print Model; Netpbm, the raw form of the PBM format.
+pub fn page_file<R: Read, O: NamedOutputs, E: Teller>(
+    alloc: Global,
+    reader: &mut R,
+    steps: u64,
+    outputs: &mut O,
+    name: &str,
+    err: &mut E,
+) -> u8
+    ensures { Paging steps name.now result
+        (change (E.said err.old) (E.said err.new))
+        (change (R.remaining reader.old) (R.remaining reader.new))
+        (change (O.made outputs.old) (O.made outputs.new)) }
+{
+    match make_page(alloc, reader, steps, outputs, name) {
+        Ok(taken) => {
+            if taken < steps {
+                err.tell(&EndsBehind(taken));
+            }
+            0
+        }
+        Err(error) => report(&error, err),
+    }
+}
+
+/// Makes the output of this name of the stream that a reader has. The answer is how many steps were taken.
+fn make_page<R: Read, O: NamedOutputs>(
+    alloc: Global,
+    reader: &mut R,
+    steps: u64,
+    outputs: &mut O,
+    name: &str,
+) -> Result<u64, PagingError>
+    ensures ok { OnOk result (PagedInto steps name.now (R.remaining reader.old)
+        (R.remaining reader.new) (O.made outputs.old) (O.made outputs.new)) }
+    ensures err { IfErr result (λ why. StopsPaging steps name.now (R.remaining reader.old)
+        (R.remaining reader.new)
+        (change (O.made outputs.old) (O.made outputs.new)) why) }
+{
+    let bytes = read_all(alloc, reader)?;
+    let stepper = behind_steps(alloc, &bytes, steps)?;
+    write_open_page(alloc, &stepper, outputs, name)?;
+    Ok(stepper.view().step)
+}
+
+/// The stream of these bytes, of which so many steps were taken, or all where it has fewer.
+fn behind_steps(alloc: Global, bytes: &[u8], steps: u64) -> Result<Stepper, AllocError>
+    ensures { IfOk result (StandsAt bytes.now steps) }
+{
+    places();
+    let mut stepper = Stepper::open(alloc, bytes)?;
+    for _step in 0..steps {
+        match stepper.take() {
+            Taken::Steps => {}
+            Taken::Nothing => return Ok(stepper),
+            Taken::Fault => return Err(AllocError),
+        }
+    }
+    Ok(stepper)
+}
+
+/// Makes the output of this name, the P4 file of the page that is open.
+fn write_open_page<O: NamedOutputs>(
+    alloc: Global,
+    stepper: &Stepper,
+    outputs: &mut O,
+    name: &str,
+) -> Result<(), PagingError>
+    ensures { IfSome stepper.now.job.machine (λ machine.
+        MakesPage (page_now machine.state) name.now result
+        (O.made outputs.old) (O.made outputs.new)) }
+{
+    match stepper.page() {
+        Some(canvas) => match canvas.upright() {
+            Some(page) => write_page(outputs, name, page)?,
+            None => write_page(outputs, name, &canvas.page(alloc)?)?,
+        },
+        None => {
+            let blank = blank_page(alloc, stepper.view().environment.page_setup)?;
+            write_page(outputs, name, &blank)?;
+        }
+    }
+    Ok(())
+}
+
+/// The blank physical page of the media.
+#[tactic(auto, using(press_engine::proofs::PlaceLemmas::media_fits))]
+fn blank_page(alloc: Global, page_setup: PageSetup) -> Result<Bitmap, AllocError>
+    ensures { IfOk result (λ page. page ≡ blank_page page_setup) }
+{
+    let page = page_setup.physical_page();
+    match Bitmap::blank(alloc, page.width, page.height) {
+        Ok(bitmap) => Ok(bitmap),
+        Err(BlankError::NoMemory) => Err(AllocError),
+        Err(BlankError::BadSize) => unreachable!(),
+    }
+}

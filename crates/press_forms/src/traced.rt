@@ -1,0 +1,98 @@
+//! The trace of a stream, told to a writer.
+ghost use Rattle.std.specs.Prelude.{IfErr, OnOk};
+ghost use Rattle.press_files.specs.Change.{change};
+ghost use Rattle.press_pbm.specs.Spelling.{Writes};
+ghost use Rattle.press_forms.specs.Traced.{StopsTelling, Traced, Tracing};
+
+use press_files::{InputError, NO_OUTPUT, Teller, read_all, report, write_flushed};
+use press_trace::{TraceError, trace_lines};
+use press_units::ToldFault;
+use std::alloc::Global;
+use std::error::Error;
+use std::fmt;
+use std::io::{Read, Write};
+
+/// Why a trace was not told to its end.
+#[derive(Debug, Drop)]
+pub enum TracedError {
+    /// The stream was not read to its end.
+    Input(InputError),
+    /// A line cannot be written.
+    Output,
+    NoMemory,
+}
+
+impl fmt::Display for TracedError {
+    ghost use Rattle.press_forms.specs.Faults.{told_of_trace};
+
+    ghost output = { told_of_trace };
+
+    fn fmt<W: fmt::Write>(&self, f: &mut fmt::Formatter<W>) -> fmt::Result {
+        match self {
+            TracedError::Input(error) => write!(f, "{error}"),
+            TracedError::Output => write!(f, "{NO_OUTPUT}"),
+            TracedError::NoMemory => write!(f, "{}", ToldFault(None)),
+        }
+    }
+}
+
+impl Error for TracedError {}
+
+impl From<InputError> for TracedError {
+    ghost use Rattle.std.specs.Prelude.{◌≡◌};
+    ghost use Rattle.press_forms.specs.declared.traced.TracedError.TheVariants.{Input};
+
+    ghost from_gives = { λ fault error. error ≡ Input fault };
+
+    fn from(fault: InputError) -> TracedError {
+        TracedError::Input(fault)
+    }
+}
+
+impl From<TraceError> for TracedError {
+    ghost use Rattle.press_forms.specs.Traced.{IsTold};
+
+    ghost from_gives = { IsTold };
+
+    fn from(fault: TraceError) -> TracedError {
+        match fault {
+            TraceError::Output(_) => TracedError::Output,
+            TraceError::NoMemory => TracedError::NoMemory,
+        }
+    }
+}
+
+/// Tells the trace of the stream that a reader has to `out`, and a fault to `err`. The stream is read whole before the first step.
+/// The answer is the status: 0, or 1 after a fault.
+pub fn tell_trace<R: Read, W: Write, E: Teller>(
+    alloc: Global,
+    reader: &mut R,
+    out: &mut W,
+    err: &mut E,
+) -> u8
+    ensures { Tracing result
+        (change (E.said err.old) (E.said err.new))
+        (change (R.remaining reader.old) (R.remaining reader.new))
+        (change (W.contents out.old) (W.contents out.new)) }
+{
+    match trace_to(alloc, reader, out) {
+        Ok(()) => 0,
+        Err(error) => report(&error, err),
+    }
+}
+
+/// Tells the trace of the stream that a reader has to `out`.
+fn trace_to<R: Read, W: Write>(
+    alloc: Global,
+    reader: &mut R,
+    out: &mut W,
+) -> Result<(), TracedError>
+    ensures ok { OnOk result (Traced (R.remaining reader.old) (R.remaining reader.new)
+        (W.contents out.old) (W.contents out.new)) }
+    ensures err { IfErr result (StopsTelling (R.remaining reader.old) (R.remaining reader.new)
+        (W.contents out.old) (W.contents out.new)) }
+{
+    let bytes = read_all(alloc, reader)?;
+    trace_lines(alloc, &bytes, out)?;
+    Ok(())
+}

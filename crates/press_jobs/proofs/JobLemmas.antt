@@ -1,0 +1,48 @@
+-- Images, one input after another.
+use Rattle.std.proofs.Common.{◌≡◌, ◌∙◌, ◌<◌, ℕ, zero, suc, ◌+◌, List, [], ◌∷◌, ◌++◌, length, map, take, get_or, Option, Result, Ok, Err, MatchResult, IsErrAnd, IfErr, refl, ap, sym, subst, inl, inr, arith}
+use Rattle.std.proofs.lemmas.List.{take_more, map-append}
+use Rattle.press_bits.specs.Page.{Page}
+use Rattle.press_pbm.specs.File.{Refused}
+use Rattle.press_pbm.specs.declared.fault.ReadPbmError.{ReadPbmError}
+use Rattle.press_jobs.specs.Jobs.{HasImage, HaveImages, ImageRefused, LacksAnImage}
+use Rattle.press_files.specs.NamedInputs.{NamedInput}
+use Rattle.press_files.specs.declared.inputs.InputError.{InputError}
+use Rattle.press_files.specs.declared.inputs.InputError.TheVariants as input_fault
+use Rattle.press_jobs.specs.declared.jobs.JobFileError.{JobFileError}
+use Rattle.press_jobs.specs.declared.jobs.JobFileError.TheVariants as fault
+
+-- one input more
+images-push : (inputs : List NamedInput) (images : List Page) (input : NamedInput) (image : Page) → HaveImages inputs images → HasImage input.bytes image → HaveImages (inputs ++ input ∷ []) (images ++ image ∷ [])
+images-push [] [] input image so_far next = (next, tt)
+images-push (first ∷ inputs) (its ∷ images) input image so_far next = (so_far.0, images-push inputs images input image so_far.1 next)
+images-push [] (its ∷ images) input image so_far next = absurd so_far
+images-push (first ∷ inputs) [] input image so_far next = absurd so_far
+
+-- the front of a list of names, one longer
+pub images-more : {N : Type 0} (input : N → NamedInput) (names : List N) (i : ℕ) (other : N) (images : List Page) (image : Page) → i < length names → HaveImages (map input (take i names)) images → HasImage (input (get_or names i other)).bytes image → HaveImages (map input (take (i + 1) names)) (images ++ image ∷ [])
+images-more input names i other images image inside so_far next =
+    let name = get_or names i other in
+    let more : map input (take (i + 1) names) ≡ map input (take i names) ++ input name ∷ [] =
+    ap (map input) (take_more names i other inside) ∙ map-append input (take i names) (name ∷ []) in
+    subst (λ (inputs : List NamedInput). HaveImages inputs (images ++ image ∷ [])) (sym more) (images-push _ images (input name) image so_far next)
+
+-- the input of a name has no image, and those before it have some
+pub lacks-an-image : {N : Type 0} (input : N → NamedInput) (names : List N) (i : ℕ) (other : N) (images : List Page) (why : JobFileError) → i < length names → HaveImages (map input (take i names)) images → ImageRefused (input (get_or names i other)) why → LacksAnImage (map input names) why
+lacks-an-image input [] i other images why inside so_far refused = absurd (omega (arith, inside))
+lacks-an-image input (name ∷ names) zero other images why inside so_far refused = inl refused
+lacks-an-image input (name ∷ names) (suc i) other [] why inside so_far refused = absurd so_far
+lacks-an-image input (name ∷ names) (suc i) other (image ∷ images) why inside so_far refused = inr (image, so_far.0, lacks-an-image input names i other images why (omega (arith, inside)) so_far.1 refused)
+
+-- an input that is not opened
+pub unopened : (input : NamedInput) (error : InputError) → (error ≡ input_fault.ReadFault → input.IsMissing) → ImageRefused input (fault.Input error)
+unopened input input_fault.ReadFault missing = missing refl
+unopened input input_fault.NoMemory missing = tt
+
+err_is_no_ok : {image : Page} {why : JobFileError} → Err why ≡ Ok image → ⊥
+err_is_no_ok told = cc
+
+-- the fault of a reader of images, told as that of its input
+pub image-refused : (result : Result Page ReadPbmError) (answer : Result Page JobFileError) (input : NamedInput) (left : Option (List ℕ)) → MatchResult result (λ image. answer ≡ Ok image) (λ error. IsErrAnd answer (λ why. why ≡ fault.Image error)) → IfErr result (λ error. Refused error input.bytes left) → IfErr answer (λ why. ImageRefused input why)
+image-refused result (Ok image) input left told refused = tt
+image-refused (Ok image) (Err why) input left told refused = absurd (err_is_no_ok told)
+image-refused (Err error) (Err why) input left told refused = subst (λ (fault : JobFileError). ImageRefused input fault) (sym told) (left, refused)

@@ -1,0 +1,188 @@
+//! Jobs of tickets, over readers, named inputs and writers.
+ghost use Rattle.std.specs.Prelude.{map, IfOk, IfErr, OnOk};
+ghost use Rattle.press_jobs.specs.Jobs.{
+  TicketRead,
+  HasImage,
+  HaveImages,
+  WritesTheTicket,
+  WritesAJob,
+  WritesNoJob,
+  TicketRefused,
+  ImageRefused,
+  ImagesRefused,
+  StopsWriting,
+};
+ghost use Rattle.press_jobs.specs.Faults.{told_of_job};
+ghost use Rattle.press_files.specs.NamedInputs.{named};
+ghost use Rattle.press_files.specs.Telling.{Ended};
+
+use crate::counted_read::CountedRead;
+use press_bits::Bitmap;
+use press_files::{InputError, NamedInputs, Teller, open_named, read_all, report};
+use press_pbm::{ReadPbmError, read_pbm};
+use press_ticket::{Ticket, TicketError, read_ticket};
+use press_units::ToldFault;
+use press_writer::{WriterError, write_job};
+use std::alloc::Global;
+use std::error::Error;
+use std::fmt;
+use std::io::{Read, Write};
+
+/// Why no job was written.
+#[derive(Debug, Drop)]
+pub enum JobFileError {
+    /// The ticket or an image cannot be opened, or the ticket cannot be read.
+    Input(InputError),
+    /// The ticket is refused.
+    Ticket(TicketError),
+    /// An image is refused, or cannot be read.
+    Image(ReadPbmError),
+    /// The ticket is not printed with the images, or the job cannot be made or written.
+    Writer(WriterError),
+    NoMemory,
+}
+
+impl fmt::Display for JobFileError {
+    ghost use Rattle.press_jobs.specs.Faults.{told_of_job};
+
+    ghost output = { told_of_job };
+
+    fn fmt<W: fmt::Write>(&self, f: &mut fmt::Formatter<W>) -> fmt::Result {
+        match self {
+            JobFileError::Input(error) => write!(f, "{error}"),
+            JobFileError::Ticket(error) => write!(f, "{error}"),
+            JobFileError::Image(error) => write!(f, "{error}"),
+            JobFileError::Writer(error) => write!(f, "{error}"),
+            JobFileError::NoMemory => write!(f, "{}", ToldFault(None)),
+        }
+    }
+}
+
+impl Error for JobFileError {}
+
+impl From<InputError> for JobFileError {
+    ghost use Rattle.std.specs.Prelude.{◌≡◌};
+    ghost use Rattle.press_jobs.specs.declared.jobs.JobFileError.TheVariants.{Input};
+
+    ghost from_gives = { λ fault error. error ≡ Input fault };
+
+    fn from(fault: InputError) -> JobFileError {
+        JobFileError::Input(fault)
+    }
+}
+
+/// The ticket that a reader has, to its end.
+///
+/// # Errors
+///
+/// 304 where it cannot be read; 601 to 605 where it has no ticket.
+pub fn ticket_in<R: Read>(alloc: Global, reader: &mut R) -> Result<Ticket, JobFileError>
+    ensures ticket { IfOk result (λ ticket.
+        TicketRead (R.remaining reader.old) (R.remaining reader.new) ticket) }
+    ensures refused { IfErr result (λ why.
+        TicketRefused (R.remaining reader.old) (R.remaining reader.new) why) }
+{
+    let text = read_all(alloc, reader)?;
+    read_ticket(alloc, &text).map_err(JobFileError::Ticket)
+}
+
+/// The image that the input of this name has. What stands behind its P4 file is left unread.
+fn image_named<I: NamedInputs>(
+    alloc: Global,
+    inputs: &I,
+    name: &[u8],
+) -> Result<Bitmap, JobFileError>
+    ensures image { IfOk result (λ image. HasImage (I.bytes inputs.now name.now) image) }
+    ensures refused { IfErr result (λ why.
+        ImageRefused (named (I.bytes inputs.now) (I.missing inputs.now) name.now) why) }
+{
+    let mut input = CountedRead::new(open_named(inputs, name)?);
+    read_pbm(alloc, &mut input).map_err(JobFileError::Image)
+}
+
+/// The images of the inputs of these names, each of which is opened when the one before it is read.
+///
+/// # Errors
+///
+/// 304 where an input cannot be opened; 111 to 113 where it has no image; 114 where it cannot be read.
+pub fn images_named<I: NamedInputs>(
+    alloc: Global,
+    inputs: &I,
+    names: &[&[u8]],
+) -> Result<Vec<Bitmap>, JobFileError>
+    ensures images { IfOk result (λ images.
+        HaveImages (map (λ name. named (I.bytes inputs.now) (I.missing inputs.now) name.now)
+        names.now) images.items) }
+    ensures refused { IfErr result (λ why.
+        ImagesRefused (map (λ name. named (I.bytes inputs.now) (I.missing inputs.now) name.now)
+        names.now) why) }
+{
+    let mut images = Vec::new(alloc);
+    for name in names {
+        let image = image_named(alloc, inputs, name)?;
+        images.push(image).map_err(|_| JobFileError::NoMemory)?;
+    }
+    Ok(images)
+}
+
+/// Writes the job of a ticket with these images.
+fn write_to<W: Write>(
+    alloc: Global,
+    ticket: &Ticket,
+    images: &[Bitmap],
+    out: &mut W,
+) -> Result<(), WriterError>
+    ensures ok { OnOk result
+        (WritesAJob ticket.now images.now (W.contents out.old) (W.contents out.new)) }
+    ensures err { IfErr result (λ why.
+        WritesNoJob ticket.now images.now (W.contents out.old) (W.contents out.new) why) }
+{
+    write_job(alloc, ticket, images, out)?;
+    out.flush().map_err(|_| WriterError::WriteFault)
+}
+
+/// Writes the job of the ticket that a reader has, with the images of these inputs, to `out`.
+fn write_from<T: Read, I: NamedInputs, W: Write>(
+    alloc: Global,
+    ticket: &mut T,
+    inputs: &I,
+    names: &[&[u8]],
+    out: &mut W,
+) -> Result<(), JobFileError>
+    ensures ok { OnOk result (WritesTheTicket (T.remaining ticket.old) (T.remaining ticket.new)
+        (map (λ name. named (I.bytes inputs.now) (I.missing inputs.now) name.now) names.now)
+        (W.contents out.old) (W.contents out.new)) }
+    ensures err { IfErr result (λ why.
+        StopsWriting (T.remaining ticket.old) (T.remaining ticket.new)
+        (map (λ name. named (I.bytes inputs.now) (I.missing inputs.now) name.now) names.now)
+        (W.contents out.old) (W.contents out.new) why) }
+{
+    let ticket = ticket_in(alloc, ticket)?;
+    let images = images_named(alloc, inputs, names)?;
+    write_to(alloc, &ticket, &images, out).map_err(JobFileError::Writer)
+}
+
+/// Writes the job of the ticket that a reader has, with the images of the inputs of these names in the order of its pages, to
+/// `out`, and a fault to `err`. Nothing is written to `out` before the images are found to fit. The answer is the status: 0, or
+/// 1 after a fault.
+pub fn write_files<T: Read, I: NamedInputs, W: Write, E: Teller>(
+    alloc: Global,
+    ticket: &mut T,
+    inputs: &I,
+    names: &[&[u8]],
+    out: &mut W,
+    err: &mut E,
+) -> u8
+    ensures { Ended result (E.said err.old) (E.said err.new) told_of_job
+        (WritesTheTicket (T.remaining ticket.old) (T.remaining ticket.new)
+        (map (λ name. named (I.bytes inputs.now) (I.missing inputs.now) name.now) names.now)
+        (W.contents out.old) (W.contents out.new))
+        (StopsWriting (T.remaining ticket.old) (T.remaining ticket.new)
+        (map (λ name. named (I.bytes inputs.now) (I.missing inputs.now) name.now) names.now)
+        (W.contents out.old) (W.contents out.new)) }
+{
+    match write_from(alloc, ticket, inputs, names, out) {
+        Ok(()) => 0,
+        Err(error) => report(&error, err),
+    }
+}

@@ -1,9 +1,0 @@
-use Rattle.std.proofs.Common.{subst, sym}
-use mathlib.Core.Logic.{∥∥₁_map}
-use Rattle.press_sink.specs.Sending.{sheets_in}
-use Rattle.press_main.specs.Files.{MakesSheets}
-use Rattle.press_main.proofs.told_folder.ToldFolder.into_outputs.Goals as goal
-
-pub returns : goal.returns
-returns g c =
-    ∥∥₁_map c.args.self.keeps (λ keeps. subst (λ outputs. MakesSheets g.D.Folder.parts (sheets_in c.args.self.taken) c.args.self.faults g.D.Folder.begun (g.O.NamedOutputs.made outputs)) (sym c.into_outputs.ensures) keeps.makes)

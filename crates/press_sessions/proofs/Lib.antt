@@ -1,0 +1,6 @@
+mod DebuggerLemmas
+mod DebuggerSteps
+mod LineLemmas
+mod SessionLemmas
+mod TalkLemmas
+mod WordLemmas

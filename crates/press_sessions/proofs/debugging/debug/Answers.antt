@@ -1,0 +1,17 @@
+use Rattle.std.proofs.lemmas.Result.{on_ok_weaker, IfErr-weaker}
+use Rattle.press_sessions.proofs.DebuggerLemmas.{Debugs-all, StopsDebugging-some}
+use Rattle.press_sessions.proofs.debugging.debug.Goals as goal
+
+pub returns-clause-ok : goal.returns-clause-ok
+returns-clause-ok g c =
+    let stream = c.in_ok-debugger.ensures.stream in
+    on_ok_weaker c.answer_lines.result
+    (λ answered. Debugs-all (λ session. session.debugger.stepper) (λ session. session.debugger.breaks) _ _ _ _ _ _ _ stream.0 stream.1 stream.2 c.in_ok-debugger.ensures.breaks answered.0)
+    c.answer_lines.ensures.ok
+
+pub returns-clause-err : goal.returns-clause-err
+returns-clause-err g c =
+    let stream = c.in_ok-debugger.ensures.stream in
+    IfErr-weaker c.answer_lines.result _ _
+    (StopsDebugging-some (λ session. session.debugger.stepper) (λ session. session.debugger.breaks) _ _ _ _ _ _ _ stream.0 stream.1 stream.2 c.in_ok-debugger.ensures.breaks)
+    c.answer_lines.ensures.err

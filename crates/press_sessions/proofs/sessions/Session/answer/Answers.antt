@@ -1,0 +1,24 @@
+use Rattle.std.proofs.Common.{◌≡◌, ◌∙◌, ℕ, List, Bor, map, Some, None, option_map, sym, ap}
+use Rattle.std.proofs.lemmas.Result.{IfOk-weaker}
+use Rattle.press_sessions.specs.EventLines.{event_in, event_of_line, line_seen}
+use Rattle.press_sessions.specs.Sessions.{delivered_by}
+use Rattle.press_files.specs.NamedInputs.{named}
+use Rattle.press_sessions.proofs.SessionLemmas.{TakesLines-event, TakesLines-none}
+use Rattle.press_sessions.proofs.sessions.Session.answer.Goals as goal
+
+pub returns-in-Some-clause-ok : goal.returns-in-Some-clause-ok
+returns-in-Some-clause-ok g c =
+    let old = c.args.self.now in
+    let new = c.happen.new.self in
+    let now : List (Bor (List ℕ)) → List (List ℕ) = map {A = Bor (List ℕ)} {B = List ℕ} (λ word. word.now) in
+    let is : event_of_line c.args.line.now ≡ Some (line_seen c.in-Some.event) =
+    ap event_in (sym (ap now c.deref.ensures.value ∙ c.in_ok-words.ensures)) ∙ sym c.event_of.ensures ∙ ap (option_map line_seen) c.in-Some.is in
+    IfOk-weaker c.happen.result _ _ (λ answer taken. TakesLines-event (named (g.I.NamedInputs.bytes c.args.inputs.now) (g.I.NamedInputs.missing c.args.inputs.now)) c.args.line.now (line_seen c.in-Some.event) old.press new.press (delivered_by old) (delivered_by new) answer.items is taken) c.happen.ensures.ok
+
+pub returns-clause-ok : goal.returns-clause-ok
+returns-clause-ok g c =
+    let old = c.args.self.now in
+    let now : List (Bor (List ℕ)) → List (List ℕ) = map {A = Bor (List ℕ)} {B = List ℕ} (λ word. word.now) in
+    let is : event_of_line c.args.line.now ≡ None =
+    ap event_in (sym (ap now c.deref.ensures.value ∙ c.in_ok-words.ensures)) ∙ sym c.event_of.ensures ∙ ap (option_map line_seen) c.in-None.is in
+    TakesLines-none (named (g.I.NamedInputs.bytes c.args.inputs.now) (g.I.NamedInputs.missing c.args.inputs.now)) c.args.line.now old.press (delivered_by old) c.in_ok-line_of-in-None.field-0.items is c.in_ok-line_of-in-None.ensures

@@ -1,0 +1,13 @@
+use Rattle.std.proofs.Common.{refl}
+use Rattle.std.proofs.lemmas.Result.{IfOk-weaker}
+use Rattle.press_core.specs.Events.{TurnOn, Operator}
+use Rattle.press_sessions.proofs.sessions.Session.happen.Goals as goal
+
+pub returns-in-Turn-clause-ok : goal.returns-in-Turn-clause-ok
+returns-in-Turn-clause-ok g c = rw c.in-Turn.is (IfOk-weaker c.turn.result _ _ (λ answer taken. (TurnOn c.in-Turn.engine c.in-Turn.most, (refl, refl), taken)) c.turn.ensures.ok)
+
+pub returns-in-Turn-clause-err : goal.returns-in-Turn-clause-err
+returns-in-Turn-clause-err g c = rw c.in-Turn.is c.turn.ensures.err
+
+pub returns-in-Operator-clause-ok : goal.returns-in-Operator-clause-ok
+returns-in-Operator-clause-ok g c = rw c.in-Operator.is (IfOk-weaker c.operate.result _ _ (λ answer taken. (Operator c.in-Operator.command, refl, taken)) c.operate.ensures.ok)

@@ -1,0 +1,13 @@
+use Rattle.press_sessions.specs.LineReading.{held, bytes_left}
+use Rattle.press_sessions.proofs.TalkLemmas.{IsAnswered}
+use Rattle.press_sessions.proofs.talking.answer_lines.Given as goal
+
+-- the lines so far were answered
+abbrev pub invariant-loop-line : goal.invariant-loop-line
+invariant-loop-line g l = record {
+  ready : g.T.Talk.IsReady l.talk;
+  answered : IsAnswered g.T.Talk.answers l.fn.talk (g.R.Read.remaining l.fn.reader) (g.R.Read.remaining l.reader) (g.W.Write.contents l.fn.out) (held l.lines) l.talk (g.W.Write.contents l.out);
+}
+
+abbrev pub decreases-loop-line : goal.decreases-loop-line
+decreases-loop-line g l = bytes_left l.lines

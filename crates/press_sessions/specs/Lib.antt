@@ -1,0 +1,7 @@
+pub mod DebuggerLines
+pub mod Debugging
+pub mod EventLines
+pub mod Faults
+pub mod LineReading
+pub mod Sessions
+pub mod Talking

@@ -1,0 +1,361 @@
+//! Sessions with a press: lines of events, and what each is answered.
+ghost use Rattle.std.specs.Prelude.{◌≡◌, ◌∷◌, ◌++◌, ℕ, List, [], map, is_ok, IfOk, IfErr, OnOk};
+ghost use Rattle.press_files.specs.Change.{change};
+ghost use Rattle.std.specs.Io.KnownBytes.{Appends};
+ghost use Rattle.std.specs.String.{string_bytes};
+ghost use Rattle.press_core.specs.Events.{TurnOn, Operator};
+ghost use Rattle.press_files.specs.EntryListing.{entry_listing};
+ghost use Rattle.press_sessions.specs.EventLines.{MessageLine, line_seen};
+ghost use Rattle.press_sessions.specs.Sessions.{
+  turn_text,
+  TakesEvent,
+  TakesAsked,
+  TakesLines,
+  HasFault,
+  TurnFails,
+  IsUnanswered,
+  StopsListing,
+  Plays,
+  Stops,
+  delivered_by,
+  standing,
+};
+ghost use Rattle.press_sessions.specs.Faults.{told_of_session};
+ghost use Rattle.press_files.specs.NamedInputs.{named};
+ghost use Rattle.press_files.specs.Telling.{Ended};
+ghost use Rattle.press_sessions.specs.declared.sessions.SessionError.TheVariants.{NoMemory};
+
+use crate::event_lines::{LineEvent, event_of};
+use crate::talking::{Talk, answer_lines};
+use press_core::{BadEngines, OperatorCommand, Press, Turn, TurnError, laws};
+use press_files::{
+    EntrySheets, InputError, NO_OUTPUT, NamedInputs, Teller, list_delivered, open_named, read_all,
+    report, write_flushed,
+};
+use press_jobs::{JobFileError, images_named};
+use press_units::ToldFault;
+use press_words::{WHAT, line_of, words_of};
+use std::alloc::{AllocError, Global};
+use std::error::Error;
+use std::fmt;
+use std::io::{self, Read, Write};
+
+/// Why a session ended early.
+#[derive(Debug, Drop)]
+pub enum SessionError {
+    /// No press has so many engines.
+    Engines(BadEngines),
+    /// The file or an image of a message cannot be opened or read, or an image is refused; or the lines cannot be read.
+    File(JobFileError),
+    /// A turn had a fault, or is of an engine that there is not.
+    Turn(TurnError),
+    /// An answer or the listing cannot be written.
+    Output(io::Error),
+    NoMemory,
+}
+
+impl fmt::Display for SessionError {
+    ghost use Rattle.press_sessions.specs.Faults.{told_of_session};
+
+    ghost output = { told_of_session };
+
+    fn fmt<W: fmt::Write>(&self, f: &mut fmt::Formatter<W>) -> fmt::Result {
+        match self {
+            SessionError::Engines(error) => write!(f, "{error}"),
+            SessionError::File(error) => write!(f, "{error}"),
+            SessionError::Turn(error) => write!(f, "{error}"),
+            SessionError::Output(_) => write!(f, "{NO_OUTPUT}"),
+            SessionError::NoMemory => write!(f, "{}", ToldFault(None)),
+        }
+    }
+}
+
+impl Error for SessionError {}
+
+impl From<BadEngines> for SessionError {
+    ghost use Rattle.std.specs.Prelude.{◌≡◌};
+    ghost use Rattle.press_sessions.specs.declared.sessions.SessionError.TheVariants.{Engines};
+
+    ghost from_gives = { λ fault error. error ≡ Engines fault };
+
+    fn from(fault: BadEngines) -> SessionError {
+        SessionError::Engines(fault)
+    }
+}
+
+impl From<InputError> for SessionError {
+    ghost use Rattle.std.specs.Prelude.{◌≡◌};
+    ghost use Rattle.press_sessions.specs.declared.sessions.SessionError.TheVariants.{File};
+    ghost use Rattle.press_jobs.specs.declared.jobs.JobFileError.TheVariants.{Input};
+
+    ghost from_gives = { λ fault error. error ≡ File (Input fault) };
+
+    fn from(fault: InputError) -> SessionError {
+        SessionError::File(JobFileError::Input(fault))
+    }
+}
+
+impl From<JobFileError> for SessionError {
+    ghost use Rattle.std.specs.Prelude.{◌≡◌};
+    ghost use Rattle.press_sessions.specs.declared.sessions.SessionError.TheVariants.{File};
+
+    ghost from_gives = { λ fault error. error ≡ File fault };
+
+    fn from(fault: JobFileError) -> SessionError {
+        SessionError::File(fault)
+    }
+}
+
+impl From<TurnError> for SessionError {
+    ghost use Rattle.std.specs.Prelude.{◌≡◌};
+    ghost use Rattle.press_sessions.specs.declared.sessions.SessionError.TheVariants.{Turn};
+
+    ghost from_gives = { λ fault error. error ≡ Turn fault };
+
+    fn from(fault: TurnError) -> SessionError {
+        SessionError::Turn(fault)
+    }
+}
+
+impl From<io::Error> for SessionError {
+    ghost use Rattle.std.specs.Prelude.{◌≡◌};
+    ghost use Rattle.press_sessions.specs.declared.sessions.SessionError.TheVariants.{Output};
+
+    ghost from_gives = { λ fault error. error ≡ Output fault };
+
+    fn from(fault: io::Error) -> SessionError {
+        SessionError::Output(fault)
+    }
+}
+
+impl From<AllocError> for SessionError {
+    ghost use Rattle.std.specs.Prelude.{◌≡◌};
+    ghost use Rattle.press_sessions.specs.declared.sessions.SessionError.TheVariants.{NoMemory};
+
+    ghost from_gives = { λ _ error. error ≡ NoMemory };
+
+    fn from(_error: AllocError) -> SessionError {
+        SessionError::NoMemory
+    }
+}
+
+/// Has a session with a press of so many engines that has no entries: carries out each line of events that a reader has, writes its
+/// answer to `out`, and at the end of the lines the listing, a line for each side that was delivered. The files of a message are opened
+/// by their names. In whatever order the events come, what was delivered under the number of an entry in flight are the sheets of
+/// the steps that were taken of its job, of a completed one all that its ticket wants, of every other one a prefix of those. After a
+/// fault, which stands on `err`, no line is carried out, and nothing is listed. The answer is the status: 0, or 1 after a fault.
+pub fn press_lines<I: NamedInputs, R: Read, W: Write, E: Teller>(
+    alloc: Global,
+    inputs: &I,
+    engines: u64,
+    reader: &mut R,
+    out: &mut W,
+    err: &mut E,
+) -> u8
+    ensures { Ended result (E.said err.old) (E.said err.new) told_of_session
+        (Plays engines (named (I.bytes inputs.now) (I.missing inputs.now))
+        (R.remaining reader.old) (R.remaining reader.new)
+        (W.contents out.old) (W.contents out.new))
+        (Stops engines (named (I.bytes inputs.now) (I.missing inputs.now))
+        (R.remaining reader.old) (R.remaining reader.new)
+        (change (W.contents out.old) (W.contents out.new))) }
+{
+    match play(alloc, inputs, engines, reader, out) {
+        Ok(()) => 0,
+        Err(error) => report(&error, err),
+    }
+}
+
+/// Has a session with a press of so many engines, and tells no fault.
+fn play<I: NamedInputs, R: Read, W: Write>(
+    alloc: Global,
+    inputs: &I,
+    engines: u64,
+    reader: &mut R,
+    out: &mut W,
+) -> Result<(), SessionError>
+    ensures ok { OnOk result (Plays engines
+        (named (I.bytes inputs.now) (I.missing inputs.now))
+        (R.remaining reader.old) (R.remaining reader.new)
+        (W.contents out.old) (W.contents out.new)) }
+    ensures err { IfErr result (Stops engines
+        (named (I.bytes inputs.now) (I.missing inputs.now)) (R.remaining reader.old)
+        (R.remaining reader.new)
+        (change (W.contents out.old) (W.contents out.new))) }
+{
+    laws::sheets_are_given();
+    let session = Session::new(alloc, engines)?;
+    let mut talk = SessionTalk { inputs, session };
+    answer_lines(alloc, &mut talk, reader, out)?;
+    talk.session.list(out)
+}
+
+/// A session, and where the files of its messages are.
+#[derive(Drop)]
+struct SessionTalk<'a, I> {
+    inputs: &'a I,
+    session: Session,
+}
+
+impl<I: NamedInputs> Talk for SessionTalk<'_, I> {
+    ghost use Rattle.std.specs.Prelude.{◌≡◌, ◌∷◌, []};
+    ghost use Rattle.press_sessions.specs.Sessions.{TakesLines, IsUnanswered, standing, delivered_by};
+
+    type Error = SessionError;
+
+    ghost answers = { λ old line answer new.
+        TakesLines (named (I.bytes old.inputs.now) (I.missing old.inputs.now)) (line ∷ [])
+        (standing old.session.press (delivered_by old.session))
+        (standing new.session.press (delivered_by new.session)) answer
+        × (new.inputs ≡ old.inputs) };
+
+    ghost refuses = { λ at line. IsUnanswered
+        (named (I.bytes at.inputs.now) (I.missing at.inputs.now)) line at.session.press };
+
+    fn answer(&mut self, line: &[u8]) -> Result<Vec<u8>, SessionError> {
+        self.session.answer(self.inputs, line)
+    }
+}
+
+/// A press, and the sheets that it delivered.
+#[derive(Drop)]
+struct Session {
+    alloc: Global,
+    press: Press,
+    sheets: EntrySheets,
+}
+
+impl Session {
+    ghost use Rattle.press_core.specs.Engines.{are_engines};
+    ghost use Rattle.press_core.specs.World.{new_world};
+
+    /// A session with a press of so many engines that has no entries.
+    fn new(alloc: Global, engines: u64) -> Result<Self, BadEngines>
+        ensures press { IfOk result (λ session. session.press ≡ new_world engines) }
+        ensures delivered { IfOk result (λ session. delivered_by session ≡ []) }
+        ensures are { is_ok result ≡ are_engines engines }
+    {
+        let press = Press::with_engines(alloc, engines)?;
+        Ok(Session {
+            alloc,
+            press,
+            sheets: EntrySheets::new(alloc),
+        })
+    }
+
+    /// Lists the sheets.
+    fn list<W: Write>(&self, out: &mut W) -> Result<(), SessionError>
+        ensures ok { OnOk result (Appends (W.contents out.old) (W.contents out.new)
+            (entry_listing (delivered_by self.now))) }
+        ensures err { IfErr result
+            (StopsListing (delivered_by self.now) (W.contents out.old) (W.contents out.new)) }
+    {
+        let listing = self.listing()?;
+        write_flushed(out, &listing)?;
+        Ok(())
+    }
+
+    /// The listing of the sheets.
+    fn listing(&self) -> Result<Vec<u8>, AllocError>
+        ensures { IfOk result (λ listing. listing.items ≡ entry_listing (delivered_by self.now)) }
+    {
+        let mut listing = Vec::new(self.alloc);
+        match list_delivered(&mut listing, &self.sheets) {
+            Ok(()) => Ok(listing),
+            Err(_) => Err(AllocError),
+        }
+    }
+
+    /// Carries out a line: its answer.
+    fn answer<I: NamedInputs>(&mut self, inputs: &I, line: &[u8]) -> Result<Vec<u8>, SessionError>
+        ensures ok { IfOk result (λ answer.
+            TakesLines (named (I.bytes inputs.now) (I.missing inputs.now)) (line.now ∷ [])
+            (standing self.old.press (delivered_by self.old))
+            (standing self.new.press (delivered_by self.new)) answer.items) }
+        ensures err { IfErr result (IsUnanswered
+            (named (I.bytes inputs.now) (I.missing inputs.now)) line.now self.old.press) }
+    {
+        let words = words_of(self.alloc, line)?;
+        match event_of(&words) {
+            Some(event) => self.happen(inputs, event),
+            None => Ok(line_of(self.alloc, WHAT)?),
+        }
+    }
+
+    /// Lets the event of a line happen: its answer.
+    fn happen<I: NamedInputs>(
+        &mut self,
+        inputs: &I,
+        event: LineEvent<'_>,
+    ) -> Result<Vec<u8>, SessionError>
+        ensures ok { IfOk result (λ answer. TakesAsked
+            (named (I.bytes inputs.now) (I.missing inputs.now)) (line_seen event.entry)
+            (standing self.old.press (delivered_by self.old))
+            (standing self.new.press (delivered_by self.new)) answer.items) }
+        ensures err { IfErr result
+            (HasFault (named (I.bytes inputs.now) (I.missing inputs.now))
+            (line_seen event.entry) self.old.press) }
+    {
+        match event {
+            LineEvent::Message(file, images) => self.message(inputs, file, images),
+            LineEvent::Turn { engine, most } => self.turn(engine, most),
+            LineEvent::Operator(command) => self.operate(command),
+        }
+    }
+
+    /// Takes the message of a file, with the images of others: its response.
+    fn message<I: NamedInputs>(
+        &mut self,
+        inputs: &I,
+        file: &[u8],
+        images: &[&[u8]],
+    ) -> Result<Vec<u8>, SessionError>
+        ensures ok { IfOk result (λ answer.
+            TakesAsked (named (I.bytes inputs.now) (I.missing inputs.now))
+            (MessageLine file.now (map (λ name. name.now) images.now))
+            (standing self.old.press (delivered_by self.old))
+            (standing self.new.press (delivered_by self.new)) answer.items) }
+        ensures err { IfErr result (HasFault
+            (named (I.bytes inputs.now) (I.missing inputs.now))
+            (MessageLine file.now (map (λ name. name.now) images.now)) self.old.press) }
+    {
+        let mut input = open_named(inputs, file)?;
+        let text = read_all(self.alloc, &mut input)?;
+        let images = images_named(self.alloc, inputs, images)?;
+        let response = self.press.message(&text, &images)?;
+        Ok(line_of(self.alloc, &response)?)
+    }
+
+    /// Takes a turn of an engine: what it did.
+    fn turn(&mut self, engine: u64, most: u64) -> Result<Vec<u8>, SessionError>
+        ensures ok { IfOk result (λ answer. TakesEvent (TurnOn engine most)
+            self.old.press (delivered_by self.old)
+            self.new.press (delivered_by self.new) answer.items) }
+        ensures err { IfErr result (TurnFails engine most self.old.press) }
+    {
+        let turn = self.press.turn_on(engine, most, &mut self.sheets)?;
+        Ok(turn_line(self.alloc, turn)?.into_bytes())
+    }
+
+    /// Carries out a command of the operator: that it was.
+    fn operate(&mut self, command: OperatorCommand) -> Result<Vec<u8>, SessionError>
+        ensures ok { IfOk result (λ answer. TakesEvent (Operator command)
+            self.old.press (delivered_by self.old)
+            self.new.press (delivered_by self.new) answer.items) }
+        ensures err { IfErr result (λ why. why ≡ NoMemory) }
+    {
+        self.press.operator(command);
+        Ok(line_of(self.alloc, b"ok")?)
+    }
+}
+
+/// The line of what a turn did.
+fn turn_line(alloc: Global, turn: Turn) -> Result<String, AllocError>
+    ensures { IfOk result (λ line. string_bytes line ≡ turn_text turn.entry turn.steps) }
+{
+    let steps = turn.steps;
+    match turn.entry {
+        Some(number) => format!(in alloc; "turn Q{number} {steps}\n"),
+        None => format!(in alloc; "turn - {steps}\n"),
+    }
+}

@@ -1,0 +1,77 @@
+//! Talks: lines that a reader has, each of which is answered.
+ghost use Rattle.std.specs.Prelude.{◌≡◌, ℕ, List, IfErr, OnOk};
+ghost use Rattle.std.specs.Io.KnownBytes.{Appends};
+ghost use Rattle.press_files.specs.Change.{change};
+ghost use Rattle.press_sessions.specs.Talking.{AnswersAll, AnswersSome, StopsAtLine, line_by_line};
+
+use crate::line_reader::LineReader;
+use press_files::{InputError, write_flushed};
+use std::alloc::Global;
+use std::io::{self, Read, Write};
+
+/// What answers lines.
+pub trait Talk {
+    ghost use Rattle.std.specs.Prelude.{ℕ, List, IfOk, IfErr};
+
+    /// Why it ends early: lines cannot be read, an answer cannot be written, or a line has none.
+    type Error: From<InputError> + From<io::Error>;
+
+    /// That it may be given lines.
+    ghost IsReady: { Self → Type 0 } = { λ _. Unit {0} };
+
+    /// It answers a line so, and is so behind it.
+    ghost answers: { Self → List ℕ → List ℕ → Self → Type 0 };
+
+    /// Why it has no answer to a line.
+    ghost refuses: { Self → List ℕ → Self.Error → Type 0 };
+
+    /// Does what a line asks: the answer.
+    fn answer(&mut self, line: &[u8]) -> Result<Vec<u8>, Self::Error>
+        requires { IsReady self.old }
+        ensures ready { IsReady self.new }
+        ensures ok { IfOk result (λ answer. answers self.old line.now answer.items self.new) }
+        ensures err { IfErr result (refuses self.old line.now) };
+}
+
+/// Answers the lines that a reader has, and writes the answers. A line is answered before more is read.
+pub fn answer_lines<T: Talk, R: Read, W: Write>(
+    alloc: Global,
+    talk: &mut T,
+    reader: &mut R,
+    out: &mut W,
+) -> Result<(), T::Error>
+    requires { T.IsReady talk.old }
+    ensures ok { OnOk result ((answered : AnswersAll (line_by_line T.answers T.refuses
+        T.Error.From-1.from_gives T.Error.From-2.from_gives) talk.old
+        (R.remaining reader.old) (R.remaining reader.new)
+        (W.contents out.old) (W.contents out.new)) × (answered.last ≡ talk.new)) }
+    ensures err { IfErr result (AnswersSome (line_by_line T.answers T.refuses
+        T.Error.From-1.from_gives T.Error.From-2.from_gives) talk.old
+        (R.remaining reader.old) (R.remaining reader.new)
+        (change (W.contents out.old) (W.contents out.new))) }
+{
+    let mut lines = LineReader::new(alloc);
+    let mut line = Vec::new(alloc);
+    while lines.next(reader, &mut line)? {
+        answer_line(talk, &line, out)?;
+    }
+    if line.is_empty() {
+        return Ok(());
+    }
+    answer_line(talk, &line, out)
+}
+
+/// Answers a line, and writes the answer.
+fn answer_line<T: Talk, W: Write>(talk: &mut T, line: &[u8], out: &mut W) -> Result<(), T::Error>
+    requires { T.IsReady talk.old }
+    ensures ready { T.IsReady talk.new }
+    ensures ok { OnOk result ((answer : List ℕ) × T.answers talk.old line.now answer talk.new
+        × Appends (W.contents out.old) (W.contents out.new) answer) }
+    ensures err { IfErr result (StopsAtLine (line_by_line T.answers T.refuses
+        T.Error.From-1.from_gives T.Error.From-2.from_gives) line.now talk.old
+        (W.contents out.old) (W.contents out.new)) }
+{
+    let answer = talk.answer(line)?;
+    write_flushed(out, &answer)?;
+    Ok(())
+}

@@ -1,0 +1,4 @@
+pub mod DefaultsLemmas
+mod NumberLemmas
+mod WordsLemmas
+pub mod worked

@@ -1,0 +1,4 @@
+pub mod Defaults
+pub mod Lines
+pub mod View
+pub mod Words

@@ -1,0 +1,223 @@
+-- What the words of the command line ask for.
+use Rattle.std.specs.Prelude.{ℕ, List, [], ◌∷◌, Option, Some, None, Bool, true, false, codes, option_map, option_and_then, unwrap_or, if◌then◌else◌}
+use Rattle.std.specs.List.{list_all}
+use Rattle.std.specs.Option.{option_map_or}
+use Rattle.std.specs.Str.{bytes_eq}
+use Rattle.clap.specs.Words.{App, Row, Rule, Text, new_app, new_rule, with_rule, with_subcommand, subcommand_of, first_of, all_of, fault_of}
+use Rattle.press_pjl.specs.Variables.{is_assignment}
+use Rattle.press_words.specs.Defaults.{prefix_of}
+use Rattle.press_words.specs.Lines.{number_word}
+use Rattle.press_words.specs.declared.words.Subcommand.{Subcommand}
+use Rattle.press_words.specs.declared.words.Subcommand.TheVariants.{Print, Asm, Disasm, Debug, Trace, Page, Write, Press}
+use Rattle.clap.specs.declared.builder.action.ArgAction.TheVariants.{Append, SetTrue}
+
+-- Where an input is read: from standard input, or from the file of this name.
+pub data Source : Type 0 where
+  Standard : Source
+  FileNamed : Text → Source
+
+-- What is made of an input. A prefix is bytes that stand in front of the stream.
+-- Listed: the listing of a stream. FilesBy: the files of a stream, named by a template. AsText: the assembly text of a stream. TracedOf: the
+-- trace of a stream. PageTo: the file of this name, of the page that is open behind so many steps of a stream. DebuggedOf: a debugger's
+-- answers to lines, over the stream of this file. Answered: the answers of a press with so many engines to lines of events, and the
+-- listing of what it delivered. StreamTo: the file of this name, of an assembly text. JobTo: the file of this name, the job of a ticket
+-- with the images of these files.
+pub data Made : Type 0 where
+  Listed : (prefix : List ℕ) → Made
+  FilesBy : (prefix : List ℕ) (template : Text) → Made
+  Answered : (engines : ℕ) → Made
+  AsText : Made
+  DebuggedOf : (prefix : List ℕ) (name : Text) → Made
+  TracedOf : (prefix : List ℕ) → Made
+  PageTo : (prefix : List ℕ) (steps : ℕ) (name : Text) → Made
+  StreamTo : Text → Made
+  JobTo : (name : Text) (images : List Text) → Made
+
+-- What the program is asked to do.
+pub record Arguments : Type 0 where
+  pub source : Source
+  pub made : Made
+
+-- The option of a default, which may stand more than once.
+abbrev pub default_rule : Rule
+default_rule = record (new_rule (codes "default")) { long = Some (codes "default"); action = Some Append; value_names = 1 }
+
+-- The words of `print`: the flag of a listing, any number of defaults, the input, and the template.
+abbrev pub list_rule : Rule
+list_rule = record (new_rule (codes "list")) { long = Some (codes "list"); action = Some SetTrue }
+
+abbrev pub needed_rule : Text → Rule
+needed_rule id = record (new_rule id) { required = true }
+
+abbrev pub print_app : App
+print_app = with_rule (with_rule (with_rule (with_rule (new_app (codes "print")) list_rule) default_rule) (needed_rule (codes "IN"))) (new_rule (codes "OUT"))
+
+-- The words of `asm`: the input and the output.
+abbrev pub asm_app : App
+asm_app = with_rule (with_rule (new_app (codes "asm")) (needed_rule (codes "IN"))) (needed_rule (codes "OUT"))
+
+-- The word of `disasm`: the input.
+abbrev pub disasm_app : App
+disasm_app = with_rule (new_app (codes "disasm")) (needed_rule (codes "IN"))
+
+-- The words of `debug`: any number of defaults, and the input.
+abbrev pub debug_app : App
+debug_app = with_rule (with_rule (new_app (codes "debug")) default_rule) (needed_rule (codes "IN"))
+
+-- The words of `trace`: any number of defaults, and the input.
+abbrev pub trace_app : App
+trace_app = with_rule (with_rule (new_app (codes "trace")) default_rule) (needed_rule (codes "IN"))
+
+-- The words of `page`: any number of defaults, the input, how many steps, and the output.
+abbrev pub page_app : App
+page_app =
+    with_rule (with_rule (with_rule (with_rule (new_app (codes "page")) default_rule) (needed_rule (codes "IN"))) (needed_rule (codes "K")))
+    (needed_rule (codes "OUT"))
+
+-- The words of `write`: the ticket, the output, and any number of images.
+abbrev pub images_rule : Rule
+images_rule = record (new_rule (codes "IMG")) { action = Some Append }
+
+abbrev pub write_app : App
+write_app = with_rule (with_rule (with_rule (new_app (codes "write")) (needed_rule (codes "TICKET"))) (needed_rule (codes "OUT"))) images_rule
+
+-- The word of `press`: how many engines it has.
+abbrev pub engines_rule : Rule
+engines_rule = record (new_rule (codes "engines")) { long = Some (codes "engines"); value_names = 1 }
+
+abbrev pub session_app : App
+session_app = with_rule (new_app (codes "press")) engines_rule
+
+-- The program without its subcommands: it has a version.
+abbrev pub program_app : App
+program_app = record { top = record (new_app (codes "press")).top { has_version = true }; subs = [] }
+
+-- The command line: the subcommands of the program.
+abbrev pub press_app : App
+press_app =
+    with_subcommand (with_subcommand (with_subcommand (with_subcommand (with_subcommand (with_subcommand (with_subcommand (with_subcommand
+    program_app print_app.top) asm_app.top) disasm_app.top) debug_app.top) trace_app.top) page_app.top) write_app.top) session_app.top
+
+-- a flag is set where its value is `true`
+abbrev pub is_set : Text → List Row → Bool
+is_set flag rows = option_map_or (λ value. bytes_eq value (codes "true")) (first_of flag rows) false
+
+-- `-` is standard input
+abbrev pub source_of : Text → Source
+source_of name = if bytes_eq name (codes "-") then Standard else FileNamed name
+
+-- the defaults, in the order of the words
+abbrev pub defaults_of : List Row → List Text
+defaults_of rows = unwrap_or (all_of (codes "default") rows) []
+
+-- what stands in front of the stream, where each default is one of the job language
+abbrev pub prefix_in : List Row → Option (List ℕ)
+prefix_in rows = if list_all is_assignment (defaults_of rows) then Some (prefix_of (defaults_of rows)) else None
+
+-- with the flag a listing, whatever the template; without it there has to be a template
+abbrev pub made_behind : List Row → (prefix : List ℕ) → Option Made
+made_behind rows prefix = if is_set (codes "list") rows then Some (Listed prefix) else option_map (FilesBy prefix) (first_of (codes "OUT") rows)
+
+abbrev pub made_of : List Row → Option Made
+made_of rows = option_and_then (made_behind rows) (prefix_in rows)
+
+-- the images that `write` names, in the order of the words
+abbrev pub images_of : List Row → List Text
+images_of rows = unwrap_or (all_of (codes "IMG") rows) []
+
+-- a file that is made has a name, and `-` is none
+abbrev pub made_named : Text → Option Text
+made_named name = if bytes_eq name (codes "-") then None else Some name
+
+abbrev pub made_in : List Row → Option Text
+made_in rows = option_and_then made_named (first_of (codes "OUT") rows)
+
+-- what the values of the words of `write` ask for: the ticket is a file, whatever its name
+abbrev pub job_arguments : List Row → Option Arguments
+job_arguments rows =
+    option_and_then (λ ticket. option_map (λ name. record { source = FileNamed ticket; made = JobTo name (images_of rows) }) (made_in rows)) (first_of (codes "TICKET") rows)
+
+-- what the values of the words of `print`, of `asm` and of `disasm` ask for
+abbrev pub print_arguments : List Row → Option Arguments
+print_arguments rows =
+    option_and_then (λ name. option_map (λ made. record { source = source_of name; made = made }) (made_of rows)) (first_of (codes "IN") rows)
+
+abbrev pub asm_arguments : List Row → Option Arguments
+asm_arguments rows =
+    option_and_then (λ name. option_map (λ made. record { source = source_of name; made = StreamTo made }) (made_in rows)) (first_of (codes "IN") rows)
+
+abbrev pub disasm_arguments : List Row → Option Arguments
+disasm_arguments rows = option_map (λ name. record { source = source_of name; made = AsText }) (first_of (codes "IN") rows)
+
+-- what `debug` asks for: the lines stand on standard input, so the stream stands in a file
+abbrev pub debug_of : (prefix : List ℕ) → Text → Option Arguments
+debug_of prefix name = if bytes_eq name (codes "-") then None else Some (record { source = Standard; made = DebuggedOf prefix name })
+
+abbrev pub debug_arguments : List Row → Option Arguments
+debug_arguments rows = option_and_then (λ prefix. option_and_then (debug_of prefix) (first_of (codes "IN") rows)) (prefix_in rows)
+
+-- what `trace` asks for
+abbrev pub trace_arguments : List Row → Option Arguments
+trace_arguments rows =
+    option_and_then (λ prefix. option_map (λ name. record { source = source_of name; made = TracedOf prefix })
+    (first_of (codes "IN") rows)) (prefix_in rows)
+
+-- what `page` asks for: the steps are a number, and the page is made a file
+abbrev pub steps_in : List Row → Option ℕ
+steps_in rows = option_and_then number_word (first_of (codes "K") rows)
+
+abbrev pub page_to : (prefix : List ℕ) (steps : ℕ) → List Row → Option Arguments
+page_to prefix steps rows =
+    option_and_then (λ source. option_map (λ name. record { source = source_of source; made = PageTo prefix steps name }) (made_in rows))
+    (first_of (codes "IN") rows)
+
+abbrev pub page_arguments : List Row → Option Arguments
+page_arguments rows = option_and_then (λ prefix. option_and_then (λ steps. page_to prefix steps rows) (steps_in rows)) (prefix_in rows)
+
+-- how many engines `press` asks for: one where nothing is said of them
+abbrev pub engines_of : List Row → Option ℕ
+engines_of rows = option_map_or number_word (first_of (codes "engines") rows) (Some 1)
+
+-- what `press` asks for: the events stand on standard input
+abbrev pub session_arguments : List Row → Option Arguments
+session_arguments rows = option_map (λ engines. record { source = Standard; made = Answered engines }) (engines_of rows)
+
+-- the subcommand of a name
+abbrev pub subcommand_named : Text → Option Subcommand
+subcommand_named name =
+    if bytes_eq name (codes "print") then Some Print
+    else if bytes_eq name (codes "asm") then Some Asm
+    else if bytes_eq name (codes "disasm") then Some Disasm
+    else if bytes_eq name (codes "debug") then Some Debug
+    else if bytes_eq name (codes "trace") then Some Trace
+    else if bytes_eq name (codes "page") then Some Page
+    else if bytes_eq name (codes "write") then Some Write
+    else if bytes_eq name (codes "press") then Some Press
+    else None
+
+-- what the values of the words of a subcommand ask for
+abbrev pub arguments_of : Subcommand → List Row → Option Arguments
+arguments_of Print rows = print_arguments rows
+arguments_of Asm rows = asm_arguments rows
+arguments_of Disasm rows = disasm_arguments rows
+arguments_of Debug rows = debug_arguments rows
+arguments_of Trace rows = trace_arguments rows
+arguments_of Page rows = page_arguments rows
+arguments_of Write rows = job_arguments rows
+arguments_of Press rows = session_arguments rows
+
+-- the same by its name
+abbrev pub arguments_by : Text → List Row → Option Arguments
+arguments_by name rows = option_and_then (λ subcommand. arguments_of subcommand rows) (subcommand_named name)
+
+-- what words ask for in which the command line finds these faults
+abbrev pub arguments_without : {K : Type 0} → List K → List Text → Option Arguments
+arguments_without [] words = option_and_then (λ found. arguments_by found.0 found.1) (subcommand_of press_app words)
+arguments_without (fault ∷ faults) words = None
+
+-- What words ask for, the program's name among them: without any, the listing of standard input; nothing where they are
+-- refused.
+abbrev pub arguments : List Text → Option Arguments
+arguments [] = Some (record { source = Standard; made = Listed [] })
+arguments (program ∷ []) = Some (record { source = Standard; made = Listed [] })
+arguments (program ∷ word ∷ words) = arguments_without (fault_of press_app (program ∷ word ∷ words)) (program ∷ word ∷ words)
