@@ -11,9 +11,6 @@ use Rattle.press_files.specs.Change.{Change, change, Edge, reading_from}
 use Rattle.press_forms.specs.Assembly.{AssembledInto, StopsMaking, DisassembledTo, StopsDisassembling}
 use Rattle.press_sessions.specs.Debugging.{Debugs, StopsDebugging}
 use Rattle.press_words.specs.Defaults.{HoldsBehind, with_prefix}
-use Rattle.press_files.specs.declared.inputs.InputError.{InputError}
-use Rattle.press_files.specs.declared.inputs.InputError.TheVariants.{ReadFault}
-use Rattle.press_files.specs.Faults.{input_text}
 use Rattle.press_forms.specs.Faults.{told_of_text}
 use Rattle.press_jobs.specs.Faults.{told_of_job}
 use Rattle.press_sessions.specs.Faults.{told_of_debugger, told_of_session}
@@ -63,13 +60,6 @@ Debugging status stream told read written =
     (Debugs stream rest read.before read.after written.before written.after)
     (StopsDebugging stream rest read.before read.after written)
 
--- No debugger was opened, no line was read and nothing written, and why: the input of the stream cannot be opened, which may be so; or
--- memory ran out.
-abbrev pub DebugsNothing : (missing : Type 0) → (status : ℕ) → (told read written : Change (Option (List ℕ))) → Type 0
-DebugsNothing missing status told read written =
-    (error : InputError) × (error ≡ ReadFault → missing) × (status ≡ 1) × Tells told.before told.after (as_line (Some (input_text error)))
-    × (read.after ≡ read.before) × (written.after ≡ written.before)
-
 -- standard output takes nothing
 abbrev pub WritesNothing : Edge → Type 0
 WritesNothing edge = edge.written.after ≡ edge.written.before
@@ -94,8 +84,7 @@ Makes (FilesBy prefix template) inputs missing status edge =
 Makes (Answered engines) inputs missing status edge = Playing engines status (named inputs missing) edge.told edge.read edge.written × MakesNothing edge
 Makes AsText inputs missing status edge = Disassembling status edge.told edge.read edge.written × MakesNothing edge
 Makes (DebuggedOf prefix name) inputs missing status edge =
-    (Debugging status (with_prefix prefix (inputs name)) edge.told edge.read edge.written ⊎ DebugsNothing (missing name) status edge.told edge.read edge.written)
-    × MakesNothing edge
+    Debugging status (with_prefix prefix (inputs name)) edge.told edge.read edge.written × MakesNothing edge
 Makes (TracedOf prefix) inputs missing status edge =
     HoldsBehind prefix edge.read.before edge.read.after (λ had left. Tracing status edge.told (change had left) edge.written) × MakesNothing edge
 Makes (PageTo prefix steps name) inputs missing status edge =

@@ -7,7 +7,7 @@ ghost use Rattle.press_files.specs.Files.{PrintsFiles, PrintsNoFiles};
 ghost use Rattle.press_files.specs.Listing.{PrintsListing};
 ghost use Rattle.press_files.specs.NamedInputs.{named};
 ghost use Rattle.press_forms.specs.Paging.{Paging};
-ghost use Rattle.press_main.specs.Program.{Debugging, DebugsNothing, Makes, Performs, RefusesBy, Runs, Writing};
+ghost use Rattle.press_main.specs.Program.{Debugging, Makes, Performs, RefusesBy, Runs, Writing};
 ghost use Rattle.press_forms.specs.Traced.{Tracing};
 ghost use Rattle.press_words.specs.View.{made_seen, request_seen, status_of};
 
@@ -288,10 +288,6 @@ fn debug_file<I: NamedInputs, R: Read, W: Write, E: Teller>(
     err: &mut E,
 ) -> u8
     ensures { Debugging result (with_prefix prefix.now (I.bytes inputs.now name.now))
-        (change (E.said err.old) (E.said err.new))
-        (change (R.remaining reader.old) (R.remaining reader.new))
-        (change (W.contents out.old) (W.contents out.new))
-        ⊎ DebugsNothing (I.missing inputs.now name.now) result
         (change (E.said err.old) (E.said err.new))
         (change (R.remaining reader.old) (R.remaining reader.new))
         (change (W.contents out.old) (W.contents out.new)) }
