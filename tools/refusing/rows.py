@@ -10,7 +10,7 @@ class Row(NamedTuple):
     name: str
     words: list
     given: bytes = b""
-    writes: int = 1   # how many there are: one for 64 KB of a listing, a text, a stream or a side, and one for each answer or reply
+    writes: int = 1   # how many there are: one for 4 KB of a listing or a text, 64 KB of a job, or a band of a side; one for each answer or reply
 
 
 def spelled(text):
@@ -55,8 +55,8 @@ SUBMISSION = b"message examples/messages/submit-flyer.json examples/images/front
 ROWS = [
     *(Row(name, LIST, spelled(text)) for name, text in STREAMS),
     *(Row(name, LIST, stream) for name, stream in LINES),
-    Row("files of two sides", ["print", "-", "page-%d.pbm"], spelled("ESC&l1S ESC*p9x9Y ESC*c9a9b0P FF ESC*c9a9b0P FF"), 36),
-    Row("the page of a step", ["page", "-", "5", "step"], spelled("ESC*p0x0Y ESC*c3a2b0P ESC E"), 18),
+    Row("files of two sides", ["print", "-", "page-%d.pbm"], spelled("ESC&l1S ESC*p9x9Y ESC*c9a9b0P FF ESC*c9a9b0P FF"), 106),
+    Row("the page of a step", ["page", "-", "5", "step"], spelled("ESC*p0x0Y ESC*c3a2b0P ESC E"), 53),
     Row("the job of a ticket", ["write", *TICKET, "job", *IMAGES]),
     Row("a text that is assembled", ["asm", "-", "stream"], b"par *p10X\npar *b2W 02F0\nesc E\n; a remark\ntxt 41\n"),
     Row("commands that are told", ["disasm", "-"], b"\x1b*p10x20Y\x1bE\x1b*b2W\x02\xf0text\x0c"),
