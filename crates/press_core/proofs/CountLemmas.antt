@@ -67,8 +67,8 @@ number-many key message world row =
 answered-many : (message_type : MessageType) (message : Data) (images : List Page) (world : World) → AnswersMany world (table.response_row message_type message images world)
 answered-many types.SubmitQueueEntry message images world =
     named-many (table.submission message images) world
-    (λ both. and_then (λ done. table.entered done.0 both.0 images done.1) (table.after_queue world (rows.submit both.1 world.queue)))
-    (λ both. row-many (rows.submit both.1 world.queue) world (λ done. table.entered done.0 both.0 images done.1) (λ number after many. many))
+    (λ both. and_then (λ done. table.taken_in done.0 both.0 images done.1) (table.after_queue world (rows.submit both.1 world.queue)))
+    (λ both. row-many (rows.submit both.1 world.queue) world (λ done. table.taken_in done.0 both.0 images done.1) (λ number after many. many))
 answered-many types.HoldQueueEntry message images world =
     entry-many (named message world) world (λ number. rows.hold number world.queue) (λ number after. table.accepting after) (λ number after many. many)
 answered-many types.SuspendQueueEntry message images world =

@@ -71,7 +71,7 @@ submits_in images ticket = option_map (λ ticket. (ticket, images)) ticket
 submit-becomes : EachRowKeepsTheQueue → (images : List Page) (found : Result (JobTicket × ℤ) Refused) (world : World) → IsWholeWorld world
     → IfSome (option_map (λ both. both.0) (result_ok found)) (λ ticket. IsPrintable ticket images)
     → AnswersBecome (submits_in images (option_map (λ both. both.0) (result_ok found))) world
-    (and_then (λ both. and_then (λ done. table.entered done.0 both.0 images done.1) (table.after_queue world (rows.submit both.1 world.queue))) found)
+    (and_then (λ both. and_then (λ done. table.taken_in done.0 both.0 images done.1) (table.after_queue world (rows.submit both.1 world.queue))) found)
 submit-becomes law images (Err refused) world whole printable = tt
 submit-becomes law images (Ok both) world whole printable =
     row-becomes (Some (both.0, images)) (rows.submit both.1 world.queue) world _ (λ number queue is.

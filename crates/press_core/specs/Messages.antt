@@ -73,11 +73,13 @@ Headed = Result (Heading × MessageType) (Heading × Refused)
 abbrev pub or_refused_under : {A : Type 0} → Heading → Found A → Result A (Heading × Refused)
 or_refused_under heading found = result_map_both (λ value. value) (λ fault. (heading, for_parameter fault)) found
 
+-- the type under this heading's name: an unknown one where there is none
 abbrev pub of_type : Heading → Headed
 of_type heading = ok_or (option_map (λ message_type. (heading, message_type)) (type_named heading.type_name)) (heading, unknown_type)
 
+-- the same, where a name was found
 abbrev pub with_type : (id : List ℕ) → Found (List ℕ) → Headed
-with_type id name = and_then (λ name. of_type (headed name id)) (or_refused_under (headed [] id) name)
+with_type id found = and_then (λ name. of_type (headed name id)) (or_refused_under (headed [] id) found)
 
 -- the type's name, where it is a text, and none else
 abbrev pub given_type : Data → List ℕ

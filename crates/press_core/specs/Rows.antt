@@ -107,14 +107,14 @@ submission message images =
     and_then (λ both. and_then (λ ticket. Ok (ticket, both.1)) (fitting_ticket images (ticket_from both.0)))
     (or_refused (submitted_parameters message))
 
--- an entry that the queue took, with what it is to print
-abbrev pub entered : (number : ℕ) → JobTicket → List Page → World → MessageAnswer
-entered number ticket images world =
+-- an entry that the queue took: its ID is told, and its work is in the world
+abbrev pub taken_in : (number : ℕ) → JobTicket → List Page → World → MessageAnswer
+taken_in number ticket images world =
     telling (adding (codes "QueueEntryID") (string (entry_id number))) (with_new_work number (new_work ticket images) world)
 
 abbrev pub submit_row : Data → List Page → World → MessageAnswer
 submit_row message images world =
-    and_then (λ both. and_then (λ done. entered done.0 both.0 images done.1) (after_queue world (rows.submit both.1 world.queue)))
+    and_then (λ both. and_then (λ done. taken_in done.0 both.0 images done.1) (after_queue world (rows.submit both.1 world.queue)))
     (submission message images)
 
 -- a command that sets a flag of the queue
@@ -150,7 +150,7 @@ response_row types.FlushQueue message images world = accepting (without_gone (wi
 response_row types.QueueStatus message images world = telling (adding (codes "Queue") (listed_queue world.queue)) world
 response_row types.Status message images world = telling (devices_added world) world
 
--- The response to a message of this heading, and the world after it.
+-- The response to a message of this heading, and the world after it: where it was refused, the one before it.
 abbrev pub responding : Heading → World → MessageAnswer → List ℕ × World
 responding heading world (Ok (additions, after)) = (accepted_text heading additions, after)
 responding heading world (Err refused) = (refused_text heading refused, world)

@@ -116,6 +116,10 @@ fn list_side<W: Write>(
 
 /// Lists the sides of the sheets that a press delivered, in the order of delivery: each line as `print --list` has it, behind the
 /// ID of the entry, and with the number of the sheet among those of the entry.
+///
+/// # Errors
+///
+/// Where a write failed.
 pub fn list_delivered<W: Write>(out: &mut W, sheets: &EntrySheets) -> io::Result<()>
     ensures { OnOk result (Appends (W.contents out.old) (W.contents out.new)
         (entry_listing (entry_deliveries_of (kept sheets.now)))) }

@@ -83,7 +83,7 @@ fn is_regular<T: OpenFile>(file: &T) -> bool {
 ///
 /// # Errors
 ///
-/// `ReadFault` (304) where it cannot be opened; `NoMemory`.
+/// `ReadFault` (304) where it cannot be opened, or the word is no text; `NoMemory`.
 pub fn open_named<I: NamedInputs>(inputs: &I, word: &[u8]) -> Result<I::Input, InputError>
     ensures bytes { IfOk result (λ input. I.Input.remaining input ≡ I.bytes inputs.now word.now) }
     ensures missing { IfErr result (λ error.

@@ -52,7 +52,11 @@ pub fn report<D: Display, E: Teller>(error: &D, err: &mut E) -> u8
     1
 }
 
-/// Writes bytes whole, and flushes; a prefix of them is written where that failed.
+/// Writes bytes whole, and flushes.
+///
+/// # Errors
+///
+/// Where a write or the flush failed. A prefix of the bytes is written then.
 pub fn write_flushed<W: Write>(out: &mut W, bytes: &[u8]) -> io::Result<()>
     ensures { Writes result (W.contents out.old) (W.contents out.new) bytes.now }
 {

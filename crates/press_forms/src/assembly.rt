@@ -70,6 +70,10 @@ impl From<AllocError> for TextError {
 }
 
 /// The bytes of the assembly text that a reader has.
+///
+/// # Errors
+///
+/// 304 where it cannot be read; 401 to 403 of its first line that is none; `NoMemory`.
 pub fn assembled<R: Read>(alloc: Global, reader: &mut R) -> Result<Vec<u8>, TextError>
     ensures ok { IfOk result (λ bytes.
         Assembled (R.remaining reader.old) (R.remaining reader.new) bytes.items) }

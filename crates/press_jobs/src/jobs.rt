@@ -75,7 +75,7 @@ impl From<InputError> for JobFileError {
 ///
 /// # Errors
 ///
-/// 304 where it cannot be read; 601 to 605 where it has no ticket.
+/// 304 where it cannot be read; 601 to 605 where it has no ticket; `NoMemory`.
 pub fn ticket_in<R: Read>(alloc: Global, reader: &mut R) -> Result<Ticket, JobFileError>
     ensures ticket { IfOk result (λ ticket.
         TicketRead (R.remaining reader.old) (R.remaining reader.new) ticket) }
@@ -104,7 +104,8 @@ fn image_named<I: NamedInputs>(
 ///
 /// # Errors
 ///
-/// 304 where an input cannot be opened; 111 to 113 where it has no image; 114 where it cannot be read.
+/// 304 where an input cannot be opened, or its name is no text; 111 to 113 where it has no image; 114 where it cannot be read;
+/// `NoMemory`.
 pub fn images_named<I: NamedInputs>(
     alloc: Global,
     inputs: &I,

@@ -12,6 +12,10 @@ pub const WHAT: &[u8] = b"what?";
 const BETWEEN_WORDS: u8 = b' ';
 
 /// The words of a line: what stands before the first space, between two, and behind the last.
+///
+/// # Errors
+///
+/// Where memory ran out.
 pub fn words_of<'a>(alloc: Global, line: &'a [u8]) -> Result<Vec<&'a [u8]>, AllocError>
     ensures { IfOk result (λ words. map (λ word. word.now) words.items ≡ words_of line.now) }
 {
@@ -51,6 +55,10 @@ pub fn number_word(word: &[u8]) -> Option<u64>
 }
 
 /// The line of a text: the text, and a line feed.
+///
+/// # Errors
+///
+/// Where memory ran out.
 pub fn line_of(alloc: Global, text: &[u8]) -> Result<Vec<u8>, AllocError>
     ensures { IfOk result (λ line. line.items ≡ text.now ++ 10 ∷ []) }
 {
