@@ -18,9 +18,9 @@ use press_stream::{Job, JobError};
 use std::alloc::Global;
 use std::io::{self, Read, Write};
 
-/// Prints the stream that a reader has, and lists its sheets: a line for each side, `sheet 1 front 2550x3300 black 6` (the
-/// number of the sheet from 1, `front` or `back`, width and height in dots, and how many dots are black), and then the
-/// replies. After a fault the sheets before it are listed, and the fault stands on `err`. The answer is the status: 0, or 1
+/// Prints the stream that a reader has, and lists its sheets: a line for each side, and then the replies. In the line
+/// `sheet 1 front 2550x3300 black 6` stand the number of the sheet from 1, `front` or `back`, width and height in dots, and how
+/// many dots are black. After a fault the sheets before it are listed, and the fault stands on `err`. The answer is the status: 0, or 1
 /// after a fault.
 pub fn print_list<R: Read, W: Write, E: Teller>(
     alloc: Global,

@@ -1,6 +1,6 @@
-//! What the program does: it reads a print stream, and lists its sheets, writes them to files, or writes the stream as assembly
-//! text; it makes a stream of assembly text; it steps through a stream, and tells its trace, or makes the page
-//! of a step a file; it writes the job of a ticket; and it has a session with a press.
+//! What the program does. It reads a print stream, and lists its sheets, writes them to files, or writes the stream as assembly
+//! text. It makes a stream of assembly text. It steps through a stream, tells its trace, or makes the page of a step a file. It
+//! writes the job of a ticket, and has a session with a press.
 #![tactic(auto)]
 
 mod making;

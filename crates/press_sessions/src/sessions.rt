@@ -139,11 +139,13 @@ impl From<AllocError> for SessionError {
     }
 }
 
-/// Has a session with a press of so many engines that has no entries: carries out each line of events that a reader has, writes its
-/// answer to `out`, and at the end of the lines the listing, a line for each side that was delivered. The files of a message are opened
-/// by their names. In whatever order the events come, what was delivered under the number of an entry in flight are the sheets of
-/// the steps that were taken of its job, of a completed one all that its ticket wants, of every other one a prefix of those. After a
-/// fault, which stands on `err`, no line is carried out, and nothing is listed. The answer is the status: 0, or 1 after a fault.
+/// Has a session with a press of so many engines that has no entries. Each line of events that a reader has is carried out, and its
+/// answer written to `out`; at the end of the lines stands the listing, a line for each side that was delivered. The files of a
+/// message are opened by their names.
+///
+/// In whatever order the events come, under the number of an entry in flight the sheets of the steps of its job were delivered. Of a
+/// completed one it is all that its ticket wants, of every other one a prefix of those. After a fault, which stands on `err`, no line
+/// is carried out, and nothing is listed. The answer is the status: 0, or 1 after a fault.
 pub fn press_lines<I: NamedInputs, R: Read, W: Write, E: Teller>(
     alloc: Global,
     inputs: &I,

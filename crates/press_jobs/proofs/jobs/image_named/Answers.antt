@@ -1,12 +1,11 @@
-use Rattle.std.proofs.lemmas.Result.{err_from_is_err_and}
+use Rattle.press_units.proofs.ExitLemmas.{exit-is}
 use Rattle.press_files.specs.NamedInputs.{named}
 use Rattle.press_jobs.proofs.JobLemmas.{image-refused, unopened}
 use Rattle.press_jobs.proofs.jobs.image_named.Goals as goal
 
 pub returns-in_err-open_named-clause-refused : goal.returns-in_err-open_named-clause-refused
 returns-in_err-open_named-clause-refused g c =
-    let p = err_from_is_err_and c.from_residual.result c.from_residual.ensures.1 in
-    rw (p.1, p.2) (unopened (named (g.I.NamedInputs.bytes c.args.inputs.now) (g.I.NamedInputs.missing c.args.inputs.now) c.args.name.now) c.in_err-open_named.field-0.0 c.in_err-open_named.ensures.missing)
+    rw (exit-is c.from_residual.ensures.1) (unopened (named (g.I.NamedInputs.bytes c.args.inputs.now) (g.I.NamedInputs.missing c.args.inputs.now) c.args.name.now) c.in_err-open_named.field-0.0 c.in_err-open_named.ensures.missing)
 
 pub returns-clause-refused : goal.returns-clause-refused
 returns-clause-refused g c =

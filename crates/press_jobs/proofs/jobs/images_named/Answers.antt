@@ -1,5 +1,5 @@
 use Rattle.std.proofs.Common.{rules, List, ◌+◌, ◌<◌, length, map, take, subst, inl}
-use Rattle.std.proofs.lemmas.Result.{err_from_is_err_and}
+use Rattle.press_units.proofs.ExitLemmas.{exit-is}
 use Rattle.press_bits.specs.Page.{Page}
 use Rattle.press_jobs.specs.Jobs.{HaveImages}
 use Rattle.press_files.specs.NamedInputs.{named}
@@ -9,8 +9,7 @@ use Rattle.press_jobs.proofs.jobs.images_named.Goals as goal
 pub returns-in_err-image-clause-refused : goal.returns-in_err-image-clause-refused
 returns-in_err-image-clause-refused g c =
     let names = c.args.names.now in
-    let p = err_from_is_err_and c.from_residual.result c.from_residual.ensures.1 in
-    rw (p.1, p.2)
+    rw (exit-is c.from_residual.ensures.1)
     (inl (lacks-an-image (λ name. named (g.I.NamedInputs.bytes c.args.inputs.now) (g.I.NamedInputs.missing c.args.inputs.now) name.now) names c.loop-name.name-index _ c.loop-name.images.items c.in_err-image.field-0.0 c.loop-name-test.true c.loop-name.invariant c.in_err-image.ensures.refused))
 
 pub loop-name-preserved : goal.loop-name-preserved

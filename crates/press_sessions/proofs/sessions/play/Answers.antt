@@ -1,6 +1,7 @@
 -- The session is played from a press at its beginning.
 use Rattle.std.proofs.Common.{sym}
-use Rattle.std.proofs.lemmas.Result.{err_from_is_err_and, on_ok_weaker, IfErr-weaker}
+use Rattle.std.proofs.lemmas.Result.{on_ok_weaker, IfErr-weaker}
+use Rattle.press_units.proofs.ExitLemmas.{exit-is}
 use Rattle.press_sessions.specs.Sessions.{delivered_by}
 use Rattle.press_files.specs.NamedInputs.{named}
 use Rattle.press_sessions.proofs.SessionLemmas.{Plays-listed, Stops-some, Stops-listing, stops-beginning}
@@ -8,15 +9,13 @@ use Rattle.press_sessions.proofs.sessions.play.Goals as goal
 
 pub returns-in_err-session-clause-err : goal.returns-in_err-session-clause-err
 returns-in_err-session-clause-err g c =
-    let p = err_from_is_err_and c.from_residual.result c.from_residual.ensures.1 in
-    rw (p.1, p.2)
+    rw (exit-is c.from_residual.ensures.1)
     (stops-beginning c.args.engines (named (g.I.NamedInputs.bytes c.args.inputs.now) (g.I.NamedInputs.missing c.args.inputs.now)) (g.R.Read.remaining c.args.reader.now) (g.W.Write.contents c.args.out.now) c.in_err-session.field-0.0
     (sym c.in_err-session.ensures.are))
 
 pub returns-in_err-answer_lines-clause-err : goal.returns-in_err-answer_lines-clause-err
 returns-in_err-answer_lines-clause-err g c =
-    let p = err_from_is_err_and c.from_residual-in_err-answer_lines.result c.from_residual-in_err-answer_lines.ensures.1 in
-    rw (p.1, p.2)
+    rw (exit-is c.from_residual-in_err-answer_lines.ensures.1)
     (Stops-some (λ inputs. named (g.I.NamedInputs.bytes inputs.now) (g.I.NamedInputs.missing inputs.now)) (λ talk. talk.inputs) (λ talk. talk.session.press) (λ talk. delivered_by talk.session) c.args.engines _ _ _ _ (g.W.Write.contents c.args.out.now) _
     (sym c.in_ok-session.ensures.are) c.in_ok-session.ensures.press c.in_ok-session.ensures.delivered c.in_err-answer_lines.field-0.0 c.in_err-answer_lines.ensures.err)
 

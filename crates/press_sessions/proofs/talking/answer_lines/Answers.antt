@@ -1,6 +1,7 @@
 use Rattle.std.proofs.Common.{◌∙◌, Bool, [], Ok, refl, sym, subst}
 use Rattle.std.proofs.KnownBytes.{Appends-nil}
 use Rattle.std.proofs.lemmas.Result.{err_from_is_err_and, on_ok_weaker, IfErr-weaker}
+use Rattle.press_units.proofs.ExitLemmas.{exit-is}
 use Rattle.press_sessions.specs.LineReading.{held, GivesLine}
 use Rattle.press_sessions.proofs.LineLemmas.{no-lines, one-line}
 use Rattle.press_sessions.proofs.TalkLemmas.{AnswersLines-one, IsAnswered-begun, IsAnswered-more, IsAnswered-ends, IsAnswered-unread, IsAnswered-stops, IsAnswered-stops_last}
@@ -27,9 +28,8 @@ loop-line-preserved g c =
 
 pub returns-in_err-answer_line-clause-err : goal.returns-in_err-answer_line-clause-err
 returns-in_err-answer_line-clause-err g c =
-    let p = err_from_is_err_and c.from_residual-in_err-answer_line.result c.from_residual-in_err-answer_line.ensures.1 in
     let P : Bool → Type 0 = λ ended. GivesLine (Ok ended) (held c.loop-line.lines) (held c.next.new.self) (g.R.Read.remaining c.loop-line.reader) (g.R.Read.remaining c.next.new.reader) c.next.new.line.items in
-    rw (p.1, p.2)
+    rw (exit-is c.from_residual-in_err-answer_line.ensures.1)
     (IsAnswered-stops g.T.Talk.answers c.args.talk.now _ _ _ (held c.loop-line.lines) c.loop-line.talk _ _ (held c.next.new.self) c.next.new.line.items c.loop-line.invariant.answered _ _ _ (g.W.Write.contents c.answer_line.new.out) c.in_err-answer_line.field-0.0
     (subst P c.if-branch.true c.in_ok-next.ensures.line) (rw c.deref.ensures.value at c.in_err-answer_line.ensures.err))
 

@@ -1,5 +1,5 @@
 use Rattle.std.proofs.Common.{ap, arith}
-use Rattle.std.proofs.lemmas.Result.{err_from_is_err_and}
+use Rattle.press_units.proofs.ExitLemmas.{exit-is}
 use Rattle.press_stream.specs.declared.reading.ReadCount.{ReadCount}
 use Rattle.press_sessions.specs.LineReading.{held}
 use Rattle.press_sessions.proofs.LineLemmas.{gathers-begun, gathers-more, gives-line, gives-last, gives-none, leaves-none}
@@ -10,8 +10,7 @@ loop-self-init g c = record { line = gathers-begun _ _ _ c.clear.ensures.items; 
 
 pub returns-in_err-refill-clause-line : goal.returns-in_err-refill-clause-line
 returns-in_err-refill-clause-line g c =
-    let p = err_from_is_err_and c.from_residual-in_err-refill.result c.from_residual-in_err-refill.ensures.1 in
-    rw (p.1, p.2) (gives-none c.in_err-refill.field-0.0 (held c.args.self.now) _ _ _ c.loop-self.line.items (held c.loop-self.self) (held c.take_line.new.self) _ (held c.refill.new.self) (held c.refill.new.self) _ c.if-not-branch.true c.loop-self.invariant.line c.in_ok-take_line.ensures.line c.in_err-refill.ensures.piece)
+    rw (exit-is c.from_residual-in_err-refill.ensures.1) (gives-none c.in_err-refill.field-0.0 (held c.args.self.now) _ _ _ c.loop-self.line.items (held c.loop-self.self) (held c.take_line.new.self) _ (held c.refill.new.self) (held c.refill.new.self) _ c.if-not-branch.true c.loop-self.invariant.line c.in_ok-take_line.ensures.line c.in_err-refill.ensures.piece)
 
 pub returns-then-not-branch-2-clause-line : goal.returns-then-not-branch-2-clause-line
 returns-then-not-branch-2-clause-line g c =

@@ -1,6 +1,6 @@
 use Rattle.std.proofs.Common.{◌∙◌, ℕ, List, [], ◌∷◌, ◌++◌, Bor, Some, sym, ap, subst, inr}
 use Rattle.std.proofs.lemmas.List.{append-nil}
-use Rattle.std.proofs.lemmas.Result.{err_from_is_err_and}
+use Rattle.press_units.proofs.ExitLemmas.{exit-is}
 use Rattle.press_core.specs.Events.{Message, Response}
 use Rattle.press_jobs.specs.Jobs.{HaveImages, ImagesRefused}
 use Rattle.press_sessions.specs.Sessions.{delivered_by}
@@ -12,8 +12,7 @@ pub returns-in_err-images-clause-err : goal.returns-in_err-images-clause-err
 returns-in_err-images-clause-err g c =
     let input = named (g.I.NamedInputs.bytes c.args.inputs.now) (g.I.NamedInputs.missing c.args.inputs.now) in
     let now : Bor (List ℕ) → List ℕ = λ name. name.now in
-    let p = err_from_is_err_and c.from_residual-in_err-images.result c.from_residual-in_err-images.ensures.1 in
-    rw (p.1, p.2)
+    rw (exit-is c.from_residual-in_err-images.ensures.1)
     (inr (
       c.in_ok-text.text.items,
       (_, rw c.in_ok-input.ensures.bytes at c.in_ok-text.ensures),
