@@ -1,10 +1,11 @@
 -- A text, assembled line by line.
-use Rattle.std.proofs.Common.{◌≡◌, ◌∙◌, ◌<◌, ◌+◌, ℕ, List, [], ◌∷◌, ◌++◌, Bool, true, false, cond, not, length, take, drop, refl, sym, ap, subst, inl, inr, arith, append_assoc, append-nil, length-append, length-drop, suc}
+use Rattle.std.proofs.Common.{◌≡◌, ◌∙◌, ◌<◌, ◌+◌, ℕ, List, [], ◌∷◌, ◌++◌, Bool, true, false, cond, not, length, take, drop}
+use Rattle.std.proofs.Common.{refl, sym, ap, subst, inl, inr, arith, append_assoc, append-nil, length-append, length-drop, suc}
 use Rattle.std.specs.Prelude.{◌⊎◌}
 use Rattle.std.specs.List.{before_first, after_first, position_or_len}
 use Rattle.press_cmd.specs.Token.{Token, bytes_of}
 use Rattle.press_asm.specs.Form.{IsBadLine, IsBadValue, IsBadData}
-use Rattle.press_asm.specs.Text.{is_feed, in_front, lines_of, all_bytes, LinesGive, Assembles, IsFirst, Refuses}
+use Rattle.press_asm.specs.Text.{is_feed, in_front, lines_of, all_bytes, LinesGive, IsFirst, Refuses}
 use Rattle.press_asm.specs.Judged.{HasLineFault, LineAdds, error_at}
 use Rattle.press_asm.specs.declared.fault.LineFault.{LineFault}
 use Rattle.press_asm.specs.declared.fault.LineFault.TheVariants.{Line, Value, Data, NoMemory}

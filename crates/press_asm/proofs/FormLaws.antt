@@ -1,5 +1,6 @@
 -- A line has the form that is read from its left, and no other.
-use Rattle.std.proofs.Common.{◌≡◌, ◌∙◌, ◌<◌, ◌≤◌, ◌+◌, ◌-◌, ◌&&◌, ℕ, List, [], ◌∷◌, ◌++◌, Bool, true, false, cond, not, length, get_or, take, drop, reverse, position, eqb, nat_lt, refl, sym, ap, subst, inl, inr, arith, append-nil}
+use Rattle.std.proofs.Common.{◌≡◌, ◌∙◌, ◌<◌, ◌≤◌, ◌+◌, ◌-◌, ◌&&◌, ℕ, List, [], ◌∷◌, ◌++◌, Bool, true, false, cond, not, length}
+use Rattle.std.proofs.Common.{get_or, take, drop, reverse, position, eqb, nat_lt, refl, sym, ap, subst, inl, inr, arith, append-nil}
 use Rattle.std.specs.Prelude.{codes, bytes_eq, Option, Some, None, Result, Ok, Err, option_to_list, option_and_then, ◌⊎◌}
 use Rattle.std.specs.Option.{ForSome}
 use Rattle.std.specs.List.{list_all, position_or_len}
@@ -15,7 +16,8 @@ use Rattle.hex.proofs.HexLemmas.{decode_of-ok, decode_sized-twice, decode_sized-
 use Rattle.press_cmd.specs.Grammar.{IsCharacter, IsGroup, IsEnd, IsControl, IsText}
 use Rattle.press_cmd.proofs.ByteTests.{range-true, range-from, range-below}
 use Rattle.press_asm.specs.Form.{Form, Blank, ExitForm, EscapeForm, ParamForm, ControlForm, TextForm, ForeignForm, BrokenForm, LineForm, is_space, is_no_space, word, spaced, IsWord, Spells, HasForm}
-use Rattle.press_asm.specs.Reading.{are_digits, only_byte, byte_of, escape_in, control_form, text_form, foreign_form, split_group, param_ending, word_in, param_at, param_in, broken_in, line_in, named_in, is_blank, form_of}
+use Rattle.press_asm.specs.Reading.{are_digits, only_byte, byte_of, escape_in, control_form, text_form, foreign_form, split_group}
+use Rattle.press_asm.specs.Reading.{param_ending, word_in, param_at, param_in, broken_in, line_in, named_in, is_blank, form_of}
 
 -- ---- the first space
 
@@ -246,7 +248,9 @@ grouped_word : (c b : ℕ) (rest d : List ℕ) (form : Form) (t : Bool) → is_i
     param_ending (bytes_eq (c ∷ b ∷ rest) (codes "%-12345X")) c s.0 (reverse s.1) d ≡ Some form)
     → WordRead (c ∷ b ∷ rest) d form
 grouped_word c b rest d form true is later plain h =
-    ended c (Some b) rest (reverse rest) d (c ∷ b ∷ rest) form refl refl (λ x e. let same : b ≡ x = cc e in let P : ℕ → Type 0 = λ y. IsGroup y in subst P same (range-true 96 126 b is)) (λ f e cut byte later none. absurd (cc none)) later h
+    ended c (Some b) rest (reverse rest) d (c ∷ b ∷ rest) form refl refl
+    (λ x e. let same : b ≡ x = cc e in let P : ℕ → Type 0 = λ y. IsGroup y in subst P same (range-true 96 126 b is))
+    (λ f e cut byte later none. absurd (cc none)) later h
 grouped_word c b rest d form false is later plain h =
     ended c None (b ∷ rest) (reverse (b ∷ rest)) d (c ∷ b ∷ rest) form refl refl (λ x e. absurd (cc e)) (λ f e cut byte later none. first_group f e b rest later cut is byte) plain h
 

@@ -1,3 +1,4 @@
+-- The lemmas on assembly text: its lines, and the forms of the commands.
 pub mod FormRead
 pub mod Digits
 pub mod ParamLine

@@ -1,3 +1,4 @@
+-- The definitions of assembly text: its lines, the commands that they stand for, and the bytes of these.
 pub mod Faults
 pub mod Form
 pub mod Text

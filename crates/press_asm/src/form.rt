@@ -5,7 +5,7 @@ ghost use Rattle.std.specs.List.{list_all};
 ghost use Rattle.hex.specs.Hex.{is_hex_digit};
 ghost use Rattle.press_cmd.specs.Grammar.{IsGroup};
 ghost use Rattle.press_asm.specs.Form.{is_space};
-ghost use Rattle.press_asm.specs.Reading.{are_digits, byte_of, escape_in, control_form, text_form, param_in, param_at, word_in};
+ghost use Rattle.press_asm.specs.Reading.{are_digits, byte_of, escape_in, control_form, text_form, param_in, word_in};
 ghost use Rattle.press_asm.specs.Reading.{split_group, named_in, form_of, is_blank};
 ghost use Rattle.press_asm.specs.View.{form_seen};
 

@@ -1,5 +1,6 @@
 -- Blocks whose lines and columns are exchanged by six steps.
-use Rattle.std.proofs.Common.{◌≡◌, ℕ, zero, suc, ◌+◌, ◌-◌, ◌*◌, ◌/◌, ◌%◌, ◌^◌, ◌<◌, ◌≤◌, ◌≢◌, ◌⊎◌, Bool, true, false, ◌&&◌, ◌||◌, not, List, length, get_or, set, w64, refl, sym, ap, ◌∙◌, inl, inr, arith}
+use Rattle.std.proofs.Common.{◌≡◌, ℕ, zero, suc, ◌+◌, ◌-◌, ◌*◌, ◌/◌, ◌%◌, ◌^◌, ◌<◌, ◌≤◌, ◌≢◌, ◌⊎◌, Bool, true, false}
+use Rattle.std.proofs.Common.{◌&&◌, ◌||◌, not, List, length, get_or, set, w64, refl, sym, ap, ◌∙◌, inl, inr, arith}
 use Rattle.std.specs.Prelude.{nat_eq, nat_lt, bit_and, bit_or, if◌then◌else◌}
 use Rattle.std.proofs.lemmas.Bool.{cases_eq, cases_lt, true≢false}
 use Rattle.std.proofs.lemmas.Bool.Decides.{nat_tests}
@@ -156,7 +157,8 @@ module _ (step fronts : ℕ) (is : IsStep step fronts) (front rear j : ℕ) (low
             ∙ or_none (word_dot front j) false refl
             ∙ chosen_front (is_front step j) (word_dot front j) (word_dot rear (j - step)) test
         | inr test ↦
-            none_or (word_dot (bit_and front fronts) j) (word_dot (bit_and rear fronts / 2 ^ step) j) (word_dot-and front fronts j ∙ and_false (word_dot front j) (word_dot fronts j) (is.mask j low ∙ test))
+            none_or (word_dot (bit_and front fronts) j) (word_dot (bit_and rear fronts / 2 ^ step) j)
+            (word_dot-and front fronts j ∙ and_false (word_dot front j) (word_dot fronts j) (is.mask j low ∙ test))
             ∙ shifted_right (bit_and rear fronts) step j ((is.rear j low test).0) low
             ∙ word_dot-and rear fronts (j - step)
             ∙ and_true (word_dot rear (j - step)) (word_dot fronts (j - step)) (is.mask (j - step) (omega arith) ∙ (is.rear j low test).1)
@@ -186,7 +188,9 @@ module _ (step fronts : ℕ) (is : IsStep step fronts) (front rear j : ℕ) (low
             ∙ shifted_left (bit_and front (bit_not w64 fronts)) step j within
             ∙ ap (word_dot (bit_and front (bit_not w64 fronts))) place
             ∙ word_dot-and front (bit_not w64 fronts) (j + step)
-            ∙ and_true (word_dot front (j + step)) (word_dot (bit_not w64 fronts) (j + step)) (word_dot-not fronts (j + step) is.fits (is.front j low test).0 ∙ ap not (is.mask (j + step) (is.front j low test).0 ∙ (is.front j low test).1))
+            ∙ and_true (word_dot front (j + step)) (word_dot (bit_not w64 fronts) (j + step))
+            (word_dot-not fronts (j + step) is.fits (is.front j low test).0
+            ∙ ap not (is.mask (j + step) (is.front j low test).0 ∙ (is.front j low test).1))
             ∙ chosen_front (is_front step j) (word_dot front (j + step)) (word_dot rear j) test
         | inr test ↦
             none_or (word_dot (bit_and front (bit_not w64 fronts) * 2 ^ step % 2 ^ 64) j) (word_dot (bit_and rear (bit_not w64 fronts)) j) (early test)
@@ -203,7 +207,8 @@ module _ (step fronts : ℕ) (is : IsStep step fronts) (front rear j : ℕ) (low
                 shifted_left (bit_and front (bit_not w64 fronts)) step j (omega (arith, within))
                 ∙ ap (word_dot (bit_and front (bit_not w64 fronts))) place
                 ∙ word_dot-and front (bit_not w64 fronts) (j + step)
-                ∙ and_false (word_dot front (j + step)) (word_dot (bit_not w64 fronts) (j + step)) (word_dot-not fronts (j + step) is.fits within ∙ ap not (is.mask (j + step) within ∙ is.behind_rear j low test))
+                ∙ and_false (word_dot front (j + step)) (word_dot (bit_not w64 fronts) (j + step))
+                (word_dot-not fronts (j + step) is.fits within ∙ ap not (is.mask (j + step) within ∙ is.behind_rear j low test))
             | inr past ↦ white_behind (bit_and front (bit_not w64 fronts)) step j low (omega (arith, past))
           ]
 
@@ -299,11 +304,17 @@ module _ (step fronts : ℕ) (old words : List ℕ) (line front rear : ℕ) (is 
         | inl at ↦
             sym (chosen_front (is_front step j) (word_dot (get_or words line 0) j) (word_dot (get_or words (line + step) 0) (j - step)) at)
             ∙ front_old j low_j
-            ∙ (λ t. block_dot old (if sym test t then (if sym at t then line else line + step) else (if is_front step j then line - step else line)) (if sym test t then (if sym at t then j else j - step) else (if is_front step j then j + step else j)))
+            ∙ (λ t.
+            block_dot old
+            (if sym test t then (if sym at t then line else line + step) else (if is_front step j then line - step else line))
+            (if sym test t then (if sym at t then j else j - step) else (if is_front step j then j + step else j)))
         | inr at ↦
             sym (chosen_rear (is_front step j) (word_dot (get_or words line 0) j) (word_dot (get_or words (line + step) 0) (j - step)) at)
             ∙ rear_old (j - step) (omega (arith, low_j))
-            ∙ (λ t. block_dot old (if sym test t then (if sym at t then line else line + step) else (if is_front step j then line - step else line)) (if sym test t then (if sym at t then j else j - step) else (if is_front step j then j + step else j)))
+            ∙ (λ t.
+            block_dot old
+            (if sym test t then (if sym at t then line else line + step) else (if is_front step j then line - step else line))
+            (if sym test t then (if sym at t then j else j - step) else (if is_front step j then j + step else j)))
       ]
 
   rear_next : (j : ℕ) → j < 64 → word_dot rear j ≡ block_dot old (line_from step (line + step) j) (dot_from step (line + step) j)
@@ -315,11 +326,21 @@ module _ (step fronts : ℕ) (old words : List ℕ) (line front rear : ℕ) (is 
             sym (chosen_front (is_front step j) (word_dot (get_or words line 0) (j + step)) (word_dot (get_or words (line + step) 0) j) at)
             ∙ front_old (j + step) ((is.front j low_j at).0)
             ∙ ap (λ l. block_dot old l (j + step)) back
-            ∙ (λ t. block_dot old (if sym pair t then (if is_front step j then line + step else line + step + step) else (if sym at t then line + step - step else line + step)) (if sym pair t then (if is_front step j then j else j - step) else (if sym at t then j + step else j)))
+            ∙ (λ t.
+            block_dot old
+            (if sym pair t
+            then (if is_front step j then line + step else line + step + step)
+            else (if sym at t then line + step - step else line + step))
+            (if sym pair t then (if is_front step j then j else j - step) else (if sym at t then j + step else j)))
         | inr at ↦
             sym (chosen_rear (is_front step j) (word_dot (get_or words line 0) (j + step)) (word_dot (get_or words (line + step) 0) j) at)
             ∙ rear_old j low_j
-            ∙ (λ t. block_dot old (if sym pair t then (if is_front step j then line + step else line + step + step) else (if sym at t then line + step - step else line + step)) (if sym pair t then (if is_front step j then j else j - step) else (if sym at t then j + step else j)))
+            ∙ (λ t.
+            block_dot old
+            (if sym pair t
+            then (if is_front step j then line + step else line + step + step)
+            else (if sym at t then line + step - step else line + step))
+            (if sym pair t then (if is_front step j then j else j - step) else (if sym at t then j + step else j)))
       ]
 
   pub exchanged_more : IsExchanged step old next (line + 1)
@@ -327,7 +348,9 @@ module _ (step fronts : ℕ) (old words : List ℕ) (line front rear : ℕ) (is 
       elim (cases_eq i line) [
         | inl here ↦
             ap (λ k. block_dot next k j) here
-            ∙ ap (λ w. word_dot w j) (get_or-set_other (set words line front) (line + step) line rear 0 (λ same. absurd (omega (arith, same, is.some))) ∙ get_or-set_same words line front 0 (omega (arith, long)))
+            ∙ ap (λ w. word_dot w j)
+            (get_or-set_other (set words line front) (line + step) line rear 0 (λ same. absurd (omega (arith, same, is.some)))
+            ∙ get_or-set_same words line front 0 (omega (arith, long)))
             ∙ front_next j low_j
             ∙ done_front (is_front step line) line step _ (block_dot old line j) test
             ∙ ap (λ k. if is_done step (line + 1) k then block_dot old (line_from step k j) (dot_from step k j) else block_dot old k j) (sym here)
@@ -395,7 +418,8 @@ all_pairs step fronts pair is all =
 
 -- ---- six steps
 
--- A block after the steps down to squares of so many: the places of its dots within these are as they were, and the squares have changed places.
+-- A block after the steps down to squares of so many: the places of its dots within these are as they were, and the squares have changed
+-- places.
 abbrev pub IsTurnedDown : (size : ℕ) → (old words : List ℕ) → Type 0
 IsTurnedDown size old words = (i j : ℕ) → i < 64 → j < 64 → block_dot words i j ≡ block_dot old (j / size * size + i % size) (i / size * size + j % size)
 

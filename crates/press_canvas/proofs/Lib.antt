@@ -1,3 +1,4 @@
+-- The lemmas on pages that are turned.
 pub mod TurnedLemmas
 pub mod BlockLemmas
 pub mod LineLemmas

@@ -95,12 +95,18 @@ next_white o w h frame page n x before left above =
     ∙ no_line n (turned_dot o w h frame x n)
 
 -- a white line takes the place of a white line
-pub white_line : (page : Page) (y : ℕ) (bits : ℕ → Bool) → HasNoDotOutside page → ((x : ℕ) → x < page.width → y < page.height → black_at page x y ≡ false) → ((x : ℕ) → x < page.width → bits x ≡ false) →
+pub white_line : (page : Page) (y : ℕ) (bits : ℕ → Bool) → HasNoDotOutside page
+    → ((x : ℕ) → x < page.width → y < page.height → black_at page x y ≡ false) → ((x : ℕ) → x < page.width → bits x ≡ false) →
     page ≡ with_line page y bits
 white_line page y bits none clear white =
     sym (page_where_itself page none)
     ∙ page_where_alike page.width page.height (black_at page) (λ x n. if nat_eq n y then bits x else black_at page x n)
-    (λ x n left above. kept (nat_eq n y) (black_at page x n) (bits x) (λ test. ap (black_at page x) (equal_of n y test) ∙ clear x left (subst (λ m. m < page.height) (equal_of n y test) above) ∙ sym (white x left)))
+    (λ x n left above.
+    kept (nat_eq n y) (black_at page x n) (bits x)
+    (λ test.
+    ap (black_at page x) (equal_of n y test)
+    ∙ clear x left (subst (λ m. m < page.height) (equal_of n y test) above)
+    ∙ sym (white x left)))
   where
     kept : (test a b : Bool) → (test ≡ true → a ≡ b) → a ≡ (if test then b else a)
     kept true a b same = same refl

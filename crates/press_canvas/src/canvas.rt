@@ -1,6 +1,6 @@
 //! The page that marks are made on.
 
-ghost use Rattle.std.specs.Prelude.{◌≡◌, true, option_map, IfOk, IfSome, OnOk, OnErr};
+ghost use Rattle.std.specs.Prelude.{◌≡◌, true, IfOk, IfSome};
 ghost use Rattle.std.specs.Borrow.{Lends, sem};
 ghost use Rattle.press_bits.specs.Page.{blank, is_page_size};
 ghost use Rattle.press_canvas.specs.Turned.{frame_page};

@@ -1,6 +1,6 @@
 //! Frames whose columns are lines of the page.
 
-ghost use Rattle.std.specs.Prelude.{◌≡◌, ℕ, ◌+◌, ◌*◌, ◌%◌, ◌<◌, ◌≤◌, false, not, length, IfOk, OnOk};
+ghost use Rattle.std.specs.Prelude.{◌≡◌, ℕ, ◌+◌, ◌*◌, ◌%◌, ◌<◌, ◌≤◌, false, not, length, OnOk};
 ghost use Rattle.press_bits.specs.Page.{black_at, blank};
 ghost use Rattle.press_canvas.specs.Strip.{across, place_at, strip_dot, with_column};
 ghost use Rattle.press_canvas.specs.Turned.{page_of_frame};

@@ -1,6 +1,6 @@
 //! Strips of a frame: sixty-four columns of it as lines.
 
-ghost use Rattle.std.specs.Prelude.{◌≡◌, ℕ, ◌+◌, ◌*◌, ◌/◌, ◌%◌, ◌<◌, ◌≤◌, nat_eq, if◌then◌else◌, length};
+ghost use Rattle.std.specs.Prelude.{◌≡◌, ℕ, ◌+◌, ◌*◌, ◌/◌, ◌%◌, ◌<◌, nat_eq, if◌then◌else◌, length};
 ghost use Rattle.press_bits.specs.Bands.{band_lines};
 ghost use Rattle.press_canvas.specs.Block.{block_dot};
 ghost use Rattle.press_canvas.specs.Strip.{column_dot, strip_dot, strip_dots};

@@ -1,10 +1,10 @@
 //! Frames that are turned into the physical page (PCL 5 Printer Language Technical Reference Manual, the PCL coordinate system
 //! and Logical Page Orientation command).
 
-ghost use Rattle.std.specs.Prelude.{◌≡◌, ℕ, ◌≤◌, true, IfOk, OnOk};
+ghost use Rattle.std.specs.Prelude.{◌≡◌, true, IfOk, OnOk};
 ghost use Rattle.press_bits.specs.Page.{blank, is_page_size};
 ghost use Rattle.press_page.specs.PageSetup.{turned};
-ghost use Rattle.press_canvas.specs.Turned.{extent, page_of_frame, upright};
+ghost use Rattle.press_canvas.specs.Turned.{page_of_frame, upright};
 
 use crate::columns::put_columns;
 use crate::lines::{place_at, put_row};

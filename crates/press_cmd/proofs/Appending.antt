@@ -19,7 +19,8 @@ prefix-append_tried true prefix one more mid all before after = prefix-append pr
 prefix-append_tried false prefix one more mid all before after = prefix-append prefix one all (after ∙ before)
 
 -- where it was appended, it stands behind the others
-pub OnOk-append_tried : {T E : Type 0} (r : Result T E) (prefix one more mid all whole : List ℕ) → mid ≡ prefix ++ one → all ≡ (if is_ok r then mid ++ more else mid) → one ++ more ≡ whole → OnOk r (all ≡ prefix ++ whole)
+pub OnOk-append_tried : {T E : Type 0} (r : Result T E) (prefix one more mid all whole : List ℕ) → mid ≡ prefix ++ one
+    → all ≡ (if is_ok r then mid ++ more else mid) → one ++ more ≡ whole → OnOk r (all ≡ prefix ++ whole)
 OnOk-append_tried (Ok _) prefix one more mid all whole before after is = append-more prefix one more mid all before after ∙ ap (λ xs. prefix ++ xs) is
 OnOk-append_tried (Err _) prefix one more mid all whole before after is = tt
 

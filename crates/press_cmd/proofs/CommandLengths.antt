@@ -1,5 +1,6 @@
 -- How many bytes a command has at most.
-use Rattle.std.proofs.Common.{◌≡◌, ◌≤◌, ◌/◌, ℕ, zero, suc, pos, neg_ℤ, List, [], ◌∷◌, ◌++◌, length, Bool, true, false, cond, min, Option, Some, None, refl, ap, inl, inr, arith, length-append, nat_le, lit≤}
+use Rattle.std.proofs.Common.{◌≡◌, ◌≤◌, ◌/◌, ℕ, zero, suc, pos, neg_ℤ, List, [], ◌∷◌, ◌++◌, length, Bool, true, false}
+use Rattle.std.proofs.Common.{cond, min, Option, Some, None, refl, ap, inl, inr, arith, length-append, nat_le, lit≤}
 use Rattle.std.proofs.lemmas.Bool.{and_parts, leb-true, le-leb}
 use Rattle.std.proofs.Math.Bool.{Bool-set}
 use mathlib.Core.Logic.{∥∥₁_elim}

@@ -53,6 +53,7 @@ module _ (c : ℕ) (g : Option ℕ) (f : List ℕ) (e : ℕ) (d text : List ℕ)
     λ h. absurd (false≢true (other ∙ (bytes_eq-Decides f text).1 ((exit_param c g f e d no_group class h).field ∙ sym is_text))),
   )
 
-pub other_end : (c : ℕ) (g : Option ℕ) (f : List ℕ) (e : ℕ) (d : List ℕ) → is_some g ≡ false → IsEnd e → (answer : Bool) → answer ≡ false → (e ≡ 88 → ⊥) → IsTrue answer ↔ (bytes_of (param_of c g f e d) ≡ uel)
+pub other_end : (c : ℕ) (g : Option ℕ) (f : List ℕ) (e : ℕ) (d : List ℕ) → is_some g ≡ false → IsEnd e → (answer : Bool) → answer ≡ false
+    → (e ≡ 88 → ⊥) → IsTrue answer ↔ (bytes_of (param_of c g f e d) ≡ uel)
 other_end c g f e d no_group class answer never other =
     (λ yes. absurd (false≢true (sym never ∙ yes)), λ h. absurd (other (exit_param c g f e d no_group class h).end))

@@ -112,7 +112,8 @@ stands_exit-differs u v (Escape b) n h w = absurd h
 stands_exit-differs u v _ n h w = absurd h
 
 -- the bytes are scanned in the same mode
-exit_same-at : (u v w : List ℕ) (t : Token) (n : ParserState) (d : Bool) → differs pjl_mark (u ++ v) ≡ d → Stands (cond d Pcl Exit) u v t n → cond d Pcl Exit ≡ cond (differs pjl_mark (u ++ (v ++ w))) Pcl Exit
+exit_same-at : (u v w : List ℕ) (t : Token) (n : ParserState) (d : Bool) → differs pjl_mark (u ++ v) ≡ d → Stands (cond d Pcl Exit) u v t n
+    → cond d Pcl Exit ≡ cond (differs pjl_mark (u ++ (v ++ w))) Pcl Exit
 exit_same-at u v w t n true e h =
     let more : differs pjl_mark (u ++ (v ++ w)) ≡ true = ap (differs pjl_mark) (sym (append_assoc u v w)) ∙ differs-more pjl_mark (u ++ v) w e in
     ap (λ x. cond x Pcl Exit) (sym more)

@@ -1,3 +1,4 @@
+-- The lemmas on commands: how they are read, split and stored.
 pub mod Reading
 pub mod ByteTests
 pub mod ReadWhole

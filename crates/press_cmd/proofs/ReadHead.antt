@@ -51,7 +51,8 @@ line-stripped : (u v : List ℕ) (is : IsPjlLine u) → stripped pjl_mark (u ++ 
 line-stripped u v is =
     ap (λ w. stripped pjl_mark (w ++ v)) is.spelled ∙ ap (stripped pjl_mark) (append_assoc is.prefix (10 ∷ []) v) ∙ begins-stripped is.prefix (10 ∷ v) is.begins
 
-exit-reads : (u v : List ℕ) (t : Token) (n : ParserState) (rest : List ℕ) → stripped pjl_mark (u ++ v) ≡ Some rest → read_line pjl_mark rest ≡ Found t n v → read_after_mark (stripped pjl_mark (u ++ v)) ≡ Found t n v
+exit-reads : (u v : List ℕ) (t : Token) (n : ParserState) (rest : List ℕ) → stripped pjl_mark (u ++ v) ≡ Some rest
+    → read_line pjl_mark rest ≡ Found t n v → read_after_mark (stripped pjl_mark (u ++ v)) ≡ Found t n v
 exit-reads u v t n rest e h = ap read_after_mark e ∙ h
 
 foreign-reads : (b : ℕ) (v : List ℕ) → differs uel (b ∷ v) ≡ true → read_foreign (stripped uel (b ∷ v)) (differs uel (b ∷ v)) b v ≡ Found (ForeignByte b) OtherLanguage v
@@ -153,7 +154,8 @@ pcl-breaks Exit is u v t n e m h = absurd is
 pcl-breaks OverlongLine is u v t n e m h = absurd is
 pcl-breaks OtherLanguage is u v t n e m h = absurd is
 
-pcl-stood : (k : ParserState) → OfPcl k → (x : List ℕ) (t : Token) (n : ParserState) (left : List ℕ) → ((b : ℕ) (y : List ℕ) → x ≡ b ∷ y → EndsOpen k b → ⊥) → read_on (start k) x ≡ Found t n left → Stood k x t n left
+pcl-stood : (k : ParserState) → OfPcl k → (x : List ℕ) (t : Token) (n : ParserState) (left : List ℕ)
+    → ((b : ℕ) (y : List ℕ) → x ≡ b ∷ y → EndsOpen k b → ⊥) → read_on (start k) x ≡ Found t n left → Stood k x t n left
 pcl-stood k is x t n left live h =
     let g = gave k [] (start k) x t n left (walked_none k is) (λ _. live) h in
     record {

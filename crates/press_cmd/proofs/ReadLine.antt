@@ -114,7 +114,8 @@ pub record GaveLine (prefix x : List ℕ) (t : Token) (n : ParserState) (left : 
 begins-more : (prefix : List ℕ) (b : ℕ) → BeginsLine prefix → is_line_byte b ≡ true → BeginsLine (prefix ++ (b ∷ []))
 begins-more prefix b is plain = record { text = is.text ++ (b ∷ []); mark = ap (λ w. w ++ (b ∷ [])) is.mark; plain = plain-snoc is.text b is.plain plain }
 
-full-line-at : (prefix : List ℕ) (b : ℕ) (x : List ℕ) (t : Token) (n : ParserState) (left : List ℕ) (full : Bool) → BeginsLine prefix → length prefix < longest_line → is_line_byte b ≡ true → is_full prefix ≡ full
+full-line-at : (prefix : List ℕ) (b : ℕ) (x : List ℕ) (t : Token) (n : ParserState) (left : List ℕ) (full : Bool) → BeginsLine prefix
+    → length prefix < longest_line → is_line_byte b ≡ true → is_full prefix ≡ full
     → cond full (Found (Broken (prefix ++ (b ∷ []))) OverlongLine x) (read_line (prefix ++ (b ∷ [])) x) ≡ Found t n left
     → (BeginsLine (prefix ++ (b ∷ [])) → length (prefix ++ (b ∷ [])) < longest_line → read_line (prefix ++ (b ∷ [])) x ≡ Found t n left → GaveLine (prefix ++ (b ∷ [])) x t n left)
     → GaveLine prefix (b ∷ x) t n left
@@ -134,7 +135,8 @@ full-line-at prefix b x t n left false is short plain full h ih =
     let g = ih (begins-more prefix b is plain) below h in
     record { used = b ∷ g.used; cut = ap (λ y. b ∷ y) g.cut; what = subst (λ (y : List ℕ). Stands Exit y left t n) (append_assoc prefix (b ∷ []) g.used) g.what }
 
-escape-line-at : (prefix : List ℕ) (b : ℕ) (x : List ℕ) (t : Token) (n : ParserState) (left : List ℕ) (escape : Bool) → BeginsLine prefix → length prefix < longest_line → is_feed b ≡ false → is_escape b ≡ escape
+escape-line-at : (prefix : List ℕ) (b : ℕ) (x : List ℕ) (t : Token) (n : ParserState) (left : List ℕ) (escape : Bool) → BeginsLine prefix
+    → length prefix < longest_line → is_feed b ≡ false → is_escape b ≡ escape
     → cond escape (Found (Broken prefix) Exit (b ∷ x)) (cond (is_full prefix) (Found (Broken (prefix ++ (b ∷ []))) OverlongLine x) (read_line (prefix ++ (b ∷ [])) x)) ≡ Found t n left
     → (BeginsLine (prefix ++ (b ∷ [])) → length (prefix ++ (b ∷ [])) < longest_line → read_line (prefix ++ (b ∷ [])) x ≡ Found t n left → GaveLine (prefix ++ (b ∷ [])) x t n left)
     → GaveLine prefix (b ∷ x) t n left

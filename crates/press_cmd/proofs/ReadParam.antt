@@ -13,7 +13,8 @@ field-take [] = refl
 field-take (byte ∷ bytes) = at (is_past_field byte) (field-take bytes)
   where
     at : (past : Bool) → take (position_or_len is_past_field bytes) bytes ≡ (field_split bytes).0
-        → take (cond (not past) (1 + position_or_len is_past_field bytes) 0) (byte ∷ bytes) ≡ (cond {A = List ℕ × List ℕ} past ([], byte ∷ bytes) (byte ∷ (field_split bytes).0, (field_split bytes).1)).0
+        → take (cond (not past) (1 + position_or_len is_past_field bytes) 0) (byte ∷ bytes)
+        ≡ (cond {A = List ℕ × List ℕ} past ([], byte ∷ bytes) (byte ∷ (field_split bytes).0, (field_split bytes).1)).0
     at true rest = refl
     at false rest =
         let one : 1 + position_or_len is_past_field bytes ≡ suc (position_or_len is_past_field bytes) = omega arith in
@@ -24,7 +25,8 @@ field-drop [] = refl
 field-drop (byte ∷ bytes) = at (is_past_field byte) (field-drop bytes)
   where
     at : (past : Bool) → drop (position_or_len is_past_field bytes) bytes ≡ (field_split bytes).1
-        → drop (cond (not past) (1 + position_or_len is_past_field bytes) 0) (byte ∷ bytes) ≡ (cond {A = List ℕ × List ℕ} past ([], byte ∷ bytes) (byte ∷ (field_split bytes).0, (field_split bytes).1)).1
+        → drop (cond (not past) (1 + position_or_len is_past_field bytes) 0) (byte ∷ bytes)
+        ≡ (cond {A = List ℕ × List ℕ} past ([], byte ∷ bytes) (byte ∷ (field_split bytes).0, (field_split bytes).1)).1
     at true rest = refl
     at false rest =
         let one : 1 + position_or_len is_past_field bytes ≡ suc (position_or_len is_past_field bytes) = omega arith in
@@ -46,7 +48,8 @@ stands (b ∷ bytes) (suc n) byte rest h =
     let s = stands bytes n byte rest h in
     record { within = omega (arith, s.within); is = s.is; behind = s.behind }
 
-parameter-sound : (character : ℕ) (group : Option ℕ) (field : List ℕ) (end : ℕ) (payload : List ℕ) → IsSound (param_of character group field end payload) → IsParameter character group field end payload
+parameter-sound : (character : ℕ) (group : Option ℕ) (field : List ℕ) (end : ℕ) (payload : List ℕ)
+    → IsSound (param_of character group field end payload) → IsParameter character group field end payload
 parameter-sound character None field end payload is = is
 parameter-sound character (Some group) field end payload is = is
 
@@ -73,7 +76,8 @@ ended-at character group bytes n field (end ∷ payload) prefix back is sound =
       is = rw (prefix, s.is, behind) is;
     }
 
-pub ended : (character : ℕ) (group : Option ℕ) (bytes : List ℕ) (n : ℕ) → n ≡ position_or_len is_past_field bytes → IsSound (ending (param_of character group) (field_split bytes)) → Ended character group bytes n
+pub ended : (character : ℕ) (group : Option ℕ) (bytes : List ℕ) (n : ℕ) → n ≡ position_or_len is_past_field bytes
+    → IsSound (ending (param_of character group) (field_split bytes)) → Ended character group bytes n
 ended character group bytes n is sound =
     ended-at character group bytes n (field_split bytes).0 (field_split bytes).1
     (ap (λ k. take k bytes) is ∙ field-take bytes) (ap (λ k. drop k bytes) is ∙ field-drop bytes) refl sound

@@ -1,5 +1,6 @@
 -- What has been read in a state, and what one more byte makes of it.
-use Rattle.std.proofs.Common.{◌≡◌, ◌≤◌, ◌+◌, ◌-◌, ◌∙◌, ℕ, zero, suc, List, [], ◌∷◌, ◌++◌, length, Bool, true, false, cond, Some, None, refl, sym, ap, subst, inl, inr, arith, append_assoc, length-append, eqb, ◌||◌, ◌&&◌}
+use Rattle.std.proofs.Common.{◌≡◌, ◌≤◌, ◌+◌, ◌-◌, ◌∙◌, ℕ, zero, suc, List, [], ◌∷◌, ◌++◌, length, Bool, true, false, cond}
+use Rattle.std.proofs.Common.{Some, None, refl, sym, ap, subst, inl, inr, arith, append_assoc, length-append, eqb, ◌||◌, ◌&&◌}
 use Rattle.std.specs.List.{list_any}
 use Rattle.std.proofs.lemmas.Bool.{or_from, or_right, eqb-true, true≢false}
 use Rattle.std.proofs.lemmas.Slice.Eq.{bytes_eq-Decides}
@@ -10,7 +11,9 @@ use Rattle.press_cmd.specs.Token.{Token, Grouped, Broken, uel, escape_byte}
 use Rattle.press_cmd.specs.ParserState.{ParserState, Exit, OverlongLine, OtherLanguage, Pcl, Open}
 use Rattle.press_cmd.specs.Carried.{data_count, count_of}
 use Rattle.press_cmd.specs.Grammar.{Whole, IsPair, Ends, IsEnd, IsGroup, IsCharacter, begins_pair, value_pair}
-use Rattle.press_cmd.proofs.Reading.{State, Start, Escaped, Single, Pair, SingleData, PairData, Step, Goes, Gives, Stops, Nothing, extends, is_end, is_earlier_end, is_escape_end, is_character, is_control, is_text, is_escape, is_exit, single_with, pair_with, group_or_break, step}
+use Rattle.press_cmd.proofs.Reading.{State, Start, Escaped, Single, Pair, SingleData, PairData, Step, Goes, Gives, Stops}
+use Rattle.press_cmd.proofs.Reading.{Nothing, extends, is_end, is_earlier_end, is_escape_end, is_character, is_control}
+use Rattle.press_cmd.proofs.Reading.{is_text, is_escape, is_exit, single_with, pair_with, group_or_break, step}
 use Rattle.press_units.proofs.FieldTest.{IsField-from_test}
 use Rattle.press_cmd.proofs.ByteTests.{is_end-true, is_earlier_end-true, is_escape_end-true, is_character-true, is_text-true, is_escape-true, is_escape-false, is_control-true, extends-true}
 
@@ -167,7 +170,8 @@ whole-pair Exit c g u w f e d next h p = absurd h
 whole-pair OverlongLine c g u w f e d next h p = absurd h
 whole-pair OtherLanguage c g u w f e d next h p = absurd h
 
-pair-with : (m : ParserState) (u : List ℕ) (c g : ℕ) (f : List ℕ) (e b : ℕ) (next : ParserState) (count : ℕ) → is_value_field f ≡ true → Wraps m c g u f → Ends c g b e next → count ≡ data_count c (Some g) f e
+pair-with : (m : ParserState) (u : List ℕ) (c g : ℕ) (f : List ℕ) (e b : ℕ) (next : ParserState) (count : ℕ) → is_value_field f ≡ true
+    → Wraps m c g u f → Ends c g b e next → count ≡ data_count c (Some g) f e
     → Sound m u b (pair_with c g f e next count)
 pair-with m u c g f e b next zero field wraps ends count =
     whole-pair m c g (u ++ (b ∷ [])) (f ++ (b ∷ [])) f e [] next (wraps-more m c g u f (b ∷ []) wraps)
@@ -228,7 +232,8 @@ step-SingleData u c f e (suc n) d b r =
       spelled = ap (λ w. w ++ (b ∷ [])) r.spelled ∙ ap (λ w. escape_byte ∷ c ∷ w) (append_assoc f (e ∷ d) (b ∷ []));
     }
 
-pub pair-data-more : (m : ParserState) (u : List ℕ) (c g : ℕ) (f : List ℕ) (e : ℕ) (next : ParserState) (n : ℕ) (d more : List ℕ) → (r : PairDataRead m u c g f e next n d) → Wraps m c g (u ++ more) (f ++ (r.byte ∷ (d ++ more)))
+pub pair-data-more : (m : ParserState) (u : List ℕ) (c g : ℕ) (f : List ℕ) (e : ℕ) (next : ParserState) (n : ℕ) (d more : List ℕ)
+    → (r : PairDataRead m u c g f e next n d) → Wraps m c g (u ++ more) (f ++ (r.byte ∷ (d ++ more)))
 pair-data-more m u c g f e next n d more r =
     wraps-same m c g (u ++ more) _ _ (append_assoc f (r.byte ∷ d) more) (wraps-more m c g u (f ++ (r.byte ∷ d)) more r.wraps)
 

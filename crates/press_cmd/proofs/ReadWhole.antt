@@ -8,9 +8,13 @@ use Rattle.press_cmd.specs.ParserState.{ParserState, Exit, OverlongLine, OtherLa
 use Rattle.press_cmd.specs.Carried.{data_count}
 use Rattle.press_units.specs.Field.{is_value_field}
 use Rattle.press_cmd.specs.Grammar.{Whole, IsPair, IsGrouped, IsUngrouped, Ends, IsEnd, IsEarlierEnd, value_pair}
-use Rattle.press_cmd.proofs.Reading.{State, Start, Single, Pair, SingleData, PairData, Step, Goes, Gives, Stops, Nothing, Found, extends, is_end, is_escape_end, is_character, is_escape, is_exit, single_with, pair_with, step, after_step, read_on}
+use Rattle.press_cmd.proofs.Reading.{State, Start, Single, Pair, SingleData, PairData, Step, Goes, Gives}
+use Rattle.press_cmd.proofs.Reading.{Stops, Nothing, Found, extends, is_end, is_escape_end, is_character}
+use Rattle.press_cmd.proofs.Reading.{is_escape, is_exit, single_with, pair_with, step, after_step, read_on}
 use Rattle.press_units.proofs.FieldTest.{test-from_IsField, test-prefix}
-use Rattle.press_cmd.proofs.ByteTests.{is_end-from, is_end-above, is_earlier_end-from, is_escape_end-from, is_escape_end-below, is_character-from, is_text-from, is_escape-from, is_escape-other, is_control-from, is_control-above, extends-from, extends-past}
+use Rattle.press_cmd.proofs.ByteTests.{is_end-from, is_end-above, is_earlier_end-from, is_escape_end-from}
+use Rattle.press_cmd.proofs.ByteTests.{is_escape_end-below, is_character-from, is_text-from, is_escape-from}
+use Rattle.press_cmd.proofs.ByteTests.{is_escape-other, is_control-from, is_control-above, extends-from, extends-past}
 
 -- more bytes after what was found change nothing but what is left
 stable-at : (o : Step) (b : ℕ) (x y : List ℕ) (t : Token) (n : ParserState) (left : List ℕ) → after_step o b x (λ s. read_on s x) ≡ Found t n left
@@ -97,7 +101,8 @@ pair_end c g f e b d next z (inr is) count =
     cc (found, below, is.2)
 
 -- A pair is read, whatever follows it.
-pub pair_reads : (c g : ℕ) (w f : List ℕ) (e : ℕ) (d : List ℕ) (next : ParserState) (z : List ℕ) → IsPair c g w (value_pair f e d) next → read_on (Pair c g []) (w ++ z) ≡ Found (Grouped c g f e d) next z
+pub pair_reads : (c g : ℕ) (w f : List ℕ) (e : ℕ) (d : List ℕ) (next : ParserState) (z : List ℕ) → IsPair c g w (value_pair f e d) next
+    → read_on (Pair c g []) (w ++ z) ≡ Found (Grouped c g f e d) next z
 pair_reads c g w f e d next z p =
     let field : is_value_field f ≡ true = test-from_IsField f p.value_field in
     ap (λ bytes. read_on (Pair c g []) (bytes ++ z)) p.spelled
@@ -125,7 +130,8 @@ single_reads u c f e d z is =
     ∙ single_field c [] f (e ∷ (d ++ z)) field
     ∙ single_upper c f e d z is.end_class is.count differs)
 
-grouped_reads : (u : List ℕ) (c g : ℕ) (f : List ℕ) (e : ℕ) (d : List ℕ) (next : ParserState) (z : List ℕ) → IsGrouped u c g (value_pair f e d) next → read_on Start (u ++ z) ≡ Found (Grouped c g f e d) next z
+grouped_reads : (u : List ℕ) (c g : ℕ) (f : List ℕ) (e : ℕ) (d : List ℕ) (next : ParserState) (z : List ℕ)
+    → IsGrouped u c g (value_pair f e d) next → read_on Start (u ++ z) ≡ Found (Grouped c g f e d) next z
 grouped_reads u c g f e d next z is =
     let no_escape_end = is_escape_end-below c (omega (arith, is.character_class)) in
     ap (λ bytes. read_on Start (bytes ++ z)) is.spelled

@@ -57,7 +57,8 @@ closed_once from bytes one other first second =
     first.4 ∙ (λ j. same.0 j ++ closing (same.1 j) (same.2 j)) ∙ sym second.4
 
 -- A command in front of what closes the rest.
-pub closed-cons : (from : ParserState) (used left : List ℕ) (command : Token) (next : ParserState) (commands : List Token) → Head from used left command next → ClosedFrom next left commands → ClosedFrom from (used ++ left) (command ∷ commands)
+pub closed-cons : (from : ParserState) (used left : List ℕ) (command : Token) (next : ParserState) (commands : List Token)
+    → Head from used left command next → ClosedFrom next left commands → ClosedFrom from (used ++ left) (command ∷ commands)
 closed-cons from used left command next commands head closed =
     (command ∷ closed.0, closed.1, closed.2, record { steps = (used, left, next, refl, head, closed.3.steps); short = closed.3.short }, ap (λ more. command ∷ more) closed.4)
 

@@ -1,3 +1,4 @@
+-- The definitions of commands: which bytes are which command, and commands as values.
 pub mod Token
 pub mod ParserState
 pub mod Carried

@@ -1,6 +1,6 @@
 //! The bytes of commands, each with the range that it has.
 
-ghost use Rattle.std.specs.Prelude.{◌≡◌, ◌<◌, ◌≤◌, ◌++◌, length, take, IsTrue, IfOk, OnOk};
+ghost use Rattle.std.specs.Prelude.{◌≡◌, ◌<◌, length, IsTrue};
 ghost use Rattle.std.specs.Option.{ForSome};
 ghost use Rattle.press_units.specs.Value.{tenthousandths_of, is_signed};
 ghost use Rattle.press_cmd.specs.Token.{uel, bytes_of, param_of, broken_of};

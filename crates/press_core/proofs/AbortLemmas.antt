@@ -1,5 +1,6 @@
 -- The entries that run are aborted: on one engine after another, and all at once.
-use Rattle.std.proofs.Common.{◌≡◌, ◌≤◌, ◌&&◌, ◌||◌, ℕ, suc, nat_eq, nat_le, cond, if◌then◌else◌, Bool, true, false, IsTrue, List, [], ◌∷◌, filter, length, map, Option, Some, None, option_map, is_some, refl, sym, ap, subst, ◌∙◌, arith, true≢false}
+use Rattle.std.proofs.Common.{◌≡◌, ◌≤◌, ◌&&◌, ◌||◌, ℕ, suc, nat_eq, nat_le, cond, if◌then◌else◌, Bool, true, false, IsTrue, List, [], ◌∷◌}
+use Rattle.std.proofs.Common.{filter, length, map, Option, Some, None, option_map, is_some, refl, sym, ap, subst, ◌∙◌, arith, true≢false}
 use Rattle.std.specs.List.{AllByRecursion, IsDistinct}
 use Rattle.std.specs.Map.{keys_of, lookup, set_value}
 use Rattle.std.proofs.lemmas.Bool.{eqb-true}
@@ -168,7 +169,9 @@ finish-keyed number queue distinct = at (entry_numbered number queue.entries) re
 drop-keyed : (number : ℕ) (works : List (ℕ × Work)) → IsDistinct nat_eq (keys_of works) → works_without_job number works ≡ keyed (where_so (nat_eq number) without_job) works
 drop-keyed number works distinct = at (lookup (nat_eq number) works) refl
   where
-    at : (o : Option Work) → lookup (nat_eq number) works ≡ o → changed_by o (λ work works. set_value (nat_eq number) works (without_job work)) works ≡ keyed (where_so (nat_eq number) without_job) works
+    at : (o : Option Work) → lookup (nat_eq number) works ≡ o
+        → changed_by o (λ work works. set_value (nat_eq number) works (without_job work)) works
+        ≡ keyed (where_so (nat_eq number) without_job) works
     at None is = sym (keyed-missing number without_job works is)
     at (Some work) is = set-keyed number without_job works work distinct is
 

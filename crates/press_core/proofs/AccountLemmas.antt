@@ -1,6 +1,8 @@
 -- What is known of a number by its history: how its entry was seen last, with what it entered, what was handed out under it, how many
 -- steps were taken for it, and whether it met a fault. One event after another.
-use Rattle.std.proofs.Common.{◌≡◌, ◌≤◌, ◌+◌, ◌-◌, ◌++◌, ◌||◌, ◌&&◌, ℕ, Bool, true, false, not, cond, List, [], ◌∷◌, length, length-append, Option, Some, None, is_some, option_and_then, unwrap_or, refl, sym, ap, subst, ◌∙◌, arith, true≢false, append_assoc, append-nil}
+use Rattle.std.proofs.Common.{◌≡◌, ◌≤◌, ◌+◌, ◌-◌, ◌++◌, ◌||◌, ◌&&◌, ℕ, Bool, true, false, not, cond, List, []}
+use Rattle.std.proofs.Common.{◌∷◌, length, length-append, Option, Some, None, is_some, option_and_then}
+use Rattle.std.proofs.Common.{unwrap_or, refl, sym, ap, subst, ◌∙◌, arith, true≢false, append_assoc, append-nil}
 use Rattle.std.specs.Option.{option_or}
 use Rattle.std.proofs.lemmas.Option.{same_Some}
 use Rattle.press_units.specs.Limits.{greatest_of_64_bits}
@@ -21,7 +23,9 @@ use Rattle.press_core.specs.Turns.{IsJobOf, progress_in_job, sheets_from}
 use Rattle.press_core.specs.Work.{IsPrintable, Work, at_progress, counting, new_work, with_delivered, without_job}
 use Rattle.press_core.proofs.HandingLemmas.{counting-append}
 use Rattle.press_core.proofs.JobLemmas.{IsJobOf-one, IsJobOf-some}
-use Rattle.press_core.proofs.Standings.{Change, Stays, Enters, Moves, Steps, Completes, Fails, Aborts, Leaves, PrefixOf, Gone, IsIdle, IsOpen, IsProper, Listed, MayStand, EntryHistory, StepsOf, Torn, Unknown, standing_of, aborted_entry, completed_entry, failed_entry}
+use Rattle.press_core.proofs.Standings.{Change, Stays, Enters, Moves, Steps, Completes, Fails, Aborts, Leaves, PrefixOf}
+use Rattle.press_core.proofs.Standings.{Gone, IsIdle, IsOpen, IsProper, Listed, MayStand, EntryHistory, StepsOf, Torn}
+use Rattle.press_core.proofs.Standings.{Unknown, standing_of, aborted_entry, completed_entry, failed_entry}
 use Rattle.press_core.proofs.StepsLemmas.{sheets_from-more}
 
 -- ---- the sheets of the first steps
@@ -107,7 +111,8 @@ known_open jobs entry work sheets steps failed printable is_open at delivered ke
   no_progress (Some progress) is none = absurd (true≢false (sym (ap is_some is) ∙ none))
 
 -- the same of another work with that job
-first_of : (steps : ℕ) (work after : Work) (sheets : List PrintedSheet) → ((items : List StepResult) → IsJobOf work items → IsJobOf after items) → AreFirst steps work sheets → AreFirst steps after sheets
+first_of : (steps : ℕ) (work after : Work) (sheets : List PrintedSheet)
+    → ((items : List StepResult) → IsJobOf work items → IsJobOf after items) → AreFirst steps work sheets → AreFirst steps after sheets
 first_of steps work after sheets same first = record {
   items = first.items;
   is_job = same first.items first.is_job;
@@ -174,7 +179,8 @@ known_stepped : JobsHandOutTheWantedSheets → (was : Entry) (work : Work) (item
 known_stepped jobs was work items sheets more steps taken failed fault is_open took known =
     let at = known.is_open is_open in
     let after = at_progress (progress_in_job work + taken) (with_delivered more work) in
-    known_open jobs (rows.begun_entry was) after (sheets ++ more) (steps + taken) (failed || fault) (record { limits = known.printable.limits; fits = known.printable.fits; images_are = known.printable.images_are }) refl
+    known_open jobs (rows.begun_entry was) after (sheets ++ more) (steps + taken) (failed || fault)
+    (record { limits = known.printable.limits; fits = known.printable.fits; images_are = known.printable.images_are }) refl
     (record {
       begun = refl;
       first = first_of (progress_in_job work + taken) work after (sheets ++ more) (λ l job. job)
@@ -259,7 +265,8 @@ abbrev pub seen_now : EntryHistory → Option Seen → Option Seen
 seen_now (Listed entry work) before = Some (record { entry = entry; work = work })
 seen_now standing before = before
 
-pub seen_now-is : (given : Bool) (o : Option Entry) (p : Option Work) (before : Option Seen) → IsProper (standing_of given o p) → option_or (both_seen o p) before ≡ seen_now (standing_of given o p) before
+pub seen_now-is : (given : Bool) (o : Option Entry) (p : Option Work) (before : Option Seen) → IsProper (standing_of given o p)
+    → option_or (both_seen o p) before ≡ seen_now (standing_of given o p) before
 seen_now-is true (Some entry) (Some work) before proper = refl
 seen_now-is true (Some entry) None before proper = absurd proper
 seen_now-is true None (Some work) before proper = absurd proper
@@ -293,7 +300,9 @@ given_as false None (Some work) = tt
 given_as false None None = refl
 
 -- the account after an event in which nothing happens to the number
-account-stays : (s : EntryHistory) (given : Bool) (happening : Transition) (seen : Option Seen) (found : Option Transition) (sheets : List PrintedSheet) (steps : ℕ) (failed more : Bool) → IsGivenAs given s
+account-stays : (s : EntryHistory) (given : Bool) (happening : Transition) (seen : Option Seen) (found : Option Transition)
+    (sheets : List PrintedSheet) (steps : ℕ) (failed more : Bool)
+    → IsGivenAs given s
     → Account s seen found sheets steps failed → Account s (seen_now s seen) (found_now given happening found) sheets steps (failed || more)
 account-stays Unknown given happening seen found sheets steps failed more so account =
     (account.0, ap (λ o. found_now given happening o) account.1 ∙ ap (λ b. cond b (Some happening) None) so, account.2)
@@ -305,7 +314,8 @@ account-stays Gone given happening (Some seen) found sheets steps failed more so
 account-stays Torn given happening seen found sheets steps failed more so account = absurd account
 
 -- the account of an entry that was in the list, and is
-account-changed : (was is : Entry) (work after : Work) (old new : EntryHistory) (given : Bool) (happening : Transition) (seen : Option Seen) (found : Option Transition) (sheets all : List PrintedSheet) (steps taken : ℕ)
+account-changed : (was is : Entry) (work after : Work) (old new : EntryHistory) (given : Bool) (happening : Transition)
+    (seen : Option Seen) (found : Option Transition) (sheets all : List PrintedSheet) (steps taken : ℕ)
     (failed fault : Bool) → old ≡ Listed was work → new ≡ Listed is after → (IsKnown was work sheets steps failed → IsKnown is after all taken (failed || fault))
     → ◌≡◌ {A = Option (JobTicket × List Page)} (Some (work.ticket, work.images)) (Some (after.ticket, after.images)) → Account old seen found sheets steps failed
     → Account new (seen_now new seen) (found_now given happening found) all taken (failed || fault)
@@ -315,7 +325,9 @@ account-changed was is work after old new given happening seen found sheets all 
     (refl, entered_still given happening found work there.1 ∙ same, known there.2)
 
 -- The account of a number after an event.
-pub account-next : JobsHandOutTheWantedSheets → (old new : EntryHistory) (given : Bool) (happening : Transition) (seen : Option Seen) (found : Option Transition) (sheets more : List PrintedSheet) (steps taken : ℕ) (failed fault : Bool)
+pub account-next : JobsHandOutTheWantedSheets
+    → (old new : EntryHistory) (given : Bool) (happening : Transition) (seen : Option Seen) (found : Option Transition)
+    (sheets more : List PrintedSheet) (steps taken : ℕ) (failed fault : Bool)
     → Change (submitted_by happening.event) old new more taken fault → IsGivenAs given new → Account old seen found sheets steps failed
     → Account new (seen_now new seen) (found_now given happening found) (sheets ++ more) (steps + taken) (failed || fault)
 account-next jobs old new given happening seen found sheets more steps taken failed fault (Stays same idle) so account =
@@ -336,7 +348,8 @@ account-next jobs old new given happening seen found sheets more steps taken fai
     quiet (λ l n. Account new (seen_now new seen) (found_now given happening found) l n (failed || fault)) sheets more steps taken idle
     (account-changed was is work work old new given happening seen found sheets sheets steps steps failed fault before now (known_moved jobs was is work sheets steps failed fault may) refl account)
 account-next jobs old new given happening seen found sheets more steps taken failed fault (Steps was work items is_open took before now) so account =
-    account-changed was (rows.begun_entry was) work (at_progress (progress_in_job work + taken) (with_delivered more work)) old new given happening seen found sheets (sheets ++ more) steps (steps + taken) failed fault before now
+    account-changed was (rows.begun_entry was) work (at_progress (progress_in_job work + taken) (with_delivered more work)) old new given
+    happening seen found sheets (sheets ++ more) steps (steps + taken) failed fault before now
     (known_stepped jobs was work items sheets more steps taken failed fault is_open took) refl account
 account-next jobs old new given happening seen found sheets more steps taken failed fault (Completes was work items is_open took all before now) so account =
     account-changed was (completed_entry was) work (without_job (with_delivered more work)) old new given happening seen found sheets (sheets ++ more) steps (steps + taken) failed fault before now

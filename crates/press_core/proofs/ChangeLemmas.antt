@@ -1,5 +1,7 @@
 -- What the rows of a queue, and what follows for the works, make of each number.
-use Rattle.std.proofs.Common.{◌≡◌, ◌+◌, ◌++◌, ℕ, ℤ, nat_le, nat_eq, cond, if◌then◌else◌, Bool, true, false, List, [], ◌∷◌, Option, Some, None, Result, Ok, Err, is_ok, is_some, insert, length, ◌⊎◌, inl, inr, refl, sym, ap, subst, ◌∙◌, arith, rules, true≢false}
+use Rattle.std.proofs.Common.{◌≡◌, ◌+◌, ◌++◌, ℕ, ℤ, nat_le, nat_eq, cond, if◌then◌else◌, Bool, true, false}
+use Rattle.std.proofs.Common.{List, [], ◌∷◌, Option, Some, None, Result, Ok, Err, is_ok, is_some, insert}
+use Rattle.std.proofs.Common.{length, ◌⊎◌, inl, inr, refl, sym, ap, subst, ◌∙◌, arith, rules, true≢false}
 use Rattle.std.specs.List.{IsDistinct}
 use Rattle.std.specs.Map.{keys_of, lookup, set_value}
 use Rattle.std.proofs.lemmas.Bool.{eqb-true}
@@ -25,7 +27,8 @@ use Rattle.press_core.specs.Work.{IsPrintable, Work, new_work, without_job}
 use Rattle.press_core.specs.World.{works_listed, works_without_job}
 use Rattle.press_core.proofs.EntryLemmas.{added_lookup, inserted_lookup, kept_lookup, moved_lookup, removed_lookup, set_lookup}
 use Rattle.press_core.proofs.SoundLemmas.{IsLegal, kept_work, legal_of}
-use Rattle.press_core.proofs.Standings.{Change, Stays, Enters, Moves, Aborts, Leaves, IsIdle, IsOpen, IsProper, IsWhole, Listed, MayStand, Unknown, aborted_entry, listed_is, listed_of, standing, standing_of, unknown_of}
+use Rattle.press_core.proofs.Standings.{Change, Stays, Enters, Moves, Aborts, Leaves, IsIdle, IsOpen, IsProper, IsWhole, Listed}
+use Rattle.press_core.proofs.Standings.{MayStand, Unknown, aborted_entry, listed_is, listed_of, standing, standing_of, unknown_of}
 
 pub idle : IsIdle [] 0
 idle = record { no_sheets = refl; no_steps = refl }
@@ -51,7 +54,8 @@ stands-apart old new works after number is left entry_set work_set n apart =
     (λ j. standing_of (given j) (entry_is j) (work_is j))
 
 -- what happens to each number, where one entry and its work change
-pub one-changes : (submits : Option (JobTicket × List Page)) (old new : QueueState) (works after : List (ℕ × Work)) (number : ℕ) (was is : Entry) (work left : Work) (sheets : List PrintedSheet) (steps : ℕ) (failed : Bool)
+pub one-changes : (submits : Option (JobTicket × List Page)) (old new : QueueState) (works after : List (ℕ × Work)) (number : ℕ)
+    (was is : Entry) (work left : Work) (sheets : List PrintedSheet) (steps : ℕ) (failed : Bool)
     → standing number old works ≡ Listed was work → SetsEntry old new number is → SetsWork works after number left
     → (n : ℕ) → (nat_eq number n ≡ true → Change submits (Listed was work) (Listed is left) sheets steps failed) → (nat_eq number n ≡ false → IsIdle sheets steps)
     → Change submits (standing n old works) (standing n new after) sheets steps failed
@@ -73,7 +77,8 @@ one-changes submits old new works after number was is work left sheets steps fai
     at false apart = Stays (stands-apart old new works after number is left entry_set work_set n apart) (idle apart)
 
 -- an entry is set in its place
-pub set-entry : (queue : QueueState) (number : ℕ) (was is : Entry) → entry_numbered number queue.entries ≡ Some was → SetsEntry queue (rows.with_entries (with_entry number is queue.entries) queue) number is
+pub set-entry : (queue : QueueState) (number : ℕ) (was is : Entry) → entry_numbered number queue.entries ≡ Some was
+    → SetsEntry queue (rows.with_entries (with_entry number is queue.entries) queue) number is
 set-entry queue number was is there = record { last = refl; entries = λ n. set_lookup n number queue.entries is (ap is_some there) }
 
 -- a work is set in its place
@@ -95,14 +100,16 @@ moved-entry queue i number is distinct = record { last = refl; entries = λ n. m
 abbrev pub QueueChanges : Option (JobTicket × List Page) → QueueState → List (ℕ × Work) → QueueState → Type 0
 QueueChanges submits old works new = (n : ℕ) → Change submits (standing n old works) (standing n new works) [] 0 false
 
-at-entry : (submits : Option (JobTicket × List Page)) (works : List (ℕ × Work)) (command : EntryCommand) (number : ℕ) (queue : QueueState) (found : Result Entry Refusal) (row : Entry → rows.QueueAnswer (Unit {0}))
+at-entry : (submits : Option (JobTicket × List Page)) (works : List (ℕ × Work)) (command : EntryCommand) (number : ℕ) (queue : QueueState)
+    (found : Result Entry Refusal) (row : Entry → rows.QueueAnswer (Unit {0}))
     → rows.legal_entry command number queue.entries ≡ found
     → ((entry : Entry) → IsLegal command number queue.entries entry → QueueChanges submits queue works (row entry).0) → QueueChanges submits queue works (rows.at_entry found queue row).0
 at-entry submits works command number queue (Err refusal) row is changes n = Stays refl idle
 at-entry submits works command number queue (Ok entry) row is changes n = changes entry (legal_of command number queue.entries (entry_numbered number queue.entries) entry refl is) n
 
 -- an entry stands for another that has not ended
-entry-moves : (submits : Option (JobTicket × List Page)) (old new : QueueState) (works : List (ℕ × Work)) (number : ℕ) (was is : Entry) → IsWhole old works → entry_numbered number old.entries ≡ Some was
+entry-moves : (submits : Option (JobTicket × List Page)) (old new : QueueState) (works : List (ℕ × Work)) (number : ℕ) (was is : Entry)
+    → IsWhole old works → entry_numbered number old.entries ≡ Some was
     → SetsEntry old new number is → MayStand was is → QueueChanges submits old works new
 entry-moves submits old new works number was is whole there set may n =
     let listed = listed_of (nat_le number old.last) (entry_numbered number old.entries) (lookup (nat_eq number) works) was (whole.proper number) there in
@@ -141,11 +148,13 @@ status-changes submits queue works command number status entry whole stays is_op
     (set-entry queue number entry (record entry { status = status }) legal.there)
     (record { was = open_where command entry.status stays legal.legal; is = is_open; begun = refl; runs = λ runs. absurd (true≢false (sym runs ∙ still)) })
 
-pub hold-changes : (submits : Option (JobTicket × List Page)) (queue : QueueState) (works : List (ℕ × Work)) (number : ℕ) → IsWhole queue works → QueueChanges submits queue works (rows.hold number queue).0
+pub hold-changes : (submits : Option (JobTicket × List Page)) (queue : QueueState) (works : List (ℕ × Work)) (number : ℕ)
+    → IsWhole queue works → QueueChanges submits queue works (rows.hold number queue).0
 hold-changes submits queue works number whole =
     at-entry submits works commands.Hold number queue _ _ refl (λ entry legal. status-changes submits queue works commands.Hold number statuses.Held entry whole refl refl refl legal)
 
-pub resume-changes : (submits : Option (JobTicket × List Page)) (queue : QueueState) (works : List (ℕ × Work)) (number : ℕ) → IsWhole queue works → QueueChanges submits queue works (rows.resume number queue).0
+pub resume-changes : (submits : Option (JobTicket × List Page)) (queue : QueueState) (works : List (ℕ × Work)) (number : ℕ)
+    → IsWhole queue works → QueueChanges submits queue works (rows.resume number queue).0
 resume-changes submits queue works number whole =
     at-entry submits works commands.Resume number queue _ _ refl (λ entry legal. status-changes submits queue works commands.Resume number statuses.Waiting entry whole refl refl refl legal)
 
@@ -154,14 +163,17 @@ either-changes : (submits : Option (JobTicket × List Page)) (queue : QueueState
 either-changes submits queue works true one other p q = p
 either-changes submits queue works false one other p q = q
 
-pub suspend-changes : (submits : Option (JobTicket × List Page)) (queue : QueueState) (works : List (ℕ × Work)) (number : ℕ) → IsWhole queue works → QueueChanges submits queue works (rows.suspend number queue).0
+pub suspend-changes : (submits : Option (JobTicket × List Page)) (queue : QueueState) (works : List (ℕ × Work)) (number : ℕ)
+    → IsWhole queue works → QueueChanges submits queue works (rows.suspend number queue).0
 suspend-changes submits queue works number whole =
     at-entry submits works commands.Suspend number queue _ _ refl
     (λ entry legal. either-changes submits queue works _ _ _ (λ n. Stays refl idle)
     (status-changes submits queue works commands.Suspend number statuses.Suspended entry whole refl refl refl legal))
 
 -- an entry is put elsewhere, with its status
-placed-changes : (submits : Option (JobTicket × List Page)) (queue : QueueState) (works : List (ℕ × Work)) (command : EntryCommand) (i number : ℕ) (was is : Entry) → IsWhole queue works → stays_listed command ≡ true
+placed-changes : (submits : Option (JobTicket × List Page)) (queue : QueueState) (works : List (ℕ × Work)) (command : EntryCommand)
+    (i number : ℕ) (was is : Entry)
+    → IsWhole queue works → stays_listed command ≡ true
     → IsLegal command number queue.entries was → is.status ≡ was.status → is.begun ≡ was.begun
     → QueueChanges submits queue works (rows.with_entries (insert (without_entry number queue.entries) i (number, is)) queue)
 placed-changes submits queue works command i number was is whole stays legal status begun =
@@ -190,7 +202,9 @@ repositioned-changes submits queue works number (Some index) entry whole legal =
 pub set_position-changes : (submits : Option (JobTicket × List Page)) (queue : QueueState) (works : List (ℕ × Work)) (number : ℕ) (position : ℤ) → IsWhole queue works
     → QueueChanges submits queue works (rows.set_position number position queue).0
 set_position-changes submits queue works number position whole =
-    at-entry submits works commands.SetPosition number queue _ _ refl (λ entry legal. repositioned-changes submits queue works number (position_within (length queue.entries) position) entry whole legal)
+    at-entry submits works commands.SetPosition number queue _ _ refl
+    (λ entry legal.
+    repositioned-changes submits queue works number (position_within (length queue.entries) position) entry whole legal)
 
 -- ---- an entry that is aborted
 
@@ -214,7 +228,8 @@ ends queue works number entry whole there =
       work_set = subst (λ ws. SetsWork works ws number (without_job listed.0)) (sym left) (set-work works number listed.0 (without_job listed.0) of.work_is);
     }
 
-ends-changes : (submits : Option (JobTicket × List Page)) (queue : QueueState) (works : List (ℕ × Work)) (number : ℕ) (entry : Entry) → IsWhole queue works → entry_numbered number queue.entries ≡ Some entry
+ends-changes : (submits : Option (JobTicket × List Page)) (queue : QueueState) (works : List (ℕ × Work)) (number : ℕ) (entry : Entry)
+    → IsWhole queue works → entry_numbered number queue.entries ≡ Some entry
     → IsOpen entry → (n : ℕ) → Change submits (standing n queue works) (standing n (rows.set_status number statuses.Aborted entry queue) (works_without_job number works)) [] 0 false
 ends-changes submits queue works number entry whole there is_open n =
     let it = ends queue works number entry whole there in
@@ -236,7 +251,8 @@ abort-changes submits number queue new works whole is n = at_found (rows.legal_e
 
 -- ---- entries that leave the list
 
-no-entry : (submits : Option (JobTicket × List Page)) (given : Bool) (o : Option Entry) (p : Option Work) → IsProper (standing_of given o p) → Change submits (standing_of given o p) (standing_of given None None) [] 0 false
+no-entry : (submits : Option (JobTicket × List Page)) (given : Bool) (o : Option Entry) (p : Option Work)
+    → IsProper (standing_of given o p) → Change submits (standing_of given o p) (standing_of given None None) [] 0 false
 no-entry submits true (Some entry) (Some work) proper = Leaves entry work refl refl idle
 no-entry submits true (Some entry) None proper = absurd proper
 no-entry submits true None (Some work) proper = absurd proper
@@ -268,7 +284,8 @@ gone-changes submits old new works whole last less n = at (less n)
         let same : entry_numbered n new.entries ≡ entry_numbered n old.entries = now ∙ sym before in
         Stays (λ j. standing_of (given j) (same j) (work_is j)) idle
 
-    at : (entry_numbered n new.entries ≡ None) ⊎ (entry_numbered n new.entries ≡ entry_numbered n old.entries) → Change submits (standing n old works) (standing n new (works_listed new works)) [] 0 false
+    at : (entry_numbered n new.entries ≡ None) ⊎ (entry_numbered n new.entries ≡ entry_numbered n old.entries)
+        → Change submits (standing n old works) (standing n new (works_listed new works)) [] 0 false
     at (inl none) = gone none
     at (inr same) = kept (entry_numbered n old.entries) refl same
 

@@ -1,5 +1,7 @@
 -- On which engines a number stands, after changes of the engines and of the queue.
-use Rattle.std.proofs.Common.{◌≡◌, ◌≤◌, ◌<◌, ◌+◌, ◌||◌, ℕ, zero, suc, nat_eq, cond, if◌then◌else◌, Bool, true, false, List, [], ◌∷◌, ◌++◌, length, filter, drop, get_or, take, replicate, slice_get, slice_set, Option, Some, None, unwrap_or, is_some, refl, sym, ap, subst, ◌∙◌, add-one, arith, rules, true≢false}
+use Rattle.std.proofs.Common.{◌≡◌, ◌≤◌, ◌<◌, ◌+◌, ◌||◌, ℕ, zero, suc, nat_eq, cond, if◌then◌else◌, Bool, true, false, List}
+use Rattle.std.proofs.Common.{[], ◌∷◌, ◌++◌, length, filter, drop, get_or, take, replicate, slice_get, slice_set, Option}
+use Rattle.std.proofs.Common.{Some, None, unwrap_or, is_some, refl, sym, ap, subst, ◌∙◌, add-one, arith, rules, true≢false}
 use Rattle.std.specs.List.{AllByRecursion, IsDistinct}
 use Rattle.std.specs.Map.{keys_of}
 use Rattle.std.specs.Option.{option_map_or}

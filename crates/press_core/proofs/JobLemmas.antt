@@ -1,5 +1,6 @@
 -- A job at its place, and its next step.
-use Rattle.std.proofs.Common.{◌≡◌, ◌∙◌, ◌+◌, ◌<◌, ◌≤◌, ◌++◌, ◌↔◌, ℕ, zero, suc, List, [], ◌∷◌, length, take, drop, nat_eq, Bool, true, false, Some, IsTrue, Result, Ok, Err, is_err, refl, sym, ap, subst, arith, rules, length-append}
+use Rattle.std.proofs.Common.{◌≡◌, ◌∙◌, ◌+◌, ◌<◌, ◌≤◌, ◌++◌, ◌↔◌, ℕ, zero, suc, List, [], ◌∷◌, length, take, drop, nat_eq, Bool}
+use Rattle.std.proofs.Common.{true, false, Some, IsTrue, Result, Ok, Err, is_err, refl, sym, ap, subst, arith, rules, length-append}
 use Rattle.std.proofs.lemmas.Bool.{true≢false}
 use Rattle.std.proofs.lemmas.List.{append-nil}
 use Rattle.press_bits.specs.Page.{Page}
@@ -164,7 +165,11 @@ steps_on law items images old job item kind at did =
     let on = law.does old.job job item kind (bytes_left old.writer images) (drop progress items) at.left did in (
       record {
         within = before_more progress items on.others item on.are;
-        machine = did.ends ∙ ap (λ (machine : Machine). Some machine) (sym (ap (last_machine power_on) (take_more progress items on.others item on.are) ∙ last_of_more (take progress items) item power_on));
+        machine =
+            did.ends
+            ∙ ap (λ (machine : Machine). Some machine) (sym
+            (ap (last_machine power_on) (take_more progress items on.others item on.are)
+            ∙ last_of_more (take progress items) item power_on));
         left = subst (λ (these : List StepResult). LeftWith job (bytes_left old.writer images) these) (sym (drop_more progress items on.others item on.are)) on.still;
         has_images = at.has_images;
         fits = at.fits;
@@ -206,7 +211,8 @@ not_over law items images running at within over =
     omega (arith, within, at_end items images running at (law.over running.job (bytes_left running.writer images) (drop running.steps items) over at.left))
 
 -- a step, and its sheets
-goes_on : LeftGoesOn → (items : List StepResult) (images : List Page) (step : StepOutput) (old now : RunningJob) (job : JobState) → IsAt items images now → now.steps ≡ old.steps → DoesStep now.job step job
+goes_on : LeftGoesOn → (items : List StepResult) (images : List Page) (step : StepOutput) (old now : RunningJob) (job : JobState)
+    → IsAt items images now → now.steps ≡ old.steps → DoesStep now.job step job
     → JobGoesOn items images old (record { job = job; writer = now.writer; steps = now.steps + 1 }) (sheets_of (all_outputs step.sent.items))
 goes_on law items images step old now job at here (machine, did) =
     let item : StepResult = record { machine = machine; outputs = all_outputs step.sent.items } in
@@ -218,8 +224,12 @@ goes_on law items images step old now job at here (machine, did) =
     }
 
 -- by what the step was
-pub goes_on_after : LeftGoesOn → (items : List StepResult) (images : List Page) (step : StepOutput) (answer : JobStep) (old now : RunningJob) (job : JobState) → IsAt items images now → now.steps ≡ old.steps
-    → answer ≡ answers.Ran step → TakesStep now.job (Ok answer) job → JobGoesOn items images old (record { job = job; writer = now.writer; steps = now.steps + 1 }) (sheets_of (all_outputs step.sent.items))
+pub goes_on_after : LeftGoesOn
+    → (items : List StepResult) (images : List Page) (step : StepOutput) (answer : JobStep) (old now : RunningJob) (job : JobState)
+    → IsAt items images now → now.steps ≡ old.steps
+    → answer ≡ answers.Ran step → TakesStep now.job (Ok answer) job
+    → JobGoesOn items images old (record { job = job; writer = now.writer; steps = now.steps + 1 })
+    (sheets_of (all_outputs step.sent.items))
 goes_on_after law items images step answer old now job at here is takes =
     goes_on law items images step old now job at here (subst (λ s. TakesStep now.job (Ok s) job) is takes)
 

@@ -1,3 +1,4 @@
+-- The lemmas on the press: its queue, its works and engines, and runs of events.
 mod AbortLemmas
 mod AccountLemmas
 mod AnswerLemmas

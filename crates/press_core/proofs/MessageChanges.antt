@@ -22,7 +22,8 @@ use Rattle.press_core.specs.Parameters.{and_then}
 use Rattle.press_core.specs.Rows as table
 use Rattle.press_core.specs.Work.{IsPrintable, new_work}
 use Rattle.press_core.specs.World.{World, with_queue}
-use Rattle.press_core.proofs.ChangeLemmas.{QueueChanges, abort-changes, enters-changes, flush-changes, hold-changes, idle, remove-changes, resume-changes, set_position-changes, set_priority-changes, suspend-changes}
+use Rattle.press_core.proofs.ChangeLemmas.{QueueChanges, abort-changes, enters-changes, flush-changes, hold-changes, idle}
+use Rattle.press_core.proofs.ChangeLemmas.{remove-changes, resume-changes, set_position-changes, set_priority-changes, suspend-changes}
 use Rattle.press_core.proofs.EngineLemmas.{RunsAsBefore, on_engines-kept, on_engines-left}
 use Rattle.press_core.proofs.RunsLemmas.{abort-but, flush-runs, hold-runs, remove-runs, resume-runs, set_position-runs, set_priority-runs, submitted-runs, suspend-but}
 use Rattle.press_core.proofs.SoundLemmas.{submitted_is}
@@ -50,7 +51,8 @@ named-becomes submits (Err refused) world row next = tt
 named-becomes submits (Ok a) world row next = next a refl
 
 row-becomes : {A : Type 0} (submits : Option (JobTicket × List Page)) (answer : rows.QueueAnswer A) (world : World) (row : A × World → table.MessageAnswer)
-    → ((a : A) (queue : QueueState) → answer ≡ (queue, Ok a) → AnswersBecome submits world (row (a, with_queue queue world))) → AnswersBecome submits world (and_then row (table.after_queue world answer))
+    → ((a : A) (queue : QueueState) → answer ≡ (queue, Ok a) → AnswersBecome submits world (row (a, with_queue queue world)))
+    → AnswersBecome submits world (and_then row (table.after_queue world answer))
 row-becomes submits (queue, Err refusal) world row next = tt
 row-becomes submits (queue, Ok a) world row next = next a queue refl
 
@@ -94,13 +96,29 @@ submit-becomes law images (Ok both) world whole printable =
 
 flag-becomes : EachRowKeepsTheQueue → (flag : FlagCommand) (world : World) → IsWholeWorld world → Becomes None world (with_queue (table.flagged flag world.queue) world)
 flag-becomes law flags.Hold world whole =
-    record { queue = law.hold_queue world.queue whole.numbers.queue_is; on_engines = on_engines-kept world.queue (table.flagged flags.Hold world.queue) world.engines (λ n. refl) whole.on_engines; each = λ n. Stays refl idle }
+    record {
+      queue = law.hold_queue world.queue whole.numbers.queue_is;
+      on_engines = on_engines-kept world.queue (table.flagged flags.Hold world.queue) world.engines (λ n. refl) whole.on_engines;
+      each = λ n. Stays refl idle;
+    }
 flag-becomes law flags.Resume world whole =
-    record { queue = law.resume_queue world.queue whole.numbers.queue_is; on_engines = on_engines-kept world.queue (table.flagged flags.Resume world.queue) world.engines (λ n. refl) whole.on_engines; each = λ n. Stays refl idle }
+    record {
+      queue = law.resume_queue world.queue whole.numbers.queue_is;
+      on_engines = on_engines-kept world.queue (table.flagged flags.Resume world.queue) world.engines (λ n. refl) whole.on_engines;
+      each = λ n. Stays refl idle;
+    }
 flag-becomes law flags.Open world whole =
-    record { queue = law.open_queue world.queue whole.numbers.queue_is; on_engines = on_engines-kept world.queue (table.flagged flags.Open world.queue) world.engines (λ n. refl) whole.on_engines; each = λ n. Stays refl idle }
+    record {
+      queue = law.open_queue world.queue whole.numbers.queue_is;
+      on_engines = on_engines-kept world.queue (table.flagged flags.Open world.queue) world.engines (λ n. refl) whole.on_engines;
+      each = λ n. Stays refl idle;
+    }
 flag-becomes law flags.Close world whole =
-    record { queue = law.close_queue world.queue whole.numbers.queue_is; on_engines = on_engines-kept world.queue (table.flagged flags.Close world.queue) world.engines (λ n. refl) whole.on_engines; each = λ n. Stays refl idle }
+    record {
+      queue = law.close_queue world.queue whole.numbers.queue_is;
+      on_engines = on_engines-kept world.queue (table.flagged flags.Close world.queue) world.engines (λ n. refl) whole.on_engines;
+      each = λ n. Stays refl idle;
+    }
 
 response_row-becomes : EachRowKeepsTheQueue → (message_type : MessageType) (message : Data) (images : List Page) (world : World) → IsWholeWorld world
     → IfSome (table.ticket_of_type message_type message images) (λ ticket. IsPrintable ticket images)

@@ -1,5 +1,6 @@
 -- What each row of the queue, and what follows it, leaves of a press: entries and works go together, and those that run are on engines.
-use Rattle.std.proofs.Common.{◌≡◌, ◌<◌, ◌≤◌, ◌+◌, ◌∙◌, ℕ, zero, suc, add-one, true, false, nat_eq, length, drop, replicate, slice_set, arith, List, [], ◌∷◌, Option, Some, None, Result, IfSome, IsTrue, refl, sym, ap, subst}
+use Rattle.std.proofs.Common.{◌≡◌, ◌<◌, ◌≤◌, ◌+◌, ◌∙◌, ℕ, zero, suc, add-one, true, false, nat_eq, length, drop, replicate}
+use Rattle.std.proofs.Common.{slice_set, arith, List, [], ◌∷◌, Option, Some, None, Result, IfSome, IsTrue, refl, sym, ap, subst}
 use Rattle.std.specs.Map.{set_value}
 use Rattle.press_queue.specs.declared.refusal.Refusal.{Refusal}
 use Rattle.press_queue.specs.declared.status.End.{End}

@@ -1,5 +1,6 @@
 -- Runs of events, and the laws over them.
-use Rattle.std.proofs.Common.{◌≡◌, ◌≤◌, ◌+◌, ◌++◌, ◌||◌, ℕ, nat_le, nat_eq, cond, find, Bool, true, false, List, [], ◌∷◌, Option, Some, None, refl, sym, ap, subst, ◌∙◌, arith, rules, append_assoc, append-nil}
+use Rattle.std.proofs.Common.{◌≡◌, ◌≤◌, ◌+◌, ◌++◌, ◌||◌, ℕ, nat_le, nat_eq, cond, find, Bool, true, false, List, [], ◌∷◌}
+use Rattle.std.proofs.Common.{Option, Some, None, refl, sym, ap, subst, ◌∙◌, arith, rules, append_assoc, append-nil}
 use Rattle.std.specs.List.{flat_map}
 use Rattle.std.specs.Map.{lookup}
 use Rattle.std.specs.Option.{option_or}
@@ -35,7 +36,9 @@ use Rattle.press_core.proofs.TurnChanges.{operator-becomes, turn-becomes}
 pub record EventDoes (old : World) (event : Event) (answer : EventAnswer) (handed : List Delivery) (next : World) : Type 0 where
   pub queue : IsQueue next.queue
   pub on_engines : RunsOnEngines next.queue next.engines
-  pub each : (n : ℕ) → Change (submitted_by event) (standing n old.queue old.works) (standing n next.queue next.works) (sheets_under n handed) (steps_answered n answer) (is_fault_of n old event answer)
+  pub each : (n : ℕ)
+      → Change (submitted_by event) (standing n old.queue old.works) (standing n next.queue next.works) (sheets_under n handed)
+      (steps_answered n answer) (is_fault_of n old event answer)
 
 of-message : (old : World) (text : List ℕ) (images : List Page) (bytes : List ℕ) (handed : List Delivery) (between next : World) → handed ≡ [] → next ≡ between
     → Becomes (submitted_by (Message text images)) old between → EventDoes old (Message text images) (Response (Some bytes)) handed next
@@ -81,7 +84,8 @@ whole-next old event answer handed next whole does = record {
   numbers = record {
     queue_is = does.queue;
     proper = λ n.
-        proper-kept (submitted_by event) (standing n old.queue old.works) (standing n next.queue next.works) (sheets_under n handed) (steps_answered n answer) (is_fault_of n old event answer) (does.each n)
+        proper-kept (submitted_by event) (standing n old.queue old.works) (standing n next.queue next.works) (sheets_under n handed)
+        (steps_answered n answer) (is_fault_of n old event answer) (does.each n)
         (whole.numbers.proper n);
   };
   on_engines = does.on_engines;
@@ -124,7 +128,9 @@ empty-account : (n : ℕ) (given : Bool) → Account (standing_of given None Non
 empty-account n true = record { no_sheets = refl; no_steps = refl }
 empty-account n false = (refl, refl, record { no_sheets = refl; no_steps = refl })
 
-run-account : JobsHandOutTheWantedSheets → EachRowKeepsTheQueue → (n : ℕ) (world : World) (happenings : List Transition) (last : World) (seen : Option Seen) (found : Option Transition) (sheets : List PrintedSheet) (steps : ℕ)
+run-account : JobsHandOutTheWantedSheets → EachRowKeepsTheQueue
+    → (n : ℕ) (world : World) (happenings : List Transition) (last : World) (seen : Option Seen) (found : Option Transition)
+    (sheets : List PrintedSheet) (steps : ℕ)
     (failed : Bool) → IsWholeWorld world → IsExecution world happenings last → Account (standing n world.queue world.works) seen found sheets steps failed
     → Account (standing n last.queue last.works) (seen_after n seen happenings) (option_or found (entering n happenings)) (sheets ++ handed_under n happenings) (steps + steps_in n happenings)
     (failed || met_fault n world happenings)
@@ -149,13 +155,17 @@ run-account jobs law n world (h ∷ happenings) last seen found sheets steps fai
     let entry = entry_numbered n h.next.queue.entries in
     let work = lookup (nat_eq n) h.next.works in
     let new = standing_of given entry work in
-    let next = account-next jobs (standing n world.queue world.works) new given h seen found sheets (sheets_under n h.handed) steps (steps_answered n h.answer) failed (is_fault_of n world h.event h.answer)
+    let next =
+    account-next jobs (standing n world.queue world.works) new given h seen found sheets (sheets_under n h.handed) steps
+    (steps_answered n h.answer) failed (is_fault_of n world h.event h.answer)
     (does.each n) (given_as given entry work) account in
     let seen_next = option_or (both_seen entry work) seen in
     let next_seen : Account new seen_next (found_now given h found) (sheets ++ sheets_under n h.handed) (steps + steps_answered n h.answer) (failed || is_fault_of n world h.event h.answer) =
     subst (λ o. Account new o (found_now given h found) (sheets ++ sheets_under n h.handed) (steps + steps_answered n h.answer) (failed || is_fault_of n world h.event h.answer))
     (sym (seen_now-is given entry work seen (after.numbers.proper n))) next in
-    let run = run-account jobs law n h.next happenings last seen_next (found_now given h found) (sheets ++ sheets_under n h.handed) (steps + steps_answered n h.answer) (failed || is_fault_of n world h.event h.answer)
+    let run =
+    run-account jobs law n h.next happenings last seen_next (found_now given h found) (sheets ++ sheets_under n h.handed)
+    (steps + steps_answered n h.answer) (failed || is_fault_of n world h.event h.answer)
     after leads next_seen in
     let sheets_are : (sheets ++ sheets_under n h.handed) ++ handed_under n happenings ≡ sheets ++ handed_under n (h ∷ happenings) =
     append_assoc sheets (sheets_under n h.handed) (handed_under n happenings)
@@ -164,10 +174,26 @@ run-account jobs law n world (h ∷ happenings) last seen found sheets steps fai
     omega (arith, sum_by-cons (λ (x : Transition). steps_answered n x.answer) h happenings) in
     let failed_is = or-assoc failed (is_fault_of n world h.event h.answer) (met_fault n h.next happenings) in
     let found_is = found-next (λ (x : Transition). nat_le n x.next.queue.last) h happenings found in
-    subst (λ o. Account (standing n last.queue last.works) (seen_after n seen_next happenings) o (sheets ++ handed_under n (h ∷ happenings)) (steps + steps_in n (h ∷ happenings)) (failed || met_fault n world (h ∷ happenings))) found_is
-    (subst (λ l. Account (standing n last.queue last.works) (seen_after n seen_next happenings) (option_or (found_now given h found) (entering n happenings)) l (steps + steps_in n (h ∷ happenings)) (failed || met_fault n world (h ∷ happenings))) sheets_are
-    (subst (λ k. Account (standing n last.queue last.works) (seen_after n seen_next happenings) (option_or (found_now given h found) (entering n happenings)) ((sheets ++ sheets_under n h.handed) ++ handed_under n happenings) k (failed || met_fault n world (h ∷ happenings))) steps_are
-    (subst (λ b. Account (standing n last.queue last.works) (seen_after n seen_next happenings) (option_or (found_now given h found) (entering n happenings)) ((sheets ++ sheets_under n h.handed) ++ handed_under n happenings) ((steps + steps_answered n h.answer) + steps_in n happenings) b) failed_is run)))
+    subst (λ o.
+    Account (standing n last.queue last.works) (seen_after n seen_next happenings) o (sheets ++ handed_under n (h ∷ happenings))
+    (steps + steps_in n (h ∷ happenings)) (failed || met_fault n world (h ∷ happenings)))
+    found_is
+    (subst (λ l.
+    Account (standing n last.queue last.works) (seen_after n seen_next happenings)
+    (option_or (found_now given h found) (entering n happenings)) l (steps + steps_in n (h ∷ happenings))
+    (failed || met_fault n world (h ∷ happenings)))
+    sheets_are
+    (subst (λ k.
+    Account (standing n last.queue last.works) (seen_after n seen_next happenings)
+    (option_or (found_now given h found) (entering n happenings))
+    ((sheets ++ sheets_under n h.handed) ++ handed_under n happenings) k (failed || met_fault n world (h ∷ happenings)))
+    steps_are
+    (subst (λ b.
+    Account (standing n last.queue last.works) (seen_after n seen_next happenings)
+    (option_or (found_now given h found) (entering n happenings))
+    ((sheets ++ sheets_under n h.handed) ++ handed_under n happenings)
+    ((steps + steps_answered n h.answer) + steps_in n happenings) b)
+    failed_is run)))
 
 -- from a press at its beginning
 run-from-new : JobsHandOutTheWantedSheets → EachRowKeepsTheQueue → (n : ℕ) (happenings : List Transition) (last : World) → (run : IsRun happenings last)
@@ -179,22 +205,37 @@ run-from-new jobs law n happenings last run =
 
 -- ---- given sheets
 
-given-under : JobsHandOutTheWantedSheets → JobsAreShort → EachRowKeepsTheQueue → (happenings : List Transition) (last : World) (number : ℕ) → (run : IsRun happenings last) → GivenUnder (new_world run.engines) happenings last number
+given-under : JobsHandOutTheWantedSheets → JobsAreShort → EachRowKeepsTheQueue → (happenings : List Transition) (last : World) (number : ℕ)
+    → (run : IsRun happenings last) → GivenUnder (new_world run.engines) happenings last number
 given-under jobs short law happenings last number run = record {
   given = λ seen is. let known = of seen is in is_given short seen.entry seen.work _ _ _ known.1;
   entered = λ seen is. (of seen is).0;
   listed = account-listed (nat_le number last.queue.last) (entry_numbered number last.queue.entries) (lookup (nat_eq number) last.works) (last_seen number happenings) _ _ _ _ account;
   has_work = account-work (nat_le number last.queue.last) (entry_numbered number last.queue.entries) (lookup (nat_eq number) last.works) (last_seen number happenings) _ _ _ _ account;
   few = λ seen is items job. short.steps seen.work items (of seen is).1.printable job;
-  never = λ is. let none = account-never (standing number last.queue last.works) _ _ _ _ (subst (λ o. Account (standing number last.queue last.works) o (entering number happenings) (handed_under number happenings) (steps_in number happenings) (met_fault number (new_world run.engines) happenings)) is account) in (none.no_sheets, none.no_steps);
+  never =
+      λ is.
+      let none =
+      account-never (standing number last.queue last.works) _ _ _ _
+      (subst (λ o.
+      Account (standing number last.queue last.works) o (entering number happenings) (handed_under number happenings)
+      (steps_in number happenings) (met_fault number (new_world run.engines) happenings)) is
+      account) in
+      (none.no_sheets, none.no_steps);
 } where
-  account : Account (standing number last.queue last.works) (last_seen number happenings) (entering number happenings) (handed_under number happenings) (steps_in number happenings) (met_fault number (new_world run.engines) happenings)
+  account : Account (standing number last.queue last.works) (last_seen number happenings) (entering number happenings)
+      (handed_under number happenings) (steps_in number happenings) (met_fault number (new_world run.engines) happenings)
   account = run-from-new jobs law number happenings last run
 
   of : (seen : Seen) → last_seen number happenings ≡ Some seen
-      → EnteredBy (entering number happenings) seen.work × IsKnown seen.entry seen.work (handed_under number happenings) (steps_in number happenings) (met_fault number (new_world run.engines) happenings)
+      → EnteredBy (entering number happenings) seen.work
+      × IsKnown seen.entry seen.work (handed_under number happenings) (steps_in number happenings)
+      (met_fault number (new_world run.engines) happenings)
   of seen is = account-seen (standing number last.queue last.works) seen _ _ _ _
-      (subst (λ o. Account (standing number last.queue last.works) o (entering number happenings) (handed_under number happenings) (steps_in number happenings) (met_fault number (new_world run.engines) happenings)) is account)
+      (subst (λ o.
+      Account (standing number last.queue last.works) o (entering number happenings) (handed_under number happenings)
+      (steps_in number happenings) (met_fault number (new_world run.engines) happenings)) is
+      account)
 
 -- ---- numbers that are gone
 
@@ -235,7 +276,9 @@ took-sheets jobs law ticket images steps number happenings items took job = at (
         (met_fault number (new_world took.run.engines) happenings)
     account = run-from-new jobs law number happenings took.last took.run
 
-    at : (o : Option Seen) → Account (standing number took.last.queue took.last.works) o (entering number happenings) (handed_under number happenings) (steps_in number happenings) (met_fault number (new_world took.run.engines) happenings)
+    at : (o : Option Seen)
+        → Account (standing number took.last.queue took.last.works) o (entering number happenings) (handed_under number happenings)
+        (steps_in number happenings) (met_fault number (new_world took.run.engines) happenings)
         → handed_under number happenings ≡ sheets_from 0 steps items
     at None account =
         let never = account-never (standing number took.last.queue took.last.works) _ _ _ _ account in

@@ -1,5 +1,6 @@
 -- Which entries run, after each row of the queue.
-use Rattle.std.proofs.Common.{◌≡◌, ℕ, ℤ, cond, if◌then◌else◌, nat_eq, nat_le, Bool, true, false, Option, Some, None, Result, Ok, Err, insert, is_ok, is_some, length, refl, sym, ap, subst, ◌∙◌, true≢false}
+use Rattle.std.proofs.Common.{◌≡◌, ℕ, ℤ, cond, if◌then◌else◌, nat_eq, nat_le, Bool, true, false, Option, Some, None}
+use Rattle.std.proofs.Common.{Result, Ok, Err, insert, is_ok, is_some, length, refl, sym, ap, subst, ◌∙◌, true≢false}
 use Rattle.std.specs.List.{IsDistinct}
 use Rattle.std.specs.Map.{keys_of}
 use Rattle.std.proofs.lemmas.Bool.{eqb-true}

@@ -1,5 +1,7 @@
 -- What each row of the queue leaves of a press: entries and their works go together.
-use Rattle.std.proofs.Common.{◌≡◌, ℕ, ℤ, ◌+◌, ◌&&◌, ◌||◌, ◌⊎◌, inl, inr, not, Bool, true, false, if◌then◌else◌, List, [], ◌∷◌, ◌++◌, Option, Some, None, Result, Ok, Err, is_some, nat_eq, nat_le, insert, refl, sym, ap, subst, ◌∙◌, arith, rules, length, is_ok, IsTrue, cond, true≢false}
+use Rattle.std.proofs.Common.{◌≡◌, ℕ, ℤ, ◌+◌, ◌&&◌, ◌||◌, ◌⊎◌, inl, inr, not, Bool, true, false, if◌then◌else◌, List}
+use Rattle.std.proofs.Common.{[], ◌∷◌, ◌++◌, Option, Some, None, Result, Ok, Err, is_some, nat_eq, nat_le, insert}
+use Rattle.std.proofs.Common.{refl, sym, ap, subst, ◌∙◌, arith, rules, length, is_ok, IsTrue, cond, true≢false}
 use Rattle.std.specs.List.{IsDistinct}
 use Rattle.std.specs.Map.{keys_of, lookup, set_value}
 use Rattle.std.specs.Option.{option_map_or}
@@ -322,13 +324,18 @@ submitted_is priority queue new number is = at_closed queue.closed is
           is = ap (λ r. r.0) e ∙ ap (λ n. record queue { entries = put n (new_entry p) queue.entries; last = n }) (sym same);
         }
 
-    at_last : (full last : Bool) → nat_eq queue.last rows.last_number ≡ last → (new, Ok number) ≡ (if full || last then rows.refused queue refusals.Full else rows.submitted_at (priority_of priority) queue)
+    at_last : (full last : Bool) → nat_eq queue.last rows.last_number ≡ last
+        → (new, Ok number) ≡ (if full || last then rows.refused queue refusals.Full else rows.submitted_at (priority_of priority) queue)
         → IsSubmitted queue new number
     at_last true last last_is e = absurd (true≢false (ap (λ r. is_ok r.1) e))
     at_last false true last_is e = absurd (true≢false (ap (λ r. is_ok r.1) e))
     at_last false false last_is e = at_priority (priority_of priority) last_is e
 
-    at_closed : (closed : Bool) → (new, Ok number) ≡ (if closed then rows.refused queue refusals.Closed else (if rows.is_full queue then rows.refused queue refusals.Full else rows.submitted_at (priority_of priority) queue))
+    at_closed : (closed : Bool)
+        → (new, Ok number)
+        ≡ (if closed
+        then rows.refused queue refusals.Closed
+        else (if rows.is_full queue then rows.refused queue refusals.Full else rows.submitted_at (priority_of priority) queue))
         → IsSubmitted queue new number
     at_closed true e = absurd (true≢false (ap (λ r. is_ok r.1) e))
     at_closed false e = at_last (nat_le rows.most_entries (length queue.entries)) (nat_eq queue.last rows.last_number) refl e
@@ -344,7 +351,12 @@ submit_refused priority queue new refusal is = at_closed queue.closed is
     at_full true e = ap (λ r. r.0) e
     at_full false e = at_priority (priority_of priority) e
 
-    at_closed : (closed : Bool) → (new, Err refusal) ≡ (if closed then rows.refused queue refusals.Closed else (if rows.is_full queue then rows.refused queue refusals.Full else rows.submitted_at (priority_of priority) queue)) → new ≡ queue
+    at_closed : (closed : Bool)
+        → (new, Err refusal)
+        ≡ (if closed
+        then rows.refused queue refusals.Closed
+        else (if rows.is_full queue then rows.refused queue refusals.Full else rows.submitted_at (priority_of priority) queue))
+        → new ≡ queue
     at_closed true e = ap (λ r. r.0) e
     at_closed false e = at_full (rows.is_full queue) e
 

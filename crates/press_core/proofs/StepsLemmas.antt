@@ -1,5 +1,6 @@
 -- Steps of a work's job, one after another.
-use Rattle.std.proofs.Common.{◌≡◌, ◌∙◌, ◌+◌, ◌-◌, ◌<◌, ◌≤◌, ◌++◌, ℕ, List, [], ◌∷◌, ◌⊎◌, inl, inr, length, take, drop, Option, Some, None, IsSome, Result, Ok, Err, refl, sym, ap, subst, arith, rules, nat_eq, is_some, Bool, false, true≢false}
+use Rattle.std.proofs.Common.{◌≡◌, ◌∙◌, ◌+◌, ◌-◌, ◌<◌, ◌≤◌, ◌++◌, ℕ, List, [], ◌∷◌, ◌⊎◌, inl, inr, length, take, drop, Option, Some, None}
+use Rattle.std.proofs.Common.{IsSome, Result, Ok, Err, refl, sym, ap, subst, arith, rules, nat_eq, is_some, Bool, false, true≢false}
 use Rattle.std.proofs.Math.Seq.{take-add}
 use Rattle.std.proofs.lemmas.List.{append_assoc, append-nil, drop-drop, map-append}
 use Rattle.press_engine.specs.Machine.{StepResult}
@@ -136,7 +137,8 @@ one_more number taken old now next sheets before between after count took advanc
       left =
           ap (λ (w : Work). record w { delivered = count }) step.next_is
           ∙ ap (λ (w : Work). record w { delivered = count; progress = Some (progress_in_job old + taken + 1) }) took.left
-          ∙ ap (λ n. record old { delivered = n; progress = Some (progress_in_job old + taken + 1) }) (counts_on number taken old now next sheets (Ok tt) before between after count took hands step.next_is)
+          ∙ ap (λ n. record old { delivered = n; progress = Some (progress_in_job old + taken + 1) })
+          (counts_on number taken old now next sheets (Ok tt) before between after count took hands step.next_is)
           ∙ ap (λ n. record old { delivered = counting (took.sheets ++ hands.handed) old.delivered; progress = Some n }) (omega arith);
       were = record { told = were.told; faults = were.faults };
     }
@@ -202,6 +204,7 @@ took_all number taken most old now before after took below ends = record {
   left = took.left;
   were = took.were;
 } where
-  at_end : (items : List StepResult) → taken ≡ steps_from (progress_in_job old) taken items → (most ≤ taken) ⊎ (progress_in_job now ≡ length items) → taken ≡ steps_from (progress_in_job old) most items
+  at_end : (items : List StepResult) → taken ≡ steps_from (progress_in_job old) taken items
+      → (most ≤ taken) ⊎ (progress_in_job now ≡ length items) → taken ≡ steps_from (progress_in_job old) most items
   at_end items within (inl all) = omega (arith, within, below, all)
   at_end items within (inr over) = omega (arith, within, below, over, placed_at number taken old now before after took)

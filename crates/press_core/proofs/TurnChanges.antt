@@ -1,5 +1,7 @@
 -- What a turn, or a command of an operator, makes of the queue and of each number.
-use Rattle.std.proofs.Common.{◌≡◌, ◌≤◌, ◌<◌, ◌+◌, ◌-◌, ◌==◌, ◌&&◌, ℕ, nat_le, nat_eq, if◌then◌else◌, Bool, true, false, MatchBool, List, [], length, slice_set, Option, Some, None, option_map, Result, Ok, Err, is_some, refl, sym, ap, subst, ◌∙◌, arith, rules, true≢false}
+use Rattle.std.proofs.Common.{◌≡◌, ◌≤◌, ◌<◌, ◌+◌, ◌-◌, ◌==◌, ◌&&◌, ℕ, nat_le, nat_eq, if◌then◌else◌, Bool, true}
+use Rattle.std.proofs.Common.{false, MatchBool, List, [], length, slice_set, Option, Some, None, option_map}
+use Rattle.std.proofs.Common.{Result, Ok, Err, is_some, refl, sym, ap, subst, ◌∙◌, arith, rules, true≢false}
 use Rattle.std.specs.Map.{lookup, set_value}
 use Rattle.std.proofs.lemmas.Bool.{eqb-true}
 use Rattle.std.proofs.lemmas.Map.Steps.{set_value_same}
@@ -37,7 +39,9 @@ use Rattle.press_core.proofs.HandedLemmas.{handed-other, handed-own}
 use Rattle.press_core.proofs.MessageChanges.{Becomes}
 use Rattle.press_core.proofs.RunsLemmas.{begun-but, finish-but}
 use Rattle.press_core.proofs.SoundLemmas.{runs_as}
-use Rattle.press_core.proofs.Standings.{Change, Stays, Steps, Completes, Fails, Aborts, PrefixOf, IsIdle, IsOpen, IsProper, IsWhole, IsWholeWorld, Listed, StepsOf, aborted_entry, completed_entry, failed_entry, listed_is, listed_of, standing, standing_of}
+use Rattle.press_core.proofs.Standings.{Change, Stays, Steps, Completes, Fails, Aborts, PrefixOf, IsIdle, IsOpen}
+use Rattle.press_core.proofs.Standings.{IsProper, IsWhole, IsWholeWorld, Listed, StepsOf, aborted_entry}
+use Rattle.press_core.proofs.Standings.{completed_entry, failed_entry, listed_is, listed_of, standing, standing_of}
 use Rattle.press_core.proofs.TurnLemmas.{IsBegun, Waited, begun_is, begun_still, ended_is}
 
 -- ---- the entry that runs, or begins
@@ -119,7 +123,9 @@ record Stepped (old new : World) (number : ℕ) (was is : Entry) (work left : Wo
   pub queue_is : new.queue ≡ rows.with_entries (with_entry number is old.queue.entries) old.queue
   pub works_are : new.works ≡ set_value (nat_eq number) old.works left
 
-stepped-each : (old new : World) (number : ℕ) (was is : Entry) (work left : Work) (sheets : List PrintedSheet) (event : Event) (answer : EventAnswer) → IsWhole old.queue old.works → Stepped old new number was is work left
+stepped-each : (old new : World) (number : ℕ) (was is : Entry) (work left : Work) (sheets : List PrintedSheet) (event : Event)
+    (answer : EventAnswer)
+    → IsWhole old.queue old.works → Stepped old new number was is work left
     → ((n : ℕ) → nat_eq number n ≡ false → steps_answered n answer ≡ 0)
     → Change None (Listed was work) (Listed is left) sheets (steps_answered number answer) (is_fault_of number old event answer)
     → (n : ℕ) → Change None (standing n old.queue old.works) (standing n new.queue new.works) (sheets_under n (under_tag number sheets)) (steps_answered n answer) (is_fault_of n old event answer)
@@ -134,11 +140,17 @@ stepped-each old new number was is work left sheets event answer whole stepped n
     (subst (λ l. Change None (Listed was work) (Listed is left) l (steps_answered number answer) (is_fault_of number old event answer)) (sym (handed-own number sheets)) changes) in
     let others : nat_eq number n ≡ false → IsIdle (sheets_under n (under_tag number sheets)) (steps_answered n answer) =
     λ apart. record { no_sheets = handed-other number n sheets apart; no_steps = none n apart } in
-    subst (λ (q : QueueState). Change None (standing n old.queue old.works) (standing n q new.works) (sheets_under n (under_tag number sheets)) (steps_answered n answer) (is_fault_of n old event answer)) (sym stepped.queue_is)
-    (subst (λ ws. Change None (standing n old.queue old.works) (standing n (rows.with_entries (with_entry number is old.queue.entries) old.queue) ws) (sheets_under n (under_tag number sheets)) (steps_answered n answer) (is_fault_of n old event answer))
+    subst (λ (q : QueueState).
+    Change None (standing n old.queue old.works) (standing n q new.works) (sheets_under n (under_tag number sheets))
+    (steps_answered n answer) (is_fault_of n old event answer))
+    (sym stepped.queue_is)
+    (subst (λ ws.
+    Change None (standing n old.queue old.works) (standing n (rows.with_entries (with_entry number is old.queue.entries) old.queue) ws)
+    (sheets_under n (under_tag number sheets)) (steps_answered n answer) (is_fault_of n old event answer))
     (sym stepped.works_are)
     (one-changes None old.queue (rows.with_entries (with_entry number is old.queue.entries) old.queue) old.works (set_value (nat_eq number) old.works left) number was is work left
-    (sheets_under n (under_tag number sheets)) (steps_answered n answer) (is_fault_of n old event answer) there (set-entry old.queue number was is stepped.there) (set-work old.works number work left stepped.here) n own others))
+    (sheets_under n (under_tag number sheets)) (steps_answered n answer) (is_fault_of n old event answer) there
+    (set-entry old.queue number was is stepped.there) (set-work old.works number work left stepped.here) n own others))
 
 -- the steps of an answer, for the numbers that it does not name
 steps-other : (turn : Turn) (number n : ℕ) → turn.entry ≡ Some number → nat_eq number n ≡ false → steps_answered n (Turned (Ok turn)) ≡ 0
@@ -161,7 +173,8 @@ steps-of work items most steps sheets job to = record {
   sheets_are = to.1;
 }
 
-prefix-of : (work : Work) (items : List StepResult) (most : ℕ) (error : TurnError) (sheets : List PrintedSheet) → IsJobOf work items → StepsTo work items most (Err error) sheets → PrefixOf work items sheets
+prefix-of : (work : Work) (items : List StepResult) (most : ℕ) (error : TurnError) (sheets : List PrintedSheet) → IsJobOf work items
+    → StepsTo work items most (Err error) sheets → PrefixOf work items sheets
 prefix-of work items most error sheets job to = record {
   steps = steps_from (progress_in_job work) most items;
   others = to.0;
@@ -169,7 +182,8 @@ prefix-of work items most error sheets job to = record {
 }
 
 -- the entry ended
-ended : (old : World) (new : QueueState) (next : World) (number : ℕ) (end : End) (work left : Work) (is : Entry) → (begins : IsBegun old.queue new number) → lookup (nat_eq number) old.works ≡ Some work
+ended : (old : World) (new : QueueState) (next : World) (number : ℕ) (end : End) (work left : Work) (is : Entry)
+    → (begins : IsBegun old.queue new number) → lookup (nat_eq number) old.works ≡ Some work
     → next.queue ≡ rows.finish_entry number end new → next.works ≡ set_value (nat_eq number) old.works left
     → record begins.entry { status = status_at_end end; begun = true } ≡ is → Stepped old next number begins.entry is work left
 ended old new next number end work left is begins here queue_is works_are same = record {
@@ -213,7 +227,12 @@ turn-ok law event old new engines number most turn handed next taking names es t
     record {
       queue = subst IsQueue (sym (ap (λ (w : World). w.queue) after)) (law.finish number Completed new taking.queue_is);
       on_engines = subst (λ (w : World). RunsOnEngines w.queue w.engines) (sym after) (off-engines number Completed new engines taking.on_engines);
-      each = λ n. subst (λ l. Change None (standing n old.queue old.works) (standing n next.queue next.works) (sheets_under n l) (steps_answered n (Turned (Ok turn))) (is_fault_of n old event (Turned (Ok turn)))) (sym es.handed_are)
+      each =
+          λ n.
+          subst (λ l.
+          Change None (standing n old.queue old.works) (standing n next.queue next.works) (sheets_under n l)
+          (steps_answered n (Turned (Ok turn))) (is_fault_of n old event (Turned (Ok turn))))
+          (sym es.handed_are)
           (stepped-each old next number entry (completed_entry entry) work left es.sheets event (Turned (Ok turn)) taking.whole went (λ n apart. steps-other turn number n names apart) change n);
     }
 turn-ok law event old new engines number most turn handed next taking names es false is =
@@ -235,7 +254,12 @@ turn-ok law event old new engines number most turn handed next taking names es f
     record {
       queue = subst IsQueue (sym (ap (λ (w : World). w.queue) after)) taking.queue_is;
       on_engines = subst (λ (w : World). RunsOnEngines w.queue w.engines) (sym after) taking.on_engines;
-      each = λ n. subst (λ l. Change None (standing n old.queue old.works) (standing n next.queue next.works) (sheets_under n l) (steps_answered n (Turned (Ok turn))) (is_fault_of n old event (Turned (Ok turn)))) (sym es.handed_are)
+      each =
+          λ n.
+          subst (λ l.
+          Change None (standing n old.queue old.works) (standing n next.queue next.works) (sheets_under n l)
+          (steps_answered n (Turned (Ok turn))) (is_fault_of n old event (Turned (Ok turn))))
+          (sym es.handed_are)
           (stepped-each old next number entry (rows.begun_entry entry) work left es.sheets event (Turned (Ok turn)) taking.whole went (λ n apart. steps-other turn number n names apart) change n);
     }
 
@@ -346,10 +370,18 @@ abort-running world whole n = at (rows.entry_runs n world.queue) refl
   where
     now : (b : Bool) → rows.entry_runs n world.queue ≡ b
         → standing n (running_aborted world).queue (running_aborted world).works
-        ≡ standing_of (nat_le n world.queue.last) (option_map (λ entry. if b then aborted_entry entry else entry) (entry_numbered n world.queue.entries)) (option_map (λ work. if b then without_job work else work) (lookup (nat_eq n) world.works))
+        ≡ standing_of (nat_le n world.queue.last)
+        (option_map (λ entry. if b then aborted_entry entry else entry) (entry_numbered n world.queue.entries))
+        (option_map (λ work. if b then without_job work else work) (lookup (nat_eq n) world.works))
     now b is =
-        (λ j. standing_of (nat_le n world.queue.last) (keyed-lookup (where_so (λ m. rows.entry_runs m world.queue) aborted_entry) n world.queue.entries j) (keyed-lookup (where_so (λ m. rows.entry_runs m world.queue) without_job) n world.works j))
-        ∙ ap (λ b. standing_of (nat_le n world.queue.last) (option_map (λ entry. if b then aborted_entry entry else entry) (entry_numbered n world.queue.entries)) (option_map (λ work. if b then without_job work else work) (lookup (nat_eq n) world.works))) is
+        (λ j.
+        standing_of (nat_le n world.queue.last)
+        (keyed-lookup (where_so (λ m. rows.entry_runs m world.queue) aborted_entry) n world.queue.entries j)
+        (keyed-lookup (where_so (λ m. rows.entry_runs m world.queue) without_job) n world.works j))
+        ∙ ap (λ b.
+        standing_of (nat_le n world.queue.last)
+        (option_map (λ entry. if b then aborted_entry entry else entry) (entry_numbered n world.queue.entries))
+        (option_map (λ work. if b then without_job work else work) (lookup (nat_eq n) world.works))) is
 
     same : {X : Type 0} (o : Option X) → option_map (λ x. x) o ≡ o
     same None = refl

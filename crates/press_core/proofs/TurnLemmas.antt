@@ -1,5 +1,7 @@
 -- Turns: the entry that an engine takes, and what its steps leave of the press.
-use Rattle.std.proofs.Common.{◌≡◌, ℕ, ◌+◌, slice_set, Bool, true, false, List, [], Option, Some, None, Result, Ok, Err, IfErr, IfSome, IsSome, not, IsTrue, MatchBool, OnErr, is_ok, is_some, nat_eq, nat_lt, if◌then◌else◌, length, option_and_then, ◌==◌, refl, sym, ap, subst, ◌∙◌, arith, rules, true≢false}
+use Rattle.std.proofs.Common.{◌≡◌, ℕ, ◌+◌, slice_set, Bool, true, false, List, [], Option, Some, None, Result, Ok, Err, IfErr}
+use Rattle.std.proofs.Common.{IfSome, IsSome, not, IsTrue, MatchBool, OnErr, is_ok, is_some, nat_eq, nat_lt, if◌then◌else◌}
+use Rattle.std.proofs.Common.{length, option_and_then, ◌==◌, refl, sym, ap, subst, ◌∙◌, arith, rules, true≢false}
 use Rattle.std.specs.declared.alloc.AllocError.{AllocError}
 use Rattle.std.specs.List.{IsDistinct}
 use Rattle.std.specs.Map.{keys_of, lookup, set_value}
@@ -28,7 +30,9 @@ use Rattle.press_core.specs.declared.turn.TurnError.TheVariants.{NoEngine, SinkF
 use Rattle.press_core.specs.Engines.{are_engines, left_by}
 use Rattle.press_core.specs.Handing.{IsAfterSteps, TakesSteps, handing}
 use Rattle.press_core.specs.Inside.{AreTogether, Begins, HasProgress, IsSound, begun_work, begun_works, with_begun}
-use Rattle.press_core.specs.Turns.{EntrySteps, FaultsAfter, IsJobOf, NamesEntry, StepsTo, TakesTurn, TakesTurnOn, TurnAt, WereHandedOut, aborted, after_steps, completed, is_idle, is_fault, no_turn, progress_in_job, sheets_from, steps_from, steps_of, at_turn, at_turn_with, with_turn}
+use Rattle.press_core.specs.Turns.{EntrySteps, FaultsAfter, IsJobOf, NamesEntry, StepsTo, TakesTurn, TakesTurnOn}
+use Rattle.press_core.specs.Turns.{TurnAt, WereHandedOut, aborted, after_steps, completed, is_idle, is_fault, no_turn}
+use Rattle.press_core.specs.Turns.{progress_in_job, sheets_from, steps_from, steps_of, at_turn, at_turn_with, with_turn}
 use Rattle.press_core.specs.Work.{Work, at_progress, with_delivered, without_job}
 use Rattle.press_core.specs.World.{World, has_engine, off_engine, on_engine, works_without_job, with_queue, with_work, work_numbered}
 use Rattle.press_core.proofs.EngineLemmas.{set-same}
@@ -136,7 +140,8 @@ IsSound-begun queue new works number waited sound =
     let has = has_work queue works number begins.entry begins.there sound in
     let works_are : begun_works number works ≡ set_value (nat_eq number) works (begun_work has.work) = ap (λ o. changed_by o (λ w all. set_value (nat_eq number) all (begun_work w)) works) has.is in
     rw (works_are, begins.is)
-    (set_both number queue works begins.entry (rows.begun_entry begins.entry) has.work (begun_work has.work) begins.there has.is (begun_together begins.entry has.work (waited_kept queue new number waited has.work has.together)) sound)
+    (set_both number queue works begins.entry (rows.begun_entry begins.entry) has.work (begun_work has.work) begins.there has.is
+    (begun_together begins.entry has.work (waited_kept queue new number waited has.work has.together)) sound)
 
 -- ---- the entry that runs
 
@@ -242,13 +247,15 @@ without_job_set number works old work there =
 -- ---- steps
 
 -- what steps leave, where the job goes on, is at its end, or met a fault
-pub leaves_going : (world : World) (number steps : ℕ) (old new : Work) (sheets : List PrintedSheet) (items : List StepResult) → new ≡ at_progress (progress_in_job old + steps) (with_delivered sheets old)
+pub leaves_going : (world : World) (number steps : ℕ) (old new : Work) (sheets : List PrintedSheet) (items : List StepResult)
+    → new ≡ at_progress (progress_in_job old + steps) (with_delivered sheets old)
     → nat_eq (progress_in_job new) (length items) ≡ false → with_work number new world ≡ after_steps number old items (Ok steps) sheets world
 leaves_going world number steps old new sheets items left going =
     let e : (progress_in_job old + steps == length items) ≡ false = sym (ap (λ (w : Work). nat_eq (progress_in_job w) (length items)) left) ∙ going in
     rw e (ap (λ (w : Work). with_work number w world) left)
 
-pub leaves_over : (world : World) (number steps : ℕ) (old new : Work) (sheets : List PrintedSheet) (items : List StepResult) → new ≡ at_progress (progress_in_job old + steps) (with_delivered sheets old)
+pub leaves_over : (world : World) (number steps : ℕ) (old new : Work) (sheets : List PrintedSheet) (items : List StepResult)
+    → new ≡ at_progress (progress_in_job old + steps) (with_delivered sheets old)
     → nat_eq (progress_in_job new) (length items) ≡ true → completed number new world ≡ after_steps number old items (Ok steps) sheets world
 leaves_over world number steps old new sheets items left over =
     let e : (progress_in_job old + steps == length items) ≡ true = sym (ap (λ (w : Work). nat_eq (progress_in_job w) (length items)) left) ∙ over in
@@ -311,10 +318,14 @@ after_begun : (world : World) (number : ℕ) (work : Work) (items : List StepRes
     → after_steps number (begun_work work) items result sheets (with_begun number world) ≡ after_steps number work items result sheets world
 after_begun world number work items (Ok steps) sheets is =
     ifs (progress_in_job work + steps == length items) _ _ _ _
-    (ap (λ works. record world { queue = rows.finish_entry number Completed world.queue; works = works; engines = left_by number world.engines }) (begun_again number world.works work (without_job (with_delivered sheets work)) is))
+    (ap (λ works.
+    record world { queue = rows.finish_entry number Completed world.queue; works = works; engines = left_by number world.engines })
+    (begun_again number world.works work (without_job (with_delivered sheets work)) is))
     (ap (λ works. record world { works = works }) (begun_again number world.works work (at_progress (progress_in_job work + steps) (with_delivered sheets work)) is))
 after_begun world number work items (Err error) sheets is =
-    ap (λ works. record world { queue = rows.finish_entry number Aborted world.queue; works = works; engines = left_by number world.engines }) (begun_again number world.works work (without_job (with_delivered sheets work)) is)
+    ap (λ works.
+    record world { queue = rows.finish_entry number Aborted world.queue; works = works; engines = left_by number world.engines })
+    (begun_again number world.works work (without_job (with_delivered sheets work)) is)
 
 steps_begun : (work : Work) (items : List StepResult) (most : ℕ) (result : Result ℕ TurnError) (sheets : List PrintedSheet) → StepsTo (begun_work work) items most result sheets
     → StepsTo work items most result sheets

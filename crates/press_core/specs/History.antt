@@ -1,5 +1,6 @@
 -- What a run of events tells of a number: what was handed out under it, how its entry was seen last, and with what it entered.
-use Rattle.std.specs.Prelude.{◌≡◌, ◌≤◌, ◌++◌, ◌==◌, ◌||◌, ◌&&◌, ℕ, nat_le, List, [], ◌∷◌, length, filter, find, Bool, true, false, not, if◌then◌else◌, Option, Some, None, option_map, option_and_then, Ok, Err}
+use Rattle.std.specs.Prelude.{◌≡◌, ◌≤◌, ◌++◌, ◌==◌, ◌||◌, ◌&&◌, ℕ, nat_le, List, [], ◌∷◌, length, filter, find, Bool}
+use Rattle.std.specs.Prelude.{true, false, not, if◌then◌else◌, Option, Some, None, option_map, option_and_then, Ok, Err}
 use Rattle.std.specs.List.{flat_map, sum_by}
 use Rattle.std.specs.Option.{option_or}
 use Rattle.press_bits.specs.Page.{Page}

@@ -1,3 +1,4 @@
+-- The definitions of the press: messages, turns of its engines, and operators on one queue of jobs.
 pub mod Work
 pub mod Engines
 pub mod World

@@ -54,7 +54,8 @@ impl Model for Engines {
 
     ghost view = { λ engines. take engines.count engines.running };
 
-    ghost invariant = { λ engines. (length engines.running ≡ 4) × (1 ≤ engines.count) × (engines.count ≤ 4) };
+    ghost invariant = { λ engines. (length engines.running ≡ 4)
+        × (1 ≤ engines.count) × (engines.count ≤ 4) };
 }
 
 impl Engines {

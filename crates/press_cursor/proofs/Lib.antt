@@ -1,1 +1,2 @@
+-- The worked rows of the cursor.
 pub mod worked

@@ -33,7 +33,9 @@ wants_none job none (inl needs) = subst (λ (machine : Option Machine). InnerNee
 wants_none job none (inr (command, due, needs)) = subst (λ (machine : Option Machine). NeedsMemory machine command) none needs
 
 -- a step of a job that has failed changes nothing
-pub unchanged-fault : (old new : JobState) (recent : List Kind) (now : DebuggerState) (error : JobError) → record { job = old; recent = recent } ≡ now → TakesStep old (Err error) new → now.job.machine ≡ None → record { job = new; recent = recent } ≡ now
+pub unchanged-fault : (old new : JobState) (recent : List Kind) (now : DebuggerState) (error : JobError)
+    → record { job = old; recent = recent } ≡ now → TakesStep old (Err error) new → now.job.machine ≡ None
+    → record { job = new; recent = recent } ≡ now
 unchanged-fault old new recent now errors.Failed is takes none = ap (λ (job : JobState). record { job = job; recent = recent }) takes.1 ∙ is
 unchanged-fault old new recent now errors.NoMemory is takes none = absurd (wants_none old (ap (λ (standing : DebuggerState). standing.job.machine) is ∙ none) takes.0)
 unchanged-fault old new recent now errors.SinkFault is takes none = absurd takes

@@ -1,3 +1,4 @@
+-- The lemmas on the debugger: steps that are taken, and where they stop.
 pub mod Tables
 pub mod Taking
 pub mod Faults

@@ -43,7 +43,8 @@ begins old new answers.Steps (item, advances) =
 begins old new answers.Nothing takes = takes
 begins old new answers.Fault (none, may) = (none, inl may)
 
-one_more : (old mid new : DebuggerState) (item : StepResult) (reaches : ReachesOne old mid) → reaches.advances.from.depth < reaches.here.machine.depth → Advances mid (item ∷ []) new → ReachesOne old new
+one_more : (old mid new : DebuggerState) (item : StepResult) (reaches : ReachesOne old mid)
+    → reaches.advances.from.depth < reaches.here.machine.depth → Advances mid (item ∷ []) new → ReachesOne old new
 one_more old mid new item reaches here advances =
     let these = reaches.passed ++ reaches.here ∷ [] in
     let P : Machine → StepResult → Type 0 = λ from one. from.depth < one.machine.depth in

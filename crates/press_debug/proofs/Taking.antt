@@ -1,5 +1,6 @@
 -- Steps of a job, one after another.
-use Rattle.std.proofs.Common.{◌≡◌, ◌∙◌, ◌+◌, ◌≤◌, ◌↔◌, ℕ, List, [], ◌∷◌, ◌++◌, length, Bool, true, false, Option, Some, None, IfSome, IsSome, IsTrue, IsFalse, Ok, refl, sym, ap, subst, inl, inr, arith}
+use Rattle.std.proofs.Common.{◌≡◌, ◌∙◌, ◌+◌, ◌≤◌, ◌↔◌, ℕ, List, [], ◌∷◌, ◌++◌, length, Bool, true, false, Option}
+use Rattle.std.proofs.Common.{Some, None, IfSome, IsSome, IsTrue, IsFalse, Ok, refl, sym, ap, subst, inl, inr, arith}
 use Rattle.std.proofs.lemmas.Bool.{false≢true, true≢false}
 use Rattle.std.proofs.lemmas.List.{append_assoc}
 use Rattle.press_cmd.specs.Token.{Token}
@@ -34,7 +35,9 @@ kind_once lasts.Nothing kind is = absurd is
 kind_once (lasts.Ran one) kind is = ap (λ (k : Kind). k ∷ []) is
 kind_once (lasts.Recorded one) kind is = ap (λ (k : Kind). k ∷ []) is
 
-pub Advances-one : LeftGoesOn → (old new : JobState) (item : StepResult) (kind : Kind) (recent last : List Kind) → Does old item kind new → last ≡ keep_last 64 (recent ++ kind ∷ []) → Advances (record { job = old; recent = recent }) (item ∷ []) (record { job = new; recent = last })
+pub Advances-one : LeftGoesOn → (old new : JobState) (item : StepResult) (kind : Kind) (recent last : List Kind) → Does old item kind new
+    → last ≡ keep_last 64 (recent ++ kind ∷ [])
+    → Advances (record { job = old; recent = recent }) (item ∷ []) (record { job = new; recent = last })
 Advances-one law old new item kind recent last did kept = record {
   from = did.from;
   starts = did.starts;
@@ -171,7 +174,8 @@ IsSound-fault old new recent failed sound none = record {
   few = sound.few;
 }
 
-pub takes_one : LeftGoesOn → (old new : JobState) (answer : JobStep) (step : StepOutput) (recent last : Buffer Kind) (now : DebuggerState) → record { job = old; recent = recent.items } ≡ now → recent.capacity ≡ 64
+pub takes_one : LeftGoesOn → (old new : JobState) (answer : JobStep) (step : StepOutput) (recent last : Buffer Kind) (now : DebuggerState)
+    → record { job = old; recent = recent.items } ≡ now → recent.capacity ≡ 64
     → answer ≡ steps.Ran step → TakesStep old (Ok answer) new → last ≡ buffer (keep_last recent.capacity (recent.items ++ step.kind ∷ [])) recent.capacity
     → (item : StepResult) × Advances now (item ∷ []) (record { job = new; recent = last.items })
 takes_one law old new answer step recent last now same capacity is takes kept =

@@ -9,7 +9,8 @@ use Rattle.std.proofs.lemmas.Bool.{eqb-true, ne_eqb}
 use Rattle.std.proofs.lemmas.List.{append_cancel_right}
 use Rattle.press_cmd.specs.Token.{Token, Escape, Grouped, Ungrouped, Control, Text, Broken, Uel, PjlLine, ForeignByte, pjl_mark, escape_byte, bytes_of}
 use Rattle.press_cmd.specs.ParserState.{ParserState, Exit, OverlongLine, OtherLanguage, Pcl, Open}
-use Rattle.press_cmd.specs.Grammar.{IsGrouped, IsUngrouped, IsPjlLine, longest_line, Ends, IsEnd, IsCharacter, IsGroup, Breaks, BeginsLine, differs, begins_pair, scanned_in, scanned_after_exit, Stands, Head, value_pair}
+use Rattle.press_cmd.specs.Grammar.{IsGrouped, IsUngrouped, IsPjlLine, longest_line, Ends, IsEnd, IsCharacter, IsGroup, Breaks}
+use Rattle.press_cmd.specs.Grammar.{BeginsLine, differs, begins_pair, scanned_in, scanned_after_exit, Stands, Head, value_pair}
 use Rattle.press_cmd.specs.Language.{mode_after, enters_language}
 use Rattle.press_cmd.specs.Split.{Steps, NoHead, closing_in, closing, ClosedFrom, Closed}
 use Rattle.press_cmd.proofs.Reading.{Reading, Short, Found, reading, reading_in, read_on, Start, Pair}
@@ -136,7 +137,8 @@ data Prefix (m : ParserState) (x : List ℕ) (all : List Token) : Type 0 where
   Rest : all ≡ closing m x → NoHead m x → Prefix m x all
   First : (u v : List ℕ) (t : Token) (n : ParserState) (others : List Token) → x ≡ u ++ v → Head m u v t n → ClosedFrom n v others → all ≡ t ∷ others → Prefix m x all
 
-prefix-at : (commands : List Token) (m : ParserState) (x : List ℕ) (all : List Token) (k : ParserState) (r : List ℕ) → Steps m x commands k r → NoHead k r → all ≡ commands ++ closing k r → Prefix m x all
+prefix-at : (commands : List Token) (m : ParserState) (x : List ℕ) (all : List Token) (k : ParserState) (r : List ℕ)
+    → Steps m x commands k r → NoHead k r → all ≡ commands ++ closing k r → Prefix m x all
 prefix-at [] m x all k r s short e =
     let P : ParserState → List ℕ → Type 0 = λ n z. Prefix n z all in
     subst (λ (n : ParserState). P n x) (sym s.0) (subst (λ (z : List ℕ). P k z) (sym s.1) (Rest e short))
@@ -406,7 +408,22 @@ stands_again OtherLanguage u v w (ForeignByte b) n is next h =
     (refl, cond_true (eqb 27 b) _ _ (λ d. next.foreign (37 ∷ 45 ∷ 49 ∷ 50 ∷ 51 ∷ 52 ∷ 53 ∷ 88 ∷ []) uel_others h.2 d) h.1, ap shut h.2)
   where
     uel_others : AreOthers (37 ∷ 45 ∷ 49 ∷ 50 ∷ 51 ∷ 52 ∷ 53 ∷ 88 ∷ [])
-    uel_others = (λ e. absurd (omega (arith, e)), (λ e. absurd (omega (arith, e)), (λ e. absurd (omega (arith, e)), (λ e. absurd (omega (arith, e)), (λ e. absurd (omega (arith, e)), (λ e. absurd (omega (arith, e)), (λ e. absurd (omega (arith, e)), (λ e. absurd (omega (arith, e)), tt))))))))
+    uel_others = (
+      λ e. absurd (omega (arith, e)),
+      (
+        λ e. absurd (omega (arith, e)),
+        (
+          λ e. absurd (omega (arith, e)),
+          (
+            λ e. absurd (omega (arith, e)),
+            (
+              λ e. absurd (omega (arith, e)),
+              (λ e. absurd (omega (arith, e)), (λ e. absurd (omega (arith, e)), (λ e. absurd (omega (arith, e)), tt))),
+            ),
+          ),
+        ),
+      ),
+    )
 stands_again OtherLanguage u v w (Escape b) n is next h = absurd h
 stands_again OtherLanguage u v w _ n is next h = absurd h
 stands_again Pcl u v w t n is next h = pcl_again u v w t n (pcl_next n v w next) h
@@ -476,7 +493,8 @@ tail_escape u v t n others h after =
     let scanned : scanned_in OverlongLine (bytes_of t ++ all_bytes others) ≡ Pcl = ap (λ z. scanned_in OverlongLine (z ++ all_bytes others)) found.1 in
     (subst (λ (k : ParserState). Stands k (bytes_of t) (all_bytes others) t (shut n)) (sym scanned) both.0, both.1)
 
-tail_head : (b : Bool) (a : ℕ) (u v : List ℕ) (t : Token) (n : ParserState) (others : List Token) → eqb a 27 ≡ b → Head OverlongLine (a ∷ u) v t n → ClosedFrom n v others → IsHeadAgain OverlongLine t n others
+tail_head : (b : Bool) (a : ℕ) (u v : List ℕ) (t : Token) (n : ParserState) (others : List Token) → eqb a 27 ≡ b
+    → Head OverlongLine (a ∷ u) v t n → ClosedFrom n v others → IsHeadAgain OverlongLine t n others
 tail_head true a u v t n others e head after =
     tail_escape u v t n others (subst (λ (c : ℕ). Head OverlongLine (c ∷ u) v t n) (eqb-true a 27 e) head) after
 tail_head false a u v t n others e head after =

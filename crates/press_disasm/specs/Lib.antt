@@ -1,2 +1,3 @@
+-- The definitions of the assembly text of a stream.
 pub mod Again
 pub mod Disassembly

@@ -1,5 +1,5 @@
 //! The disassembler.
-ghost use Rattle.std.specs.Prelude.{◌≡◌, ◌++◌, length, IfOk};
+ghost use Rattle.std.specs.Prelude.{IfOk};
 ghost use Rattle.std.specs.String.{string_bytes};
 ghost use Rattle.press_disasm.specs.Disassembly.{IsDisassembly, IsListed};
 

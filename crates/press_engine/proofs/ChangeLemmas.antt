@@ -15,5 +15,6 @@ size_asked (Some size) env closes = refl
 size_asked None env closes = absurd (true≢false (sym closes))
 
 -- what is asked for is what changes
-pub changes_asked : {Asked : Type 0} (cause : Asked → EjectCause) (asked : Option Asked) (named : Asked) (state : State) → asked ≡ Some named → close_if_marked (cause named) state ≡ close_if_asked (option_map cause asked) state
+pub changes_asked : {Asked : Type 0} (cause : Asked → EjectCause) (asked : Option Asked) (named : Asked) (state : State)
+    → asked ≡ Some named → close_if_marked (cause named) state ≡ close_if_asked (option_map cause asked) state
 changes_asked cause asked named state is = sym (ap (λ asked. close_if_asked (option_map cause asked) state) is)

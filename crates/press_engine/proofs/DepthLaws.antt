@@ -9,7 +9,8 @@ use Rattle.press_engine.specs.declared.effect.Source.TheVariants as sources
 use Rattle.press_engine.specs.declared.machine.Machine.{Machine}
 use Rattle.press_engine.specs.Calls.{overlay_body}
 use Rattle.press_engine.specs.Outcome.{Effect, Changes, MayAllocate, GivesReply, Stays, Closes, Starts}
-use Rattle.press_engine.specs.Machine.{StepResult, silent, then_run, with_state, taken, deeper, enter_body, leave_body, overlay_levels, enter_overlay, leave_overlay, finish_without_overlay, macro_levels, source_at}
+use Rattle.press_engine.specs.Machine.{StepResult, silent, then_run, with_state, taken, deeper, enter_body, leave_body}
+use Rattle.press_engine.specs.Machine.{overlay_levels, enter_overlay, leave_overlay, finish_without_overlay, macro_levels, source_at}
 use Rattle.press_engine.specs.Table.{effect_on}
 use Rattle.press_engine.specs.Trace.{last_machine, with_end, trace_each, body_items, trace_effect_in_overlay, trace_in_overlay, close_items_with, trace_finished, trace_carry_out, trace_at}
 use Rattle.press_engine.specs.Laws.{BodiesAreBounded}
@@ -23,7 +24,9 @@ Within bound item = item.machine.depth ≤ bound
 abbrev Keeps : Machine → (before : Machine) → List StepResult → Type 0
 Keeps machine before items = (last_machine before items).depth ≡ machine.depth
 
-body-keeps : (tracing : Token → Machine → List StepResult) (end : Machine → StepResult) (commands : List Token) (inside before machine : Machine) → ((at : Machine) → (end at).machine.depth ≡ machine.depth) → Keeps machine before (body_items tracing end commands inside)
+body-keeps : (tracing : Token → Machine → List StepResult) (end : Machine → StepResult) (commands : List Token)
+    (inside before machine : Machine)
+    → ((at : Machine) → (end at).machine.depth ≡ machine.depth) → Keeps machine before (body_items tracing end commands inside)
 body-keeps tracing end commands inside before machine ends =
     let items = trace_each tracing commands inside in
     ap (λ (at : Machine). at.depth) (with_end-machine end (silent inside) items before) ∙ ends (last_machine inside items)
@@ -72,7 +75,9 @@ at-keeps zero command machine = finished-keeps machine (taken command machine) (
 at-keeps (suc more) command machine =
     carry_out-keeps (trace_at more) machine (taken command machine) (effect_on (source_at (suc more)) command machine.state)
 
-each-keeps : (tracing : Token → Machine → List StepResult) → ((command : Token) (machine : Machine) → Keeps machine machine (tracing command machine)) → (commands : List Token) (machine : Machine) → Keeps machine machine (trace_each tracing commands machine)
+each-keeps : (tracing : Token → Machine → List StepResult)
+    → ((command : Token) (machine : Machine) → Keeps machine machine (tracing command machine))
+    → (commands : List Token) (machine : Machine) → Keeps machine machine (trace_each tracing commands machine)
 unfolding trace_each
 each-keeps tracing keeps [] machine = refl
 each-keeps tracing keeps (command ∷ commands) machine =
@@ -81,7 +86,9 @@ each-keeps tracing keeps (command ∷ commands) machine =
     ∙ each-keeps tracing keeps commands middle ∙ keeps command machine
 
 -- an end after which so many bodies run, in the last item
-with_end-within : (bound : ℕ) (end : Machine → StepResult) → ((machine : Machine) → Within bound (end machine)) → (item : StepResult) (items : List StepResult) → Within bound item → All (Within bound) items → All (Within bound) (with_end end item items)
+with_end-within : (bound : ℕ) (end : Machine → StepResult) → ((machine : Machine) → Within bound (end machine))
+    → (item : StepResult) (items : List StepResult) → Within bound item → All (Within bound) items
+    → All (Within bound) (with_end end item items)
 with_end-within bound end ends item [] here all =
     All-cons (Within bound) (then_run item.outputs (end item.machine)) [] (ends item.machine) (All-nil (Within bound))
 with_end-within bound end ends item (next ∷ items) here all =
@@ -89,7 +96,9 @@ with_end-within bound end ends item (next ∷ items) here all =
     (with_end-within bound end ends next items (All-head (Within bound) next items all) (All-tail (Within bound) next items all))
 
 -- The items of commands that each keep the number of bodies.
-module _ (bound depth : ℕ) (tracing : Token → Machine → List StepResult) (keeps : (command : Token) (machine : Machine) → (last_machine machine (tracing command machine)).depth ≡ machine.depth) (within : (command : Token) (machine : Machine) → machine.depth ≤ depth → All (Within bound) (tracing command machine)) where
+module _ (bound depth : ℕ) (tracing : Token → Machine → List StepResult)
+    (keeps : (command : Token) (machine : Machine) → (last_machine machine (tracing command machine)).depth ≡ machine.depth)
+    (within : (command : Token) (machine : Machine) → machine.depth ≤ depth → All (Within bound) (tracing command machine)) where
   each-within : (commands : List Token) (machine : Machine) → machine.depth ≤ depth → All (Within bound) (trace_each tracing commands machine)
   unfolding trace_each
   each-within [] machine small = All-nil (Within bound)
@@ -98,7 +107,9 @@ module _ (bound depth : ℕ) (tracing : Token → Machine → List StepResult) (
       All-append (Within bound) (tracing command machine) (trace_each tracing commands middle) (within command machine small)
       (each-within commands middle (subst (λ n. n ≤ depth) (sym (keeps command machine)) small))
 
-  body-within : (end : Machine → StepResult) → ((machine : Machine) → Within bound (end machine)) → (commands : List Token) (inside : Machine) → inside.depth ≤ depth → depth ≤ bound → All (Within bound) (body_items tracing end commands inside)
+  body-within : (end : Machine → StepResult) → ((machine : Machine) → Within bound (end machine))
+      → (commands : List Token) (inside : Machine) → inside.depth ≤ depth → depth ≤ bound
+      → All (Within bound) (body_items tracing end commands inside)
   body-within end ends commands inside small under =
       with_end-within bound end ends (silent inside) (trace_each tracing commands inside) (omega (arith, small, under)) (each-within commands inside small)
 
@@ -109,7 +120,9 @@ deeper-small : (depth : ℕ) → deeper depth ≤ depth + 1
 deeper-small depth = min-le_left (depth + 1) 255
 
 -- The items of a command of an overlay.
-over-effect-within : (bound macro_levels : ℕ) (machine : Machine) (effect : Effect) → ((command : Token) (at : Machine) → at.depth ≤ machine.depth + 1 → All (Within bound) (trace_in_overlay macro_levels command at)) → machine.depth + 1 ≤ bound → All (Within bound) (trace_effect_in_overlay (trace_in_overlay macro_levels) machine effect)
+over-effect-within : (bound macro_levels : ℕ) (machine : Machine) (effect : Effect)
+    → ((command : Token) (at : Machine) → at.depth ≤ machine.depth + 1 → All (Within bound) (trace_in_overlay macro_levels command at))
+    → machine.depth + 1 ≤ bound → All (Within bound) (trace_effect_in_overlay (trace_in_overlay macro_levels) machine effect)
 over-effect-within bound macro_levels machine (Changes state) within small = one-within bound _ (omega (arith, small))
 over-effect-within bound macro_levels machine (MayAllocate state) within small = one-within bound _ (omega (arith, small))
 over-effect-within bound macro_levels machine (GivesReply reply state) within small = one-within bound _ (omega (arith, small))
@@ -132,7 +145,8 @@ close_items-within : (bound : ℕ) (body : Option (List Token)) (cause : EjectCa
 close_items-within bound None cause machine small = one-within bound _ (omega (arith, small))
 close_items-within bound (Some commands) cause machine small =
     body-within bound (machine.depth + 1) (trace_in_overlay overlay_levels) (over-keeps overlay_levels) (λ command at near. over-within bound overlay_levels command at (omega (arith, small, near)))
-    (λ after. finish_without_overlay (leave_overlay machine after) (Closes cause (leave_overlay machine after).state)) (λ after. omega (arith, small)) commands (enter_overlay machine) (deeper-small machine.depth) (omega (arith, small))
+    (λ after. finish_without_overlay (leave_overlay machine after) (Closes cause (leave_overlay machine after).state))
+    (λ after. omega (arith, small)) commands (enter_overlay machine) (deeper-small machine.depth) (omega (arith, small))
 
 finished-within : (bound : ℕ) (machine : Machine) (effect : Effect) → machine.depth + 2 ≤ bound → All (Within bound) (trace_finished machine effect)
 finished-within bound machine (Changes state) small = one-within bound _ (omega (arith, small))
@@ -142,7 +156,9 @@ finished-within bound machine (Stays cause state) small = one-within bound _ (om
 finished-within bound machine (Closes cause state) small = close_items-within bound (overlay_body state) cause (with_state state machine) small
 finished-within bound machine (Starts commands end state) small = one-within bound _ (omega (arith, small))
 
-carry_out-within : (bound macro_levels : ℕ) (machine : Machine) (effect : Effect) → ((command : Token) (at : Machine) → at.depth ≤ machine.depth + 1 → All (Within bound) (trace_at macro_levels command at)) → machine.depth + 2 ≤ bound → All (Within bound) (trace_carry_out (trace_at macro_levels) machine effect)
+carry_out-within : (bound macro_levels : ℕ) (machine : Machine) (effect : Effect)
+    → ((command : Token) (at : Machine) → at.depth ≤ machine.depth + 1 → All (Within bound) (trace_at macro_levels command at))
+    → machine.depth + 2 ≤ bound → All (Within bound) (trace_carry_out (trace_at macro_levels) machine effect)
 carry_out-within bound macro_levels machine (Changes state) within small = finished-within bound machine (Changes state) small
 carry_out-within bound macro_levels machine (MayAllocate state) within small = finished-within bound machine (MayAllocate state) small
 carry_out-within bound macro_levels machine (GivesReply reply state) within small = finished-within bound machine (GivesReply reply state) small

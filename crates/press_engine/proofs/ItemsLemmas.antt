@@ -7,7 +7,9 @@ use Rattle.press_engine.specs.Machine.{StepResult, then_run}
 use Rattle.press_engine.specs.Stack.{continuation, begins, end_of, ended_by, unwind, Gives, step_inner, HasNext, IsReady}
 use Rattle.press_engine.proofs.StackLaws.{inner-continuation}
 
-ended-ready : (body : List Token) (activations : List Activation) (activation : Activation) → ((item : StepResult) → IsReady (unwind activations item).activations) → (item : StepResult) → body ≡ activation.body → IsReady (ended_by body activations activation (unwind activations) item).activations
+ended-ready : (body : List Token) (activations : List Activation) (activation : Activation)
+    → ((item : StepResult) → IsReady (unwind activations item).activations) → (item : StepResult) → body ≡ activation.body
+    → IsReady (ended_by body activations activation (unwind activations) item).activations
 ended-ready [] activations activation outer item is = outer (then_run item.outputs (end_of activation item.machine))
 ended-ready (command ∷ rest) activations activation outer item is = inr (activation, command, rest, activations, (λ i. record activation { body = sym is i } ∷ activations))
 
@@ -22,11 +24,14 @@ pub ready-some : (activations : List Activation) → IsReady activations → act
 ready-some activations (inl none) some = absurd (some none)
 ready-some activations (inr next) some = next
 
-pub inner-gives : (activation : Activation) (command : Token) (rest : List Token) (outer activations : List Activation) (machine : Machine) → activations ≡ record activation { body = command ∷ rest } ∷ outer → Gives (step_inner activation command rest outer machine) (continuation activations machine)
+pub inner-gives : (activation : Activation) (command : Token) (rest : List Token) (outer activations : List Activation) (machine : Machine)
+    → activations ≡ record activation { body = command ∷ rest } ∷ outer
+    → Gives (step_inner activation command rest outer machine) (continuation activations machine)
 inner-gives activation command rest outer activations machine is =
     ap (λ (these : List Activation). continuation these machine) is ∙ inner-continuation activation command rest outer machine
 
-pub step-ready : (activation : Activation) (command : Token) (rest : List Token) (outer still : List Activation) (machine : Machine) → still ≡ (step_inner activation command rest outer machine).activations → IsReady still
+pub step-ready : (activation : Activation) (command : Token) (rest : List Token) (outer still : List Activation) (machine : Machine)
+    → still ≡ (step_inner activation command rest outer machine).activations → IsReady still
 step-ready activation command rest outer still machine is =
     let begin = begins activation.in_overlay activation.macro_levels command machine in
     ready-of (begin.started ++ (record activation { body = rest } ∷ outer)) still begin.item is

@@ -1,3 +1,4 @@
+-- The lemmas on the engine: its steps, macros and items, and what goes out.
 pub mod ChangeLemmas
 pub mod DepthLaws
 pub mod EndsLemmas

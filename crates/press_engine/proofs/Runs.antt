@@ -12,7 +12,9 @@ unfolding trace_each
 run_all-none machine = refl
 
 -- commands, and then others from the machine that they left
-pub run_all-append : (commands others : List Token) (machine : Machine) → run_all (commands ++ others) machine ≡ then_run (run_all commands machine).outputs (run_all others (run_all commands machine).machine)
+pub run_all-append : (commands others : List Token) (machine : Machine)
+    → run_all (commands ++ others) machine
+    ≡ then_run (run_all commands machine).outputs (run_all others (run_all commands machine).machine)
 run_all-append commands others machine =
     let between = (run_all commands machine).machine in
     let first = trace commands machine in

@@ -26,7 +26,10 @@ stops engine_errors.NoMemory is = cc
 stops engine_errors.Failed is = cc
 
 -- a first part that stopped, and the exit that hands its error on
-pub WentOut-exit : (tag : ℕ) (outputs others : List Output) (first result : Result (Unit {0}) EngineError) (error : EngineError) (before after : SinkLog) → WentOut tag outputs (ending_of first) before after → first ≡ Err error → result ≡ Err error → WentOut tag (outputs ++ others) (ending_of result) before after
+pub WentOut-exit : (tag : ℕ) (outputs others : List Output) (first result : Result (Unit {0}) EngineError) (error : EngineError)
+    (before after : SinkLog)
+    → WentOut tag outputs (ending_of first) before after → first ≡ Err error → result ≡ Err error
+    → WentOut tag (outputs ++ others) (ending_of result) before after
 WentOut-exit tag outputs others first result error before after sends is exits =
     let P : Result (Unit {0}) EngineError → Type 0 = λ one. WentOut tag outputs (ending_of one) before after in
     let Q : Result (Unit {0}) EngineError → Type 0 = λ one. WentOut tag (outputs ++ others) (ending_of one) before after in
@@ -43,7 +46,9 @@ ending_at_reply (Ok _) = Complete
 ending_at_reply (Err reply_errors.ReplyFault) = AtReply
 ending_at_reply (Err reply_errors.NoMemory) = ForMemory
 
-pub deliver-sends : (old new : SheetLog) (tag : ℕ) (sheet : PrintedSheet) (result : Result (Unit {0}) SinkError) → Delivers old (record { tag = tag; sheet = sheet }) result new → (replies : ReplyLog) → WentOut tag (Deliver sheet ∷ []) (ending_at_sheet result) (logs old replies) (logs new replies)
+pub deliver-sends : (old new : SheetLog) (tag : ℕ) (sheet : PrintedSheet) (result : Result (Unit {0}) SinkError)
+    → Delivers old (record { tag = tag; sheet = sheet }) result new → (replies : ReplyLog)
+    → WentOut tag (Deliver sheet ∷ []) (ending_at_sheet result) (logs old replies) (logs new replies)
 deliver-sends old new tag sheet (Ok done) (told, faults) replies =
     record { went = Deliver sheet ∷ []; goes = refl; delivered = told; replied = Appends-nil replies.replied; sheet_faults = faults; reply_faults = refl }
 deliver-sends old new tag sheet (Err sink_errors.SinkFault) (told, faults) replies =
@@ -51,9 +56,17 @@ deliver-sends old new tag sheet (Err sink_errors.SinkFault) (told, faults) repli
 deliver-sends old new tag sheet (Err sink_errors.NoMemory) (told, faults) replies =
     record { went = []; goes = (Deliver sheet ∷ [], refl); delivered = told ∙ told-nothing old.delivered; replied = Appends-nil replies.replied; sheet_faults = faults; reply_faults = refl }
 
-pub reply-sends : (old new : ReplyLog) (tag : ℕ) (bytes : List ℕ) (result : Result (Unit {0}) ReplyError) → Replies old bytes result new → (sheets : SheetLog) → WentOut tag (Reply bytes ∷ []) (ending_at_reply result) (logs sheets old) (logs sheets new)
+pub reply-sends : (old new : ReplyLog) (tag : ℕ) (bytes : List ℕ) (result : Result (Unit {0}) ReplyError) → Replies old bytes result new
+    → (sheets : SheetLog) → WentOut tag (Reply bytes ∷ []) (ending_at_reply result) (logs sheets old) (logs sheets new)
 reply-sends old new tag bytes (Ok done) (told, faults) sheets =
-    record { went = Reply bytes ∷ []; goes = refl; delivered = told-nothing sheets.delivered; replied = subst (Appends old.replied new.replied) (sym (append-nil bytes)) told; sheet_faults = refl; reply_faults = faults }
+    record {
+      went = Reply bytes ∷ [];
+      goes = refl;
+      delivered = told-nothing sheets.delivered;
+      replied = subst (Appends old.replied new.replied) (sym (append-nil bytes)) told;
+      sheet_faults = refl;
+      reply_faults = faults;
+    }
 reply-sends old new tag bytes (Err reply_errors.ReplyFault) (prefix, back, parts, told, faults) sheets = record {
   went = Reply prefix ∷ [];
   goes = ([], [], prefix, back, ap (λ (all : List ℕ). Reply all ∷ []) parts, refl);
@@ -87,19 +100,25 @@ module _ (sheet : PrintedSheet) (tag done copies : ℕ) (count next : Option ℕ
       ∙ ap (λ (number : Option ℕ). copy_out sheet number ++ copies_out sheet (copies - (done + 1)) number) (sym counts)
 
   -- a copy went out, and then of the others so much
-  pub WentOut-copy : (result : Result (Unit {0}) EngineError) (before between after : SinkLog) → done < copies → WentOut tag (copy_out sheet next) Complete before between → WentOut tag (copies_out sheet (copies - (done + 1)) next) (ending_of result) between after → WentOut tag (copies_out sheet (copies - done) count) (ending_of result) before after
+  pub WentOut-copy : (result : Result (Unit {0}) EngineError) (before between after : SinkLog) → done < copies
+      → WentOut tag (copy_out sheet next) Complete before between
+      → WentOut tag (copies_out sheet (copies - (done + 1)) next) (ending_of result) between after
+      → WentOut tag (copies_out sheet (copies - done) count) (ending_of result) before after
   WentOut-copy result before between after below first then =
       let P : List Output → Type 0 = λ outputs. WentOut tag outputs (ending_of result) before after in
       subst P (sym (one_more below)) (WentOut-then tag (copy_out sheet next) (copies_out sheet (copies - (done + 1)) next) (ending_of result) before between after first then)
 
   -- a copy that did not go out
-  pub WentOut-stopped_copy : (first result : Result (Unit {0}) EngineError) (error : EngineError) (before after : SinkLog) → done < copies → WentOut tag (copy_out sheet next) (ending_of first) before after → first ≡ Err error → result ≡ Err error → WentOut tag (copies_out sheet (copies - done) count) (ending_of result) before after
+  pub WentOut-stopped_copy : (first result : Result (Unit {0}) EngineError) (error : EngineError) (before after : SinkLog) → done < copies
+      → WentOut tag (copy_out sheet next) (ending_of first) before after → first ≡ Err error → result ≡ Err error
+      → WentOut tag (copies_out sheet (copies - done) count) (ending_of result) before after
   WentOut-stopped_copy first result error before after below sends stops exits =
       let P : List Output → Type 0 = λ outputs. WentOut tag outputs (ending_of result) before after in
       subst P (sym (one_more below)) (WentOut-exit tag (copy_out sheet next) (copies_out sheet (copies - (done + 1)) next) first result error before after sends stops exits)
 
 -- behind a copy the sheet is what its sink took last
-pub TookLast-copy : (sheet : PrintedSheet) (tag : ℕ) (count : Option ℕ) (before after : SinkLog) → WentOut tag (copy_out sheet count) Complete before after → TookLast after.sheets (record { tag = tag; sheet = sheet })
+pub TookLast-copy : (sheet : PrintedSheet) (tag : ℕ) (count : Option ℕ) (before after : SinkLog)
+    → WentOut tag (copy_out sheet count) Complete before after → TookLast after.sheets (record { tag = tag; sheet = sheet })
 TookLast-copy sheet tag None before after took = (before.sheets.delivered, all-delivered tag (copy_out sheet None) before after took)
 TookLast-copy sheet tag (Some since_job) before after took = (before.sheets.delivered, all-delivered tag (copy_out sheet (Some since_job)) before after took)
 

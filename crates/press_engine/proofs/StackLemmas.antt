@@ -22,7 +22,9 @@ pub few-bodies : (activations : List Activation) → IsNested activations → le
 few-bodies activations nested = let all = few activations nested in omega (arith, all)
 
 -- the bodies that still run after a step are nested as before it
-ended-nested : (body : List Token) (activations : List Activation) (activation : Activation) → ((item : StepResult) → IsNested (unwind activations item).activations) → (item : StepResult) → IsNested (activation ∷ activations) → IsNested (ended_by body activations activation (unwind activations) item).activations
+ended-nested : (body : List Token) (activations : List Activation) (activation : Activation)
+    → ((item : StepResult) → IsNested (unwind activations item).activations) → (item : StepResult) → IsNested (activation ∷ activations)
+    → IsNested (ended_by body activations activation (unwind activations) item).activations
 ended-nested [] activations activation outer item nested = outer (then_run item.outputs (end_of activation item.machine))
 ended-nested (command ∷ rest) activations activation outer item nested = nested
 
@@ -60,13 +62,15 @@ module _ (activations : List Activation) (nested : IsNested activations) where
   begun_outside-nested more machine (Closes cause state) small = begun_finished-nested machine (Closes cause state) (omega (arith, small))
   begun_outside-nested more machine (Starts commands end state) small = (small, nested)
 
-  begun-nested : (in_overlay : Bool) (more : ℕ) (machine : Machine) (effect : Effect) → room_where in_overlay more ≤ room_in activations → IsNested ((stack.begun in_overlay more machine effect).started ++ activations)
+  begun-nested : (in_overlay : Bool) (more : ℕ) (machine : Machine) (effect : Effect) → room_where in_overlay more ≤ room_in activations
+      → IsNested ((stack.begun in_overlay more machine effect).started ++ activations)
   begun-nested true zero machine effect small = nested
   begun-nested true (suc more) machine effect small = begun_in_overlay-nested more machine effect (omega (arith, small))
   begun-nested false zero machine effect small = begun_finished-nested machine effect (omega (arith, small))
   begun-nested false (suc more) machine effect small = begun_outside-nested more machine effect (omega (arith, small))
 
-  pub begins-nested : (in_overlay : Bool) (more : ℕ) (command : Token) (machine : Machine) → room_where in_overlay more ≤ room_in activations → IsNested ((begins in_overlay more command machine).started ++ activations)
+  pub begins-nested : (in_overlay : Bool) (more : ℕ) (command : Token) (machine : Machine)
+      → room_where in_overlay more ≤ room_in activations → IsNested ((begins in_overlay more command machine).started ++ activations)
   begins-nested in_overlay more command machine small =
       begun-nested in_overlay more (taken command machine) (effect_on (source_in in_overlay more) command machine.state) small
 
@@ -90,11 +94,15 @@ wants-outside more machine (Closes cause state) some = tt
 wants-outside more machine (Starts commands end state) some = tt
 
 -- of a command of the stream
-pub outer-wants : (command : Token) (machine : Machine) → ((begins false MACRO_LEVELS command machine).item.outputs ≢ []) ⊎ ((begins false MACRO_LEVELS command machine).started ≢ []) → TakesMemory (effect_on Stream command machine.state)
+pub outer-wants : (command : Token) (machine : Machine)
+    → ((begins false MACRO_LEVELS command machine).item.outputs ≢ []) ⊎ ((begins false MACRO_LEVELS command machine).started ≢ [])
+    → TakesMemory (effect_on Stream command machine.state)
 outer-wants command machine some = wants-outside 1 (taken command machine) (effect_on Stream command machine.state) some
 
 -- of a command of a body
-wants-in_overlay : (more : ℕ) (machine : Machine) (effect : Effect) → ((begun_in_overlay more machine effect).item.outputs ≢ []) ⊎ ((begun_in_overlay more machine effect).started ≢ []) → TakesMemory effect
+wants-in_overlay : (more : ℕ) (machine : Machine) (effect : Effect)
+    → ((begun_in_overlay more machine effect).item.outputs ≢ []) ⊎ ((begun_in_overlay more machine effect).started ≢ [])
+    → TakesMemory effect
 wants-in_overlay more machine (Changes state) (inl some) = absurd (some refl)
 wants-in_overlay more machine (Changes state) (inr some) = absurd (some refl)
 wants-in_overlay more machine (MayAllocate state) some = tt
@@ -104,12 +112,16 @@ wants-in_overlay more machine (Stays cause state) (inr some) = absurd (some refl
 wants-in_overlay more machine (Closes cause state) some = tt
 wants-in_overlay more machine (Starts commands end state) some = tt
 
-begun-wants : (in_overlay : Bool) (more : ℕ) (machine : Machine) (effect : Effect) → ((stack.begun in_overlay more machine effect).item.outputs ≢ []) ⊎ ((stack.begun in_overlay more machine effect).started ≢ []) → TakesMemory effect
+begun-wants : (in_overlay : Bool) (more : ℕ) (machine : Machine) (effect : Effect)
+    → ((stack.begun in_overlay more machine effect).item.outputs ≢ []) ⊎ ((stack.begun in_overlay more machine effect).started ≢ [])
+    → TakesMemory effect
 begun-wants true zero machine effect (inl some) = absurd (some refl)
 begun-wants true zero machine effect (inr some) = absurd (some refl)
 begun-wants true (suc more) machine effect some = wants-in_overlay more machine effect some
 begun-wants false zero machine effect some = wants-finished machine effect some
 begun-wants false (suc more) machine effect some = wants-outside more machine effect some
 
-pub inner-wants : (in_overlay : Bool) (more : ℕ) (command : Token) (machine : Machine) → ((begins in_overlay more command machine).item.outputs ≢ []) ⊎ ((begins in_overlay more command machine).started ≢ []) → TakesMemory (effect_on (source_in in_overlay more) command machine.state)
+pub inner-wants : (in_overlay : Bool) (more : ℕ) (command : Token) (machine : Machine)
+    → ((begins in_overlay more command machine).item.outputs ≢ []) ⊎ ((begins in_overlay more command machine).started ≢ [])
+    → TakesMemory (effect_on (source_in in_overlay more) command machine.state)
 inner-wants in_overlay more command machine some = begun-wants in_overlay more (taken command machine) (effect_on (source_in in_overlay more) command machine.state) some

@@ -9,7 +9,8 @@ use Rattle.press_engine.specs.declared.state.State.{State}
 use Rattle.press_engine.specs.Calls.{overlay_body}
 use Rattle.press_engine.specs.Counts.{counted}
 use Rattle.press_engine.specs.Outcome.{Effect, Changes, MayAllocate, GivesReply, Stays, Closes, Starts}
-use Rattle.press_engine.specs.Machine.{StepResult, silent, with_state, taken, last_of, enter_body, leave_body, overlay_levels, enter_overlay, leave_overlay, finish_without_overlay, macro_levels, source_at}
+use Rattle.press_engine.specs.Machine.{StepResult, silent, with_state, taken, last_of, enter_body, leave_body, overlay_levels}
+use Rattle.press_engine.specs.Machine.{enter_overlay, leave_overlay, finish_without_overlay, macro_levels, source_at}
 use Rattle.press_engine.specs.PageKept.{PageStays, TakesFirst, OthersKeepThePage, kind_may_change_page}
 use Rattle.press_engine.specs.Steps.{CountFrom}
 use Rattle.press_engine.specs.Table.{effect_on}
@@ -21,15 +22,19 @@ append-counts [] others machine count more = more
 append-counts (item ∷ items) others machine (one, count) more = (one, append-counts items others item.machine count more)
 
 -- an end of a body that counts nothing
-with_end-counts : (end : Machine → StepResult) → ((machine : Machine) → (end machine).machine.step ≡ machine.step) → (item : StepResult) (items : List StepResult) (machine : Machine) → CountFrom machine (item ∷ items) → CountFrom machine (with_end end item items)
+with_end-counts : (end : Machine → StepResult) → ((machine : Machine) → (end machine).machine.step ≡ machine.step)
+    → (item : StepResult) (items : List StepResult) (machine : Machine) → CountFrom machine (item ∷ items)
+    → CountFrom machine (with_end end item items)
 with_end-counts end keeps item [] machine (one, count) = (keeps item.machine ∙ one, tt)
 with_end-counts end keeps item (next ∷ items) machine (one, count) = (one, with_end-counts end keeps next items item.machine count)
 
-with_end-takes : (end : Machine → StepResult) → ((machine : Machine) → (end machine).machine.last ≡ machine.last) → (item : StepResult) (items : List StepResult) → TakesFirst item.machine.last (with_end end item items)
+with_end-takes : (end : Machine → StepResult) → ((machine : Machine) → (end machine).machine.last ≡ machine.last)
+    → (item : StepResult) (items : List StepResult) → TakesFirst item.machine.last (with_end end item items)
 with_end-takes end keeps item [] = keeps item.machine
 with_end-takes end keeps item (next ∷ items) = refl
 
-each-counts : (one : Token → Machine → List StepResult) → ((command : Token) (machine : Machine) → CountFrom machine (one command machine)) → (commands : List Token) (machine : Machine) → CountFrom machine (trace_each one commands machine)
+each-counts : (one : Token → Machine → List StepResult) → ((command : Token) (machine : Machine) → CountFrom machine (one command machine))
+    → (commands : List Token) (machine : Machine) → CountFrom machine (trace_each one commands machine)
 unfolding trace_each
 each-counts one counts [] machine = tt
 each-counts one counts (command ∷ commands) machine =
@@ -37,14 +42,17 @@ each-counts one counts (command ∷ commands) machine =
     (each-counts one counts commands (last_machine machine (one command machine)))
 
 -- the items of a body that one step more starts
-body-counts : (one : Token → Machine → List StepResult) → ((command : Token) (machine : Machine) → CountFrom machine (one command machine)) → (end : Machine → StepResult) → ((machine : Machine) → (end machine).machine.step ≡ machine.step)
+body-counts : (one : Token → Machine → List StepResult) → ((command : Token) (machine : Machine) → CountFrom machine (one command machine))
+    → (end : Machine → StepResult) → ((machine : Machine) → (end machine).machine.step ≡ machine.step)
     → (commands : List Token) (inside machine : Machine) → inside.step ≡ counted machine.step 1 → CountFrom machine (body_items one end commands inside)
 body-counts one counts end keeps commands inside machine starts =
     with_end-counts end keeps (silent inside) (trace_each one commands inside) machine (starts, each-counts one counts commands inside)
 
 -- ---- in an overlay
 
-over-effect-counts : (more : ℕ) → ((command : Token) (machine : Machine) → CountFrom machine (trace_in_overlay more command machine)) → (machine before : Machine) (effect : Effect) → machine.step ≡ counted before.step 1 → CountFrom before (trace_effect_in_overlay (trace_in_overlay more) machine effect)
+over-effect-counts : (more : ℕ) → ((command : Token) (machine : Machine) → CountFrom machine (trace_in_overlay more command machine))
+    → (machine before : Machine) (effect : Effect) → machine.step ≡ counted before.step 1
+    → CountFrom before (trace_effect_in_overlay (trace_in_overlay more) machine effect)
 over-effect-counts more counts machine before (Changes state) starts = (starts, tt)
 over-effect-counts more counts machine before (MayAllocate state) starts = (starts, tt)
 over-effect-counts more counts machine before (GivesReply reply state) starts = (starts, tt)
@@ -75,7 +83,9 @@ finished-counts machine before (Stays cause state) starts = (starts, tt)
 finished-counts machine before (Closes cause state) starts = close-counts (overlay_body state) cause (with_state state machine) before starts
 finished-counts machine before (Starts commands end state) starts = (starts, tt)
 
-carried-counts : (more : ℕ) → ((command : Token) (machine : Machine) → CountFrom machine (trace_at more command machine)) → (machine before : Machine) (effect : Effect) → machine.step ≡ counted before.step 1 → CountFrom before (trace_carry_out (trace_at more) machine effect)
+carried-counts : (more : ℕ) → ((command : Token) (machine : Machine) → CountFrom machine (trace_at more command machine))
+    → (machine before : Machine) (effect : Effect) → machine.step ≡ counted before.step 1
+    → CountFrom before (trace_carry_out (trace_at more) machine effect)
 carried-counts more counts machine before (Changes state) starts = (starts, tt)
 carried-counts more counts machine before (MayAllocate state) starts = (starts, tt)
 carried-counts more counts machine before (GivesReply reply state) starts = (starts, tt)
@@ -114,7 +124,8 @@ first-takes : (command : Token) (machine : Machine) → TakesFirst (last_of comm
 unfolding trace_at
 first-takes command machine = carried-takes (trace_at 1) (taken command machine) (effect_on (source_at macro_levels) command machine.state)
 
-carried-keeps : (one : Token → Machine → List StepResult) (machine : Machine) (before : State) (effect : Effect) → PageStays before effect → (item : StepResult) × (trace_carry_out one machine effect ≡ item ∷ []) × (item.machine.state.page ≡ before.page)
+carried-keeps : (one : Token → Machine → List StepResult) (machine : Machine) (before : State) (effect : Effect) → PageStays before effect
+    → (item : StepResult) × (trace_carry_out one machine effect ≡ item ∷ []) × (item.machine.state.page ≡ before.page)
 carried-keeps one machine before (Changes state) stays = (silent (with_state state machine), refl, stays)
 carried-keeps one machine before (MayAllocate state) stays = (silent (with_state state machine), refl, stays)
 carried-keeps one machine before (GivesReply reply state) stays = absurd stays
@@ -122,7 +133,8 @@ carried-keeps one machine before (Stays cause state) stays = absurd stays
 carried-keeps one machine before (Closes cause state) stays = absurd stays
 carried-keeps one machine before (Starts commands end state) stays = absurd stays
 
-page-kept : (command : Token) (machine : Machine) → kind_may_change_page (kind_of command) ≡ false → (item : StepResult) × (trace_at macro_levels command machine ≡ item ∷ []) × (item.machine.state.page ≡ machine.state.page)
+page-kept : (command : Token) (machine : Machine) → kind_may_change_page (kind_of command) ≡ false
+    → (item : StepResult) × (trace_at macro_levels command machine ≡ item ∷ []) × (item.machine.state.page ≡ machine.state.page)
 unfolding trace_at
 page-kept command machine keeps =
     carried-keeps (trace_at 1) (taken command machine) machine.state (effect_on (source_at macro_levels) command machine.state)

@@ -1,5 +1,6 @@
 -- What a step says of the bodies that run, of the command that it took, and of memory.
-use Rattle.std.proofs.Common.{◌≡◌, ◌≢◌, ◌⊎◌, ◌∙◌, arith, ℕ, zero, suc, List, [], ◌∷◌, ◌++◌, Option, Some, None, Bool, true, false, if◌then◌else◌, Result, Ok, Err, IsErr, Vec, inl, inr, refl, sym, subst}
+use Rattle.std.proofs.Common.{◌≡◌, ◌≢◌, ◌⊎◌, ◌∙◌, arith, ℕ, zero, suc, List, [], ◌∷◌, ◌++◌, Option, Some, None, Bool}
+use Rattle.std.proofs.Common.{true, false, if◌then◌else◌, Result, Ok, Err, IsErr, Vec, inl, inr, refl, sym, subst}
 use Rattle.std.specs.declared.alloc.Global.{Global}
 use Rattle.std.proofs.lemmas.List.{append-nil}
 use Rattle.press_cmd.specs.Token.{Token}
@@ -20,7 +21,9 @@ use Rattle.press_engine.specs.Engine.{IsOfKind, StepsTo, TakesMemory}
 use Rattle.press_engine.specs.Machine.{StepResult, then_run, with_state, taken, last_of, macro_levels as MACRO_LEVELS}
 use Rattle.press_engine.specs.Outcome.{Effect, Changes, MayAllocate, GivesReply, Stays, Closes, Starts}
 use Rattle.press_engine.specs.Stack as stack
-use Rattle.press_engine.specs.Stack.{source_in, end_by, end_of, begun_in_overlay, begun_outside, begun_finished, begun_close_with, begins, ended_by, unwind, Stepped, step_outer, step_inner, continuation, Gives, IsNested, IsSound, IsOverlayEnd, EndsOverlay}
+use Rattle.press_engine.specs.Stack.{source_in, end_by, end_of, begun_in_overlay, begun_outside, begun_finished}
+use Rattle.press_engine.specs.Stack.{begun_close_with, begins, ended_by, unwind, Stepped, step_outer, step_inner}
+use Rattle.press_engine.specs.Stack.{continuation, Gives, IsNested, IsSound, IsOverlayEnd, EndsOverlay}
 use Rattle.press_engine.specs.Stepping.{stepped_of, used_up}
 use Rattle.press_engine.specs.Table.{effect_on, is_recorded}
 use Rattle.press_engine.proofs.ItemsLemmas.{ready-of, step-ready}
@@ -65,7 +68,9 @@ end-last : (end : ActivationEnd) (depth : ℕ) (machine : Machine) → (end_by e
 end-last (ends_by.Macro end) depth machine = refl
 end-last (ends_by.Close cause kept place) depth machine = refl
 
-ended-last : (body : List Token) (activations : List Activation) (activation : Activation) → ((item : StepResult) → (unwind activations item).item.machine.last ≡ item.machine.last) → (item : StepResult) → (ended_by body activations activation (unwind activations) item).item.machine.last ≡ item.machine.last
+ended-last : (body : List Token) (activations : List Activation) (activation : Activation)
+    → ((item : StepResult) → (unwind activations item).item.machine.last ≡ item.machine.last) → (item : StepResult)
+    → (ended_by body activations activation (unwind activations) item).item.machine.last ≡ item.machine.last
 ended-last [] activations activation outer item =
     outer (then_run item.outputs (end_of activation item.machine)) ∙ end-last activation.end activation.depth item.machine
 ended-last (command ∷ rest) activations activation outer item = refl
@@ -83,7 +88,8 @@ outer-last command machine =
     let begin = begins false MACRO_LEVELS command machine in
     unwind-last begin.started begin.item ∙ begins-last false MACRO_LEVELS command machine
 
-pub inner-last : (activation : Activation) (command : Token) (rest : List Token) (activations : List Activation) (machine : Machine) → (step_inner activation command rest activations machine).item.machine.last ≡ last_of command machine.state
+pub inner-last : (activation : Activation) (command : Token) (rest : List Token) (activations : List Activation) (machine : Machine)
+    → (step_inner activation command rest activations machine).item.machine.last ≡ last_of command machine.state
 inner-last activation command rest activations machine =
     let begin = begins activation.in_overlay activation.macro_levels command machine in
     unwind-last (begin.started ++ (record activation { body = rest } ∷ activations)) begin.item ∙ begins-last activation.in_overlay activation.macro_levels command machine
@@ -107,7 +113,10 @@ pub taken-last : (command : Token) (machine : Machine) (last : Last) → last �
 taken-last command machine last is = some-last last (kind_of command) (last-kind command machine last is)
 
 -- a step of the code gives the first of the items that were owed
-pub steps-to : (owing : List StepResult) (stepped : Stepped) (kind : Kind) (sent : Vec Sent Global) (new : Machine) (still : List Activation) → Gives stepped owing → stepped_of new sent.items still ≡ stepped → IsOfKind new.last kind → StepsTo owing (record { kind = kind; sent = sent }) new still
+pub steps-to : (owing : List StepResult) (stepped : Stepped) (kind : Kind) (sent : Vec Sent Global) (new : Machine)
+    (still : List Activation)
+    → Gives stepped owing → stepped_of new sent.items still ≡ stepped → IsOfKind new.last kind
+    → StepsTo owing (record { kind = kind; sent = sent }) new still
 steps-to owing stepped kind sent new still gives is of_kind = record {
   kind = of_kind;
   owes = gives ∙ (λ i. (sym is i).item ∷ continuation (sym is i).activations (sym is i).item.machine);
@@ -123,7 +132,10 @@ sound-outer command machine still is =
       nested = subst IsNested (sym is) (unwind-nested begin.started begin.item started);
     }
 
-pub sound-inner : (activation : Activation) (command : Token) (rest : List Token) (outer activations still : List Activation) (machine : Machine) → activations ≡ record activation { body = command ∷ rest } ∷ outer → IsNested activations → still ≡ (step_inner activation command rest outer machine).activations → IsSound still
+pub sound-inner : (activation : Activation) (command : Token) (rest : List Token) (outer activations still : List Activation)
+    (machine : Machine)
+    → activations ≡ record activation { body = command ∷ rest } ∷ outer → IsNested activations
+    → still ≡ (step_inner activation command rest outer machine).activations → IsSound still
 sound-inner activation command rest outer activations still machine all nested is =
     let begin = begins activation.in_overlay activation.macro_levels command machine in
     let within : IsNested (record activation { body = rest } ∷ outer) = subst IsNested all nested in
@@ -143,11 +155,14 @@ used-none : (body : List Token) → used_up body ≡ true → body ≡ []
 used-none [] is = refl
 used-none (command ∷ rest) is = absurd cc
 
-pub ends-overlay : (activations rest : List Activation) (activation : Activation) → activations ≡ activation ∷ rest → used_up activation.body ≡ true → IsOverlayEnd activation.end ⊎ EndsOverlay rest → EndsOverlay activations
+pub ends-overlay : (activations rest : List Activation) (activation : Activation) → activations ≡ activation ∷ rest
+    → used_up activation.body ≡ true → IsOverlayEnd activation.end ⊎ EndsOverlay rest → EndsOverlay activations
 ends-overlay activations rest activation is used ends = subst EndsOverlay (sym is) (used-none activation.body used, ends)
 
 -- where the rest of a step of the stream may take memory, so may the command
-pub outer-memory : (command : Token) (machine : Machine) (one : stack.Begun) (activations : List Activation) → one ≡ begins false MACRO_LEVELS command machine → activations ≡ [] → (one.item.outputs ≢ []) ⊎ (one.started ≢ []) ⊎ EndsOverlay activations → TakesMemory (effect_on Stream command machine.state)
+pub outer-memory : (command : Token) (machine : Machine) (one : stack.Begun) (activations : List Activation)
+    → one ≡ begins false MACRO_LEVELS command machine → activations ≡ []
+    → (one.item.outputs ≢ []) ⊎ (one.started ≢ []) ⊎ EndsOverlay activations → TakesMemory (effect_on Stream command machine.state)
 outer-memory command machine one activations is none (inl some) =
     let P : stack.Begun → Type 0 = λ this. this.item.outputs ≢ [] in
     outer-wants command machine (inl (subst P is some))
@@ -157,7 +172,12 @@ outer-memory command machine one activations is none (inr (inl some)) =
 outer-memory command machine one activations is none (inr (inr ends)) = absurd (subst EndsOverlay none ends)
 
 -- the same inside a body
-pub inner-memory : (activation : Activation) (command : Token) (rest : List Token) (outer activations : List Activation) (machine : Machine) (one : stack.Begun) → one ≡ begins activation.in_overlay activation.macro_levels command machine → activations ≡ record activation { body = rest } ∷ outer → (one.item.outputs ≢ []) ⊎ (one.started ≢ []) ⊎ EndsOverlay activations → TakesMemory (effect_on (source_in activation.in_overlay activation.macro_levels) command machine.state) ⊎ EndsOverlay (record activation { body = rest } ∷ outer)
+pub inner-memory : (activation : Activation) (command : Token) (rest : List Token) (outer activations : List Activation)
+    (machine : Machine) (one : stack.Begun)
+    → one ≡ begins activation.in_overlay activation.macro_levels command machine → activations ≡ record activation { body = rest } ∷ outer
+    → (one.item.outputs ≢ []) ⊎ (one.started ≢ []) ⊎ EndsOverlay activations
+    → TakesMemory (effect_on (source_in activation.in_overlay activation.macro_levels) command machine.state)
+    ⊎ EndsOverlay (record activation { body = rest } ∷ outer)
 inner-memory activation command rest outer activations machine one is all (inl some) =
     let P : stack.Begun → Type 0 = λ this. this.item.outputs ≢ [] in
     inl (inner-wants activation.in_overlay activation.macro_levels command machine (inl (subst P is some)))
@@ -175,15 +195,21 @@ end-sends : (end : ActivationEnd) (depth : ℕ) (machine : Machine) → (end_by 
 end-sends (ends_by.Macro end) depth machine some = absurd (some refl)
 end-sends (ends_by.Close cause kept place) depth machine some = tt
 
-over-end : (activation : Activation) (activations : List Activation) (item : StepResult) → activation.body ≡ [] → (item.outputs ≢ []) ⊎ ((end_of activation item.machine).outputs ≢ []) → (item.outputs ≢ []) ⊎ EndsOverlay (activation ∷ activations)
+over-end : (activation : Activation) (activations : List Activation) (item : StepResult) → activation.body ≡ []
+    → (item.outputs ≢ []) ⊎ ((end_of activation item.machine).outputs ≢ []) → (item.outputs ≢ []) ⊎ EndsOverlay (activation ∷ activations)
 over-end activation activations item used (inl some) = inl some
 over-end activation activations item used (inr some) = inr (used, inl (end-sends activation.end activation.depth item.machine some))
 
-over-rest : (activation : Activation) (activations : List Activation) (item : StepResult) → activation.body ≡ [] → (item.outputs ++ (end_of activation item.machine).outputs ≢ []) ⊎ EndsOverlay activations → (item.outputs ≢ []) ⊎ EndsOverlay (activation ∷ activations)
+over-rest : (activation : Activation) (activations : List Activation) (item : StepResult) → activation.body ≡ []
+    → (item.outputs ++ (end_of activation item.machine).outputs ≢ []) ⊎ EndsOverlay activations
+    → (item.outputs ≢ []) ⊎ EndsOverlay (activation ∷ activations)
 over-rest activation activations item used (inl some) = over-end activation activations item used (append-some item.outputs (end_of activation item.machine).outputs some)
 over-rest activation activations item used (inr ends) = inr (used, inr ends)
 
-ended-sends : (body : List Token) (activations : List Activation) (activation : Activation) → activation.body ≡ body → ((item : StepResult) → (unwind activations item).item.outputs ≢ [] → (item.outputs ≢ []) ⊎ EndsOverlay activations) → (item : StepResult) → (ended_by body activations activation (unwind activations) item).item.outputs ≢ [] → (item.outputs ≢ []) ⊎ EndsOverlay (activation ∷ activations)
+ended-sends : (body : List Token) (activations : List Activation) (activation : Activation) → activation.body ≡ body
+    → ((item : StepResult) → (unwind activations item).item.outputs ≢ [] → (item.outputs ≢ []) ⊎ EndsOverlay activations)
+    → (item : StepResult) → (ended_by body activations activation (unwind activations) item).item.outputs ≢ []
+    → (item.outputs ≢ []) ⊎ EndsOverlay (activation ∷ activations)
 ended-sends [] activations activation used outer item some = over-rest activation activations item used (outer (then_run item.outputs (end_of activation item.machine)) some)
 ended-sends (command ∷ rest) activations activation used outer item some = inl some
 
@@ -196,7 +222,9 @@ started-ends : (started : List Activation) → EndsOverlay started → started �
 started-ends [] ends = absurd ends
 started-ends (activation ∷ started) ends = λ (none : activation ∷ started ≡ []). cc
 
-of-outer : (command : Token) (machine : Machine) → ((begins false MACRO_LEVELS command machine).item.outputs ≢ []) ⊎ EndsOverlay (begins false MACRO_LEVELS command machine).started → TakesMemory (effect_on Stream command machine.state)
+of-outer : (command : Token) (machine : Machine)
+    → ((begins false MACRO_LEVELS command machine).item.outputs ≢ []) ⊎ EndsOverlay (begins false MACRO_LEVELS command machine).started
+    → TakesMemory (effect_on Stream command machine.state)
 of-outer command machine (inl some) = outer-wants command machine (inl some)
 of-outer command machine (inr ends) = outer-wants command machine (inr (started-ends (begins false MACRO_LEVELS command machine).started ends))
 
@@ -209,15 +237,25 @@ ends-append : (started activations : List Activation) → EndsOverlay (started +
 ends-append [] activations ends = inr ends
 ends-append (activation ∷ started) activations ends = inl (λ (none : activation ∷ started ≡ []). cc)
 
-started-too : (activation : Activation) (command : Token) (activations : List Activation) (machine : Machine) → ((begins activation.in_overlay activation.macro_levels command machine).started ≢ []) ⊎ EndsOverlay activations → TakesMemory (effect_on (source_in activation.in_overlay activation.macro_levels) command machine.state) ⊎ EndsOverlay activations
+started-too : (activation : Activation) (command : Token) (activations : List Activation) (machine : Machine)
+    → ((begins activation.in_overlay activation.macro_levels command machine).started ≢ []) ⊎ EndsOverlay activations
+    → TakesMemory (effect_on (source_in activation.in_overlay activation.macro_levels) command machine.state) ⊎ EndsOverlay activations
 started-too activation command activations machine (inl some) = inl (inner-wants activation.in_overlay activation.macro_levels command machine (inr some))
 started-too activation command activations machine (inr ends) = inr ends
 
-of-inner : (activation : Activation) (command : Token) (activations : List Activation) (machine : Machine) → ((begins activation.in_overlay activation.macro_levels command machine).item.outputs ≢ []) ⊎ EndsOverlay ((begins activation.in_overlay activation.macro_levels command machine).started ++ activations) → TakesMemory (effect_on (source_in activation.in_overlay activation.macro_levels) command machine.state) ⊎ EndsOverlay activations
+of-inner : (activation : Activation) (command : Token) (activations : List Activation) (machine : Machine)
+    → ((begins activation.in_overlay activation.macro_levels command machine).item.outputs ≢ [])
+    ⊎ EndsOverlay ((begins activation.in_overlay activation.macro_levels command machine).started ++ activations)
+    → TakesMemory (effect_on (source_in activation.in_overlay activation.macro_levels) command machine.state) ⊎ EndsOverlay activations
 of-inner activation command activations machine (inl some) = inl (inner-wants activation.in_overlay activation.macro_levels command machine (inl some))
-of-inner activation command activations machine (inr ends) = started-too activation command activations machine (ends-append (begins activation.in_overlay activation.macro_levels command machine).started activations ends)
+of-inner activation command activations machine (inr ends) =
+    started-too activation command activations machine
+    (ends-append (begins activation.in_overlay activation.macro_levels command machine).started activations ends)
 
-pub inner-sends : (activation : Activation) (command : Token) (rest : List Token) (outer : List Activation) (machine : Machine) → (step_inner activation command rest outer machine).item.outputs ≢ [] → TakesMemory (effect_on (source_in activation.in_overlay activation.macro_levels) command machine.state) ⊎ EndsOverlay (record activation { body = rest } ∷ outer)
+pub inner-sends : (activation : Activation) (command : Token) (rest : List Token) (outer : List Activation) (machine : Machine)
+    → (step_inner activation command rest outer machine).item.outputs ≢ []
+    → TakesMemory (effect_on (source_in activation.in_overlay activation.macro_levels) command machine.state)
+    ⊎ EndsOverlay (record activation { body = rest } ∷ outer)
 inner-sends activation command rest outer machine some =
     let begin = begins activation.in_overlay activation.macro_levels command machine in
     of-inner activation command (record activation { body = rest } ∷ outer) machine (unwind-sends (begin.started ++ (record activation { body = rest } ∷ outer)) begin.item some)

@@ -22,11 +22,14 @@ joined-append (item ∷ items) others =
     ap (λ more. item.outputs ++ more) (joined-append items others) ∙ sym (append_assoc item.outputs (joined items) (joined others))
 
 -- what an end leaves
-pub with_end-machine : (end : Machine → StepResult) (item : StepResult) (items : List StepResult) (before : Machine) → last_machine before (with_end end item items) ≡ (end (last_machine item.machine items)).machine
+pub with_end-machine : (end : Machine → StepResult) (item : StepResult) (items : List StepResult) (before : Machine)
+    → last_machine before (with_end end item items) ≡ (end (last_machine item.machine items)).machine
 with_end-machine end item [] before = refl
 with_end-machine end item (next ∷ items) before = with_end-machine end next items item.machine
 
-pub trace_each-append : (tracing : Token → Machine → List StepResult) (commands others : List Token) (machine : Machine) → trace_each tracing (commands ++ others) machine ≡ trace_each tracing commands machine ++ trace_each tracing others (last_machine machine (trace_each tracing commands machine))
+pub trace_each-append : (tracing : Token → Machine → List StepResult) (commands others : List Token) (machine : Machine)
+    → trace_each tracing (commands ++ others) machine
+    ≡ trace_each tracing commands machine ++ trace_each tracing others (last_machine machine (trace_each tracing commands machine))
 unfolding trace_each
 trace_each-append tracing [] others machine = refl
 trace_each-append tracing (command ∷ commands) others machine =

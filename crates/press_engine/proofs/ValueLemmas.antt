@@ -27,7 +27,10 @@ first_outputs [] = []
 first_outputs (item ∷ items) = item.outputs
 
 -- the engine's step, whose outputs all went out
-pub takes-ok : (old : Option Machine) (owing : Machine → List StepResult) (step : StepOutput) (new : Option Machine) (still : List Activation) (tag : ℕ) (before after : SinkLog) → Steps old owing step new still → WentOut tag (all_outputs step.sent.items) Complete before after → TakesNext old owing (Ok step.kind) new still (under tag before after)
+pub takes-ok : (old : Option Machine) (owing : Machine → List StepResult) (step : StepOutput) (new : Option Machine)
+    (still : List Activation) (tag : ℕ) (before after : SinkLog)
+    → Steps old owing step new still → WentOut tag (all_outputs step.sent.items) Complete before after
+    → TakesNext old owing (Ok step.kind) new still (under tag before after)
 takes-ok old owing step new still tag before after s sends =
     let P : Option Machine → Type 0 = λ from. TakesNext from owing (Ok step.kind) new still (under tag before after) in
     subst P (sym s.was) (record {
@@ -39,7 +42,11 @@ takes-ok old owing step new still tag before after s sends =
     })
 
 -- and one at whose outputs a sink had a fault
-pub takes-stopped : (old : Option Machine) (owing : Machine → List StepResult) (step : StepOutput) (between new : Option Machine) (held still : List Activation) (tag : ℕ) (sent : Result (Unit {0}) EngineError) (result : Result Kind EngineError) (error : EngineError) (before after : SinkLog) → Steps old owing step between held → WentOut tag (all_outputs step.sent.items) (ending_of sent) before after → sent ≡ Err error → result ≡ Err error → new ≡ None → still ≡ [] → TakesNext old owing result new still (under tag before after)
+pub takes-stopped : (old : Option Machine) (owing : Machine → List StepResult) (step : StepOutput) (between new : Option Machine)
+    (held still : List Activation) (tag : ℕ) (sent : Result (Unit {0}) EngineError) (result : Result Kind EngineError)
+    (error : EngineError) (before after : SinkLog)
+    → Steps old owing step between held → WentOut tag (all_outputs step.sent.items) (ending_of sent) before after → sent ≡ Err error
+    → result ≡ Err error → new ≡ None → still ≡ [] → TakesNext old owing result new still (under tag before after)
 takes-stopped old owing step between new held still tag sent result error before after s sends stops exits fails none =
     let P : Option Machine → Type 0 = λ from. TakesNext from owing (Err error) new still (under tag before after) in
     let Q : Result Kind EngineError → Type 0 = λ answer. TakesNext old owing answer new still (under tag before after) in
@@ -56,7 +63,8 @@ pub some-items : (owing : List StepResult) → owing ≢ [] → (item : StepResu
 some-items [] some = absurd (some refl)
 some-items (item ∷ others) some = (item, others, refl)
 
-stopped-at : (owing : List StepResult) (tag : ℕ) (new : Option Machine) (still : List Activation) (told : SinkLog) → owing ≢ [] → new ≡ None → still ≡ [] → TakesItem owing (Err engine_errors.NoMemory) new still (under tag told told)
+stopped-at : (owing : List StepResult) (tag : ℕ) (new : Option Machine) (still : List Activation) (told : SinkLog) → owing ≢ []
+    → new ≡ None → still ≡ [] → TakesItem owing (Err engine_errors.NoMemory) new still (under tag told told)
 stopped-at owing tag new still told some fails none =
     let (item, others, is) = some-items owing some in
     record {
@@ -67,7 +75,11 @@ stopped-at owing tag new still told some fails none =
       sends = WentOut-no_memory tag item.outputs told;
     }
 
-takes-failed : (old : Option Machine) (owing : Machine → List StepResult) (tag : ℕ) (error : EngineError) (new : Option Machine) (still : List Activation) (told : SinkLog) → ((machine : Machine) → owing machine ≢ []) → (error ≡ engine_errors.Failed) ⊎ (error ≡ engine_errors.NoMemory) → (error ≡ engine_errors.Failed → old ≡ None) → new ≡ None → still ≡ [] → TakesNext old owing (Err error) new still (under tag told told)
+takes-failed : (old : Option Machine) (owing : Machine → List StepResult) (tag : ℕ) (error : EngineError) (new : Option Machine)
+    (still : List Activation) (told : SinkLog)
+    → ((machine : Machine) → owing machine ≢ []) → (error ≡ engine_errors.Failed) ⊎ (error ≡ engine_errors.NoMemory)
+    → (error ≡ engine_errors.Failed → old ≡ None) → new ≡ None → still ≡ []
+    → TakesNext old owing (Err error) new still (under tag told told)
 takes-failed None owing tag error new still told some refused failed fails none = (fails, refl)
 takes-failed (Some machine) owing tag error new still told some (inl is) failed fails none = absurd (let no : Some machine ≡ None = failed is in cc)
 takes-failed (Some machine) owing tag error new still told some (inr is) failed fails none =
@@ -75,7 +87,11 @@ takes-failed (Some machine) owing tag error new still told some (inr is) failed 
     subst P (sym is) (stopped-at (owing machine) tag new still told (some machine) fails none)
 
 -- and one for which memory ran out, or which an engine refused that had failed before
-pub takes-none : (old : Option Machine) (owing : Machine → List StepResult) (tag : ℕ) (result : Result Kind EngineError) (error : EngineError) (new : Option Machine) (still : List Activation) (told : SinkLog) → ((machine : Machine) → owing machine ≢ []) → (error ≡ engine_errors.Failed) ⊎ (error ≡ engine_errors.NoMemory) → (error ≡ engine_errors.Failed → old ≡ None) → result ≡ Err error → new ≡ None → still ≡ [] → TakesNext old owing result new still (under tag told told)
+pub takes-none : (old : Option Machine) (owing : Machine → List StepResult) (tag : ℕ) (result : Result Kind EngineError)
+    (error : EngineError) (new : Option Machine) (still : List Activation) (told : SinkLog)
+    → ((machine : Machine) → owing machine ≢ []) → (error ≡ engine_errors.Failed) ⊎ (error ≡ engine_errors.NoMemory)
+    → (error ≡ engine_errors.Failed → old ≡ None) → result ≡ Err error → new ≡ None → still ≡ []
+    → TakesNext old owing result new still (under tag told told)
 takes-none old owing tag result error new still told some refused failed exits fails none =
     let Q : Result Kind EngineError → Type 0 = λ answer. TakesNext old owing answer new still (under tag told told) in
     subst Q (sym exits) (takes-failed old owing tag error new still told some refused failed fails none)
@@ -94,24 +110,29 @@ inner-some activations machine (activation, command, rest, outer, is) =
     subst P (sym (inner-gives activation command rest outer activations machine is)) (λ (none : stepped.item ∷ continuation stepped.activations stepped.item.machine ≡ []). cc)
 
 -- where something goes out in the first item that is owed, its command may take memory
-pub wants-outer : (command : Token) (machine : Machine) (item : StepResult) (others : List StepResult) → trace_at macro_levels command machine ≡ item ∷ others → item.outputs ≢ [] → TakesMemory (effect_on Stream command machine.state)
+pub wants-outer : (command : Token) (machine : Machine) (item : StepResult) (others : List StepResult)
+    → trace_at macro_levels command machine ≡ item ∷ others → item.outputs ≢ [] → TakesMemory (effect_on Stream command machine.state)
 wants-outer command machine item others is some =
     let P : List Output → Type 0 = λ outputs. outputs ≢ [] in
     outer-sends command machine (subst P (ap first_outputs (sym is ∙ outer-continuation command machine)) some)
 
-pub wants-inner : (activations : List Activation) (machine : Machine) (item : StepResult) (others : List StepResult) → HasNext activations → continuation activations machine ≡ item ∷ others → item.outputs ≢ [] → InnerTakesMemory activations machine
+pub wants-inner : (activations : List Activation) (machine : Machine) (item : StepResult) (others : List StepResult) → HasNext activations
+    → continuation activations machine ≡ item ∷ others → item.outputs ≢ [] → InnerTakesMemory activations machine
 wants-inner activations machine item others (activation, command, rest, outer, is) owes some =
     let P : List Output → Type 0 = λ outputs. outputs ≢ [] in
     let same = ap first_outputs (sym owes ∙ inner-gives activation command rest outer activations machine is) in
     (activation, command, rest, outer, is, inner-sends activation command rest outer machine (subst P same some))
 
 -- so may a step
-pub needs-outer : (command : Token) (step : StepOutput) (old new : Option Machine) (still : List Activation) → Steps old (trace_at macro_levels command) step new still → all_outputs step.sent.items ≢ [] → NeedsMemory old command
+pub needs-outer : (command : Token) (step : StepOutput) (old new : Option Machine) (still : List Activation)
+    → Steps old (trace_at macro_levels command) step new still → all_outputs step.sent.items ≢ [] → NeedsMemory old command
 needs-outer command step old new still s some =
     let P : Option Machine → Type 0 = λ from. NeedsMemory from command in
     subst P (sym s.was) (wants-outer command s.before (record { machine = s.after; outputs = all_outputs step.sent.items }) (continuation still s.after) s.steps.owes some)
 
-pub needs-inner : (activations : List Activation) (step : StepOutput) (old new : Option Machine) (still : List Activation) → HasNext activations → Steps old (continuation activations) step new still → all_outputs step.sent.items ≢ [] → InnerNeedsMemory old activations
+pub needs-inner : (activations : List Activation) (step : StepOutput) (old new : Option Machine) (still : List Activation)
+    → HasNext activations → Steps old (continuation activations) step new still → all_outputs step.sent.items ≢ []
+    → InnerNeedsMemory old activations
 needs-inner activations step old new still next s some =
     let P : Option Machine → Type 0 = λ from. InnerNeedsMemory from activations in
     subst P (sym s.was) (wants-inner activations s.before (record { machine = s.after; outputs = all_outputs step.sent.items }) (continuation still s.after) next s.steps.owes some)

@@ -30,7 +30,11 @@ LeavesAll (Some machine) owing tag result new before after = Leaves (told_by (ow
 
 module _ (owing : Machine → List StepResult) (tag : ℕ) where
   -- a step, and then the others
-  next-item : (machine : Machine) (mid : Option Machine) (kind : Kind) (still : List Activation) (result : Result (Unit {0}) EngineError) (new : Option Machine) (before between after : SinkLog) → TakesItem (owing machine) (Ok kind) mid still (under tag before between) → LeavesAll mid (continuation still) tag result new between after → Leaves (told_by (owing machine) machine) tag result new before after
+  next-item : (machine : Machine) (mid : Option Machine) (kind : Kind) (still : List Activation) (result : Result (Unit {0}) EngineError)
+      (new : Option Machine) (before between after : SinkLog)
+      → TakesItem (owing machine) (Ok kind) mid still (under tag before between)
+      → LeavesAll mid (continuation still) tag result new between after
+      → Leaves (told_by (owing machine) machine) tag result new before after
   next-item machine mid kind still result new before between after t rest =
       let P : Option Machine → Type 0 = λ at. LeavesAll at (continuation still) tag result new between after in
       let Q : List StepResult → Type 0 = λ items. Leaves (told_by items machine) tag result new before after in
@@ -39,19 +43,27 @@ module _ (owing : Machine → List StepResult) (tag : ℕ) where
       subst Q (ap (λ (items : List StepResult). t.item ∷ items) (sym t.left.2) ∙ sym t.due)
       (record { left = there.left; sends = WentOut-then tag t.item.outputs (joined others) (ending_of result) before between after t.sends there.sends })
 
-  pub next-leaves : (old mid : Option Machine) (kind : Kind) (still : List Activation) (result : Result (Unit {0}) EngineError) (new : Option Machine) (before between after : SinkLog) → TakesNext old owing (Ok kind) mid still (under tag before between) → LeavesAll mid (continuation still) tag result new between after → LeavesAll old owing tag result new before after
+  pub next-leaves : (old mid : Option Machine) (kind : Kind) (still : List Activation) (result : Result (Unit {0}) EngineError)
+      (new : Option Machine) (before between after : SinkLog)
+      → TakesNext old owing (Ok kind) mid still (under tag before between)
+      → LeavesAll mid (continuation still) tag result new between after → LeavesAll old owing tag result new before after
   next-leaves None mid kind still result new before between after takes rest =
       let P : Option Machine → Type 0 = λ at. LeavesAll at (continuation still) tag result new between after in
       subst P takes.0 rest
   next-leaves (Some machine) mid kind still result new before between after takes rest = next-item machine mid kind still result new before between after takes rest
 
   -- a step at which it stopped
-  stop-item : (machine : Machine) (error : EngineError) (new : Option Machine) (still : List Activation) (before after : SinkLog) → TakesItem (owing machine) (Err error) new still (under tag before after) → Leaves (told_by (owing machine) machine) tag (Err error) new before after
+  stop-item : (machine : Machine) (error : EngineError) (new : Option Machine) (still : List Activation) (before after : SinkLog)
+      → TakesItem (owing machine) (Err error) new still (under tag before after)
+      → Leaves (told_by (owing machine) machine) tag (Err error) new before after
   stop-item machine error new still before after t =
       let Q : List StepResult → Type 0 = λ items. Leaves (told_by items machine) tag (Err error) new before after in
       subst Q (sym t.due) (record { left = t.left.0; sends = WentOut-exit tag t.item.outputs (joined t.others) (Err error) (Err error) error before after t.sends refl refl })
 
-  pub stop-leaves : (old : Option Machine) (result : Result Kind EngineError) (exit : Result (Unit {0}) EngineError) (error : EngineError) (new : Option Machine) (still : List Activation) (before after : SinkLog) → old ≢ None → TakesNext old owing result new still (under tag before after) → result ≡ Err error → exit ≡ Err error → LeavesAll old owing tag exit new before after
+  pub stop-leaves : (old : Option Machine) (result : Result Kind EngineError) (exit : Result (Unit {0}) EngineError) (error : EngineError)
+      (new : Option Machine) (still : List Activation) (before after : SinkLog)
+      → old ≢ None → TakesNext old owing result new still (under tag before after) → result ≡ Err error → exit ≡ Err error
+      → LeavesAll old owing tag exit new before after
   stop-leaves None result exit error new still before after alive takes is exits = absurd (alive refl)
   stop-leaves (Some machine) result exit error new still before after alive takes is exits =
       let P : Result Kind EngineError → Type 0 = λ answer. TakesItem (owing machine) answer new still (under tag before after) in
@@ -66,16 +78,23 @@ none-leaves (Some machine) still tag told alive none =
     subst P (sym none) (record { left = refl; sends = WentOut-none tag told })
 
 -- the items of a whole command
-pub runs-of : (old : Option Machine) (command : Token) (tag : ℕ) (result : Result (Unit {0}) EngineError) (new : Option Machine) (before after : SinkLog) → LeavesAll old (trace_at macro_levels command) tag result new before after → Runs old command result new (under tag before after)
+pub runs-of : (old : Option Machine) (command : Token) (tag : ℕ) (result : Result (Unit {0}) EngineError) (new : Option Machine)
+    (before after : SinkLog)
+    → LeavesAll old (trace_at macro_levels command) tag result new before after → Runs old command result new (under tag before after)
 runs-of None command tag result new before after leaves = absurd leaves
 runs-of (Some machine) command tag result new before after leaves =
     (leaves.left, leaves.sends)
 
 -- the first step stopped
-pub runs-stopped : (old : Option Machine) (command : Token) (tag : ℕ) (result : Result Kind EngineError) (exit : Result (Unit {0}) EngineError) (error : EngineError) (new : Option Machine) (still : List Activation) (before after : SinkLog) → TakesNext old (trace_at macro_levels command) result new still (under tag before after) → result ≡ Err error → exit ≡ Err error → Runs old command exit new (under tag before after)
+pub runs-stopped : (old : Option Machine) (command : Token) (tag : ℕ) (result : Result Kind EngineError)
+    (exit : Result (Unit {0}) EngineError) (error : EngineError) (new : Option Machine) (still : List Activation) (before after : SinkLog)
+    → TakesNext old (trace_at macro_levels command) result new still (under tag before after) → result ≡ Err error → exit ≡ Err error
+    → Runs old command exit new (under tag before after)
 runs-stopped None command tag result exit error new still before after takes is exits = takes
 runs-stopped (Some machine) command tag result exit error new still before after takes is exits =
-    runs-of (Some machine) command tag exit new before after (stop-leaves (trace_at macro_levels command) tag (Some machine) result exit error new still before after (λ (none : Some machine ≡ None). cc) takes is exits)
+    runs-of (Some machine) command tag exit new before after
+    (stop-leaves (trace_at macro_levels command) tag (Some machine) result exit error new still before after
+    (λ (none : Some machine ≡ None). cc) takes is exits)
 
 -- how many steps are owed
 abbrev pub steps_owed : Option Machine → (Machine → List StepResult) → ℕ
@@ -104,12 +123,23 @@ other_items [] = []
 other_items (item ∷ items) = items
 
 -- where a body was started, the command takes memory
-pub wants-more : (old : Option Machine) (command : Token) (tag : ℕ) (mid : Option Machine) (kind : Kind) (still : List Activation) (before after : SinkLog) → old ≢ None → TakesNext old (trace_at macro_levels command) (Ok kind) mid still (under tag before after) → HasNext still → NeedsMemory old command
+pub wants-more : (old : Option Machine) (command : Token) (tag : ℕ) (mid : Option Machine) (kind : Kind) (still : List Activation)
+    (before after : SinkLog)
+    → old ≢ None → TakesNext old (trace_at macro_levels command) (Ok kind) mid still (under tag before after) → HasNext still
+    → NeedsMemory old command
 wants-more None command tag mid kind still before after alive takes next = absurd (alive refl)
 wants-more (Some machine) command tag mid kind still before after alive takes next =
     let begin = begins false macro_levels command machine in
-    let rest : continuation still takes.item.machine ≡ continuation (step_outer command machine).activations (step_outer command machine).item.machine = sym takes.left.2 ∙ ap other_items (sym takes.due ∙ outer-continuation command machine) in
-    outer-wants command machine (inr (λ none. inner-some still takes.item.machine next (rest ∙ ap (λ (started : List Activation). continuation (unwind started begin.item).activations (unwind started begin.item).item.machine) none)))
+    let rest : continuation still takes.item.machine
+    ≡ continuation (step_outer command machine).activations (step_outer command machine).item.machine =
+    sym takes.left.2 ∙ ap other_items (sym takes.due ∙ outer-continuation command machine) in
+    outer-wants command machine
+    (inr (λ none.
+    inner-some still takes.item.machine next
+    (rest
+    ∙ ap (λ (started : List Activation).
+    continuation (unwind started begin.item).activations (unwind started begin.item).item.machine)
+    none)))
 
 -- an engine that has failed runs no body
 none-if : (failed : Bool) (machine : Machine) (activations : List Activation) → (if failed then None else Some machine) ≡ None → (if failed then [] else activations) ≡ []
@@ -120,7 +150,9 @@ pub failed-none : (engine : Engine) → machine_of engine ≡ None → bodies en
 failed-none engine is = none-if engine.failed engine.machine.value engine.bodies is
 
 -- an engine whose step stopped has failed
-pub stopped-none : (old : Option Machine) (owing : Machine → List StepResult) (tag : ℕ) (result : Result Kind EngineError) (error : EngineError) (new : Option Machine) (still : List Activation) (before after : SinkLog) → TakesNext old owing result new still (under tag before after) → result ≡ Err error → new ≡ None
+pub stopped-none : (old : Option Machine) (owing : Machine → List StepResult) (tag : ℕ) (result : Result Kind EngineError)
+    (error : EngineError) (new : Option Machine) (still : List Activation) (before after : SinkLog)
+    → TakesNext old owing result new still (under tag before after) → result ≡ Err error → new ≡ None
 stopped-none None owing tag result error new still before after takes is = takes.0
 stopped-none (Some machine) owing tag result error new still before after takes is =
     let P : Result Kind EngineError → Type 0 = λ answer. TakesItem (owing machine) answer new still (under tag before after) in

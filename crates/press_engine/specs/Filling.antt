@@ -4,7 +4,7 @@ use Rattle.std.specs.Ordering.{int_eq}
 use Rattle.press_cursor.specs.Cursor.{position}
 use Rattle.press_fill.specs.Fill.{filled}
 use Rattle.press_fill.specs.declared.rect.Rect.{Rect}
-use Rattle.press_page.specs.Place.{cursor_dot, lines_from}
+use Rattle.press_page.specs.Place.{cursor_dot, lines_below}
 use Rattle.press_page.specs.declared.place.CursorDot.{CursorDot}
 use Rattle.press_pattern.specs.Brush.{brush_of}
 use Rattle.press_pattern.specs.declared.pattern.Pattern.{Pattern}
@@ -24,10 +24,10 @@ rect_now state =
     let corner = corner state in
     let dots = dots_up state.environment.page_setup.resolution in
     let rectangle = state.drawing.rectangle in
-    let lines = lines_from corner.y (dots rectangle.height) in
+    let lines = lines_below corner.y (dots rectangle.height) in
     record { x = corner.x; y = lines.first; width = dots rectangle.width; height = lines.count }
 
--- the rectangle at the cursor painted with a pattern; the page has a mark then, and the cursor stays
+-- The page, open, with the rectangle at the cursor filled with a pattern. Nothing else changes, also not the cursor.
 abbrev pub fill_rectangle : Pattern → State → State
 fill_rectangle pattern state =
     record state {
@@ -35,7 +35,7 @@ fill_rectangle pattern state =
           (brush_of state.patterns pattern state.drawing.mode) (page_now state));
     }
 
--- It is filled if the pattern exists, and both of its sizes are above 0.
+-- The rectangle is filled, which may want memory, where the pattern exists and width and height are above 0. Elsewhere nothing changes.
 abbrev pub fill_with : Pattern → State → Effect
 fill_with pattern state =
     let rectangle = state.drawing.rectangle in

@@ -1,3 +1,4 @@
+-- The definitions of the engine: the command table of PCL 5 at work.
 pub mod Calls
 pub mod Closing
 pub mod Counts

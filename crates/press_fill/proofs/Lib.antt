@@ -1,1 +1,2 @@
+-- The lemmas on rectangle fills.
 mod FillLemmas

@@ -13,7 +13,7 @@ use press_page::{Orientation, PageEnv};
 use press_pattern::{Brush, Pattern, Patterns};
 use std::alloc::{AllocError, Global};
 
-/// Fills a rectangle of the frame with an brush. Dots outside the page are dropped.
+/// Fills a rectangle of the frame with a brush. Dots outside the page are dropped.
 ///
 /// # Errors
 ///

@@ -1,2 +1,3 @@
+-- The lemmas on the records of macros.
 mod RecordLemmas
 pub mod worked

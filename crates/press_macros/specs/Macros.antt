@@ -37,8 +37,8 @@ recorded macros command =
 
 -- With the macro of a definition under its ID, in place of an older one. It is temporary.
 abbrev pub with_macro_of : Option Definition → Things (List Token) → Things (List Token)
-with_macro_of None macros = macros
-with_macro_of (Some d) macros = stored macros d.id d.commands
+with_macro_of None things = things
+with_macro_of (Some d) things = stored things d.id d.commands
 
 -- Value 1 ends the definition.
 abbrev pub definition_ended : Macros → Macros

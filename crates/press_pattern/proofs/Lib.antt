@@ -1,2 +1,3 @@
+-- The lemmas on tiles.
 pub mod TileLemmas
 pub mod HatchLemmas

@@ -17,5 +17,7 @@ tile_row-slice t y h b is_h is_b = λ i.
 pub white_tile : (t : Tiling) → 1 ≤ t.width → ((i : ℕ) → row_dot t.rows i ≡ false) → IsWhiteTile t
 unfolding tile_row tile_dot
 white_tile t some white a b =
-    row_dot-slice t.rows (b % t.height * bytes_per_line t.width) (b % t.height * bytes_per_line t.width + bytes_per_line t.width - b % t.height * bytes_per_line t.width) (a % t.width) (omega (arith, mod-lt a some))
+    row_dot-slice t.rows (b % t.height * bytes_per_line t.width)
+    (b % t.height * bytes_per_line t.width + bytes_per_line t.width - b % t.height * bytes_per_line t.width) (a % t.width)
+    (omega (arith, mod-lt a some))
     ∙ white (8 * (b % t.height * bytes_per_line t.width) + a % t.width)

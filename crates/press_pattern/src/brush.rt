@@ -1,7 +1,6 @@
 //! What a mark is painted with (PCL 5 Printer Language Technical Reference Manual, The PCL Print Model).
 
 ghost use Rattle.std.specs.Prelude.{◌≡◌};
-ghost use Rattle.press_bits.specs.DotRule.{solid_white_mode};
 ghost use Rattle.press_pattern.specs.Brush.{brush_mode, black_brush};
 
 use crate::fixed;

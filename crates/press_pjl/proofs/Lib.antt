@@ -1,2 +1,3 @@
+-- The lemmas on the job language.
 pub mod NumberLemmas
 pub mod worked

@@ -1,3 +1,4 @@
+-- The lemmas on the entries of a queue, and on its rows.
 mod CountLemmas
 mod EntryLemmas
 pub mod FirstLemmas

@@ -1,5 +1,6 @@
 -- An entry that is put before the first of lower priority.
-use Rattle.std.proofs.Common.{◌≡◌, ℕ, ◌-◌, ◌<◌, ◌≤◌, List, [], ◌∷◌, ◌++◌, length, Option, None, Some, remove, insert, nat_eq, nat_lt, if◌then◌else◌, sym, ap, ◌∙◌, arith, rules, position, IsSome, true≢false, refl}
+use Rattle.std.proofs.Common.{◌≡◌, ℕ, ◌-◌, ◌<◌, ◌≤◌, List, [], ◌∷◌, ◌++◌, length, Option, None, Some, remove, insert}
+use Rattle.std.proofs.Common.{nat_eq, nat_lt, if◌then◌else◌, sym, ap, ◌∙◌, arith, rules, position, IsSome, true≢false, refl}
 use Rattle.std.specs.Map.{keys_of, lookup}
 use Rattle.std.proofs.lemmas.List.Edits.{length-remove}
 use Rattle.std.proofs.lemmas.List.Folds.{position_or_len_push}

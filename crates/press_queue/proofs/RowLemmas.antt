@@ -1,5 +1,6 @@
 -- What is true of every queue stays true: a lemma for each row.
-use Rattle.std.proofs.Common.{◌≡◌, ◌≤◌, ◌<◌, ℕ, ℤ, ◌+◌, Bool, true, false, ◌&&◌, ◌||◌, not, if◌then◌else◌, nat_eq, nat_le, Option, Some, None, Result, Ok, Err, List, insert, length, refl, sym, ap, subst, arith, rules}
+use Rattle.std.proofs.Common.{◌≡◌, ◌≤◌, ◌<◌, ℕ, ℤ, ◌+◌, Bool, true, false, ◌&&◌, ◌||◌, not, if◌then◌else◌, nat_eq, nat_le}
+use Rattle.std.proofs.Common.{Option, Some, None, Result, Ok, Err, List, insert, length, refl, sym, ap, subst, arith, rules}
 use Rattle.std.specs.List.{IsDistinct}
 use Rattle.std.specs.Map.{keys_of}
 use Rattle.std.proofs.lemmas.Map.{keys-set_value, length-set_value}
@@ -20,7 +21,8 @@ use Rattle.press_queue.specs.Priority.{priority_of, position_within}
 use Rattle.press_queue.specs.Rows as rows
 use Rattle.press_queue.specs.State.{QueueState, empty_queue}
 use Rattle.press_queue.specs.Status.{is_running, is_waiting, is_in_flight, has_ended, new_entry}
-use Rattle.press_queue.proofs.CountLemmas.{one, one_le, count_of, count_le, count-with_entry, count-with_entry_le, count-without, count-insert, count-filter, length-without, length_insert, length-filter_le}
+use Rattle.press_queue.proofs.CountLemmas.{one, one_le, count_of, count_le, count-with_entry, count-with_entry_le, count-without}
+use Rattle.press_queue.proofs.CountLemmas.{count-insert, count-filter, length-without, length_insert, length-filter_le}
 use Rattle.press_queue.proofs.FirstLemmas.{first_is_numbered}
 use Rattle.press_queue.proofs.KeyLemmas.{distinct_insert, distinct_without, absent_without}
 use Rattle.press_queue.proofs.NumberLemmas.{up_to_with_entry, up_to_without, up_to_filter, up_to_insert, up_to_put_next, number_up_to, absent_above}

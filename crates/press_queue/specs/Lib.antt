@@ -1,3 +1,4 @@
+-- The definitions of the queue of a press: its entries, and what each queue command does to them.
 pub mod Answers
 pub mod Entries
 pub mod EveryQueue

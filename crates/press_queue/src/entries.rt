@@ -1,7 +1,6 @@
 //! The entries of a queue under their numbers, in the order of the queue.
 
-ghost use Rattle.std.specs.Prelude.{◌≡◌, ◌<◌, IsSome, None, OnOk, OnErr, Some, option_map};
-ghost use Rattle.std.specs.Map.Iter.{deref_pair};
+ghost use Rattle.std.specs.Prelude.{◌≡◌, ◌<◌, IsSome, None, OnOk, OnErr, Some};
 ghost use Rattle.indexmap.specs.IndexMap.{index_map_len};
 ghost use Rattle.press_queue.specs.Entries.{entry_numbered, with_entry, with_status, place_of, put, put_again, moved_to};
 ghost use Rattle.press_queue.specs.Entries.{first_waiting, first_to_go_on, first_running, running_ones, count_in_flight};

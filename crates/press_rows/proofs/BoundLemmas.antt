@@ -1,12 +1,12 @@
 -- Data is not shorter than what is counted without its codes.
-use Rattle.std.proofs.Common.{◌≡◌, ℕ, zero, suc, ◌+◌, ◌-◌, ◌*◌, ◌≤◌, ◌<◌, min, not, cond, eqb, nat_eq, Bool, ◌&&◌, true, false, List, [], ◌∷◌, ◌++◌, length, get_or, take, drop, refl, sym, ap, subst, ◌∙◌, arith, ⊎_elim}
+use Rattle.std.proofs.Common.{◌≡◌, ℕ, zero, suc, ◌+◌, ◌-◌, ◌*◌, ◌≤◌, min, not, cond, eqb, Bool, ◌&&◌, true, false}
+use Rattle.std.proofs.Common.{List, [], ◌∷◌, length, take, drop, refl, sym, ap, subst, arith, ⊎_elim}
 use Rattle.std.specs.List.{flat_map}
 use Rattle.std.proofs.lemmas.List.{length-append, length-take-le}
-use Rattle.std.proofs.lemmas.List.Sums.{prefix_len-le-length, common_prefix_len-le}
+use Rattle.std.proofs.lemmas.List.Sums.{common_prefix_len-le}
 use Rattle.std.proofs.lemmas.Bool.Decides.{eqb_tells}
-use Rattle.std.proofs.Math.Seq.{drop-cons}
 use Rattle.press_rows.specs.RunLengthEncoding.{leading, run_pairs}
-use Rattle.press_rows.specs.PackBitsEncoding.{before_triple, starts_triple, packed_code, packed_codes, packed_more}
+use Rattle.press_rows.specs.PackBitsEncoding.{before_triple, packed_code, packed_codes, packed_more}
 use Rattle.press_rows.specs.DeltaRowEncoding.{change, changes, delta_bytes, differing_len, offset_bytes}
 use Rattle.press_rows.proofs.EncodingLemmas.{before_triple-le-length}
 use Rattle.press_rows.specs.LeastLengths.{changed, edges, ends_at_single, ends_change, loose, starts_edge, starts_long}

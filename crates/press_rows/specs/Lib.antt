@@ -1,3 +1,4 @@
+-- The definitions of the rows of raster graphics under the compression methods, and of the least data for a row.
 pub mod RunLength
 pub mod RunLengthEncoding
 pub mod PackBits

@@ -55,14 +55,23 @@ module _ (ended : Bool) (room : ℕ) where
   pcl_each controls (byte ∷ bytes) following all =
       let parts = and_parts _ _ all in
       let one = pcl_byte controls byte (nat_lt byte 32) refl parts.0 in
-      let others = pcl_each controls bytes following parts.1 in
-      ((held Pcl (bytes ++ following), head_passes Pcl byte (bytes ++ following) (byte_command Pcl byte) (whole_head byte (bytes ++ following) (nat_lt byte 32) one.0), others.0), (one.1, others.1)) where
-        whole_head : (byte : ℕ) (rest : List ℕ) (low : Bool) → Whole Pcl (byte ∷ []) (if low then Control byte else Text byte) Pcl → Head Pcl (byte ∷ []) rest (if low then Control byte else Text byte) Pcl
-        whole_head byte rest true whole = whole
-        whole_head byte rest false whole = whole
+      let others = pcl_each controls bytes following parts.1 in (
+        (
+          held Pcl (bytes ++ following),
+          head_passes Pcl byte (bytes ++ following) (byte_command Pcl byte) (whole_head byte (bytes ++ following) (nat_lt byte 32) one.0),
+          others.0,
+        ),
+        (one.1, others.1),
+      )
+    where
+      whole_head : (byte : ℕ) (rest : List ℕ) (low : Bool) → Whole Pcl (byte ∷ []) (if low then Control byte else Text byte) Pcl
+          → Head Pcl (byte ∷ []) rest (if low then Control byte else Text byte) Pcl
+      whole_head byte rest true whole = whole
+      whole_head byte rest false whole = whole
 
   foreign_each : (controls : Bool) (bytes following : List ℕ) → list_all (is_plain true) bytes ≡ true
-      → PassesEach (held OtherLanguage (bytes ++ following)) (map (byte_command OtherLanguage) bytes) (held OtherLanguage following) × AllByRecursion (IsOneByte controls) (map (byte_command OtherLanguage) bytes)
+      → PassesEach (held OtherLanguage (bytes ++ following)) (map (byte_command OtherLanguage) bytes) (held OtherLanguage following)
+      × AllByRecursion (IsOneByte controls) (map (byte_command OtherLanguage) bytes)
   foreign_each controls [] following all = (refl, tt)
   foreign_each controls (byte ∷ bytes) following all =
       let parts = and_parts _ _ all in
@@ -98,7 +107,12 @@ plain_passes controls mode items all start count ended room d kind old new same 
     record {
       prefix = map f (take (count - 1) all);
       last = f byte;
-      each = subst P commands (subst (λ (s : ScannerState). PassesEach s (map f (take count all)) new) from (subst (λ (s : ScannerState). PassesEach (held ended room mode (take count all ++ drop count all)) (map f (take count all)) s) to both.0));
+      each =
+          subst P commands
+          (subst (λ (s : ScannerState). PassesEach s (map f (take count all)) new) from
+          (subst (λ (s : ScannerState).
+          PassesEach (held ended room mode (take count all ++ drop count all)) (map f (take count all)) s) to
+          both.0));
       bytes = subst (AllByRecursion (IsOneByte controls)) commands both.1;
       count = omega (arith, within, ap length commands, length-map (take count all) f, length-take count all);
       kind = kind_is;

@@ -2,7 +2,6 @@
 
 ghost use Rattle.std.specs.Prelude.{◌≡◌, ◌≤◌, ◌-◌, [], ◌++◌, true, false, length, drop, take, vec_len, IsOk, OnOk, OnErr, IfOk, IfSome, IfNone, MatchOption};
 ghost use Rattle.std.specs.Borrow.{sem};
-ghost use Rattle.press_cmd.specs.Split.{NoHead};
 ghost use Rattle.press_cmd.specs.ParserState.{Exit};
 ghost use Rattle.press_cmd.specs.View.{token};
 ghost use Rattle.press_scan.specs.Modes.{mode_of, IsSettled};

@@ -1,3 +1,4 @@
+-- The lemmas on the members of a ticket, and on its ranges of pages.
 mod ItemLemmas
 pub mod JsonLemmas
 mod LeastLemmas

@@ -1,3 +1,4 @@
+-- The definitions of job tickets: which JSON texts are one, and what it asks for.
 pub mod Faults
 pub mod Inside
 pub mod Members

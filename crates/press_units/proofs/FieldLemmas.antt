@@ -1,5 +1,6 @@
 -- A value field cut at its sign and its point, and its digits.
-use Rattle.std.proofs.Common.{◌≡◌, ◌<◌, ◌≤◌, ◌+◌, ◌-◌, ◌*◌, ◌∙◌, ℕ, List, [], ◌∷◌, ◌++◌, length, take, drop, Bool, true, false, Option, Some, None, IfSome, option_to_list, position, cond, eqb, nat_lt, get_or, refl, sym, ap, subst, arith}
+use Rattle.std.proofs.Common.{◌≡◌, ◌<◌, ◌≤◌, ◌+◌, ◌-◌, ◌*◌, ◌∙◌, ℕ, List, [], ◌∷◌, ◌++◌, length, take, drop, Bool, true, false, Option}
+use Rattle.std.proofs.Common.{Some, None, IfSome, option_to_list, position, cond, eqb, nat_lt, get_or, refl, sym, ap, subst, arith}
 use Rattle.std.specs.Prelude.{unwrap_or, is_some, ℤ}
 use Rattle.std.specs.Option.{option_map}
 use Rattle.std.specs.List.{All, AllByRecursion, before_first, after_first, position_or_len}
@@ -64,12 +65,16 @@ no_sign (digit ∷ digits) fraction h =
 unsigned-after_sign : (sign : ℕ) (bytes : List ℕ) → IsSign sign → unsigned_part (sign ∷ bytes) ≡ bytes
 unsigned-after_sign sign bytes h = grind (arith, nat_tests)
 
-unsigned-spelling : (sign : Option ℕ) (whole : List ℕ) (fraction : Option (List ℕ)) → IfSome sign IsSign → AllByRecursion IsAsciiDigit whole → unsigned_part (option_to_list sign ++ (whole ++ fraction_bytes fraction)) ≡ whole ++ fraction_bytes fraction
+unsigned-spelling : (sign : Option ℕ) (whole : List ℕ) (fraction : Option (List ℕ)) → IfSome sign IsSign
+    → AllByRecursion IsAsciiDigit whole
+    → unsigned_part (option_to_list sign ++ (whole ++ fraction_bytes fraction)) ≡ whole ++ fraction_bytes fraction
 unsigned-spelling None whole fraction is_one digits = no_sign whole fraction digits
 unsigned-spelling (Some sign) whole fraction is_one digits = unsigned-after_sign sign _ is_one
 
 -- four digits as a number, by their places
-pub number_of-four_digits : (digits : List ℕ) → 1000 * (get_or digits 0 48 - 48) + 100 * (get_or digits 1 48 - 48) + 10 * (get_or digits 2 48 - 48) + (get_or digits 3 48 - 48) ≡ number_of (four_digits digits)
+pub number_of-four_digits : (digits : List ℕ)
+    → 1000 * (get_or digits 0 48 - 48) + 100 * (get_or digits 1 48 - 48) + 10 * (get_or digits 2 48 - 48) + (get_or digits 3 48 - 48)
+    ≡ number_of (four_digits digits)
 number_of-four_digits [] = refl
 number_of-four_digits (a ∷ []) = omega arith
 number_of-four_digits (a ∷ b ∷ []) = omega arith
@@ -85,7 +90,8 @@ no_sign_of (digit ∷ digits) fraction h =
     let no_minus : eqb digit 45 ≡ false = ne_eqb digit 45 (λ e. omega (arith, h.0)) in
     rw (no_plus, no_minus) refl
 
-sign_of-spelling : (sign : Option ℕ) (whole : List ℕ) (fraction : Option (List ℕ)) → IfSome sign IsSign → AllByRecursion IsAsciiDigit whole → sign_of (option_to_list sign ++ (whole ++ fraction_bytes fraction)) ≡ sign
+sign_of-spelling : (sign : Option ℕ) (whole : List ℕ) (fraction : Option (List ℕ)) → IfSome sign IsSign → AllByRecursion IsAsciiDigit whole
+    → sign_of (option_to_list sign ++ (whole ++ fraction_bytes fraction)) ≡ sign
 sign_of-spelling None whole fraction is_one digits = no_sign_of whole fraction digits
 sign_of-spelling (Some sign) whole fraction is_one digits = ap (λ b. cond b (Some sign) None) (sign-from sign is_one)
 

@@ -38,7 +38,9 @@ record Unsigned (bs : List ℕ) : Type 0 where
   whole_digits : AllByRecursion IsAsciiDigit whole
   fraction_digits : IfSome fraction (All IsAsciiDigit)
 
-unsigned-at : (b : ℕ) (bs : List ℕ) (t : Bool) → is_ascii_digit b ≡ t → cond t (is_unsigned_field bs) (is_point b && list_all is_ascii_digit bs) ≡ true → (is_unsigned_field bs ≡ true → Unsigned bs) → Unsigned (b ∷ bs)
+unsigned-at : (b : ℕ) (bs : List ℕ) (t : Bool) → is_ascii_digit b ≡ t
+    → cond t (is_unsigned_field bs) (is_point b && list_all is_ascii_digit bs) ≡ true → (is_unsigned_field bs ≡ true → Unsigned bs)
+    → Unsigned (b ∷ bs)
 unsigned-at b bs true e h ih =
     let r = ih h in
     record { whole = b ∷ r.whole; fraction = r.fraction; spelled = ap (λ x. b ∷ x) r.spelled; whole_digits = (digit-true b e, r.whole_digits); fraction_digits = r.fraction_digits }
@@ -107,7 +109,9 @@ IsField-from_test bs h =
 
 pub test-from_IsField : (bs : List ℕ) → IsField bs → is_value_field bs ≡ true
 test-from_IsField bs f =
-    let t : is_field_text bs ≡ true = subst (λ (x : List ℕ). is_field_text x ≡ true) (sym f.2) (text-from f.0.sign f.0.whole f.0.fraction f.1.sign (recursion_from_All IsAsciiDigit f.0.whole f.1.whole) f.1.fraction) in
+    let t : is_field_text bs ≡ true =
+    subst (λ (x : List ℕ). is_field_text x ≡ true) (sym f.2)
+    (text-from f.0.sign f.0.whole f.0.fraction f.1.sign (recursion_from_All IsAsciiDigit f.0.whole f.1.whole) f.1.fraction) in
     and_from (is_field_text bs) _ t (le-leb (length bs) longest_field f.3)
 
 -- what is true exactly of value fields is the test

@@ -1,3 +1,4 @@
+-- The lemmas on value fields, decimal numbers and exits.
 pub mod EntryLemmas
 pub mod ExitLemmas
 pub mod FieldLemmas

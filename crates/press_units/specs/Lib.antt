@@ -1,3 +1,4 @@
+-- The definitions of values, units, positions and dots.
 pub mod Ascii
 pub mod Faults
 pub mod Field

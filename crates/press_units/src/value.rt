@@ -1,6 +1,6 @@
 //! Value fields and their numbers (PCL 5 Printer Language Technical Reference Manual, the syntax of escape sequences).
 
-ghost use Rattle.std.specs.Prelude.{◌≡◌, ◌<◌, ◌+◌, ◌-◌, ◌*◌, ◌≤ℤ◌, ◌↔◌, ℕ, [], pos, neg_ℤ, min, position, unwrap_or, IsTrue};
+ghost use Rattle.std.specs.Prelude.{◌≡◌, ◌<◌, ◌+◌, ◌-◌, ◌*◌, ◌≤ℤ◌, ◌↔◌, [], pos, neg_ℤ, min, position, unwrap_or, IsTrue};
 ghost use Rattle.std.specs.List.{All, slice_index_or, before_first};
 ghost use Rattle.std.specs.Char.{IsAsciiDigit};
 ghost use Rattle.press_units.specs.Field.{IsField, is_value_field, is_point};

@@ -60,6 +60,7 @@ with_prefix-some [] had some = absurd (true≢false some)
 with_prefix-some (byte ∷ bytes) had some = refl
 
 -- what holds of the bytes in front and what a reader has behind them
-pub holds-behind : (prefix : List ℕ) (had left rest : Option (List ℕ)) (Holds : Option (List ℕ) → Option (List ℕ) → Type 0) → (length prefix == 0) ≡ false → Holds (option_append (Some prefix) had) rest → HoldsBehind prefix had left Holds
+pub holds-behind : (prefix : List ℕ) (had left rest : Option (List ℕ)) (Holds : Option (List ℕ) → Option (List ℕ) → Type 0)
+    → (length prefix == 0) ≡ false → Holds (option_append (Some prefix) had) rest → HoldsBehind prefix had left Holds
 holds-behind [] had left rest Holds some holds = absurd (true≢false some)
 holds-behind (byte ∷ bytes) had left rest Holds some holds = (rest, holds)

@@ -1,3 +1,4 @@
+-- The lemmas on words, numbers and defaults.
 pub mod DefaultsLemmas
 mod NumberLemmas
 mod WordsLemmas

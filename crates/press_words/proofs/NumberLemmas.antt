@@ -39,11 +39,14 @@ too_great word i inside great =
     let more = subst (λ (n : List ℕ). number_of (take (i + 1) word) ≤ number_of n) (take-append-drop (i + 1) word) (grows-then (take (i + 1) word) (drop (i + 1) word)) in
     sym (no_number (list_all is_ascii_digit word) (number_of word) (omega (arith, so_far, more, great)))
 
-pub number-whole : (word : List ℕ) (i number : ℕ) → length word ≤ i → number ≤ greatest_of_64_bits → number ≡ number_of (take i word) → list_all is_ascii_digit (take i word) ≡ true → Some number ≡ number_in word
+pub number-whole : (word : List ℕ) (i number : ℕ) → length word ≤ i → number ≤ greatest_of_64_bits → number ≡ number_of (take i word)
+    → list_all is_ascii_digit (take i word) ≡ true → Some number ≡ number_in word
 number-whole word i number past small is digits =
     let whole = take_all i word past in
     let number_is : number ≡ number_of word = is ∙ ap number_of whole in
     let all : list_all is_ascii_digit word ≡ true = sym (ap (list_all is_ascii_digit) whole) ∙ digits in
     let small : number_of word ≤ greatest_of_64_bits = subst (λ (n : ℕ). n ≤ greatest_of_64_bits) number_is small in
     let within : nat_le (number_of word) greatest_of_64_bits ≡ true = search rules in
-    ap Some number_is ∙ sym (ap (λ (t : Bool). cond (t && nat_le (number_of word) greatest_of_64_bits) (Some (number_of word)) None) all ∙ ap (λ (t : Bool). cond (true && t) (Some (number_of word)) None) within)
+    ap Some number_is
+    ∙ sym (ap (λ (t : Bool). cond (t && nat_le (number_of word) greatest_of_64_bits) (Some (number_of word)) None) all
+    ∙ ap (λ (t : Bool). cond (true && t) (Some (number_of word)) None) within)

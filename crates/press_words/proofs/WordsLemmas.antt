@@ -25,7 +25,8 @@ pub values_by_rows : (found : Found) (id : Text) → option_map raw_values (matc
 values_by_rows found id = raw_values-rows found id
 
 -- a command line with one subcommand more
-pub subcommand_added : (old sub new : Command) (before app : App) → AddsSubcommand old sub new → (out-Command sub).has_globals ≡ false → app_of old ≡ before → app_of sub ≡ app → app_of new ≡ with_subcommand before app.top
+pub subcommand_added : (old sub new : Command) (before app : App) → AddsSubcommand old sub new → (out-Command sub).has_globals ≡ false
+    → app_of old ≡ before → app_of sub ≡ app → app_of new ≡ with_subcommand before app.top
 subcommand_added old sub new before app adds local p q = adds.shape local ∙ ap (λ (one : App). with_subcommand one (shape_of sub)) p ∙ ap (λ (one : App). with_subcommand before one.top) q
 
 -- with a word behind the program's name, what the command line makes of them
@@ -35,7 +36,9 @@ asked_with_words (program ∷ []) more = absurd (omega arith)
 asked_with_words (program ∷ word ∷ words) more = refl
 
 -- words in which the command line finds no fault ask for what its matches do
-pub asked-matches : (words : List Text) (rows : Option (Text × List Row)) (seen : Option Arguments) → 1 < length words → fault_of press_app words ≡ [] → rows ≡ subcommand_of press_app words → seen ≡ option_and_then (λ found. arguments_by found.0 found.1) rows → arguments words ≡ seen
+pub asked-matches : (words : List Text) (rows : Option (Text × List Row)) (seen : Option Arguments) → 1 < length words
+    → fault_of press_app words ≡ [] → rows ≡ subcommand_of press_app words
+    → seen ≡ option_and_then (λ found. arguments_by found.0 found.1) rows → arguments words ≡ seen
 asked-matches words rows seen more no_fault same sees =
     asked_with_words words more ∙ ap (λ (faults : List ErrorKind). arguments_without faults words) no_fault
     ∙ sym (sees ∙ ap (λ (all : Option (Text × List Row)). option_and_then (λ found. arguments_by found.0 found.1) all) same)
@@ -48,37 +51,47 @@ asked-faulty words kind more fault = asked_with_words words more ∙ nothing (fa
   nothing (first ∷ faults) among = refl
 
 -- an answer by an option, where words ask for what it shows
-pub asked-ok : (words : List Text) (found : Option Request) (refusal : Refusal) (result : Result Request Refusal) → result ≡ ok_or found refusal → arguments words ≡ option_map request_seen found → IfOk result (λ request. arguments words ≡ Some (request_seen request))
+pub asked-ok : (words : List Text) (found : Option Request) (refusal : Refusal) (result : Result Request Refusal)
+    → result ≡ ok_or found refusal → arguments words ≡ option_map request_seen found
+    → IfOk result (λ request. arguments words ≡ Some (request_seen request))
 asked-ok words None refusal result is asks = rw is tt
 asked-ok words (Some request) refusal result is asks = rw is asks
 
-pub asked-err : (words : List Text) (found : Option Request) (refusal : Refusal) (result : Result Request Refusal) → result ≡ ok_or found refusal → arguments words ≡ option_map request_seen found → IfErr result (λ refusal. IsForMemory refusal ⊎ (arguments words ≡ None))
+pub asked-err : (words : List Text) (found : Option Request) (refusal : Refusal) (result : Result Request Refusal)
+    → result ≡ ok_or found refusal → arguments words ≡ option_map request_seen found
+    → IfErr result (λ refusal. IsForMemory refusal ⊎ (arguments words ≡ None))
 asked-err words None refusal result is asks = rw is (inr asks)
 asked-err words (Some request) refusal result is asks = rw is tt
 
 -- an answer that is the error of the command line
-pub asked-err-kinds : (words : List Text) (result : Result Request Refusal) (error : Error) → 1 < length words → HasKind (fault_of press_app words) error → IsErrAnd result (λ refusal. refusal ≡ Words error) → IfErr result (λ refusal. IsForMemory refusal ⊎ (arguments words ≡ None))
+pub asked-err-kinds : (words : List Text) (result : Result Request Refusal) (error : Error) → 1 < length words
+    → HasKind (fault_of press_app words) error → IsErrAnd result (λ refusal. refusal ≡ Words error)
+    → IfErr result (λ refusal. IsForMemory refusal ⊎ (arguments words ≡ None))
 asked-err-kinds words (Ok request) error more kinds is = tt
 asked-err-kinds words (Err refusal) error more kinds is =
     rw is (elim kinds [ inl memory ↦ inl memory | inr among ↦ inr (asked-faulty words (kind_of error) more among) ])
 
 -- an answer for want of memory
-pub asked-err-memory : (words : List Text) (result : Result Request Refusal) (error : Error) → kind_of error ≡ OutOfMemory → IsErrAnd result (λ refusal. refusal ≡ Words error) → IfErr result (λ refusal. IsForMemory refusal ⊎ (arguments words ≡ None))
+pub asked-err-memory : (words : List Text) (result : Result Request Refusal) (error : Error) → kind_of error ≡ OutOfMemory
+    → IsErrAnd result (λ refusal. refusal ≡ Words error) → IfErr result (λ refusal. IsForMemory refusal ⊎ (arguments words ≡ None))
 asked-err-memory words (Ok request) error memory is = tt
 asked-err-memory words (Err refusal) error memory is = rw is (inl memory)
 
 -- an error of the command line that ends with status 0 is one of those that it finds
-pub help-kinds : (words : List Text) (result : Result Request Refusal) (error : Error) → HasKind (fault_of press_app words) error → IsErrAnd result (λ refusal. refusal ≡ Words error) → IfErr result (λ refusal. status_of refusal ≡ 0 → AsksHelp words)
+pub help-kinds : (words : List Text) (result : Result Request Refusal) (error : Error) → HasKind (fault_of press_app words) error
+    → IsErrAnd result (λ refusal. refusal ≡ Words error) → IfErr result (λ refusal. status_of refusal ≡ 0 → AsksHelp words)
 help-kinds words (Ok request) error kinds is = tt
 help-kinds words (Err refusal) error kinds is =
     rw is (λ none. elim kinds [ inl memory ↦ absurd (omega (arith, none, ap status_of_kind memory)) | inr among ↦ (kind_of error, none, among) ])
 
 -- want of memory is none that ends so
-pub help-memory : (words : List Text) (result : Result Request Refusal) (error : Error) → kind_of error ≡ OutOfMemory → IsErrAnd result (λ refusal. refusal ≡ Words error) → IfErr result (λ refusal. status_of refusal ≡ 0 → AsksHelp words)
+pub help-memory : (words : List Text) (result : Result Request Refusal) (error : Error) → kind_of error ≡ OutOfMemory
+    → IsErrAnd result (λ refusal. refusal ≡ Words error) → IfErr result (λ refusal. status_of refusal ≡ 0 → AsksHelp words)
 help-memory words (Ok request) error memory is = tt
 help-memory words (Err refusal) error memory is = rw is (λ none. absurd (omega (arith, none, ap status_of_kind memory)))
 
 -- nor is another refusal
-pub help-other : (words : List Text) (found : Option Request) (refusal : Refusal) (result : Result Request Refusal) → result ≡ ok_or found refusal → status_of refusal ≡ 2 → IfErr result (λ refusal. status_of refusal ≡ 0 → AsksHelp words)
+pub help-other : (words : List Text) (found : Option Request) (refusal : Refusal) (result : Result Request Refusal)
+    → result ≡ ok_or found refusal → status_of refusal ≡ 2 → IfErr result (λ refusal. status_of refusal ≡ 0 → AsksHelp words)
 help-other words None refusal result is other = rw is (λ none. absurd (omega (arith, none, other)))
 help-other words (Some request) refusal result is other = rw is tt

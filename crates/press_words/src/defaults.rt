@@ -1,5 +1,5 @@
 //! The defaults of a printer's control panel, in front of a stream (PJL Technical Reference Manual, DEFAULT and RESET).
-ghost use Rattle.std.specs.Prelude.{◌≡◌, ◌++◌, [], ◌∷◌, map, IfOk, OnOk};
+ghost use Rattle.std.specs.Prelude.{◌≡◌, ◌++◌, map, IfOk, OnOk};
 ghost use Rattle.std.specs.List.{list_all};
 ghost use Rattle.press_pjl.specs.Variables.{is_assignment};
 ghost use Rattle.press_words.specs.Defaults.{default_line, prefix_of};

@@ -102,8 +102,8 @@ no_fault_of_one one two = refl
 pub fault_of_two : (one two : Work) → met_fault 2 (new_world 2) (history one two) ≡ true
 fault_of_two one two = refl
 
--- A run from a new press of two engines: it is paused, its turns do nothing; a message meets want of memory; it goes on, no entry
--- waits, and none runs that an operator could abort; and there is no third engine.
+-- A run from a new press of two engines. It is paused, and its turns do nothing; a message meets want of memory. It goes on: no entry
+-- waits, and none runs that an operator could abort. There is no third engine.
 abbrev nothing_of : (event : Event) → EventAnswer → World → Transition
 nothing_of event answer next = record { event = event; answer = answer; handed = []; next = next }
 

@@ -205,8 +205,8 @@ letter = blank 2550 3300
 abbrev sheet_of : Page → Output
 sheet_of page = Deliver (record { front = page; back = None })
 
--- The trace with FF and the universal exit: ten steps of the stream, the call and four of the macro's, the call in it and four
--- more, the call that has no effect and ends both, and two of the stream.
+-- The trace with FF and the universal exit. Ten steps of the stream come first, then the call and four of the macro's, and the call in
+-- it and four more. Then comes the call that has no effect and ends both, and two steps of the stream.
 abbrev page_and_exit : List Token
 page_and_exit = form_feed ∷ Uel ∷ []
 

@@ -1,6 +1,6 @@
 -- Adaptive data, computed on the definitions.
 use Rattle.std.proofs.Common.{◌≡◌, ℕ, List, [], ◌∷◌, Option, Some, None, replicate, refl}
-use Rattle.press_rows.specs.declared.compression.Method.TheVariants.{PackBits, DeltaRow}
+use Rattle.press_rows.specs.declared.compression.Method.TheVariants.{PackBits}
 use Rattle.press_rows.specs.Blocks.{Item, count_rows, items, seed_at_row}
 use Rattle.press_rows.specs.DeltaRow.{deltas, replacements, laid_over}
 use Rattle.press_rows.specs.Row.{raster_row}

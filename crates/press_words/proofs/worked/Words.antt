@@ -80,7 +80,8 @@ disassembling : arguments (codes "press" ∷ codes "disasm" ∷ codes "-" ∷ []
 unfolding clap_on_literals
 disassembling = refl
 
-writing : arguments (codes "press" ∷ codes "write" ∷ codes "-" ∷ codes "o" ∷ codes "b" ∷ codes "a" ∷ codes "b" ∷ []) ≡ Some (record { source = FileNamed (codes "-"); made = JobTo (codes "o") (codes "b" ∷ codes "a" ∷ codes "b" ∷ []) })
+writing : arguments (codes "press" ∷ codes "write" ∷ codes "-" ∷ codes "o" ∷ codes "b" ∷ codes "a" ∷ codes "b" ∷ [])
+    ≡ Some (record { source = FileNamed (codes "-"); made = JobTo (codes "o") (codes "b" ∷ codes "a" ∷ codes "b" ∷ []) })
 unfolding clap_on_literals
 writing = refl
 

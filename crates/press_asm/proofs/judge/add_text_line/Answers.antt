@@ -7,7 +7,10 @@ use Rattle.press_asm.proofs.judge.add_text_line.Goals as goal
 
 pub returns-in-Some-clause-ok : goal.returns-in-Some-clause-ok
 returns-in-Some-clause-ok c =
-    on_ok_weaker c.add_form.result (λ added. line_adds c.args.line.now (form_seen c.in-Some.form) c.args.out.now.items _ (c.if-not-is_text.ensures.0 refl) (sym c.in-Some.ensures) added) c.add_form.ensures.ok
+    on_ok_weaker c.add_form.result (λ added.
+    line_adds c.args.line.now (form_seen c.in-Some.form) c.args.out.now.items _ (c.if-not-is_text.ensures.0 refl)
+    (sym c.in-Some.ensures) added)
+    c.add_form.ensures.ok
 
 pub returns-in-Some-clause-err : goal.returns-in-Some-clause-err
 returns-in-Some-clause-err c =

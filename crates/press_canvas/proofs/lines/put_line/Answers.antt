@@ -18,7 +18,10 @@ returns c =
     let at : to_z w64 (of_z w64 c.from.result) ≡ pos c.args.y = to_z-of_z w64 c.from.result fits ∙ c.from.ensures in
     after_ok {P = after ≡ painted before (row_mark (pos 0) (to_z w64 (of_z w64 c.from.result)) source (row c.black.result) opaque)} {Q = after ≡ with_line before c.args.y (row_dot c.args.bits.now)}
     c.paint_row.result
-    (λ is. is ∙ ap (λ (z : ℤ). painted before (row_mark (pos 0) z source (row c.black.result) opaque)) at ∙ painted_line before c.args.y source (row c.black.result) c.width-dots.ensures.width c.black.ensures
+    (λ is.
+    is
+    ∙ ap (λ (z : ℤ). painted before (row_mark (pos 0) z source (row c.black.result) opaque)) at
+    ∙ painted_line before c.args.y source (row c.black.result) c.width-dots.ensures.width c.black.ensures
     ∙ with_line_alike before c.args.y (row_dot source.bits) (row_dot c.args.bits.now)
     (λ x left.
     let within : x < 8 * c.div_ceil.result = omega (arith, left, c.width-dots.ensures.width, c.div_ceil.ensures) in

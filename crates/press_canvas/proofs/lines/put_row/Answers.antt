@@ -13,7 +13,8 @@ returns-then-not-back-clause-put c =
     let page : Page = c.args.page.now in
     let bits = c.args.bits.now in
     let forward : c.args.back ≡ false = search rules in
-    after_ok {P = c.put_line.new.page ≡ with_line page c.args.y (row_dot bits)} {Q = c.put_line.new.page ≡ with_line page c.args.y (λ x. row_dot bits (place_at c.args.back page.width x))} c.put_line.result
+    after_ok {P = c.put_line.new.page ≡ with_line page c.args.y (row_dot bits)}
+    {Q = c.put_line.new.page ≡ with_line page c.args.y (λ x. row_dot bits (place_at c.args.back page.width x))} c.put_line.result
     (λ is. is ∙ with_line_alike page c.args.y (row_dot bits) (λ x. row_dot bits (place_at c.args.back page.width x)) (λ x _. ap (λ b. row_dot bits (place_at b page.width x)) (sym forward)))
     c.put_line.ensures
 
@@ -32,7 +33,8 @@ returns-clause-put c =
     let page : Page = c.args.page.now in
     let bits = c.args.bits.now in
     let backward : c.args.back ≡ true = search rules in
-    after_ok {P = c.put_line-2.new.page ≡ with_line page c.args.y (row_dot c.reverse.new.out)} {Q = c.put_line-2.new.page ≡ with_line page c.args.y (λ x. row_dot bits (place_at c.args.back page.width x))} c.put_line-2.result
+    after_ok {P = c.put_line-2.new.page ≡ with_line page c.args.y (row_dot c.reverse.new.out)}
+    {Q = c.put_line-2.new.page ≡ with_line page c.args.y (λ x. row_dot bits (place_at c.args.back page.width x))} c.put_line-2.result
     (λ is. is ∙ with_line_alike page c.args.y (row_dot c.reverse.new.out) (λ x. row_dot bits (place_at c.args.back page.width x))
     (λ x left.
     c.reverse.ensures.dots x (subst (λ n. x < n) (sym c.width-dots.ensures.width) left)

@@ -15,7 +15,10 @@ loop-line-preserved c = record {
         | inl here ↦
             let line : i < 64 = omega (arith, here, c.loop-line-test.true) in
             let bytes : (c.width.result + 7) / 8 ≡ bytes_per_line c.args.frame.now.width = ap bytes_per_line c.width.ensures.width in
-            ap (λ w. word_dot w j) (ap (λ k. slice_index (slice_set c.loop-line.words c.loop-line.line c.word_at.result) k) here ∙ get_or-set_same c.loop-line.words c.loop-line.line c.word_at.result 0 (omega (arith, c.loop-line.invariant.long, c.loop-line-test.true)))
+            ap (λ w. word_dot w j)
+            (ap (λ k. slice_index (slice_set c.loop-line.words c.loop-line.line c.word_at.result) k) here
+            ∙ get_or-set_same c.loop-line.words c.loop-line.line c.word_at.result 0
+            (omega (arith, c.loop-line.invariant.long, c.loop-line-test.true)))
             ∙ c.word_at.ensures.dots j low
             ∙ ap (λ k. row_dot c.band-lines.result.now (8 * (k * ((c.width.result + 7) / 8) + 8 * c.args.strip) + j)) (sym here)
             ∙ gathered c.args.frame.now c.band-lines.result.now ((c.width.result + 7) / 8) c.args.band c.args.strip i j bytes c.band-lines.ensures line within

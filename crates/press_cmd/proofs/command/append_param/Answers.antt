@@ -14,7 +14,9 @@ pub returns-clause-ok : goal.returns-clause-ok
 returns-clause-ok c =
     let param = c.args.param.now in
     let prefix = c.args.out.now.items in
-    let before = append-more prefix (head param) param.field.now c.append_head.new.out.items c.extend_from_slice.new.self.items c.in_ok-append_head.ensures.ok c.in_ok-extend_from_slice.ensures.items in
+    let before =
+    append-more prefix (head param) param.field.now c.append_head.new.out.items c.extend_from_slice.new.self.items
+    c.in_ok-append_head.ensures.ok c.in_ok-extend_from_slice.ensures.items in
     let ended = append-more prefix (head param ++ param.field.now) (param.end ∷ []) c.extend_from_slice.new.self.items c.push.new.self.items before c.in_ok-push.ensures.items in
     OnOk-append_tried c.extend_from_slice-2.result prefix ((head param ++ param.field.now) ++ (param.end ∷ [])) param.payload.now c.push.new.self.items c.extend_from_slice-2.new.self.items _ ended
     c.extend_from_slice-2.ensures.items
@@ -24,7 +26,9 @@ pub returns-clause-prefix : goal.returns-clause-prefix
 returns-clause-prefix c =
     let param = c.args.param.now in
     let prefix = c.args.out.now.items in
-    let before = append-more prefix (head param) param.field.now c.append_head.new.out.items c.extend_from_slice.new.self.items c.in_ok-append_head.ensures.ok c.in_ok-extend_from_slice.ensures.items in
+    let before =
+    append-more prefix (head param) param.field.now c.append_head.new.out.items c.extend_from_slice.new.self.items
+    c.in_ok-append_head.ensures.ok c.in_ok-extend_from_slice.ensures.items in
     let ended = append-more prefix (head param ++ param.field.now) (param.end ∷ []) c.extend_from_slice.new.self.items c.push.new.self.items before c.in_ok-push.ensures.items in
     prefix-append_tried _ prefix ((head param ++ param.field.now) ++ (param.end ∷ [])) param.payload.now c.push.new.self.items c.extend_from_slice-2.new.self.items ended
     c.extend_from_slice-2.ensures.items
@@ -42,4 +46,6 @@ returns-in_err-push-clause-prefix c =
     let param = c.args.param.now in
     let prefix = c.args.out.now.items in
     prefix-append prefix (head param ++ param.field.now) _
-    (c.in_err-push.ensures.items ∙ append-more prefix (head param) param.field.now c.append_head.new.out.items c.extend_from_slice.new.self.items c.in_ok-append_head.ensures.ok c.in_ok-extend_from_slice.ensures.items)
+    (c.in_err-push.ensures.items
+    ∙ append-more prefix (head param) param.field.now c.append_head.new.out.items c.extend_from_slice.new.self.items
+    c.in_ok-append_head.ensures.ok c.in_ok-extend_from_slice.ensures.items)

@@ -11,4 +11,6 @@ differs-nothing (byte ∷ text) = refl
 pub returns-in-None : goal.returns-in-None
 returns-in-None c =
     let past : length c.args.bytes.now ≤ c.loop-place.place = ltb-false _ _ (sym c.in-None.ensures.lookup.0) in
-    sym (c.loop-place.invariant ∙ ap (differs (drop c.loop-place.place c.args.text.now)) (drop_all c.loop-place.place c.args.bytes.now past) ∙ differs-nothing (drop c.loop-place.place c.args.text.now))
+    sym (c.loop-place.invariant
+    ∙ ap (differs (drop c.loop-place.place c.args.text.now)) (drop_all c.loop-place.place c.args.bytes.now past)
+    ∙ differs-nothing (drop c.loop-place.place c.args.text.now))

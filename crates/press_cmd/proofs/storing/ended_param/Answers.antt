@@ -6,7 +6,13 @@ pub bounds-bytes-length : goal.bounds-bytes-length
 bounds-bytes-length c = (ended c.args.character c.args.group c.args.bytes.now c.field_length-length.result c.field_length-length.ensures c.requires).within
 
 pub overflow_add-result : goal.overflow_add-result
-overflow_add-result c = omega (arith, c.field_length-length.type_inv, (ended c.args.character c.args.group c.args.bytes.now c.field_length-length.result c.field_length-length.ensures c.requires).within)
+overflow_add-result c =
+    omega (
+      arith,
+      c.field_length-length.type_inv,
+      (ended c.args.character c.args.group c.args.bytes.now c.field_length-length.result c.field_length-length.ensures
+          c.requires).within,
+    )
 
 pub slice_bounds-result-count : goal.slice_bounds-result-count
 slice_bounds-result-count c = omega (arith, (ended c.args.character c.args.group c.args.bytes.now c.field_length-length.result c.field_length-length.ensures c.requires).within)

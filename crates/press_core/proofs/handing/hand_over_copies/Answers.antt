@@ -22,5 +22,6 @@ loop-left-preserved g c =
       rest = λ result after count hands.
           c.loop-left.invariant.rest result after count
           (subst (λ n. HandsOver (replicate n c.args.sheet.now) result (handing c.args.number (g.S.SheetSink.told c.loop-left.sink) after) c.loop-left.delivered count) (sym left)
-          (HandsOver-then c.args.number c.args.sheet.now (replicate (c.loop-left.left - 1) c.args.sheet.now) result _ _ after c.loop-left.delivered c.saturating_add.result count c.in_ok-deliver.ensures c.saturating_add.ensures hands));
+          (HandsOver-then c.args.number c.args.sheet.now (replicate (c.loop-left.left - 1) c.args.sheet.now) result _ _ after
+          c.loop-left.delivered c.saturating_add.result count c.in_ok-deliver.ensures c.saturating_add.ensures hands));
     }

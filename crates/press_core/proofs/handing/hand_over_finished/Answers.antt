@@ -10,5 +10,8 @@ pub returns-in-Some : goal.returns-in-Some
 returns-in-Some g c =
     let finished = c.in-Some.finished in
     rw c.in-Some.is
-    (subst (λ sheets. HandsOver sheets c.hand_over_copies.result (handing c.args.number (g.S.SheetSink.told c.args.sink.now) (g.S.SheetSink.told c.hand_over_copies.new.sink)) c.args.delivered.now c.hand_over_copies.new.delivered)
+    (subst (λ sheets.
+    HandsOver sheets c.hand_over_copies.result
+    (handing c.args.number (g.S.SheetSink.told c.args.sink.now) (g.S.SheetSink.told c.hand_over_copies.new.sink))
+    c.args.delivered.now c.hand_over_copies.new.delivered)
     (sym (sheets_of-copies finished.sheet finished.copies finished.since_job)) c.hand_over_copies.ensures)

@@ -13,7 +13,10 @@ returns-in_err-hand_over_finished-in-Sheets g c =
     let closed = c.in-Sheets.closed in
     let alone = c.in-Sheets.alone in
     rw (c.in-Sheets.is, exit-is c.from_residual.ensures.1)
-    (subst (λ sheets. HandsOver sheets (Err c.in_err-hand_over_finished-in-Sheets.field-0.0) (handing c.args.number (g.S.SheetSink.told c.args.sink.now) (g.S.SheetSink.told hands.new.sink)) c.args.delivered.now hands.new.delivered)
+    (subst (λ sheets.
+    HandsOver sheets (Err c.in_err-hand_over_finished-in-Sheets.field-0.0)
+    (handing c.args.number (g.S.SheetSink.told c.args.sink.now) (g.S.SheetSink.told hands.new.sink)) c.args.delivered.now
+    hands.new.delivered)
     (sym (sheets_of-append (finished_of closed) (finished_of alone)))
     (HandsOver-stopped c.args.number (sheets_of (finished_of closed)) (sheets_of (finished_of alone)) _ _ _ _ _ c.in_err-hand_over_finished-in-Sheets.ensures))
 

@@ -19,7 +19,10 @@ loop-part-preserved g c =
       has_fault_room = has_fault_room-then c.args.tag _ _ _ c.in_ok-send.ensures.sends c.loop-part.invariant.has_fault_room;
       rest = λ result after sends.
           let P : List Output → Type 0 = λ outputs. WentOut c.args.tag outputs (ending_of result) (logs (g.S.SheetSink.told c.loop-part.sheets) (g.R.ReplySink.told c.loop-part.replies)) after in
-          c.loop-part.invariant.rest result after (subst P (sym (ap all_outputs left)) (WentOut-then c.args.tag (outputs_of c.part-item.result) (all_outputs rest) (ending_of result) _ _ after c.in_ok-send.ensures.sends sends));
+          c.loop-part.invariant.rest result after
+          (subst P (sym (ap all_outputs left))
+          (WentOut-then c.args.tag (outputs_of c.part-item.result) (all_outputs rest) (ending_of result) _ _ after
+          c.in_ok-send.ensures.sends sends));
     }
 
 pub returns-in_err-send-clause-sends : goal.returns-in_err-send-clause-sends
@@ -28,7 +31,11 @@ returns-in_err-send-clause-sends g c =
     let left : drop c.loop-part.part-index c.args.sent.now ≡ c.part-item.result ∷ rest =
     drop-cons c.args.sent.now c.loop-part.part-index c.part-item.result c.loop-part-test.true
     ∙ rw (add-one c.loop-part.part-index) (ap (λ (x : Sent). x ∷ drop (suc c.loop-part.part-index) c.args.sent.now) (sym c.part-item.is)) in
-    let P : List Output → Type 0 = λ outputs. WentOut c.args.tag outputs (ending_of c.from_residual.result) (logs (g.S.SheetSink.told c.loop-part.sheets) (g.R.ReplySink.told c.loop-part.replies)) (logs (g.S.SheetSink.told c.send.new.sheets) (g.R.ReplySink.told c.send.new.replies)) in
+    let P : List Output → Type 0 =
+    λ outputs.
+    WentOut c.args.tag outputs (ending_of c.from_residual.result)
+    (logs (g.S.SheetSink.told c.loop-part.sheets) (g.R.ReplySink.told c.loop-part.replies))
+    (logs (g.S.SheetSink.told c.send.new.sheets) (g.R.ReplySink.told c.send.new.replies)) in
     c.loop-part.invariant.rest c.from_residual.result _ (subst P (sym (ap all_outputs left))
     (WentOut-exit c.args.tag (outputs_of c.part-item.result) (all_outputs rest) c.send.result c.from_residual.result _ _ _ c.send.ensures.sends c.in_err-send.was (exit-is c.from_residual.ensures.1)))
 

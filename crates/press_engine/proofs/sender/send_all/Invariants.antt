@@ -10,5 +10,9 @@ use Rattle.press_engine.proofs.sender.send_all.Given as goal
 abbrev pub invariant-loop-part : goal.invariant-loop-part
 invariant-loop-part g l = record {
   has_fault_room : HasFaultRoom (logs (g.S.SheetSink.told l.sheets) (g.R.ReplySink.told l.replies));
-  rest : (result : Result (Unit {0}) EngineError) (after : SinkLog) → WentOut l.tag (all_outputs (drop l.part-index l.sent)) (ending_of result) (logs (g.S.SheetSink.told l.sheets) (g.R.ReplySink.told l.replies)) after → WentOut l.tag (all_outputs l.sent) (ending_of result) (logs (g.S.SheetSink.told l.fn.sheets) (g.R.ReplySink.told l.fn.replies)) after;
+  rest : (result : Result (Unit {0}) EngineError) (after : SinkLog)
+      → WentOut l.tag (all_outputs (drop l.part-index l.sent)) (ending_of result)
+      (logs (g.S.SheetSink.told l.sheets) (g.R.ReplySink.told l.replies)) after
+      → WentOut l.tag (all_outputs l.sent) (ending_of result) (logs (g.S.SheetSink.told l.fn.sheets) (g.R.ReplySink.told l.fn.replies))
+      after;
 }

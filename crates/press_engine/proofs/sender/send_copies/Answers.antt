@@ -5,7 +5,10 @@ use Rattle.press_engine.proofs.sender.send_copies.Goals as goal
 
 pub returns-in_err-send_copy-clause-sends : goal.returns-in_err-send_copy-clause-sends
 returns-in_err-send_copy-clause-sends g c =
-    c.loop-copy.invariant.rest _ _ (WentOut-stopped_copy c.args.finished.now.sheet c.args.tag c.loop-copy.copy c.args.finished.now.copies c.loop-copy.count c.next_count-count.result c.next_count-count.ensures c.send_copy.result _ _ _ _ c.loop-copy-test.true c.send_copy.ensures c.in_err-send_copy.was (exit-is c.from_residual.ensures.1))
+    c.loop-copy.invariant.rest _ _
+    (WentOut-stopped_copy c.args.finished.now.sheet c.args.tag c.loop-copy.copy c.args.finished.now.copies c.loop-copy.count
+    c.next_count-count.result c.next_count-count.ensures c.send_copy.result _ _ _ _ c.loop-copy-test.true c.send_copy.ensures
+    c.in_err-send_copy.was (exit-is c.from_residual.ensures.1))
 
 pub returns-in_err-send_copy-clause-memory : goal.returns-in_err-send_copy-clause-memory
 returns-in_err-send_copy-clause-memory g c stops = copies_out-some c.args.finished.now.sheet c.loop-copy.copy c.args.finished.now.copies c.args.finished.now.since_job c.loop-copy-test.true
@@ -16,9 +19,17 @@ send_copy-requires-clause-last g c = λ again. c.loop-copy.invariant.last (is_la
 pub loop-copy-preserved : goal.loop-copy-preserved
 loop-copy-preserved g c = record {
   has_fault_room = has_fault_room-then c.args.tag _ _ _ c.in_ok-send_copy.ensures c.loop-copy.invariant.has_fault_room;
-  rest = λ result after sends. c.loop-copy.invariant.rest result after (WentOut-copy c.args.finished.now.sheet c.args.tag c.loop-copy.copy c.args.finished.now.copies c.loop-copy.count c.next_count-count.result c.next_count-count.ensures result _ _ after c.loop-copy-test.true c.in_ok-send_copy.ensures sends);
+  rest =
+      λ result after sends.
+      c.loop-copy.invariant.rest result after
+      (WentOut-copy c.args.finished.now.sheet c.args.tag c.loop-copy.copy c.args.finished.now.copies c.loop-copy.count
+      c.next_count-count.result c.next_count-count.ensures result _ _ after c.loop-copy-test.true c.in_ok-send_copy.ensures
+      sends);
   last = λ _. TookLast-copy c.args.finished.now.sheet c.args.tag c.next_count-count.result _ _ c.in_ok-send_copy.ensures;
 }
 
 pub returns-clause-sends : goal.returns-clause-sends
-returns-clause-sends g c = c.loop-copy.invariant.rest (Ok tt) _ (WentOut-no_copy c.args.finished.now.sheet c.args.tag c.loop-copy.copy c.args.finished.now.copies c.loop-copy.count _ c.loop-copy-test.false)
+returns-clause-sends g c =
+    c.loop-copy.invariant.rest (Ok tt) _
+    (WentOut-no_copy c.args.finished.now.sheet c.args.tag c.loop-copy.copy c.args.finished.now.copies c.loop-copy.count _
+    c.loop-copy-test.false)

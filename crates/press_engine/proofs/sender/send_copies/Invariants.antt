@@ -11,6 +11,10 @@ abbrev pub invariant-loop-copy : goal.invariant-loop-copy
 invariant-loop-copy g l =
     record {
       has_fault_room : HasFaultRoom (logs (g.S.SheetSink.told l.sheets) (g.R.ReplySink.told l.replies));
-      rest : (result : Result (Unit {0}) EngineError) (after : SinkLog) → WentOut l.tag (copies_out l.finished.sheet (l.finished.copies - l.copy) l.count) (ending_of result) (logs (g.S.SheetSink.told l.sheets) (g.R.ReplySink.told l.replies)) after → WentOut l.tag (copies_out l.finished.sheet l.finished.copies l.finished.since_job) (ending_of result) (logs (g.S.SheetSink.told l.fn.sheets) (g.R.ReplySink.told l.fn.replies)) after;
+      rest : (result : Result (Unit {0}) EngineError) (after : SinkLog)
+          → WentOut l.tag (copies_out l.finished.sheet (l.finished.copies - l.copy) l.count) (ending_of result)
+          (logs (g.S.SheetSink.told l.sheets) (g.R.ReplySink.told l.replies)) after
+          → WentOut l.tag (copies_out l.finished.sheet l.finished.copies l.finished.since_job) (ending_of result)
+          (logs (g.S.SheetSink.told l.fn.sheets) (g.R.ReplySink.told l.fn.replies)) after;
       last : 0 < l.copy → TookLast (g.S.SheetSink.told l.sheets) (record { tag = l.tag; sheet = l.finished.sheet });
     }

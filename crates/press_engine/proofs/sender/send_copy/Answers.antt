@@ -11,9 +11,16 @@ use Rattle.press_engine.proofs.sender.send_copy.Goals as goal
 
 pub returns-in_err-deliver : goal.returns-in_err-deliver
 returns-in_err-deliver g c =
-    WentOut-exit c.args.tag (Deliver c.args.sheet.now ∷ []) (status_out c.args.count) c.deliver.result c.from_residual.result _ _ _ c.deliver.ensures c.in_err-deliver.was (exit-is c.from_residual.ensures.1)
+    WentOut-exit c.args.tag (Deliver c.args.sheet.now ∷ []) (status_out c.args.count) c.deliver.result c.from_residual.result _ _ _
+    c.deliver.ensures c.in_err-deliver.was (exit-is c.from_residual.ensures.1)
 
 pub returns-in-Some : goal.returns-in-Some
 returns-in-Some g c =
-    let P : Option ℕ → Type 0 = λ count. WentOut c.args.tag (copy_out c.args.sheet.now count) (ending_of c.reply_status.result) (logs (g.S.SheetSink.told c.args.sheets.now) (g.R.ReplySink.told c.args.replies.now)) (logs (g.S.SheetSink.told c.reply_status.new.sheets) (g.R.ReplySink.told c.reply_status.new.replies)) in
-    subst P (sym c.in-Some.is) (WentOut-then c.args.tag (Deliver c.args.sheet.now ∷ []) (Reply (page_reply c.in-Some.since_job) ∷ []) (ending_of c.reply_status.result) _ _ _ c.in_ok-deliver.ensures c.reply_status.ensures)
+    let P : Option ℕ → Type 0 =
+    λ count.
+    WentOut c.args.tag (copy_out c.args.sheet.now count) (ending_of c.reply_status.result)
+    (logs (g.S.SheetSink.told c.args.sheets.now) (g.R.ReplySink.told c.args.replies.now))
+    (logs (g.S.SheetSink.told c.reply_status.new.sheets) (g.R.ReplySink.told c.reply_status.new.replies)) in
+    subst P (sym c.in-Some.is)
+    (WentOut-then c.args.tag (Deliver c.args.sheet.now ∷ []) (Reply (page_reply c.in-Some.since_job) ∷ [])
+    (ending_of c.reply_status.result) _ _ _ c.in_ok-deliver.ensures c.reply_status.ensures)

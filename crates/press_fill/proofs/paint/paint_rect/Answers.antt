@@ -59,7 +59,8 @@ loop-line-preserved c =
     let pattern : Row = record { bits = tile_row tile (y + line); dots = tile.width } in (
       c.paint_line.ensures.painted
           ∙ (λ i. painted (c.loop-line.invariant.0 i) (row_mark (pos x) (pos (y + line)) black (c.line.ensures.row i) c.args.mode))
-          ∙ painted_box_row c.args.page.now.page x y line black pattern (tile_dot tile) c.args.mode (IsAllBlack-replicate 2048 columns (omega arith)) (λ column _ _. repeated-tile_row tile column (y + line)),
+          ∙ painted_box_row c.args.page.now.page x y line black pattern (tile_dot tile) c.args.mode
+          (IsAllBlack-replicate 2048 columns (omega arith)) (λ column _ _. repeated-tile_row tile column (y + line)),
       c.paint_line.ensures.ready ∙ c.loop-line.invariant.1,
     )
 

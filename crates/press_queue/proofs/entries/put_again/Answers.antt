@@ -27,5 +27,6 @@ returns-after-found-last c =
     let moved = c.move_index.ensures.entries in
     c.move_index-in-Some.ensures.entries
     ∙ ap (λ l. move_index (set_value_at l last c.args.entry) last c.if-found-last.to) moved
-    ∙ put_again_by_moves c.args.entries.now.entries c.in-Some.place last c.args.number c.args.entry c.place_of-found.result c.if-found-last.to (sym c.in-Some.ensures.index) c.requires is_last c.in-Some.ensures.within
+    ∙ put_again_by_moves c.args.entries.now.entries c.in-Some.place last c.args.number c.args.entry c.place_of-found.result
+    c.if-found-last.to (sym c.in-Some.ensures.index) c.requires is_last c.in-Some.ensures.within
     (c.place_of-found.ensures ∙ ap (λ l. place_of c.args.entry.priority (set_value_at l last c.args.entry)) moved) to

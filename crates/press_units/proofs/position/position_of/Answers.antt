@@ -5,7 +5,9 @@ use Rattle.std.proofs.lemmas.Int.{ints, to_z-of_z, quot_fits, fits_signed_mul, u
 use Rattle.press_units.proofs.position.position_of.Goals as goal
 
 -- the code's quotient of a product, where all fits
-quotient : (t u : ℤ) → SFits w64 t → SFits w64 u → SFits w64 (t *ℤ u) → to_z w64 (of_z w64 (int_div (to_z w64 (of_z w64 (to_z w64 (of_z w64 t) *ℤ to_z w64 (of_z w64 u)))) (pos 10000))) ≡ int_div (t *ℤ u) (pos 10000)
+quotient : (t u : ℤ) → SFits w64 t → SFits w64 u → SFits w64 (t *ℤ u)
+    → to_z w64 (of_z w64 (int_div (to_z w64 (of_z w64 (to_z w64 (of_z w64 t) *ℤ to_z w64 (of_z w64 u)))) (pos 10000)))
+    ≡ int_div (t *ℤ u) (pos 10000)
 quotient t u fits_t fits_u fits_product =
     ap (λ (z : ℤ). to_z w64 (of_z w64 (int_div (to_z w64 (of_z w64 (z *ℤ to_z w64 (of_z w64 u)))) (pos 10000)))) (to_z-of_z w64 t fits_t)
     ∙ ap (λ (z : ℤ). to_z w64 (of_z w64 (int_div (to_z w64 (of_z w64 (t *ℤ z))) (pos 10000)))) (to_z-of_z w64 u fits_u)

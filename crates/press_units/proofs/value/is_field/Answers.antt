@@ -28,7 +28,9 @@ no_digits text unsigned whole answer rest before never decides =
 
 pub returns-then-are_digits-clause-field : goal.returns-then-are_digits-clause-field
 returns-then-are_digits-clause-field c =
-    fraction_decides c.args.bytes.now _ _ _ c.are_digits-then-are_digits.result (omega arith) c.split_sign.ensures.unsigned c.split_point.ensures.whole c.split_point.ensures.fraction (c.are_digits.ensures.0 c.if-are_digits.true) c.are_digits-then-are_digits.ensures
+    fraction_decides c.args.bytes.now _ _ _ c.are_digits-then-are_digits.result (omega arith) c.split_sign.ensures.unsigned
+    c.split_point.ensures.whole c.split_point.ensures.fraction (c.are_digits.ensures.0 c.if-are_digits.true)
+    c.are_digits-then-are_digits.ensures
 
 pub returns-then-are_digits-clause-test : goal.returns-then-are_digits-clause-test
 returns-then-are_digits-clause-test c =

@@ -9,7 +9,9 @@ returns-in_err-checked_mul c =
 
 pub returns-in_err-number : goal.returns-in_err-number
 returns-in_err-number c =
-    c.from_residual-in_err-number.ensures ∙ too_great c.args.word.now c.loop-byte.byte-index c.loop-byte-test.true (omega (arith, c.in_err-number.ensures, c.from-digit.ensures, c.in_ok-checked_mul.ensures, c.loop-byte.invariant.number))
+    c.from_residual-in_err-number.ensures
+    ∙ too_great c.args.word.now c.loop-byte.byte-index c.loop-byte-test.true
+    (omega (arith, c.in_err-number.ensures, c.from-digit.ensures, c.in_ok-checked_mul.ensures, c.loop-byte.invariant.number))
 
 pub returns : goal.returns
 returns c = number-whole c.args.word.now c.loop-byte.byte-index c.loop-byte.number c.loop-byte-test.false c.loop-byte.invariant.small c.loop-byte.invariant.number c.loop-byte.invariant.digits

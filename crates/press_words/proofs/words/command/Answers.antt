@@ -20,4 +20,8 @@ returns c =
     let fifth = subcommand_added _ _ _ four trace_app c.in_ok-subcommand-5.ensures c.in_ok-trace_command.ensures.local fourth c.in_ok-trace_command.ensures.app in
     let sixth = subcommand_added _ _ _ five page_app c.in_ok-subcommand-6.ensures c.in_ok-page_command.ensures.local fifth c.in_ok-page_command.ensures.app in
     let seventh = subcommand_added _ _ _ six write_app c.in_ok-subcommand-7.ensures c.in_ok-write_command.ensures.local sixth c.in_ok-write_command.ensures.app in
-    IfOk-weaker c.subcommand-8.result _ _ (λ command adds. subcommand_added _ _ command seven session_app adds c.in_ok-press_command.ensures.local seventh c.in_ok-press_command.ensures.app) c.subcommand-8.ensures
+    IfOk-weaker c.subcommand-8.result _ _
+    (λ command adds.
+    subcommand_added _ _ command seven session_app adds c.in_ok-press_command.ensures.local seventh
+    c.in_ok-press_command.ensures.app)
+    c.subcommand-8.ensures

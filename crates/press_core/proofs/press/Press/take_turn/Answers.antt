@@ -33,7 +33,8 @@ pub returns : goal.returns
 returns g c =
     let took = c.in_ok-steps.ensures in (
       took.0,
-      turn_taken c.args.self.now c.next_running.new.self c.take_steps.new.self c.args.engine c.in-Some.number c.args.most (Ok (record { entry = Some c.in-Some.number; steps = c.in_ok-steps.steps })) took.0
+      turn_taken c.args.self.now c.next_running.new.self c.take_steps.new.self c.args.engine c.in-Some.number c.args.most
+          (Ok (record { entry = Some c.in-Some.number; steps = c.in_ok-steps.steps })) took.0
           c.requires.works
           (begins_some c.args.self.now c.next_running.new.self c.args.engine c.in_ok-number.field-0 c.in-Some.number c.in-Some.is c.in_ok-number.ensures.begins) refl took.1,
       record { told = took.2.told; faults = took.2.faults },

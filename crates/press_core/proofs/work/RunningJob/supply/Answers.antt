@@ -19,7 +19,10 @@ returns c =
     let old = c.args.self.now in
     let gives = c.in_ok-piece.ensures.ok in
     let bytes : c.deref.result.now ≡ gives.piece = c.deref.ensures.value ∙ gives.appended ∙ ap (λ (before : List ℕ). before ++ gives.piece) c.new-piece.ensures.items in
-    let is = pushes_ok old.job c.push.new.self c.deref.result.now c.push.result (sym c.is_err.ensures.value ∙ c.if-is_err.false) c.push.ensures.pushes ∙ ap (λ (piece : List ℕ). with_piece piece old.job) bytes in
+    let is =
+    pushes_ok old.job c.push.new.self c.deref.result.now c.push.result (sym c.is_err.ensures.value ∙ c.if-is_err.false)
+    c.push.ensures.pushes
+    ∙ ap (λ (piece : List ℕ). with_piece piece old.job) bytes in
     record {
       stands = λ items at. pushed_at c.what_is_left.ensures items images old c.push.new.self c.piece.new.self gives.piece c.requires.going gives.next is c.in_ok-piece.ensures.images at;
       steps = refl;

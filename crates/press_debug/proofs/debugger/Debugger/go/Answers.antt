@@ -24,8 +24,13 @@ returns-in-Some-clause-goes g c =
     let less = c.args.max - (c.loop-step._step + 1) in
     let up : c.args.max - c.loop-step._step ≡ less + 1 = omega (arith, c.loop-step-test.true) in
     let number = Some c.in-Some.number in
-    let here = at_machine c.take.new.self.job.machine (λ machine. StateMeets (FnReturnsAt g.F.Fn c.loop-step.self.watch.test) c.loop-step.self.breaks number machine) takes.0.machine takes.1.ends c.in-Some.ensures in
-    let meets = StateMeets-kept (λ (watch : Watch _). FnReturnsAt g.F.Fn watch.test) c.loop-step.self.watch c.args.self.now.watch c.loop-step.self.breaks table number takes.0.machine c.loop-step.invariant.kept.1 c.loop-step.invariant.kept.0 here in
+    let here =
+    at_machine c.take.new.self.job.machine
+    (λ machine. StateMeets (FnReturnsAt g.F.Fn c.loop-step.self.watch.test) c.loop-step.self.breaks number machine) takes.0.machine
+    takes.1.ends c.in-Some.ensures in
+    let meets =
+    StateMeets-kept (λ (watch : Watch _). FnReturnsAt g.F.Fn watch.test) c.loop-step.self.watch c.args.self.now.watch
+    c.loop-step.self.breaks table number takes.0.machine c.loop-step.invariant.kept.1 c.loop-step.invariant.kept.0 here in
     c.loop-step.invariant.rest (stops.AtBreak c.in-Some.number) c.take.new.self
     (ContinuesTo-stop watches table c.loop-step.self.stepper c.take.new.self takes.0 (c.args.max - c.loop-step._step) less c.in-Some.number up takes.1 meets)
 
@@ -36,8 +41,13 @@ loop-step-preserved g c =
     let table = c.args.self.now.breaks in
     let less = c.args.max - (c.loop-step._step + 1) in
     let up : c.args.max - c.loop-step._step ≡ less + 1 = omega (arith, c.loop-step-test.true) in
-    let here = at_machine c.take.new.self.job.machine (λ machine. StateMeets (FnReturnsAt g.F.Fn c.loop-step.self.watch.test) c.loop-step.self.breaks None machine) takes.0.machine takes.1.ends c.in_default.ensures in
-    let passes = StateMeets-kept (λ (watch : Watch _). FnReturnsAt g.F.Fn watch.test) c.loop-step.self.watch c.args.self.now.watch c.loop-step.self.breaks table None takes.0.machine c.loop-step.invariant.kept.1 c.loop-step.invariant.kept.0 here in
+    let here =
+    at_machine c.take.new.self.job.machine
+    (λ machine. StateMeets (FnReturnsAt g.F.Fn c.loop-step.self.watch.test) c.loop-step.self.breaks None machine) takes.0.machine
+    takes.1.ends c.in_default.ensures in
+    let passes =
+    StateMeets-kept (λ (watch : Watch _). FnReturnsAt g.F.Fn watch.test) c.loop-step.self.watch c.args.self.now.watch
+    c.loop-step.self.breaks table None takes.0.machine c.loop-step.invariant.kept.1 c.loop-step.invariant.kept.0 here in
     record {
       running = subst IsSome (sym takes.1.ends) refl;
       callable = c.loop-step.invariant.callable;

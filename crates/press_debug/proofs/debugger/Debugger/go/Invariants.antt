@@ -11,5 +11,7 @@ invariant-loop-step g l = record {
   running : IsSome l.self.stepper.job.machine;
   callable : goal.F-IsAlwaysCallable g l.self.watch.test;
   kept : (l.self.breaks ≡ l.fn.self.breaks) × (l.self.watch ≡ l.fn.self.watch);
-  rest : (stop : Stop) (new : DebuggerState) → ContinuesTo (FnReturnsAt g.F.Fn l.fn.self.watch.test) l.fn.self.breaks l.self.stepper (l.max - l._step) stop new → ContinuesTo (FnReturnsAt g.F.Fn l.fn.self.watch.test) l.fn.self.breaks l.fn.self.stepper l.max stop new;
+  rest : (stop : Stop) (new : DebuggerState)
+      → ContinuesTo (FnReturnsAt g.F.Fn l.fn.self.watch.test) l.fn.self.breaks l.self.stepper (l.max - l._step) stop new
+      → ContinuesTo (FnReturnsAt g.F.Fn l.fn.self.watch.test) l.fn.self.breaks l.fn.self.stepper l.max stop new;
 }

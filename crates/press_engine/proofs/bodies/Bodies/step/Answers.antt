@@ -19,4 +19,5 @@ returns-in-Ok-clause-steps c =
     let steps = c.in-Ok.ensures.steps in
     let last = ap (λ (stepped : Stepped). stepped.item.machine.last) steps ∙ outer-last command old in
     let of_kind = subst (IsOfKind c.step_outer.new.self.last) (sym c.kind-kind.ensures) (last-kind command old c.step_outer.new.self.last last) in
-    steps-to (trace_at macro_levels command old) (step_outer command old) c.kind-kind.result c.in-Ok.sent c.step_outer.new.self (reverse c.step_outer.new.activations.items) (outer-continuation command old) steps of_kind
+    steps-to (trace_at macro_levels command old) (step_outer command old) c.kind-kind.result c.in-Ok.sent c.step_outer.new.self
+    (reverse c.step_outer.new.activations.items) (outer-continuation command old) steps of_kind

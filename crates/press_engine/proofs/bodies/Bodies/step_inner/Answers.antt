@@ -20,7 +20,8 @@ invariant_of-self c =
     let some : activations ≢ [] = λ none. c.requires.running (sym c.self.view_is ∙ none) in
     let (activation, command, rest, outer, is) = ready-some activations c.self.invariant.ready some in
     let steps = c.in-Ok.ensures.steps activation command rest outer is in
-    sound-inner activation command rest outer activations (reverse c.step_inner.new.activations.items) c.args.machine.now is c.self.invariant.nested (ap (λ (stepped : Stepped). stepped.activations) steps)
+    sound-inner activation command rest outer activations (reverse c.step_inner.new.activations.items) c.args.machine.now is
+    c.self.invariant.nested (ap (λ (stepped : Stepped). stepped.activations) steps)
 
 pub returns-in-Ok-clause-steps : goal.returns-in-Ok-clause-steps
 returns-in-Ok-clause-steps c =
@@ -29,6 +30,11 @@ returns-in-Ok-clause-steps c =
     let some : activations ≢ [] = λ none. c.requires.running (sym c.self.view_is ∙ none) in
     let (activation, command, rest, outer, is) = ready-some activations c.self.invariant.ready some in
     let steps = c.in-Ok.ensures.steps activation command rest outer is in
-    let P : List Activation → Type 0 = λ these. StepsTo (continuation these old) (record { kind = c.kind.result; sent = c.in-Ok.sent }) c.step_inner.new.self (reverse c.step_inner.new.activations.items) in
+    let P : List Activation → Type 0 =
+    λ these.
+    StepsTo (continuation these old) (record { kind = c.kind.result; sent = c.in-Ok.sent }) c.step_inner.new.self
+    (reverse c.step_inner.new.activations.items) in
     subst P c.self.view_is
-    (steps-to (continuation activations old) (step_inner activation command rest outer old) c.kind.result c.in-Ok.sent c.step_inner.new.self (reverse c.step_inner.new.activations.items) (inner-gives activation command rest outer activations old is) steps c.kind.ensures)
+    (steps-to (continuation activations old) (step_inner activation command rest outer old) c.kind.result c.in-Ok.sent
+    c.step_inner.new.self (reverse c.step_inner.new.activations.items) (inner-gives activation command rest outer activations old is)
+    steps c.kind.ensures)

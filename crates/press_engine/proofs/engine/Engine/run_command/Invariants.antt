@@ -15,7 +15,11 @@ invariant-loop-self g l = record {
   alive : machine_of l.self ≢ None;
   lives : machine_of l.fn.self ≢ None;
   memory : HasNext (bodies l.self) → NeedsMemory (machine_of l.fn.self) (token l.fn.command);
-  rest : (result : Result (Unit {0}) EngineError) (new : Option Machine) (after : SinkLog) → LeavesAll (machine_of l.self) (continuation (bodies l.self)) l.tag result new (logs (g.S.SheetSink.told l.sheets) (g.R.ReplySink.told l.replies)) after → Runs (machine_of l.fn.self) (token l.fn.command) result new (under l.tag (logs (g.S.SheetSink.told l.fn.sheets) (g.R.ReplySink.told l.fn.replies)) after);
+  rest : (result : Result (Unit {0}) EngineError) (new : Option Machine) (after : SinkLog)
+      → LeavesAll (machine_of l.self) (continuation (bodies l.self)) l.tag result new
+      (logs (g.S.SheetSink.told l.sheets) (g.R.ReplySink.told l.replies)) after
+      → Runs (machine_of l.fn.self) (token l.fn.command) result new
+      (under l.tag (logs (g.S.SheetSink.told l.fn.sheets) (g.R.ReplySink.told l.fn.replies)) after);
 }
 
 abbrev pub decreases-loop-self : goal.decreases-loop-self

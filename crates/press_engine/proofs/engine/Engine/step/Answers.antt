@@ -15,14 +15,22 @@ use Rattle.press_engine.proofs.engine.Engine.step.Goals as goal
 pub returns-in_err-step-clause-takes : goal.returns-in_err-step-clause-takes
 returns-in_err-step-clause-takes g c =
     let failed = c.in_err-step.ensures in
-    takes-none (machine_of c.args.self.now) (trace_at macro_levels (token c.args.command)) c.args.tag c.from_residual.result c.in_err-step.field-0.0 (machine_of c.take_step.new.self) (bodies c.take_step.new.self) _
+    takes-none (machine_of c.args.self.now) (trace_at macro_levels (token c.args.command)) c.args.tag c.from_residual.result
+    c.in_err-step.field-0.0 (machine_of c.take_step.new.self) (bodies c.take_step.new.self) _
     (outer-some (token c.args.command)) failed.refused (λ is. failed.failed.0 (ap Err is)) (exit-is c.from_residual.ensures.1) failed.steps.0 failed.steps.1
 
 pub returns-in_err-hand_over-clause-takes : goal.returns-in_err-hand_over-clause-takes
 returns-in_err-hand_over-clause-takes g c =
-    let P : List Sent → Type 0 = λ sent. WentOut c.args.tag (all_outputs sent) (ending_of c.hand_over.result) (logs (g.S.SheetSink.told c.args.sheets.now) (g.R.ReplySink.told c.args.replies.now)) (logs (g.S.SheetSink.told c.hand_over.new.sheets) (g.R.ReplySink.told c.hand_over.new.replies)) in
-    takes-stopped (machine_of c.args.self.now) (trace_at macro_levels (token c.args.command)) c.in_ok-step.step (machine_of c.take_step.new.self) (machine_of c.hand_over.new.self) (bodies c.take_step.new.self) (bodies c.hand_over.new.self) c.args.tag c.hand_over.result c.from_residual-in_err-hand_over.result c.in_err-hand_over.field-0.0 _ _
-    c.in_ok-step.ensures.steps (subst P c.deref.ensures.value c.hand_over.ensures.sends) c.in_err-hand_over.was (exit-is c.from_residual-in_err-hand_over.ensures.1) c.in_err-hand_over.ensures.left.0 c.in_err-hand_over.ensures.left.1
+    let P : List Sent → Type 0 =
+    λ sent.
+    WentOut c.args.tag (all_outputs sent) (ending_of c.hand_over.result)
+    (logs (g.S.SheetSink.told c.args.sheets.now) (g.R.ReplySink.told c.args.replies.now))
+    (logs (g.S.SheetSink.told c.hand_over.new.sheets) (g.R.ReplySink.told c.hand_over.new.replies)) in
+    takes-stopped (machine_of c.args.self.now) (trace_at macro_levels (token c.args.command)) c.in_ok-step.step
+    (machine_of c.take_step.new.self) (machine_of c.hand_over.new.self) (bodies c.take_step.new.self) (bodies c.hand_over.new.self)
+    c.args.tag c.hand_over.result c.from_residual-in_err-hand_over.result c.in_err-hand_over.field-0.0 _ _
+    c.in_ok-step.ensures.steps (subst P c.deref.ensures.value c.hand_over.ensures.sends) c.in_err-hand_over.was
+    (exit-is c.from_residual-in_err-hand_over.ensures.1) c.in_err-hand_over.ensures.left.0 c.in_err-hand_over.ensures.left.1
 
 pub returns-in_err-hand_over-clause-memory : goal.returns-in_err-hand_over-clause-memory
 returns-in_err-hand_over-clause-memory g c stops =
@@ -32,7 +40,18 @@ returns-in_err-hand_over-clause-memory g c stops =
 
 pub returns-clause-takes : goal.returns-clause-takes
 returns-clause-takes g c =
-    let Q : Engine → Type 0 = λ engine. TakesNext (machine_of c.args.self.now) (trace_at macro_levels (token c.args.command)) (Ok c.in_ok-step.step.kind) (machine_of engine) (bodies engine) (under c.args.tag (logs (g.S.SheetSink.told c.args.sheets.now) (g.R.ReplySink.told c.args.replies.now)) (logs (g.S.SheetSink.told c.hand_over.new.sheets) (g.R.ReplySink.told c.hand_over.new.replies))) in
-    let P : List Sent → Type 0 = λ sent. WentOut c.args.tag (all_outputs sent) Complete (logs (g.S.SheetSink.told c.args.sheets.now) (g.R.ReplySink.told c.args.replies.now)) (logs (g.S.SheetSink.told c.hand_over.new.sheets) (g.R.ReplySink.told c.hand_over.new.replies)) in
+    let Q : Engine → Type 0 =
+    λ engine.
+    TakesNext (machine_of c.args.self.now) (trace_at macro_levels (token c.args.command)) (Ok c.in_ok-step.step.kind)
+    (machine_of engine) (bodies engine)
+    (under c.args.tag (logs (g.S.SheetSink.told c.args.sheets.now) (g.R.ReplySink.told c.args.replies.now))
+    (logs (g.S.SheetSink.told c.hand_over.new.sheets) (g.R.ReplySink.told c.hand_over.new.replies))) in
+    let P : List Sent → Type 0 =
+    λ sent.
+    WentOut c.args.tag (all_outputs sent) Complete
+    (logs (g.S.SheetSink.told c.args.sheets.now) (g.R.ReplySink.told c.args.replies.now))
+    (logs (g.S.SheetSink.told c.hand_over.new.sheets) (g.R.ReplySink.told c.hand_over.new.replies)) in
     subst Q (sym (c.reuse.ensures ∙ c.in_ok-hand_over.ensures.left))
-    (takes-ok (machine_of c.args.self.now) (trace_at macro_levels (token c.args.command)) c.in_ok-step.step (machine_of c.take_step.new.self) (bodies c.take_step.new.self) c.args.tag _ _ c.in_ok-step.ensures.steps (subst P c.deref.ensures.value c.in_ok-hand_over.ensures.sends))
+    (takes-ok (machine_of c.args.self.now) (trace_at macro_levels (token c.args.command)) c.in_ok-step.step
+    (machine_of c.take_step.new.self) (bodies c.take_step.new.self) c.args.tag _ _ c.in_ok-step.ensures.steps
+    (subst P c.deref.ensures.value c.in_ok-hand_over.ensures.sends))

@@ -11,6 +11,9 @@ returns-clause-steps c =
     let owing = trace_at macro_levels (token c.args.command) in
     let new = c.step.new in
     let Q : Machine → Type 0 = λ machine. StepsTo (owing machine) c.in-Ok.step new.machine new.self in
-    let P : Bool → Type 0 = λ failed. Steps (if failed then None else Some c.args.self.now.machine.value) owing c.in-Ok.step (if failed then None else Some new.machine) (if failed then [] else new.self) in
+    let P : Bool → Type 0 =
+    λ failed.
+    Steps (if failed then None else Some c.args.self.now.machine.value) owing c.in-Ok.step
+    (if failed then None else Some new.machine) (if failed then [] else new.self) in
     subst P (sym c.if-self.false)
     (record { before = c.args.self.now.machine.value; after = new.machine; was = refl; is = refl; steps = subst Q c.deref_mut.ensures.value c.in-Ok.ensures.steps })

@@ -19,11 +19,13 @@ use Rattle.press_engine.proofs.machine.Machine.begin.Goals as goal
 
 pub returns-else-in_overlay-clause-begins : goal.returns-else-in_overlay-clause-begins
 returns-else-in_overlay-clause-begins c =
-    begun-closes c.begin_close.result c.begin_close.new.self c.args.self.now c.args.in_overlay c.args.macro_levels c.args.effect c.in-Closes.cause c.in-Closes.is c.if-in_overlay.false c.begin_close.ensures
+    begun-closes c.begin_close.result c.begin_close.new.self c.args.self.now c.args.in_overlay c.args.macro_levels c.args.effect
+    c.in-Closes.cause c.in-Closes.is c.if-in_overlay.false c.begin_close.ensures
 
 pub returns-else-macro_levels-eq0-clause-begins : goal.returns-else-macro_levels-eq0-clause-begins
 returns-else-macro_levels-eq0-clause-begins c =
-    begun-starts c.begin_body.new.self c.args.self.now c.args.in_overlay c.args.macro_levels c.begin_body.result c.args.effect c.in-Starts.body c.in-Starts.start c.in-Starts.is c.if-macro_levels-eq0.false c.begin_body.ensures
+    begun-starts c.begin_body.new.self c.args.self.now c.args.in_overlay c.args.macro_levels c.begin_body.result c.args.effect
+    c.in-Starts.body c.in-Starts.start c.in-Starts.is c.if-macro_levels-eq0.false c.begin_body.ensures
 
 -- what an effect begins that closes no page and starts no body
 others : (macro_levels : ℕ) (old : Machine) (new : State) (effect : Effect) (sent : Sent) →
@@ -55,5 +57,6 @@ pub returns-in_ok-finish_effect-in_default-clause-begins : goal.returns-in_ok-fi
 returns-in_ok-finish_effect-in_default-clause-begins c =
     let old : Machine = c.args.self.now in
     ap (begun_of (with_state c.finish_effect.new.self old)) c.only-in_default.ensures
-    ∙ others c.args.macro_levels old c.finish_effect.new.self c.args.effect c.in_ok-finish_effect-in_default.field-0 c.in_default.not-Closes c.in_default.not-Starts c.in_ok-finish_effect-in_default.ensures.finish_effect_with_overlay
+    ∙ others c.args.macro_levels old c.finish_effect.new.self c.args.effect c.in_ok-finish_effect-in_default.field-0
+    c.in_default.not-Closes c.in_default.not-Starts c.in_ok-finish_effect-in_default.ensures.finish_effect_with_overlay
     ∙ ap (λ inside. begun inside c.args.macro_levels old (effect_of old.state c.args.effect)) (sym c.if-in_overlay-2.false)

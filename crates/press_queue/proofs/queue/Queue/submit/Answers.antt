@@ -12,7 +12,9 @@ put-requires c = absent_above c.self.inside.last (c.self.inside.last + 1) c.self
 
 pub invariant_of-self-2 : goal.invariant_of-self-2
 invariant_of-self-2 c =
-    rw (c.in_ok-put.ensures.ok, c.waiting.ensures) (submitted-keeps c.in_ok-priority.priority (queue_state c.self.inside) (subst (λ (queue : QueueState). length queue.entries < most_entries) (sym c.self.view_is) c.in_ok-priority.ensures.room) c.self.invariant)
+    rw (c.in_ok-put.ensures.ok, c.waiting.ensures) (submitted-keeps c.in_ok-priority.priority (queue_state c.self.inside)
+    (subst (λ (queue : QueueState). length queue.entries < most_entries) (sym c.self.view_is) c.in_ok-priority.ensures.room)
+    c.self.invariant)
 
 pub returns-clause-fresh : goal.returns-clause-fresh
 returns-clause-fresh c =

@@ -13,7 +13,16 @@ pub returns-then-not-self : goal.returns-then-not-self
 returns-then-not-self c =
     let held : List ℕ = drop c.self.inside.start c.self.inside.buffer.items in
     let all = ap length c.deref.ensures.value in
-    let none = done-awaited (mode_of c.self.inside.mode) held c.self.inside.awaited c.self.invariant.2 (omega (arith, c.if-held-self.true, all, length-take (length c.deref.result.now - c.self.inside.start) (drop c.self.inside.start c.deref.result.now), length-drop c.self.inside.start c.deref.result.now, length-drop c.self.inside.start c.self.inside.buffer.items)) in
+    let none =
+    done-awaited (mode_of c.self.inside.mode) held c.self.inside.awaited c.self.invariant.2
+    (omega (
+      arith,
+      c.if-held-self.true,
+      all,
+      length-take (length c.deref.result.now - c.self.inside.start) (drop c.self.inside.start c.deref.result.now),
+      length-drop c.self.inside.start c.deref.result.now,
+      length-drop c.self.inside.start c.self.inside.buffer.items,
+    )) in
     let done : IsDone c.args.self.now = subst IsDone c.self.view_is (done_in c.self.inside.room _ (rw (sym c.if-not-self.true) at none)) in
     ((refl, λ _. tt, c.self.view_is), record { ok = refl; some = tt; none = done; free = omega (arith, done.few); after = tt })
 
@@ -33,7 +42,12 @@ pub returns-in-None : goal.returns-in-None
 returns-in-None c =
     let same = take_rest c.deref.result.now c.self.inside.start ∙ ap (drop c.self.inside.start) c.deref.ensures.value in
     let none = rw c.in-None.is at c.peek-plain.ensures.found in
-    let done : IsDone c.args.self.now = subst IsDone (ap (λ (held : List ℕ). in_room c.self.inside.room (scanner_state (mode_of c.self.inside.mode) held c.self.inside.ended)) same ∙ c.self.view_is) (done_in c.self.inside.room _ none) in
+    let done : IsDone c.args.self.now =
+    subst IsDone (ap
+    (λ (held : List ℕ). in_room c.self.inside.room (scanner_state (mode_of c.self.inside.mode) held c.self.inside.ended))
+    same
+    ∙ c.self.view_is)
+    (done_in c.self.inside.room _ none) in
     ((refl, λ _. tt, c.self.view_is), record { ok = refl; some = tt; none = done; free = omega (arith, done.few); after = tt })
 
 pub invariant_of-self-in-None : goal.invariant_of-self-in-None
