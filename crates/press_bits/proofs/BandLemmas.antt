@@ -1,5 +1,7 @@
 -- Pages in bands: bands that are made are white, and a row that is painted into one is its mark.
-use Rattle.std.proofs.Common.{◌≡◌, ◌≢◌, ℕ, ◌+◌, ◌-◌, ◌*◌, ◌/◌, ◌%◌, ◌<◌, ◌≤◌, ◌⊎◌, min, max, Bool, true, false, ◌&&◌, suc, List, [], ◌∷◌, length, map, replicate, take, drop, get_or, set, Result, Ok, Err, OnOk, refl, sym, ap, ◌∙◌, subst, inl, inr, arith}
+use Rattle.std.proofs.Common.{◌≡◌, ◌≢◌, ℕ, ◌+◌, ◌-◌, ◌*◌, ◌/◌, ◌%◌, ◌<◌, ◌≤◌, ◌⊎◌, min, max, Bool, true}
+use Rattle.std.proofs.Common.{false, ◌&&◌, suc, List, [], ◌∷◌, length, map, replicate, take, drop, get_or}
+use Rattle.std.proofs.Common.{set, Result, Ok, Err, OnOk, refl, sym, ap, ◌∙◌, subst, inl, inr, arith}
 use Rattle.std.specs.Prelude.{nat_lt, nat_le, nat_eq, ℤ, pos, ◌+ℤ◌, int_le, int_lt, unsigned_abs}
 use Rattle.std.specs.declared.alloc.AllocError.{AllocError}
 use Rattle.std.proofs.Math.ListN.{get_or-map}
@@ -46,40 +48,45 @@ pub row_dot-nothing : (p : ℕ) → row_dot [] p ≡ false
 row_dot-nothing p = row_dot-replicate_zero 0 p
 
 -- a band that is made has the dots of none
-pub made_dots : (old new : List (List ℕ)) (first end count most : ℕ) (result : Result (Unit {0}) AllocError) → MakesBands old new first end count most result → (k p : ℕ) → row_dot (band_at new k) p ≡ row_dot (band_at old k) p
-made_dots old new first end count most result makes k p =
+pub made_dots : (old new : List (List ℕ)) (first end count : ℕ) (result : Result (Unit {0}) AllocError)
+    → MakesBands old new first end count result → (k p : ℕ) → row_dot (band_at new k) p ≡ row_dot (band_at old k) p
+made_dots old new first end count result makes k p =
     elim (makes.each k) [
       | inl same ↦ ap (λ (b : List ℕ). row_dot b p) same
       | inr made ↦ ap (λ (b : List ℕ). row_dot b p) made.1 ∙ row_dot-replicate_zero count p ∙ sym (row_dot-nothing p) ∙ ap (λ (b : List ℕ). row_dot b p) (sym made.0)
     ]
 
-pub made_page : (w h : ℕ) (old new : List (List ℕ)) (first end count most : ℕ) (result : Result (Unit {0}) AllocError) → MakesBands old new first end count most result → page_of_bands w h new ≡ page_of_bands w h old
+pub made_page : (w h : ℕ) (old new : List (List ℕ)) (first end count : ℕ) (result : Result (Unit {0}) AllocError)
+    → MakesBands old new first end count result → page_of_bands w h new ≡ page_of_bands w h old
 unfolding page_of_bands
-made_page w h old new first end count most result makes =
+made_page w h old new first end count result makes =
     page_where_alike w h (line_dot (bytes_per_line w) new) (line_dot (bytes_per_line w) old)
-    (λ x y _ _. made_dots old new first end count most result makes (y / 64) (8 * (y % 64 * bytes_per_line w) + x))
+    (λ x y _ _. made_dots old new first end count result makes (y / 64) (8 * (y % 64 * bytes_per_line w) + x))
 
-pub made_bands : (w h : ℕ) (old new : List (List ℕ)) (first end count most : ℕ) (result : Result (Unit {0}) AllocError) → count ≡ 64 * bytes_per_line w → most ≤ (h + 63) / 64 → HasBands w h old → MakesBands old new first end count most result → HasBands w h new
-made_bands w h old new first end count most result size room has makes = record {
+pub made_bands : (w h : ℕ) (old new : List (List ℕ)) (first end count : ℕ) (result : Result (Unit {0}) AllocError)
+    → count ≡ 64 * bytes_per_line w → length new ≤ (h + 63) / 64 → HasBands w h old → MakesBands old new first end count result
+    → HasBands w h new
+made_bands w h old new first end count result size room has makes = record {
   some_width = has.some_width;
   most_width = has.most_width;
   some_height = has.some_height;
   most_height = has.most_height;
-  most_bands = omega (arith, makes.most, has.most_bands, room);
+  most_bands = room;
   whole = λ k.
       elim (makes.each k) [
         | inl same ↦ subst (λ (b : List ℕ). (b ≡ []) ⊎ (length b ≡ 64 * bytes_per_line w)) (sym same) (has.whole k)
         | inr made ↦ inr (ap length made.1 ∙ length-replicate {A = ℕ} count 0 ∙ size)
       ];
-  padding = λ y x inside right within. made_dots old new first end count most result makes (y / 64) (8 * (y % 64 * bytes_per_line w) + x) ∙ has.padding y x inside right within;
+  padding = λ y x inside right within. made_dots old new first end count result makes (y / 64) (8 * (y % 64 * bytes_per_line w) + x) ∙ has.padding y x inside right within;
 }
 
 -- the flag of a band
 pub ready_of : (bands : List (List ℕ)) (k : ℕ) → get_or (map is_there bands) k false ≡ is_there (band_at bands k)
 ready_of bands k = get_or-map is_there bands k []
 
-pub made_stays : (w h : ℕ) (old new : List (List ℕ)) (first end count most : ℕ) (result : Result (Unit {0}) AllocError) → MakesBands old new first end count most result → (line : ℕ) → is_ready (banded w h old) line → is_ready (banded w h new) line
-made_stays w h old new first end count most result makes line ready =
+pub made_stays : (w h : ℕ) (old new : List (List ℕ)) (first end count : ℕ) (result : Result (Unit {0}) AllocError)
+    → MakesBands old new first end count result → (line : ℕ) → is_ready (banded w h old) line → is_ready (banded w h new) line
+made_stays w h old new first end count result makes line ready =
     ready_of new (line / 64)
     ∙ elim (makes.each (line / 64)) [
       | inl same ↦ ap is_there same ∙ sym (ready_of old (line / 64)) ∙ ready
@@ -108,7 +115,8 @@ in_band w b left count dots skip m is low clipped some =
     omega (arith, line_before b m 64 low, fits, is)
 
 -- a run that lies in a line of its page lies in the bytes of a band, whichever of its lines it is
-pub in_bytes : (w b left count dots skip m size : ℕ) → b ≡ bytes_per_line w → size ≡ 64 * bytes_per_line w → m < 64 → count ≡ min (dots - skip) (w - left) → 0 < count → 8 * (m * b) + left + count ≤ 8 * size
+pub in_bytes : (w b left count dots skip m size : ℕ) → b ≡ bytes_per_line w → size ≡ 64 * bytes_per_line w → m < 64
+    → count ≡ min (dots - skip) (w - left) → 0 < count → 8 * (m * b) + left + count ≤ 8 * size
 in_bytes w b left count dots skip m size is long low clipped some = omega (arith, in_band w b left count dots skip m is low clipped some, is, long)
 
 -- ---- a row that is painted into a band
@@ -150,8 +158,12 @@ module _ (w h : ℕ) (bands : List (List ℕ)) (band : List ℕ) (x y : ℤ) (so
           (row_dot source.bits (skip + (p - (start + left)))) (repeated pattern (p - start)) (ap (λ k. row_dot (band_at bands k) p) (sym here) i))
           ∙ mixed_when test mode (row_dot source.bits (skip + (p - (start + left)))) (row_dot source.bits (skip + (column - left)))
           (repeated pattern (p - start)) (repeated pattern column) (line_dot (bytes_per_line w) bands column n) same_source same_pattern
-          ∙ ap (λ t. mixed_dot ((t && nat_le left column) && nat_lt column (left + count)) mode (row_dot source.bits (skip + (column - left))) (repeated pattern column) (line_dot (bytes_per_line w) bands column n)) (same_in_band n m here)
-          ∙ mixed_effect ((nat_eq n m && nat_le left column) && nat_lt column (left + count)) mode (row_dot source.bits (skip + (column - left))) (repeated pattern column) (line_dot (bytes_per_line w) bands column n)
+          ∙ ap (λ t.
+          mixed_dot ((t && nat_le left column) && nat_lt column (left + count)) mode (row_dot source.bits (skip + (column - left)))
+          (repeated pattern column) (line_dot (bytes_per_line w) bands column n))
+          (same_in_band n m here)
+          ∙ mixed_effect ((nat_eq n m && nat_le left column) && nat_lt column (left + count)) mode
+          (row_dot source.bits (skip + (column - left))) (repeated pattern column) (line_dot (bytes_per_line w) bands column n)
           ∙ ap (λ e. dot_after e (line_dot (bytes_per_line w) bands column n))
           (sym (row_lands x y source pattern mode left skip count m w column n place first at_line clipped wide))
 
@@ -219,7 +231,8 @@ in_run y first skip lines count h n place ends clipped from before high = (begun
     begun y first skip n place (inl none) from = omega arith
     begun y first skip n place (inr none) from = grind (arith, ints)
 
-    left : (y : ℤ) (first skip lines count h n : ℕ) → pos first ≡ y +ℤ pos skip → (first ≡ 0) ⊎ (skip ≡ 0) → count ≡ min (lines - skip) (h - first) → int_lt (pos n) (y +ℤ pos lines) ≡ true → n < h → n < first + count
+    left : (y : ℤ) (first skip lines count h n : ℕ) → pos first ≡ y +ℤ pos skip → (first ≡ 0) ⊎ (skip ≡ 0)
+        → count ≡ min (lines - skip) (h - first) → int_lt (pos n) (y +ℤ pos lines) ≡ true → n < h → n < first + count
     left y first skip lines count h n place (inl none) clipped before high = grind (arith, ints)
     left y first skip lines count h n place (inr none) clipped before high = grind (arith, ints)
 
@@ -290,7 +303,9 @@ module _ (w h : ℕ) (bands : List (List ℕ)) (band : List ℕ) (mode : Mode) (
 
 -- ---- lines
 
-pub band_line : (w h y : ℕ) (bands : List (List ℕ)) (bytes : List ℕ) → HasBands w h bands → y < h → length bytes ≡ bytes_per_line w → ((x : ℕ) → x < 8 * bytes_per_line w → row_dot bytes x ≡ line_dot (bytes_per_line w) bands x y) → IsPageLine (page_of_bands w h bands) y bytes
+pub band_line : (w h y : ℕ) (bands : List (List ℕ)) (bytes : List ℕ) → HasBands w h bands → y < h → length bytes ≡ bytes_per_line w
+    → ((x : ℕ) → x < 8 * bytes_per_line w → row_dot bytes x ≡ line_dot (bytes_per_line w) bands x y)
+    → IsPageLine (page_of_bands w h bands) y bytes
 band_line w h y bands bytes has inside long same =
     let b = bytes_per_line w in
     let wide : w ≤ 8 * b = omega arith in
@@ -309,7 +324,9 @@ band_line w h y bands bytes has inside long same =
     }
 
 -- a line of a band that is there
-pub line_there : (w h y b : ℕ) (bands : List (List ℕ)) (band bytes : List ℕ) → b ≡ bytes_per_line w → band ≡ band_at bands (y / 64) → length band ≡ 64 * b → HasBands w h bands → y < h → bytes ≡ take b (drop (y % 64 * b) band) → IsPageLine (page_of_bands w h bands) y bytes
+pub line_there : (w h y b : ℕ) (bands : List (List ℕ)) (band bytes : List ℕ) → b ≡ bytes_per_line w → band ≡ band_at bands (y / 64)
+    → length band ≡ 64 * b → HasBands w h bands → y < h → bytes ≡ take b (drop (y % 64 * b) band)
+    → IsPageLine (page_of_bands w h bands) y bytes
 line_there w h y b bands band bytes size here whole has inside is =
     let room : y % 64 * b + b ≤ length band = omega (arith, whole, line_before b (y % 64) 64 (omega arith)) in
     band_line w h y bands bytes has inside
@@ -317,11 +334,16 @@ line_there w h y b bands band bytes size here whole has inside is =
     (λ x within. ap (λ (all : List ℕ). row_dot all x) is ∙ row_dot-slice band (y % 64 * b) b x (omega (arith, size, within)) ∙ (λ i. row_dot (here i) (8 * (y % 64 * size i) + x)))
 
 -- a line of a band that is not there
-pub line_missing : (w h y b : ℕ) (bands : List (List ℕ)) (band bytes : List ℕ) → b ≡ bytes_per_line w → band ≡ band_at bands (y / 64) → is_there band ≡ false → HasBands w h bands → y < h → bytes ≡ replicate b 0 → IsPageLine (page_of_bands w h bands) y bytes
+pub line_missing : (w h y b : ℕ) (bands : List (List ℕ)) (band bytes : List ℕ) → b ≡ bytes_per_line w → band ≡ band_at bands (y / 64)
+    → is_there band ≡ false → HasBands w h bands → y < h → bytes ≡ replicate b 0 → IsPageLine (page_of_bands w h bands) y bytes
 line_missing w h y b bands band bytes size here gone has inside is =
     band_line w h y bands bytes has inside
     (ap length is ∙ length-replicate {A = ℕ} b 0 ∙ size)
-    (λ x within. ap (λ (all : List ℕ). row_dot all x) is ∙ row_dot-replicate_zero b x ∙ sym (row_dot-past band (8 * (y % 64 * bytes_per_line w) + x) (omega (arith, no_bytes (length band) gone))) ∙ ap (λ (all : List ℕ). row_dot all (8 * (y % 64 * bytes_per_line w) + x)) here)
+    (λ x within.
+    ap (λ (all : List ℕ). row_dot all x) is
+    ∙ row_dot-replicate_zero b x
+    ∙ sym (row_dot-past band (8 * (y % 64 * bytes_per_line w) + x) (omega (arith, no_bytes (length band) gone)))
+    ∙ ap (λ (all : List ℕ). row_dot all (8 * (y % 64 * bytes_per_line w) + x)) here)
   where
     no_bytes : (n : ℕ) → nat_lt 0 n ≡ false → n ≡ 0
     no_bytes n test = grind (arith, nat_tests)
@@ -331,7 +353,8 @@ in_its_band : (k n : ℕ) → n < 64 → ((64 * k + n) / 64 ≡ k) × ((64 * k +
 in_its_band k n low = (omega arith, omega arith)
 
 -- the lines of a band that is there
-pub band_there : (w h k b count : ℕ) (bands : List (List ℕ)) (band bytes : List ℕ) → b ≡ bytes_per_line w → band ≡ band_at bands k → length band ≡ 64 * b → HasBands w h bands → count ≡ min 64 (h - 64 * k) →
+pub band_there : (w h k b count : ℕ) (bands : List (List ℕ)) (band bytes : List ℕ) → b ≡ bytes_per_line w → band ≡ band_at bands k
+    → length band ≡ 64 * b → HasBands w h bands → count ≡ min 64 (h - 64 * k) →
     bytes ≡ take (count * b) band → ArePageLines (page_of_bands w h bands) (64 * k) count bytes
 band_there w h k b count bands band bytes size here whole has left is = record {
   long = ap length is ∙ omega (arith, length-take (count * b) band, whole, mul-le-mul_right b most) ∙ ap (λ m. count * m) (sym wide);
@@ -354,7 +377,8 @@ band_there w h k b count bands band bytes size here whole has left is = record {
     rest n low = omega (arith, line_before b n count low)
 
 -- the lines of a band that is not there
-pub band_missing : (w h k b count : ℕ) (bands : List (List ℕ)) (band bytes : List ℕ) → b ≡ bytes_per_line w → band ≡ band_at bands k → is_there band ≡ false → HasBands w h bands → count ≡ min 64 (h - 64 * k) →
+pub band_missing : (w h k b count : ℕ) (bands : List (List ℕ)) (band bytes : List ℕ) → b ≡ bytes_per_line w → band ≡ band_at bands k
+    → is_there band ≡ false → HasBands w h bands → count ≡ min 64 (h - 64 * k) →
     bytes ≡ replicate (count * b) 0 → ArePageLines (page_of_bands w h bands) (64 * k) count bytes
 band_missing w h k b count bands band bytes size here gone has left is = record {
   long = ap length is ∙ length-replicate {A = ℕ} (count * b) 0 ∙ ap (λ m. count * m) (sym wide);
@@ -383,7 +407,8 @@ unmarked_line w h y bands band here has inside white =
     ∙ sym (ap (λ (all : List ℕ). row_dot all (8 * (y % 64 * bytes_per_line w) + x)) (sym here) ∙ white (8 * (y % 64 * bytes_per_line w) + x) (omega arith) (omega (arith, within)))))
 
 -- no dot of a line is black whose band is not there
-pub none_black : (w h y : ℕ) (bands : List (List ℕ)) (band : List ℕ) → band ≡ band_at bands (y / 64) → is_there band ≡ false → HasBands w h bands → y < h → 0 ≡ black_in_line (page_of_bands w h bands) y
+pub none_black : (w h y : ℕ) (bands : List (List ℕ)) (band : List ℕ) → band ≡ band_at bands (y / 64) → is_there band ≡ false
+    → HasBands w h bands → y < h → 0 ≡ black_in_line (page_of_bands w h bands) y
 none_black w h y bands band here gone has inside =
     unmarked_line w h y bands band here has inside (λ p _ _. row_dot-past band p (omega (arith, no_bytes (length band) gone)))
   where
@@ -452,7 +477,8 @@ stays_white w h bands x y source pattern mode m at_line gone white =
     white_dot : (column n : ℕ) → column < w → n < h → n ≡ m → black_at (page_of_bands w h bands) column n ≡ false
     white_dot column n wide high here =
         black_at-page_of_bands w h bands column n wide high
-        ∙ row_dot-past (band_at bands (n / 64)) (8 * (n % 64 * bytes_per_line w) + column) (omega (arith, no_bytes (length (band_at bands (n / 64))) (ap (λ k. is_there (band_at bands (k / 64))) here ∙ gone)))
+        ∙ row_dot-past (band_at bands (n / 64)) (8 * (n % 64 * bytes_per_line w) + column)
+        (omega (arith, no_bytes (length (band_at bands (n / 64))) (ap (λ k. is_there (band_at bands (k / 64))) here ∙ gone)))
 
     dot : (column n : ℕ) → column < w → n < h →
         black_at (page_of_bands w h bands) column n ≡ dot_after (effect_at (row_mark x y source pattern mode) column n) (black_at (page_of_bands w h bands) column n)

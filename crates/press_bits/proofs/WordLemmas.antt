@@ -1,5 +1,6 @@
 -- The dots of words, and how many of them are black.
-use Rattle.std.proofs.Common.{◌≡◌, ℕ, ◌+◌, ◌-◌, ◌*◌, ◌/◌, ◌%◌, ◌^◌, ◌<◌, ◌≤◌, ◌⊎◌, zero, suc, Bool, true, false, not, ◌&&◌, ◌||◌, List, [], ◌∷◌, length, take, drop, get_or, refl, sym, ap, ◌∙◌, inl, inr, count_ones, w64, arith}
+use Rattle.std.proofs.Common.{◌≡◌, ℕ, ◌+◌, ◌-◌, ◌*◌, ◌/◌, ◌%◌, ◌^◌, ◌<◌, ◌≤◌, ◌⊎◌, zero, suc, Bool, true, false, not, ◌&&◌, ◌||◌}
+use Rattle.std.proofs.Common.{List, [], ◌∷◌, length, take, drop, get_or, refl, sym, ap, ◌∙◌, inl, inr, count_ones, w64, arith}
 use Rattle.std.specs.Prelude.{nat_lt, nat_le, nat_eq, bit_and, bit_or, if◌then◌else◌}
 use Rattle.std.specs.Int.{bit_at, bit_not, to_be_bytes, from_be_bytes}
 use Rattle.std.specs.List.{range_with_len, count_by}
@@ -141,8 +142,11 @@ unfolding word_dot
 word_dot-ones j = ap (λ n. nat_eq n 1) (bit_at_ones 64 (63 - j) (omega arith))
 
 -- what a word's logic makes of a dot is the dot rule
-pub mixed_words : (before source pattern mask so po j : ℕ) (mode : Mode) → j < 64 → source < 2 ^ 64 → pattern < 2 ^ 64 → mask < 2 ^ 64 → word_dot so j ≡ mode.source_opaque → word_dot po j ≡ mode.pattern_opaque →
-    word_dot (bit_or (bit_and before (bit_not w64 (bit_and mask (bit_or (bit_and so (bit_not w64 source)) (bit_and po (bit_and source (bit_not w64 pattern))))))) (bit_and mask (bit_and source pattern))) j
+pub mixed_words : (before source pattern mask so po j : ℕ) (mode : Mode) → j < 64 → source < 2 ^ 64 → pattern < 2 ^ 64 → mask < 2 ^ 64
+    → word_dot so j ≡ mode.source_opaque → word_dot po j ≡ mode.pattern_opaque →
+    word_dot (bit_or (bit_and before
+    (bit_not w64 (bit_and mask (bit_or (bit_and so (bit_not w64 source)) (bit_and po (bit_and source (bit_not w64 pattern)))))))
+    (bit_and mask (bit_and source pattern))) j
     ≡ mixed_dot (word_dot mask j) mode (word_dot source j) (word_dot pattern j) (word_dot before j)
 mixed_words before source pattern mask so po j mode within small_source small_pattern small_mask opaque_source opaque_pattern =
     let no_source : ℕ = bit_and so (bit_not w64 source) in
@@ -169,7 +173,8 @@ pub blackened_words : (before source pattern mask j : ℕ) (mode : Mode) → (mo
 blackened_words before source pattern mask j mode none =
     word_dot-or before (bit_and mask (bit_and source pattern)) j
     ∙ ap (λ t. word_dot before j || t) (word_dot-and mask (bit_and source pattern) j ∙ ap (λ t. word_dot mask j && t) (word_dot-and source pattern j))
-    ∙ laid_over (word_dot mask j) (word_dot source j) (word_dot pattern j) (word_dot before j) mode (neither mode.source_opaque mode.pattern_opaque none).0 (neither mode.source_opaque mode.pattern_opaque none).1
+    ∙ laid_over (word_dot mask j) (word_dot source j) (word_dot pattern j) (word_dot before j) mode
+    (neither mode.source_opaque mode.pattern_opaque none).0 (neither mode.source_opaque mode.pattern_opaque none).1
   where
     laid_over : (inside source pattern before : Bool) (mode : Mode) → mode.source_opaque ≡ false → mode.pattern_opaque ≡ false →
         (before || (inside && (source && pattern))) ≡ mixed_dot inside mode source pattern before
@@ -240,7 +245,8 @@ nine_bytes bits first left right j small dots is within =
     ]
 
 -- the front of one word, and behind it another
-pub joined_prefix : (prefix rest count j : ℕ) → rest < 2 ^ 64 → count < 64 → j < count → word_dot (bit_or (prefix / 2 ^ (64 - count) * 2 ^ (64 - count) % 2 ^ 64) (rest / 2 ^ count)) j ≡ word_dot prefix j
+pub joined_prefix : (prefix rest count j : ℕ) → rest < 2 ^ 64 → count < 64 → j < count
+    → word_dot (bit_or (prefix / 2 ^ (64 - count) * 2 ^ (64 - count) % 2 ^ 64) (rest / 2 ^ count)) j ≡ word_dot prefix j
 joined_prefix prefix rest count j small few before =
     word_dot-or (prefix / 2 ^ (64 - count) * 2 ^ (64 - count) % 2 ^ 64) (rest / 2 ^ count) j
     ∙ (λ i. shifted_left (prefix / 2 ^ (64 - count)) (64 - count) j (omega arith) i || white_before rest count j small before (omega arith) i)
@@ -248,7 +254,8 @@ joined_prefix prefix rest count j small few before =
     ∙ shifted_right prefix (64 - count) (64 - count + j) (omega arith) (omega arith)
     ∙ ap (word_dot prefix) (omega arith)
 
-pub joined_rest : (prefix rest count j : ℕ) → count < 64 → count ≤ j → j < 64 → word_dot (bit_or (prefix / 2 ^ (64 - count) * 2 ^ (64 - count) % 2 ^ 64) (rest / 2 ^ count)) j ≡ word_dot rest (j - count)
+pub joined_rest : (prefix rest count j : ℕ) → count < 64 → count ≤ j → j < 64
+    → word_dot (bit_or (prefix / 2 ^ (64 - count) * 2 ^ (64 - count) % 2 ^ 64) (rest / 2 ^ count)) j ≡ word_dot rest (j - count)
 joined_rest prefix rest count j few behind within =
     word_dot-or (prefix / 2 ^ (64 - count) * 2 ^ (64 - count) % 2 ^ 64) (rest / 2 ^ count) j
     ∙ (λ i. white_behind (prefix / 2 ^ (64 - count)) (64 - count) j within (omega arith) i || shifted_right rest count j behind within i)

@@ -1,5 +1,6 @@
 -- Pages whose lines stand in bands, which are there only where there are marks.
-use Rattle.std.specs.Prelude.{◌≡◌, ℕ, ◌+◌, ◌*◌, ◌/◌, ◌%◌, ◌<◌, ◌≤◌, ◌⊎◌, max, Bool, true, false, List, [], map, length, replicate, nat_lt, slice_index_or, ℤ, pos, ◌+ℤ◌, int_le, int_lt, Result, OnOk, refl}
+use Rattle.std.specs.Prelude.{◌≡◌, ℕ, ◌+◌, ◌*◌, ◌/◌, ◌%◌, ◌<◌, ◌≤◌, ◌⊎◌, max, Bool, true, false, List, [], map, length}
+use Rattle.std.specs.Prelude.{replicate, nat_lt, slice_index_or, ℤ, pos, ◌+ℤ◌, int_le, int_lt, Result, OnOk, refl}
 use Rattle.std.specs.declared.alloc.AllocError.{AllocError}
 use Rattle.std.specs.Coded.{Coded, code_by, coded×, coded_list, coded_bool}
 use Rattle.press_bits.specs.Page.{Page, page_code, page_where, longest_side}
@@ -80,9 +81,8 @@ pub record Grows (old new : List (List ℕ)) (end : ℕ) (result : Result (Unit 
   pub enough : OnOk result (end ≤ length new)
 
 -- Of the bands from `first` on and before `end`, those that were not there are white, all of them where memory was there; no
--- other band changed. There are not more than before, or at most so many.
-pub record MakesBands (old new : List (List ℕ)) (first end count most_bands : ℕ) (result : Result (Unit {0}) AllocError) : Type 0 where
+-- other band changed.
+pub record MakesBands (old new : List (List ℕ)) (first end count : ℕ) (result : Result (Unit {0}) AllocError) : Type 0 where
   pub least : length old ≤ length new
-  pub most : length new ≤ max (length old) most_bands
   pub each : (k : ℕ) → (band_at new k ≡ band_at old k) ⊎ ((band_at old k ≡ []) × (band_at new k ≡ replicate count 0))
   pub made : OnOk result ((k : ℕ) → first ≤ k → k < end → is_there (band_at new k) ≡ true)

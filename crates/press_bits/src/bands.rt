@@ -1,11 +1,11 @@
 //! Pages of dots that stand in bands of sixty-four lines. A band that is not there is white.
 #![tactic(auto)]
 
-ghost use Rattle.std.specs.Prelude.{◌≡◌, ℕ, ◌<◌, ◌≤◌, ◌+◌, ◌-◌, ◌*◌, ◌/◌, ◌≢◌, ◌↔◌, ◌⊎◌, length, take, min, pos, true, false, MatchOption, IfOk, IsTrue, OnOk, OnErr};
+ghost use Rattle.std.specs.Prelude.{◌≡◌, ℕ, ◌<◌, ◌≤◌, ◌+◌, ◌-◌, ◌*◌, ◌/◌, ◌≢◌, ◌↔◌, ◌⊎◌, length, take, min, pos, true, false, MatchOption, IfOk, IsTrue, OnOk};
 ghost use Rattle.std.specs.List.{range_with_len, sum_by};
 ghost use Rattle.press_bits.specs.Page.{HasNoDotOutside, black_at, black_in_line, blank, count_black, is_page_size};
 ghost use Rattle.press_bits.specs.Mark.{Row, IsSolid, IsWhite, painted, row, row_dot, row_mark};
-ghost use Rattle.press_bits.specs.Lines.{bytes_per_line, ArePageLines, IsPageLine};
+ghost use Rattle.press_bits.specs.Lines.{ArePageLines, IsPageLine};
 ghost use Rattle.press_bits.specs.Bands.{AreReady, StaysReady, band_at, band_lines, is_there};
 
 use crate::band::Band;
@@ -165,7 +165,8 @@ impl Bands {
         })
     }
 
-    /// Bands that are made from now on take the memory of those of another page, if that is as wide.
+    /// Bands that are made from now on take the memory of the bands of another page, if its lines are as wide as those of this
+    /// page.
     pub(crate) fn reuse(&mut self, other: Bands)
         ensures { self.new ≡ self.old }
     {
@@ -206,8 +207,8 @@ impl Bands {
         dot_bytes::is_black(self.line(y), x as usize)
     }
 
-    /// The bytes of a line: the most significant bit of the first byte is the leftmost dot, and 1 is black; the bits past the
-    /// last dot are 0, and so are all of a line whose band is not there.
+    /// The bytes of a line: the most significant bit of the first byte is the leftmost dot, and 1 is black. The bits past the
+    /// last dot are 0. All bits are 0 in a line whose band is not there.
     ///
     /// Source: PCL 5 Printer Language Technical Reference Manual, Raster Graphics, the bits of a raster row.
     pub(crate) fn line(&self, y: u32) -> &[u8]

@@ -1,7 +1,7 @@
 //! Bands of a page that are made where they are not there.
 #![tactic(auto)]
 
-ghost use Rattle.std.specs.Prelude.{◌≡◌, ◌<◌, ◌≤◌, ◌+◌, replicate, vec_len, IfOk};
+ghost use Rattle.std.specs.Prelude.{◌≡◌, ◌≤◌, ◌<◌, ◌+◌, max, length, replicate, vec_len, IfOk};
 ghost use Rattle.press_bits.specs.Bands.{Grows, MakesBands};
 
 use crate::band::Band;
@@ -29,7 +29,8 @@ fn make_band(
 ) -> Result<(), AllocError>
     requires there { index < vec_len bands.old }
     requires some { 0 < count }
-    ensures { MakesBands bands.old.items bands.new.items index (index + 1) count 0 result }
+    ensures makes { MakesBands bands.old.items bands.new.items index (index + 1) count result }
+    ensures most { length bands.new.items ≤ length bands.old.items }
 {
     if bands[index].is_there() {
         return Ok(());
@@ -58,7 +59,8 @@ pub(crate) fn make_bands(
     count: usize,
 ) -> Result<(), AllocError>
     requires some { 0 < count }
-    ensures { MakesBands bands.old.items bands.new.items first end count end result }
+    ensures makes { MakesBands bands.old.items bands.new.items first end count result }
+    ensures most { length bands.new.items ≤ max (length bands.old.items) end }
 {
     grow(bands, alloc, end)?;
     for index in first..end {

@@ -15,5 +15,6 @@ loop-y-preserved c =
       c.paint_row.ensures.ready ∙ c.loop-y.invariant.0,
       c.paint_row.ensures.painted
           ∙ (λ i. painted (c.loop-y.invariant.1 i) (row_mark (pos 0) (line i) (record { bits = c.line-bits.result.now; dots = c.width-dots.result }) (c.black.ensures i) opaque))
-          ∙ sym (line_taken c.args.page.now.page c.args.other.now.page c.args.first c.loop-y.y c.width-dots.result c.line-bits.result.now (c.width-dots.ensures.width ∙ c.requires.width) c.requires.width from c.line-bits.ensures),
+          ∙ sym (line_taken c.args.page.now.page c.args.other.now.page c.args.first c.loop-y.y c.width-dots.result c.line-bits.result.now
+          (c.width-dots.ensures.width ∙ c.requires.width) c.requires.width from c.line-bits.ensures),
     )

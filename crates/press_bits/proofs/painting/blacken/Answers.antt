@@ -16,7 +16,8 @@ loop-from-preserved c = record {
   begun = omega (arith, c.loop-from.invariant.begun, c.blacken_next-from.ensures.onward);
   left = c.blacken_next-from.ensures.within;
   black = painted_then c.args.rows.now c.loop-from.rows c.blacken_next-from.new.rows both_transparent (λ _. true) (λ _. true)
-      c.args.first c.loop-from.from c.blacken_next-from.result c.loop-from.invariant.begun (omega (arith, c.blacken_next-from.ensures.onward)) c.loop-from.invariant.black c.blacken_next-from.ensures.black;
+      c.args.first c.loop-from.from c.blacken_next-from.result c.loop-from.invariant.begun
+      (omega (arith, c.blacken_next-from.ensures.onward)) c.loop-from.invariant.black c.blacken_next-from.ensures.black;
 }
 
 pub returns : goal.returns

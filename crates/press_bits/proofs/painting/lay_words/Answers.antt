@@ -15,10 +15,21 @@ returns c =
     let bytes : c.copy_from_slice.new.self ≡ take (c.args.first + 8 * c.args.words - c.args.first) (drop (dot / 8) c.args.stroke.now.source.bits.now) =
     c.copy_from_slice.ensures.after ∙ ap (λ n. take n (drop (dot / 8) c.args.stroke.now.source.bits.now)) (sym count) in
     let long : length c.copy_from_slice.new.self ≡ c.args.first + 8 * c.args.words - c.args.first =
-    ap length bytes ∙ omega (arith, whole, length-take (c.args.first + 8 * c.args.words - c.args.first) (drop (dot / 8) c.args.stroke.now.source.bits.now), length-drop (dot / 8) c.args.stroke.now.source.bits.now, c.args.stroke.now.source.enough, c.requires.enough, c.requires.left, c.requires.begun) in
+    ap length bytes
+    ∙ omega (
+      arith,
+      whole,
+      length-take (c.args.first + 8 * c.args.words - c.args.first) (drop (dot / 8) c.args.stroke.now.source.bits.now),
+      length-drop (dot / 8) c.args.stroke.now.source.bits.now,
+      c.args.stroke.now.source.enough,
+      c.requires.enough,
+      c.requires.left,
+      c.requires.begun,
+    ) in
     subst (IsPaintedFrom c.args.rows.now _ c.args.line c.args.stroke.now (8 * c.args.first)) stop
     (laid_bytes c.args.rows.now c.copy_from_slice.new.self c.args.stroke.now.source.bits.now c.args.stroke.now.mode
-    (λ p. row_dot c.args.stroke.now.source.bits.now (c.args.stroke.now.run.skip + (p - (8 * c.args.line + c.args.stroke.now.run.first)))) (λ p. repeated (row c.args.stroke.now.through.pattern) (p - 8 * c.args.line))
+    (λ p. row_dot c.args.stroke.now.source.bits.now (c.args.stroke.now.run.skip + (p - (8 * c.args.line + c.args.stroke.now.run.first))))
+    (λ p. repeated (row c.args.stroke.now.through.pattern) (p - 8 * c.args.line))
     (8 * c.args.first) c.args.first (c.args.first + 8 * c.args.words) (dot / 8) (omega arith) (omega arith) (omega (arith, c.requires.room)) long bytes
     (λ p reached left. ap (row_dot c.args.stroke.now.source.bits.now) (omega (arith, whole, c.requires.begun)))
     (c.args.stroke.now.opaque laid) (λ p. c.args.stroke.now.through_black laid (p - 8 * c.args.line)))

@@ -6,7 +6,8 @@ use Rattle.press_bits.proofs.painting.paint_word.Goals as goal
 pub returns : goal.returns
 returns c =
     painted_word c.args.rows.now c.put_word.new.rows c.args.stroke.now.mode
-    (λ p. row_dot c.args.stroke.now.source.bits.now (c.args.stroke.now.run.skip + (p - (8 * c.args.line + c.args.stroke.now.run.first)))) (λ p. repeated (row c.args.stroke.now.through.pattern) (p - 8 * c.args.line))
+    (λ p. row_dot c.args.stroke.now.source.bits.now (c.args.stroke.now.run.skip + (p - (8 * c.args.line + c.args.stroke.now.run.first))))
+    (λ p. repeated (row c.args.stroke.now.through.pattern) (p - 8 * c.args.line))
     c.args.part.index c.args.part.from c.args.part.to c.word_from-dots.result c.word-through.result c.mask_word-mask.result c.word_at-before.result c.mixed_word-after.result
     c.args.part.begun c.args.part.within
     (λ j within. c.word_from-dots.ensures j within ∙ ap (row_dot c.args.stroke.now.source.bits.now) (omega arith))

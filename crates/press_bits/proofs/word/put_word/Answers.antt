@@ -5,7 +5,9 @@ use Rattle.press_bits.proofs.word.put_word.Goals as goal
 pub returns-clause-here : goal.returns-clause-here
 returns-clause-here c = λ j within.
     let eight : c.args.index + 8 - c.args.index ≡ 8 = omega arith in
-    put_here c.args.rows.now _ c.args.index (c.args.index + 8 - c.args.index) (ap length (c.copy_from_slice.ensures.after ∙ c.to_be_bytes.ensures) ∙ omega arith) (omega arith) c.args.word j eight (c.copy_from_slice.ensures.after ∙ c.to_be_bytes.ensures) within
+    put_here c.args.rows.now _ c.args.index (c.args.index + 8 - c.args.index)
+    (ap length (c.copy_from_slice.ensures.after ∙ c.to_be_bytes.ensures) ∙ omega arith) (omega arith) c.args.word j eight
+    (c.copy_from_slice.ensures.after ∙ c.to_be_bytes.ensures) within
 
 pub returns-clause-elsewhere : goal.returns-clause-elsewhere
 returns-clause-elsewhere c = λ p off.

@@ -30,14 +30,23 @@ returns-then-not-has_band c =
     let lines : c.min-lines.result ≡ min 64 (c.self.inside.height - 64 * c.args.index) = search rules in
     let most : c.min-lines.result ≤ 64 = omega (arith, lines) in
     subst (λ (s : BandedPage). ArePageLines s.page (64 * c.args.index) (min 64 (c.args.self.now.page.height - 64 * c.args.index)) c.prefix.result.now) c.self.view_is
-    (subst (λ n. ArePageLines (page_of_bands c.self.inside.width c.self.inside.height c.self.inside.bands.items) (64 * c.args.index) n c.prefix.result.now) (lines ∙ ap (λ h. min 64 (h - 64 * c.args.index)) high)
-    (band_missing c.self.inside.width c.self.inside.height c.args.index c.line_bytes.result c.min-lines.result c.self.inside.bands.items _ c.prefix.result.now c.line_bytes.ensures refl gone c.self.invariant lines
-    (c.prefix.ensures ∙ take-replicate (c.min-lines.result * c.line_bytes.result) 131072 0 (omega (arith, mul-le-mul_right c.line_bytes.result most, c.line_bytes.ensures, c.self.invariant.most_width)))))
+    (subst (λ n.
+    ArePageLines (page_of_bands c.self.inside.width c.self.inside.height c.self.inside.bands.items) (64 * c.args.index) n
+    c.prefix.result.now)
+    (lines ∙ ap (λ h. min 64 (h - 64 * c.args.index)) high)
+    (band_missing c.self.inside.width c.self.inside.height c.args.index c.line_bytes.result c.min-lines.result c.self.inside.bands.items _
+    c.prefix.result.now c.line_bytes.ensures refl gone c.self.invariant lines
+    (c.prefix.ensures
+    ∙ take-replicate (c.min-lines.result * c.line_bytes.result) 131072 0
+    (omega (arith, mul-le-mul_right c.line_bytes.result most, c.line_bytes.ensures, c.self.invariant.most_width)))))
 
 pub prefix-requires-2 : goal.prefix-requires-2
 prefix-requires-2 c =
     let some : is_there (band_at c.self.inside.bands.items c.args.index) ≡ true = sym c.has_band.ensures ∙ search rules in
-    let long : length c.bytes_of.result.now ≡ 64 * c.line_bytes.result = ap length c.bytes_of.ensures ∙ there_long c.self.inside.width c.self.inside.height c.self.inside.bands.items c.args.index c.self.invariant some ∙ ap (λ n. 64 * n) (sym c.line_bytes.ensures) in
+    let long : length c.bytes_of.result.now ≡ 64 * c.line_bytes.result =
+    ap length c.bytes_of.ensures
+    ∙ there_long c.self.inside.width c.self.inside.height c.self.inside.bands.items c.args.index c.self.invariant some
+    ∙ ap (λ n. 64 * n) (sym c.line_bytes.ensures) in
     let most : c.min-lines.result ≤ 64 = omega (arith, c.min-lines.ensures) in
     let within : c.min-lines.result * c.line_bytes.result ≤ length c.bytes_of.result.now = omega (arith, mul-le-mul_right c.line_bytes.result most, long) in
     search (rules, within)
@@ -46,9 +55,16 @@ pub returns : goal.returns
 returns c =
     let high : c.self.inside.height ≡ c.args.self.now.page.height = sym (height-page_of_bands _ _ _) ∙ ap (λ (s : BandedPage). s.page.height) c.self.view_is in
     let some : is_there (band_at c.self.inside.bands.items c.args.index) ≡ true = sym c.has_band.ensures ∙ search rules in
-    let long : length c.bytes_of.result.now ≡ 64 * c.line_bytes.result = ap length c.bytes_of.ensures ∙ there_long c.self.inside.width c.self.inside.height c.self.inside.bands.items c.args.index c.self.invariant some ∙ ap (λ n. 64 * n) (sym c.line_bytes.ensures) in
+    let long : length c.bytes_of.result.now ≡ 64 * c.line_bytes.result =
+    ap length c.bytes_of.ensures
+    ∙ there_long c.self.inside.width c.self.inside.height c.self.inside.bands.items c.args.index c.self.invariant some
+    ∙ ap (λ n. 64 * n) (sym c.line_bytes.ensures) in
     let lines : c.min-lines.result ≡ min 64 (c.self.inside.height - 64 * c.args.index) = search rules in
     subst (λ (s : BandedPage). ArePageLines s.page (64 * c.args.index) (min 64 (c.args.self.now.page.height - 64 * c.args.index)) c.prefix-2.result.now) c.self.view_is
-    (subst (λ n. ArePageLines (page_of_bands c.self.inside.width c.self.inside.height c.self.inside.bands.items) (64 * c.args.index) n c.prefix-2.result.now) (lines ∙ ap (λ h. min 64 (h - 64 * c.args.index)) high)
-    (band_there c.self.inside.width c.self.inside.height c.args.index c.line_bytes.result c.min-lines.result c.self.inside.bands.items c.bytes_of.result.now c.prefix-2.result.now c.line_bytes.ensures c.bytes_of.ensures long c.self.invariant lines
+    (subst (λ n.
+    ArePageLines (page_of_bands c.self.inside.width c.self.inside.height c.self.inside.bands.items) (64 * c.args.index) n
+    c.prefix-2.result.now)
+    (lines ∙ ap (λ h. min 64 (h - 64 * c.args.index)) high)
+    (band_there c.self.inside.width c.self.inside.height c.args.index c.line_bytes.result c.min-lines.result c.self.inside.bands.items
+    c.bytes_of.result.now c.prefix-2.result.now c.line_bytes.ensures c.bytes_of.ensures long c.self.invariant lines
     c.prefix-2.ensures))

@@ -17,7 +17,9 @@ index_mut-requires c =
     let w : ℕ = c.self.inside.width in
     let within : c.args.y < c.self.inside.height = subst (λ m. c.args.y < m) (sym (ap (λ (s : BandedPage). s.page.height) c.self.view_is) ∙ height-page_of_bands _ _ _) c.requires.line in
     let at = at_line (pos c.args.y) c.args.y refl in
-    let some : is_there (band_at items (c.args.y / 64)) ≡ true = band_ready c.self.inside.width c.self.inside.height items c.args.self.now c.args.y c.self.view_is (c.requires.ready c.args.y at.0 at.1 c.requires.line) in
+    let some : is_there (band_at items (c.args.y / 64)) ≡ true =
+    band_ready c.self.inside.width c.self.inside.height items c.args.self.now c.args.y c.self.view_is
+    (c.requires.ready c.args.y at.0 at.1 c.requires.line) in
     let there : c.args.y / 64 < length items = there_within items (c.args.y / 64) some in
     search (rules, there)
 
@@ -27,7 +29,9 @@ blacken-requires-clause-within c =
     let w : ℕ = c.self.inside.width in
     let within : c.args.y < c.self.inside.height = subst (λ m. c.args.y < m) (sym (ap (λ (s : BandedPage). s.page.height) c.self.view_is) ∙ height-page_of_bands _ _ _) c.requires.line in
     let at = at_line (pos c.args.y) c.args.y refl in
-    let some : is_there (band_at items (c.args.y / 64)) ≡ true = band_ready c.self.inside.width c.self.inside.height items c.args.self.now c.args.y c.self.view_is (c.requires.ready c.args.y at.0 at.1 c.requires.line) in
+    let some : is_there (band_at items (c.args.y / 64)) ≡ true =
+    band_ready c.self.inside.width c.self.inside.height items c.args.self.now c.args.y c.self.view_is
+    (c.requires.ready c.args.y at.0 at.1 c.requires.line) in
     let there : c.args.y / 64 < length items = there_within items (c.args.y / 64) some in
     let band : c.index_mut.result.now ≡ band_at items (c.args.y / 64) = c.index_mut.ensures.value ∙ get_or_default items (c.args.y / 64) c.index_mut.result.now [] there in
     let right : c.args.x + c.args.dots ≤ w = subst (λ m. c.args.x + c.args.dots ≤ m) (sym (ap (λ (s : BandedPage). s.page.width) c.self.view_is) ∙ width-page_of_bands _ _ _) c.requires.inside in
@@ -41,7 +45,9 @@ blacken-requires-clause-long c =
     let w : ℕ = c.self.inside.width in
     let within : c.args.y < c.self.inside.height = subst (λ m. c.args.y < m) (sym (ap (λ (s : BandedPage). s.page.height) c.self.view_is) ∙ height-page_of_bands _ _ _) c.requires.line in
     let at = at_line (pos c.args.y) c.args.y refl in
-    let some : is_there (band_at items (c.args.y / 64)) ≡ true = band_ready c.self.inside.width c.self.inside.height items c.args.self.now c.args.y c.self.view_is (c.requires.ready c.args.y at.0 at.1 c.requires.line) in
+    let some : is_there (band_at items (c.args.y / 64)) ≡ true =
+    band_ready c.self.inside.width c.self.inside.height items c.args.self.now c.args.y c.self.view_is
+    (c.requires.ready c.args.y at.0 at.1 c.requires.line) in
     let there : c.args.y / 64 < length items = there_within items (c.args.y / 64) some in
     let band : c.index_mut.result.now ≡ band_at items (c.args.y / 64) = c.index_mut.ensures.value ∙ get_or_default items (c.args.y / 64) c.index_mut.result.now [] there in
     let long : length c.index_mut.result.now ≡ 64 * bytes_per_line w = ap length band ∙ there_long w c.self.inside.height items (c.args.y / 64) c.self.invariant some in
@@ -53,7 +59,9 @@ blacken-requires-clause-small c =
     let w : ℕ = c.self.inside.width in
     let within : c.args.y < c.self.inside.height = subst (λ m. c.args.y < m) (sym (ap (λ (s : BandedPage). s.page.height) c.self.view_is) ∙ height-page_of_bands _ _ _) c.requires.line in
     let at = at_line (pos c.args.y) c.args.y refl in
-    let some : is_there (band_at items (c.args.y / 64)) ≡ true = band_ready c.self.inside.width c.self.inside.height items c.args.self.now c.args.y c.self.view_is (c.requires.ready c.args.y at.0 at.1 c.requires.line) in
+    let some : is_there (band_at items (c.args.y / 64)) ≡ true =
+    band_ready c.self.inside.width c.self.inside.height items c.args.self.now c.args.y c.self.view_is
+    (c.requires.ready c.args.y at.0 at.1 c.requires.line) in
     let there : c.args.y / 64 < length items = there_within items (c.args.y / 64) some in
     let band : c.index_mut.result.now ≡ band_at items (c.args.y / 64) = c.index_mut.ensures.value ∙ get_or_default items (c.args.y / 64) c.index_mut.result.now [] there in
     let long : length c.index_mut.result.now ≡ 64 * bytes_per_line w = ap length band ∙ there_long w c.self.inside.height items (c.args.y / 64) c.self.invariant some in
@@ -65,15 +73,24 @@ invariant_of-self c =
     let w : ℕ = c.self.inside.width in
     let within : c.args.y < c.self.inside.height = subst (λ m. c.args.y < m) (sym (ap (λ (s : BandedPage). s.page.height) c.self.view_is) ∙ height-page_of_bands _ _ _) c.requires.line in
     let at = at_line (pos c.args.y) c.args.y refl in
-    let some : is_there (band_at items (c.args.y / 64)) ≡ true = band_ready c.self.inside.width c.self.inside.height items c.args.self.now c.args.y c.self.view_is (c.requires.ready c.args.y at.0 at.1 c.requires.line) in
+    let some : is_there (band_at items (c.args.y / 64)) ≡ true =
+    band_ready c.self.inside.width c.self.inside.height items c.args.self.now c.args.y c.self.view_is
+    (c.requires.ready c.args.y at.0 at.1 c.requires.line) in
     let there : c.args.y / 64 < length items = there_within items (c.args.y / 64) some in
     let band : c.index_mut.result.now ≡ band_at items (c.args.y / 64) = c.index_mut.ensures.value ∙ get_or_default items (c.args.y / 64) c.index_mut.result.now [] there in
     let right : c.args.x + c.args.dots ≤ w = subst (λ m. c.args.x + c.args.dots ≤ m) (sym (ap (λ (s : BandedPage). s.page.width) c.self.view_is) ∙ width-page_of_bands _ _ _) c.requires.inside in
     let laid : (p : ℕ) → row_dot c.blacken.new.self p
-    ≡ mixed_dot (nat_le (8 * (c.args.y % 64 * bytes_per_line w) + c.args.x) p && nat_lt p (8 * (c.args.y % 64 * bytes_per_line w) + c.args.x + c.args.dots)) both_transparent true true (row_dot (band_at items (c.args.y / 64)) p)
+    ≡ mixed_dot (nat_le (8 * (c.args.y % 64 * bytes_per_line w) + c.args.x) p
+    && nat_lt p (8 * (c.args.y % 64 * bytes_per_line w) + c.args.x + c.args.dots))
+    both_transparent true true (row_dot (band_at items (c.args.y / 64)) p)
     = λ p. c.blacken.ensures.dots p
-    ∙ (λ i. if nat_le (8 * (c.args.y % 64 * c.line_bytes.ensures i) + c.args.x) p && nat_lt p (8 * (c.args.y % 64 * c.line_bytes.ensures i) + c.args.x + c.args.dots) then true else row_dot (band i) p) in
-    painted_has w c.self.inside.height items c.blacken.new.self both_transparent (λ _. true) (λ _. true) c.args.x c.args.dots c.args.y c.self.invariant there (c.blacken.ensures.long ∙ ap length band) some right laid
+    ∙ (λ i.
+    if nat_le (8 * (c.args.y % 64 * c.line_bytes.ensures i) + c.args.x) p
+    && nat_lt p (8 * (c.args.y % 64 * c.line_bytes.ensures i) + c.args.x + c.args.dots)
+    then true
+    else row_dot (band i) p) in
+    painted_has w c.self.inside.height items c.blacken.new.self both_transparent (λ _. true) (λ _. true) c.args.x c.args.dots c.args.y
+    c.self.invariant there (c.blacken.ensures.long ∙ ap length band) some right laid
 
 pub returns-clause-painted : goal.returns-clause-painted
 returns-clause-painted c = λ source pattern mode solid wide.
@@ -81,21 +98,31 @@ returns-clause-painted c = λ source pattern mode solid wide.
     let w : ℕ = c.self.inside.width in
     let within : c.args.y < c.self.inside.height = subst (λ m. c.args.y < m) (sym (ap (λ (s : BandedPage). s.page.height) c.self.view_is) ∙ height-page_of_bands _ _ _) c.requires.line in
     let at = at_line (pos c.args.y) c.args.y refl in
-    let some : is_there (band_at items (c.args.y / 64)) ≡ true = band_ready c.self.inside.width c.self.inside.height items c.args.self.now c.args.y c.self.view_is (c.requires.ready c.args.y at.0 at.1 c.requires.line) in
+    let some : is_there (band_at items (c.args.y / 64)) ≡ true =
+    band_ready c.self.inside.width c.self.inside.height items c.args.self.now c.args.y c.self.view_is
+    (c.requires.ready c.args.y at.0 at.1 c.requires.line) in
     let there : c.args.y / 64 < length items = there_within items (c.args.y / 64) some in
     let band : c.index_mut.result.now ≡ band_at items (c.args.y / 64) = c.index_mut.ensures.value ∙ get_or_default items (c.args.y / 64) c.index_mut.result.now [] there in
     let right : c.args.x + c.args.dots ≤ w = subst (λ m. c.args.x + c.args.dots ≤ m) (sym (ap (λ (s : BandedPage). s.page.width) c.self.view_is) ∙ width-page_of_bands _ _ _) c.requires.inside in
     let laid : (p : ℕ) → row_dot c.blacken.new.self p
-    ≡ mixed_dot (nat_le (8 * (c.args.y % 64 * bytes_per_line w) + c.args.x) p && nat_lt p (8 * (c.args.y % 64 * bytes_per_line w) + c.args.x + c.args.dots)) both_transparent true true (row_dot (band_at items (c.args.y / 64)) p)
+    ≡ mixed_dot (nat_le (8 * (c.args.y % 64 * bytes_per_line w) + c.args.x) p
+    && nat_lt p (8 * (c.args.y % 64 * bytes_per_line w) + c.args.x + c.args.dots))
+    both_transparent true true (row_dot (band_at items (c.args.y / 64)) p)
     = λ p. c.blacken.ensures.dots p
-    ∙ (λ i. if nat_le (8 * (c.args.y % 64 * c.line_bytes.ensures i) + c.args.x) p && nat_lt p (8 * (c.args.y % 64 * c.line_bytes.ensures i) + c.args.x + c.args.dots) then true else row_dot (band i) p) in
+    ∙ (λ i.
+    if nat_le (8 * (c.args.y % 64 * c.line_bytes.ensures i) + c.args.x) p
+    && nat_lt p (8 * (c.args.y % 64 * c.line_bytes.ensures i) + c.args.x + c.args.dots)
+    then true
+    else row_dot (band i) p) in
     let clipped : c.args.dots ≡ min (source.dots - 0) (w - c.args.x) = omega (arith, right, wide) in
     let start : ℕ = 8 * (c.args.y % 64 * bytes_per_line w) in
     let place : c.args.x ≡ c.args.x + 0 = omega arith in
     painted_band w c.self.inside.height items c.blacken.new.self (pos c.args.x) (pos c.args.y) source pattern mode
     c.args.x 0 c.args.dots c.args.y (ap pos place) (inr refl) refl clipped c.requires.some there
     (λ p. laid p
-    ∙ mixed_when (nat_le (start + c.args.x) p && nat_lt p (start + c.args.x + c.args.dots)) mode true (row_dot source.bits (0 + (p - (start + c.args.x)))) true (repeated pattern (p - start)) (row_dot (band_at items (c.args.y / 64)) p)
+    ∙ mixed_when (nat_le (start + c.args.x) p && nat_lt p (start + c.args.x + c.args.dots)) mode true
+    (row_dot source.bits (0 + (p - (start + c.args.x)))) true (repeated pattern (p - start))
+    (row_dot (band_at items (c.args.y / 64)) p)
     (λ test. let run = in_run_test (start + c.args.x) (start + c.args.x + c.args.dots) p test in sym (solid.0 (0 + (p - (start + c.args.x))) (omega (arith, run.0, run.1, wide))))
     (λ _. sym (solid.1 (p - start))))
     ∙ ap (λ (s : BandedPage). painted s.page (row_mark (pos c.args.x) (pos c.args.y) source pattern mode)) c.self.view_is
@@ -106,7 +133,9 @@ returns-clause-ready c =
     let w : ℕ = c.self.inside.width in
     let within : c.args.y < c.self.inside.height = subst (λ m. c.args.y < m) (sym (ap (λ (s : BandedPage). s.page.height) c.self.view_is) ∙ height-page_of_bands _ _ _) c.requires.line in
     let at = at_line (pos c.args.y) c.args.y refl in
-    let some : is_there (band_at items (c.args.y / 64)) ≡ true = band_ready c.self.inside.width c.self.inside.height items c.args.self.now c.args.y c.self.view_is (c.requires.ready c.args.y at.0 at.1 c.requires.line) in
+    let some : is_there (band_at items (c.args.y / 64)) ≡ true =
+    band_ready c.self.inside.width c.self.inside.height items c.args.self.now c.args.y c.self.view_is
+    (c.requires.ready c.args.y at.0 at.1 c.requires.line) in
     let there : c.args.y / 64 < length items = there_within items (c.args.y / 64) some in
     let band : c.index_mut.result.now ≡ band_at items (c.args.y / 64) = c.index_mut.ensures.value ∙ get_or_default items (c.args.y / 64) c.index_mut.result.now [] there in
     put_flags (c.args.y / 64) items c.blacken.new.self there (c.blacken.ensures.long ∙ ap length band)

@@ -13,7 +13,8 @@ black_in_band-black-requires c =
     omega (arith, c.self.invariant.most_bands, high)
 
 -- the lines above a band that is a band of the page
-above : (black next : ℕ) (all : ℕ → ℕ) (high index : ℕ) → 64 * index < high → black ≡ all (min high (64 * index)) → all (min high (64 * (index + 1))) ≡ all (64 * index) + next → black + next ≡ all (min high (64 * (index + 1)))
+above : (black next : ℕ) (all : ℕ → ℕ) (high index : ℕ) → 64 * index < high → black ≡ all (min high (64 * index))
+    → all (min high (64 * (index + 1))) ≡ all (64 * index) + next → black + next ≡ all (min high (64 * (index + 1)))
 above black next all high index inside so_far more =
     let here : min high (64 * index) ≡ 64 * index = omega arith in
     ap (λ n. n + next) (so_far ∙ ap all here) ∙ sym more
@@ -25,15 +26,27 @@ overflow_add-black c =
     let inside : 64 * c.loop-index.index < c.args.self.now.page.height = omega (arith, c.self.invariant.most_bands, high) in
     let each : (y : ℕ) → black_in_line c.args.self.now.page y ≤ longest_side =
     λ y. omega (arith, c.self.invariant.most_width, wide, count_bound (λ x. black_at c.args.self.now.page x y) c.args.self.now.page.width) in
-    let grown = above c.loop-index.black c.black_in_band-black.result (λ n. sum_by (black_in_line c.args.self.now.page) (range_with_len 0 n)) c.args.self.now.page.height c.loop-index.index inside c.loop-index.invariant c.black_in_band-black.ensures in
+    let grown =
+    above c.loop-index.black c.black_in_band-black.result (λ n. sum_by (black_in_line c.args.self.now.page) (range_with_len 0 n))
+    c.args.self.now.page.height c.loop-index.index inside c.loop-index.invariant c.black_in_band-black.ensures in
     record {
-      fits = omega (arith, grown, high, c.self.invariant.most_height, sum_bound (black_in_line c.args.self.now.page) longest_side (min c.args.self.now.page.height (64 * (c.loop-index.index + 1))) each);
+      fits =
+          omega (
+            arith,
+            grown,
+            high,
+            c.self.invariant.most_height,
+            sum_bound (black_in_line c.args.self.now.page) longest_side (min c.args.self.now.page.height (64 * (c.loop-index.index + 1)))
+                each,
+          );
     }
 
 pub loop-index-preserved : goal.loop-index-preserved
 loop-index-preserved c =
     let high : c.self.inside.height ≡ c.args.self.now.page.height = sym (height-page_of_bands _ _ _) ∙ ap (λ (b : BandedPage). b.page.height) c.self.view_is in
-    above c.loop-index.black c.black_in_band-black.result (λ n. sum_by (black_in_line c.args.self.now.page) (range_with_len 0 n)) c.args.self.now.page.height c.loop-index.index (omega (arith, c.self.invariant.most_bands, high)) c.loop-index.invariant c.black_in_band-black.ensures
+    above c.loop-index.black c.black_in_band-black.result (λ n. sum_by (black_in_line c.args.self.now.page) (range_with_len 0 n))
+    c.args.self.now.page.height c.loop-index.index (omega (arith, c.self.invariant.most_bands, high)) c.loop-index.invariant
+    c.black_in_band-black.ensures
 
 pub returns : goal.returns
 returns c =

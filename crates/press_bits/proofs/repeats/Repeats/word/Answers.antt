@@ -6,7 +6,11 @@ use Rattle.press_bits.proofs.RepeatLemmas.{repeated-first, repeated-phase, IsPer
 use Rattle.press_bits.proofs.repeats.Repeats.word.Goals as goal
 
 pub returns-then-self : goal.returns-then-self
-returns-then-self c = λ j within. ap (λ n. word_dot n j) c.rotate_left.ensures ∙ turned_prefix (row c.args.self.now.pattern) c.args.self.now.prefix c.args.first j (search rules) (c.args.self.now.turns c.if-self.true) c.args.self.now.dots within
+returns-then-self c =
+    λ j within.
+    ap (λ n. word_dot n j) c.rotate_left.ensures
+    ∙ turned_prefix (row c.args.self.now.pattern) c.args.self.now.prefix c.args.first j (search rules)
+    (c.args.self.now.turns c.if-self.true) c.args.self.now.dots within
 
 pub returns-then-known-lt64 : goal.returns-then-known-lt64
 returns-then-known-lt64 c = λ j within.
@@ -18,7 +22,9 @@ returns-then-known-lt64 c = λ j within.
           ∙ repeated-phase (row c.args.self.now.pattern) c.args.first j
       | inr rest ↦
           c.joined.ensures.rest j rest within
-          ∙ behind (row c.args.self.now.pattern) c.args.self.now.prefix c.args.self.now.pattern.dots (j - (c.args.self.now.pattern.dots - c.args.first % c.args.self.now.pattern.dots)) (c.args.first % c.args.self.now.pattern.dots + j) (IsPeriod-dots (row c.args.self.now.pattern)) (omega arith)
+          ∙ behind (row c.args.self.now.pattern) c.args.self.now.prefix c.args.self.now.pattern.dots
+          (j - (c.args.self.now.pattern.dots - c.args.first % c.args.self.now.pattern.dots))
+          (c.args.first % c.args.self.now.pattern.dots + j) (IsPeriod-dots (row c.args.self.now.pattern)) (omega arith)
           (c.args.self.now.dots (j - (c.args.self.now.pattern.dots - c.args.first % c.args.self.now.pattern.dots)) (omega arith))
           ∙ repeated-phase (row c.args.self.now.pattern) c.args.first j
     ]
