@@ -1,1 +1,2 @@
+-- The lemmas on stores of things.
 pub mod StoreLemmas

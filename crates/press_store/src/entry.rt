@@ -16,9 +16,10 @@ pub trait Duplicate: Sized {
         ensures { IfOk result (λ copy. copy ≡ self.now) };
 }
 
-/// A thing that is stored.
+/// What a store holds under an ID: a thing, and whether a reset keeps it.
 #[derive(Drop)]
 pub struct Entry<T> {
+    /// The thing.
     pub value: T,
     /// Whether it outlives a reset.
     pub permanent: bool,

@@ -29,7 +29,10 @@ impl<T> Model for Store<T> {
 
     ghost coded = { stored_code T.code };
 
-    ghost view = { λ s. record { things = maps.from_entries s.entries.entries; room = spare s.entries } };
+    ghost view = { λ s. record {
+      things = maps.from_entries s.entries.entries;
+      room = spare s.entries;
+    } };
 
     ghost invariant = { λ s. IsDistinct nat_eq (keys_of s.entries.entries) };
 }
@@ -77,7 +80,7 @@ impl<T: Drop> Store<T> {
     ///
     /// # Errors
     ///
-    /// Where memory ran out. Then nothing changed.
+    /// Where memory ran out; the things are then as they were.
     pub fn store(&mut self, id: u16, value: T) -> Result<(), AllocError>
         ensures stored { OnOk result (self.new.things ≡ stored self.old.things id value) }
         ensures unchanged { OnErr result (self.new.things ≡ self.old.things) }
