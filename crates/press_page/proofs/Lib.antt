@@ -1,1 +1,2 @@
+-- The worked rows of the page environment.
 pub mod worked

@@ -59,6 +59,6 @@ cursor_dot page_setup top_margin cursor = record {
 }
 
 -- The lines of the frame that a mark of so many lines covers, from a line on: those above the upper edge are dropped.
-abbrev pub lines_from : ℤ → (count : ℕ) → FrameLines
-lines_from (pos line) count = record { first = line; count = count }
-lines_from (negsuc above) count = record { first = 0; count = count - suc above }
+abbrev pub lines_below : ℤ → (count : ℕ) → FrameLines
+lines_below (pos line) count = record { first = line; count = count }
+lines_below (negsuc above) count = record { first = 0; count = count - suc above }

@@ -1,7 +1,7 @@
 //! Margins and text length (PCL 5 Printer Language Technical Reference Manual, the margin commands and Text Length
 //! command).
 
-ghost use Rattle.std.specs.Prelude.{◌≡◌, ◌<◌, ◌≤◌, ◌^◌, unsigned_abs};
+ghost use Rattle.std.specs.Prelude.{◌≡◌, ◌<◌, ◌^◌, unsigned_abs};
 ghost use Rattle.press_units.specs.Value.{whole_part};
 ghost use Rattle.press_page.specs.Margins.{text_room, default_text_length, default_margins, top_margin_of, text_length_of, left_margin_of, right_margin_of};
 

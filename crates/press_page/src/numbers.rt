@@ -1,6 +1,6 @@
 //! Numbers that commands are told, cut to a range or refused outside it.
 
-ghost use Rattle.std.specs.Prelude.{◌≡◌, ◌<◌, ◌^◌, unsigned_abs};
+ghost use Rattle.std.specs.Prelude.{◌≡◌, ◌<◌};
 ghost use Rattle.press_page.specs.Numbers.{within, cut, below, above};
 
 /// A number from 0 to the most.

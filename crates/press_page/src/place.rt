@@ -3,7 +3,7 @@
 
 ghost use Rattle.std.specs.Prelude.{◌≡◌, ◌<◌, ◌^◌, ◌+ℤ◌, pos, unsigned_abs};
 ghost use Rattle.press_units.specs.Position.{dot_of};
-ghost use Rattle.press_page.specs.Place.{lies_on, to_physical, ArePlacementsInverse, lines_from};
+ghost use Rattle.press_page.specs.Place.{lies_on, to_physical, ArePlacementsInverse, lines_below};
 
 use crate::media::{Orientation, turned};
 use press_units::{Pos, Resolution, dot};
@@ -38,6 +38,7 @@ pub struct CursorDot {
 pub struct FrameLines {
     /// How many lines below the upper edge the first one is.
     pub first: u32,
+    /// How many lines they are.
     pub count: u32,
 }
 
@@ -91,7 +92,7 @@ impl CursorDot {
     /// The lines of the frame that a mark of so many lines covers, the first of them that of the dot. Lines above the upper
     /// edge are dropped.
     pub fn lines(self, count: u32) -> FrameLines
-        ensures { result ≡ lines_from self.y count }
+        ensures { result ≡ lines_below self.y count }
     {
         if self.y < 0 {
             FrameLines {

@@ -1,7 +1,7 @@
 //! Motion indices, line termination, perforation skip and copies (PCL 5 Printer Language Technical Reference Manual,
 //! the commands of these names).
 
-ghost use Rattle.std.specs.Prelude.{◌≡◌, ◌<◌, ◌^◌};
+ghost use Rattle.std.specs.Prelude.{◌≡◌, ◌<◌};
 ghost use Rattle.press_page.specs.Settings.{measure_of, line_termination_of, terminated, horizontal_motion_of};
 ghost use Rattle.press_page.specs.Settings.{vertical_motion_of, line_spacing_of, skip_change_of, copies_of, half_line};
 ghost use Rattle.press_page.specs.Settings.{default_settings};

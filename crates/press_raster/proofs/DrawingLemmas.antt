@@ -13,7 +13,7 @@ use Rattle.press_bits.proofs.MarkLemmas.{width-painted, height-painted}
 use Rattle.press_cursor.specs.Cursor.{moved_y}
 use Rattle.press_cursor.specs.CursorState.{CursorState}
 use Rattle.press_page.specs.Environment.{logical_page_of}
-use Rattle.press_page.specs.Place.{lines_from}
+use Rattle.press_page.specs.Place.{lines_below}
 use Rattle.press_page.specs.declared.environment.PageEnv.{PageEnv}
 use Rattle.press_page.specs.declared.media.Orientation.{Orientation}
 use Rattle.press_page.specs.declared.place.FrameLines.{FrameLines}
@@ -160,19 +160,24 @@ pub drawn-fitted : (setup : RowSetup) (environment : PageEnv) (settings : Raster
     with_items setup.environment setup.settings brush xs (drawn_by setup drawing page cursor)
     ≡ with_items environment settings brush xs (drawn (graphics (Some position) seed) whole cursor)
 drawn-fitted setup environment settings brush width position seed drawing page whole cursor xs same place cut on_page taken some =
-    (λ i. with_items (same i).environment (same i).settings brush xs (drawn (graphics (Some (place i)) (cut i)) ((ap (λ (s : RowSetup). page_of_frame s.environment.page_setup.orientation page.page) same ∙ on_page) i) cursor))
+    (λ i.
+    with_items (same i).environment (same i).settings brush xs
+    (drawn (graphics (Some (place i)) (cut i))
+    ((ap (λ (s : RowSetup). page_of_frame s.environment.page_setup.orientation page.page) same ∙ on_page) i) cursor))
     ∙ with_items-fitted environment settings brush xs (record { left = position.left; rows = position.rows; seed = trimmed seed }) (trimmed (fitted (bytes_per_line setup.dots) seed)) whole cursor
     (bytes_per_line setup.dots) (ap (λ (s : RowSetup). bytes_per_line s.dots) same) taken some
     (fitted-trimmed (bytes_per_line setup.dots) (fitted (bytes_per_line setup.dots) seed) ∙ fitted_twice (bytes_per_line setup.dots) seed
     ∙ sym (fitted-trimmed (bytes_per_line setup.dots) seed))
 
 -- a row that is painted on the frame, has become the seed row and has moved the cursor, is the next item
-pub row_drawn : (setup : RowSetup) (brush : Brush) (drawing : Drawing) (frame after : BandedPage) (cursor moved : CursorState) (row : Method × List ℕ) (lines : FrameLines) (source bits seed : List ℕ) (position : RasterPosition) →
+pub row_drawn : (setup : RowSetup) (brush : Brush) (drawing : Drawing) (frame after : BandedPage) (cursor moved : CursorState)
+    (row : Method × List ℕ) (lines : FrameLines) (source bits seed : List ℕ) (position : RasterPosition)
+    →
     IsSetUp setup (layout frame) drawing → is_below_height setup.settings.source_height drawing.position.rows ≡ true →
     bits ≡ raster_row row.0 row.1 drawing.seed.items (bytes_per_line setup.dots) → source ≡ bits → seed ≡ bits →
     lines ≡ lines_at setup cursor.y → position ≡ one_row_on drawing.position →
     moved ≡ moved_y (pos (row_height setup.settings.resolution)) true (logical_page_of setup.environment) cursor →
-    after.page ≡ painted frame.page (row_on_frame setup.across.left lines setup.across.size (record { bits = source; dots = setup.dots }) brush frame.page) →
+    after.page ≡ painted frame.page (row_on_frame setup.across.column lines setup.across.size (record { bits = source; dots = setup.dots }) brush frame.page) →
     drawn (graphics (Some position) seed) (page_of_frame setup.environment.page_setup.orientation after.page) moved
     ≡ with_item setup.environment setup.settings brush (drawn_by setup drawing frame cursor) (Some row)
 row_drawn setup brush drawing frame after cursor moved row lines source bits seed position is below bits_are source_is seed_is lines_are position_is moved_is painting =
@@ -180,13 +185,13 @@ row_drawn setup brush drawing frame after cursor moved row lines source bits see
     let page : Page = page_of_frame o frame.page in
     let on : RasterGraphics = record { left = drawing.position.left; rows = drawing.position.rows; seed = trimmed drawing.seed.items } in
     let place : RowPlace = place_at setup.environment setup.settings brush cursor in
-    let left : setup.across.left ≡ (row_corner place on.left).x = ap (λ (s : RowSetup). s.across.left) is.same in
+    let left : setup.across.column ≡ (row_corner place on.left).x = ap (λ (s : RowSetup). s.across.column) is.same in
     let size : setup.across.size ≡ dot_size setup.settings.resolution setup.environment.page_setup.resolution = ap (λ (s : RowSetup). s.across.size) is.same in
-    let covered : lines ≡ lines_from (row_corner place on.left).y (dot_size setup.settings.resolution setup.environment.page_setup.resolution)
-    = lines_are ∙ ap (lines_from (row_corner place on.left).y) size in
+    let covered : lines ≡ lines_below (row_corner place on.left).y (dot_size setup.settings.resolution setup.environment.page_setup.resolution)
+    = lines_are ∙ ap (lines_below (row_corner place on.left).y) size in
     let dots : setup.dots ≡ row_dots place setup.settings on.left = ap (λ (s : RowSetup). s.dots) is.same in
     (λ i. drawn (graphics (Some (position_is i)) (seed_is i))
-    (row_turned o frame.page after.page setup.across.left lines setup.across.size (record { bits = source; dots = setup.dots }) brush painting i) (moved_is i))
+    (row_turned o frame.page after.page setup.across.column lines setup.across.size (record { bits = source; dots = setup.dots }) brush painting i) (moved_is i))
     ∙ (λ i. drawn (graphics (Some (one_row_on drawing.position)) bits)
     (painted page (row_strip o page (left i) (covered i) (size i) (record { bits = source_is i; dots = dots i }) brush))
     (moved_y (pos (row_height setup.settings.resolution)) true (logical_page_of setup.environment) cursor))

@@ -12,7 +12,7 @@ use Rattle.press_bits.specs.Page.{longest_side}
 use Rattle.press_cursor.specs.Bounds.{nearest_y}
 use Rattle.press_cursor.specs.declared.logical_page.LogicalPage.{LogicalPage}
 use Rattle.press_page.specs.Environment.{logical_page_of}
-use Rattle.press_page.specs.Place.{lines_from}
+use Rattle.press_page.specs.Place.{lines_below}
 use Rattle.press_page.specs.declared.place.FrameLines.{FrameLines}
 use Rattle.press_pattern.specs.declared.brush.Brush.{Brush}
 use Rattle.press_rows.specs.Blocks.{Item}
@@ -114,12 +114,12 @@ moved_edge y h page =
 -- ---- rows one below the other
 
 -- the first line of the frame that is covered from a position on, and how many there are
-first_line : (y : ℤ) (page : Resolution) (size : ℕ) → (lines_from (dot_of y page) size).first ≡ below_edge y / positions_per_dot page
+first_line : (y : ℤ) (page : Resolution) (size : ℕ) → (lines_below (dot_of y page) size).first ≡ below_edge y / positions_per_dot page
 first_line (pos n) page size = refl
 first_line (negsuc n) print.Dpi300 size = refl
 first_line (negsuc n) print.Dpi600 size = refl
 
-no_more_lines : (line : ℤ) (size : ℕ) → (lines_from line size).count ≤ size
+no_more_lines : (line : ℤ) (size : ℕ) → (lines_below line size).count ≤ size
 no_more_lines (pos n) size = omega arith
 no_more_lines (negsuc n) size = omega arith
 

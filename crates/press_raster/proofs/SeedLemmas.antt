@@ -1,6 +1,5 @@
 -- Seed rows without the white bytes at their end.
 use Rattle.std.proofs.Common.{◌≡◌, ◌∙◌, ◌≤◌, ◌==◌, ◌&&◌, ℕ, zero, suc, Bool, true, false, if◌then◌else◌, List, [], ◌∷◌, ◌++◌, take, replicate, Option, Some, None, IfSome, refl, sym, ap, arith, rules}
-use Rattle.std.specs.List.{list_all}
 use Rattle.std.proofs.lemmas.Bool.{true≢false}
 use Rattle.press_rows.specs.DeltaRow.{laid_over, replacements, deltas}
 use Rattle.press_rows.specs.Row.{fitted, raster_row}

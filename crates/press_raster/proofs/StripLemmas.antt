@@ -7,7 +7,8 @@ use Rattle.press_bits.specs.DotRule.DotEffect.{MadeWhite, Unchanged}
 use Rattle.press_bits.specs.Mark.{Row, effect_at, painted, row_dot, repeated, row_mark}
 use Rattle.press_bits.specs.Page.{Page, HasNoDotOutside}
 use Rattle.press_bits.specs.declared.mode.Mode.{Mode}
-use Rattle.press_bits.proofs.MarkLemmas.{painted_same_effects, painted_joined, unmarked, effect_where, chosen, effect_when, joined, in_box, box_none, cut_tests, row_lands, width-painted, height-painted}
+use Rattle.press_bits.proofs.MarkLemmas.{painted_same_effects, painted_joined, unmarked, effect_where, chosen, effect_when}
+use Rattle.press_bits.proofs.MarkLemmas.{joined, in_box, box_none, cut_tests, row_lands, width-painted, height-painted}
 use Rattle.press_page.specs.PageSetup.{turned}
 use Rattle.press_page.specs.Place.{placed_dot}
 use Rattle.press_page.specs.declared.media.Orientation.{Orientation}

@@ -6,14 +6,14 @@ use Rattle.press_raster.specs.declared.strip.Across.{Across}
 
 -- How many columns of a frame of this width rows of so many dots cover, each dot so many dots wide: what lies right of the frame
 -- is dropped.
-abbrev pub covered_columns : (width left size dots : ℕ) → ℕ
-covered_columns width left size dots = min (size * dots) (width - left)
+abbrev pub covered_columns : (width column size dots : ℕ) → ℕ
+covered_columns width column size dots = min (size * dots) (width - column)
 
 -- how they lie across it
-abbrev pub across_of : (width left size dots : ℕ) → Across
-across_of width left size dots = record {
-  left = left;
-  columns = covered_columns width left size dots;
+abbrev pub across_of : (width column size dots : ℕ) → Across
+across_of width column size dots = record {
+  column = column;
+  columns = covered_columns width column size dots;
   size = size;
 }
 

@@ -8,7 +8,7 @@ use Rattle.press_bits.specs.Bands.{BandedPage}
 use Rattle.press_bits.specs.Lines.{bytes_per_line}
 use Rattle.press_cursor.specs.CursorState.{CursorState}
 use Rattle.press_page.specs.PageSetup.{logical_width, logical_length}
-use Rattle.press_page.specs.Place.{lines_from}
+use Rattle.press_page.specs.Place.{lines_below}
 use Rattle.press_page.specs.declared.environment.PageEnv.{PageEnv}
 use Rattle.press_page.specs.declared.place.FrameLines.{FrameLines}
 use Rattle.press_canvas.specs.Turned.{page_of_frame}
@@ -69,7 +69,7 @@ one_row_on position = record position { rows = min most_rows (position.rows + 1)
 -- the lines of the frame that a row at this y covers
 abbrev pub lines_at : RowSetup → (y : ℤ) → FrameLines
 lines_at setup y =
-    lines_from (row_corner (record { environment = setup.environment; y = y }) 0).y setup.across.size
+    lines_below (row_corner (record { environment = setup.environment; y = y }) 0).y setup.across.size
 
 -- the line of the frame at the lower edge of the logical page
 abbrev pub last_line : PageEnv → ℕ

@@ -3,7 +3,7 @@
 use Rattle.std.specs.Prelude.{ℕ, ◌+◌, ◌-◌, ◌*◌, ◌/◌, ◌&&◌, Bool, nat_le, nat_lt, if◌then◌else◌, Option, Some, None}
 use Rattle.press_bits.specs.Mark.{Mark, Row, row_dot}
 use Rattle.press_bits.specs.Page.{Page}
-use Rattle.press_page.specs.Place.{lines_from, placed_dot}
+use Rattle.press_page.specs.Place.{lines_below, placed_dot}
 use Rattle.press_page.specs.declared.media.Orientation.{Orientation}
 use Rattle.press_page.specs.declared.media.Orientation.TheVariants.{Portrait}
 use Rattle.press_page.specs.declared.place.CursorDot.{CursorDot}
@@ -31,17 +31,17 @@ strip_mark orientation width height x y columns lines dots tile mode = record {
 
 -- The mark of a raster row on lines of the frame, from a column on: the strip in which each dot of the row is so many dots
 -- wide.
-abbrev pub row_strip : Orientation → Page → (left : ℕ) → FrameLines → (size : ℕ) → Row → Brush → Mark
-row_strip orientation page left lines size row brush =
-    strip_mark orientation page.width page.height left lines.first (size * row.dots) lines.count
+abbrev pub row_strip : Orientation → Page → (column : ℕ) → FrameLines → (size : ℕ) → Row → Brush → Mark
+row_strip orientation page column lines size row brush =
+    strip_mark orientation page.width page.height column lines.first (size * row.dots) lines.count
     (λ i. row_dot row.bits (i / size)) brush.tile brush.mode
 
 -- The mark of a raster row on a page: it begins at a corner, each of its dots is so many dots wide and high, and what lies
 -- above the frame is dropped.
 abbrev pub raster_mark : Orientation → Page → (corner : CursorDot) → (size : ℕ) → Row → Brush → Mark
 raster_mark orientation page corner size row brush =
-    row_strip orientation page corner.x (lines_from corner.y size) size row brush
+    row_strip orientation page corner.x (lines_below corner.y size) size row brush
 
 -- The mark of a raster row on the frame itself.
-abbrev pub row_on_frame : (left : ℕ) → FrameLines → (size : ℕ) → Row → Brush → Page → Mark
-row_on_frame left lines size row brush frame = row_strip Portrait frame left lines size row brush
+abbrev pub row_on_frame : (column : ℕ) → FrameLines → (size : ℕ) → Row → Brush → Page → Mark
+row_on_frame column lines size row brush frame = row_strip Portrait frame column lines size row brush

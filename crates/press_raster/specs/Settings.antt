@@ -4,7 +4,7 @@ use Rattle.std.specs.Prelude.{ℕ, ◌/◌, ◌%◌, ◌==◌, ◌&&◌, Bool, �
 use Rattle.std.specs.List.{find}
 use Rattle.std.specs.Ordering.{int_eq}
 use Rattle.press_units.specs.Measure.{positions_per_inch}
-use Rattle.press_units.specs.Position as engine
+use Rattle.press_units.specs.Position as positions
 use Rattle.press_units.specs.Value.{whole_part}
 use Rattle.press_units.specs.declared.position.Resolution.{Resolution}
 use Rattle.press_page.specs.Environment.{changed_by}
@@ -36,10 +36,10 @@ raster_resolutions = Dpi75 ∷ Dpi100 ∷ Dpi150 ∷ Dpi200 ∷ Dpi300 ∷ Dpi60
 
 -- whether a dot of a row is a whole number of dots of a page, and how many of them it is wide and high
 abbrev pub is_whole_dots : RasterResolution → Resolution → Bool
-is_whole_dots resolution print = engine.dots_per_inch print % raster_dots_per_inch resolution == 0
+is_whole_dots resolution print = positions.dots_per_inch print % raster_dots_per_inch resolution == 0
 
 abbrev pub dot_size : RasterResolution → Resolution → ℕ
-dot_size resolution print = engine.dots_per_inch print / raster_dots_per_inch resolution
+dot_size resolution print = positions.dots_per_inch print / raster_dots_per_inch resolution
 
 -- the settings after a reset
 abbrev pub initial : RasterSettings

@@ -1,9 +1,8 @@
 //! Strips of the frame whose lines have the same dots.
 
-ghost use Rattle.std.specs.Prelude.{◌≡◌, ◌*◌, ◌≤◌, ◌<◌, ◌^◌, ◌⊎◌, length, pos, true, false, Ok, IsOk, OnOk, OnErr};
+ghost use Rattle.std.specs.Prelude.{◌≡◌, ◌*◌, ◌≤◌, ◌<◌, ◌^◌, length, pos, true, false, Ok, IsOk, OnOk, OnErr};
 ghost use Rattle.press_bits.specs.Bands.{AreReady};
 ghost use Rattle.press_bits.specs.Mark.{painted, row, row_dot};
-ghost use Rattle.press_bits.specs.Page.{HasNoDotOutside};
 ghost use Rattle.press_page.specs.declared.media.Orientation.TheVariants.{Portrait};
 ghost use Rattle.press_raster.specs.Across.{AcrossReady, HasRoom, across_of, covered_columns, room_for};
 ghost use Rattle.press_raster.specs.Mark.{strip_mark, row_on_frame};
@@ -42,7 +41,7 @@ fn paint_lines(frame: &mut Bands, corner: Dot, lines: usize, source: DotRow<'_>,
 #[derive(Clone, Copy)]
 pub(crate) struct Across {
     /// The column of the frame at which they begin.
-    pub(crate) left: u32,
+    pub(crate) column: u32,
     /// How many columns of the frame they cover.
     pub(crate) columns: u32,
     /// How many dots of the page a dot of a row is wide and high.
@@ -51,14 +50,14 @@ pub(crate) struct Across {
 
 impl Across {
     /// How rows of so many dots lie across a frame.
-    pub(crate) fn new(frame: &Bands, left: u32, size: u32, dots: usize) -> Self
+    pub(crate) fn new(frame: &Bands, column: u32, size: u32, dots: usize) -> Self
         requires most { size ≤ 8 }
         requires dots { dots < 2 ^ 29 }
-        ensures across { result ≡ across_of frame.now.page.width left size dots }
+        ensures across { result ≡ across_of frame.now.page.width column size dots }
     {
-        let columns = cut_length(left, size as usize * dots, frame.width());
+        let columns = cut_length(column, size as usize * dots, frame.width());
         Across {
-            left,
+            column,
             columns,
             size,
         }
@@ -84,9 +83,9 @@ impl Across {
         brush: &Brush<'_>,
     ) -> bool
         requires columns { self.columns
-            ≡ covered_columns frame.now.page.width self.left self.size source.dots }
+            ≡ covered_columns frame.now.page.width self.column self.size source.dots }
         ensures unmarked { result ≡ true → frame.now.page ≡ painted frame.now.page
-            (row_on_frame self.left lines self.size (row source.entry) brush.now
+            (row_on_frame self.column lines self.size (row source.entry) brush.now
             frame.now.page) }
         ensures met { result ≡ false → 1 ≤ self.columns }
     {
@@ -140,17 +139,17 @@ fn paint_wide(
     requires some { 1 ≤ across.columns }
     requires size { IsDotSize across.size }
     requires columns { across.columns
-        ≡ covered_columns frame.old.page.width across.left across.size source.dots }
+        ≡ covered_columns frame.old.page.width across.column across.size source.dots }
     requires ready { AcrossReady across frame.old lines.first lines.count }
     requires room { HasRoom across scratch.old.items }
     ensures painted { frame.new.page ≡ painted frame.old.page
-        (row_on_frame across.left lines across.size (row source.entry) brush.now frame.old.page) }
+        (row_on_frame across.column lines across.size (row source.entry) brush.now frame.old.page) }
     ensures ready { frame.new.ready ≡ frame.old.ready }
     ensures room { HasRoom across scratch.new.items }
 {
     let dots = across.columns as usize;
     let corner = Dot {
-        x: across.left,
+        x: across.column,
         y: lines.first,
     };
     let (size, lines) = (across.size as usize, lines.count as usize);
@@ -164,8 +163,9 @@ fn paint_wide(
     paint_lines(frame, corner, lines, DotRow { bits, dots }, brush);
 }
 
-/// Paints a raster row on lines of the frame, as `paint_wide` does, makes the lines ready that it needs, and says whether it
-/// may mark the frame: a white row may not where white is transparent, nor one beside the frame, and neither takes memory.
+/// Makes the lines of the frame ready that a raster row needs, paints the row on them as `paint_wide` does, and answers whether
+/// it may mark the frame. A row beside the frame marks nothing, nor does a white row where white is transparent. Such a row
+/// takes no memory.
 ///
 /// # Errors
 ///
@@ -180,10 +180,11 @@ pub(crate) fn paint_across(
 ) -> Result<bool, AllocError>
     requires size { IsDotSize across.size }
     requires columns { across.columns
-        ≡ covered_columns frame.old.page.width across.left across.size source.dots }
+        ≡ covered_columns frame.old.page.width across.column across.size source.dots }
     requires room { HasRoom across scratch.old.items }
     ensures painted { OnOk result (frame.new.page ≡ painted frame.old.page
-        (row_on_frame across.left lines across.size (row source.entry) brush.now frame.old.page)) }
+        (row_on_frame across.column lines across.size (row source.entry) brush.now
+        frame.old.page)) }
     ensures unmarked { result ≡ Ok false → frame.new.page ≡ frame.old.page }
     ensures same_page { OnErr result (frame.new.page ≡ frame.old.page) }
     ensures takes_none { AcrossReady across frame.old lines.first lines.count → IsOk result }

@@ -5,10 +5,14 @@ use Rattle.press_units.specs.declared.position.Resolution.TheVariants.{Dpi600}
 use Rattle.press_cursor.specs.Cursor.{home, position, moved_x, moved_y}
 use Rattle.press_cursor.specs.CursorState.{CursorState}
 use Rattle.std.specs.Prelude.{codes}
-use Rattle.press_page.specs.Environment.{factory, reset_environment, logical_page_of, closes_page, asked_page_size, set_page_size, with_page_size, asked_orientation, set_orientation, with_orientation, asked_duplex, set_duplex, with_duplex_mode, set_unit_of_measure, set_vertical_motion, set_line_termination, set_copies, asked_left, set_left_margin, set_top_margin, set_right_margin, set_text_length, skip_moves_top, set_perforation_skip, clear_margins, set_line_spacing, set_horizontal_motion, passes_text}
+use Rattle.press_page.specs.Environment.{factory, reset_environment, logical_page_of, closes_page, asked_page_size, set_page_size}
+use Rattle.press_page.specs.Environment.{with_page_size, asked_orientation, set_orientation, with_orientation, asked_duplex, set_duplex}
+use Rattle.press_page.specs.Environment.{with_duplex_mode, set_unit_of_measure, set_vertical_motion, set_line_termination, set_copies}
+use Rattle.press_page.specs.Environment.{asked_left, set_left_margin, set_top_margin, set_right_margin, set_text_length, skip_moves_top}
+use Rattle.press_page.specs.Environment.{set_perforation_skip, clear_margins, set_line_spacing, set_horizontal_motion, passes_text}
 use Rattle.press_page.specs.Margins.{default_text_length}
 use Rattle.press_page.specs.PageSetup.{physical_page, frame, logical_page, page_size_of, duplex_mode, with_duplex}
-use Rattle.press_page.specs.Place.{lies_on, to_physical, to_frame, cursor_dot, lines_from}
+use Rattle.press_page.specs.Place.{lies_on, to_physical, to_frame, cursor_dot, lines_below}
 use Rattle.press_page.specs.declared.environment.PageEnv.{PageEnv}
 use Rattle.press_page.specs.declared.media.Binding.TheVariants.{LongEdge, ShortEdge}
 use Rattle.press_page.specs.declared.media.Orientation.TheVariants.{Portrait, Landscape, ReversePortrait, ReverseLandscape}
@@ -96,7 +100,9 @@ half_a_column : (set_right_margin (tenthousandths_of (codes "-0.5")) letter).mar
 half_a_column = refl
 
 -- Ledger in landscape, columns of one unit: the greatest value and one is cut to the page
-widest : (set_right_margin (tenthousandths_of (codes "65535")) (set_horizontal_motion (tenthousandths_of (codes "1")) (with_orientation Landscape (with_page_size Ledger letter)))).margins.right ≡ 119520
+widest : (set_right_margin (tenthousandths_of (codes "65535"))
+    (set_horizontal_motion (tenthousandths_of (codes "1")) (with_orientation Landscape (with_page_size Ledger letter)))).margins.right
+    ≡ 119520
 widest = refl
 
 -- the last line of the text, and one position below it
@@ -240,7 +246,7 @@ above_the_edge = refl
 abbrev lines : (first count : ℕ) → FrameLines
 lines first count = record { first = first; count = count }
 
-four_lines : map (λ line. lines_from line 4) (pos 7 ∷ pos 0 ∷ neg_ℤ (pos 2) ∷ neg_ℤ (pos 4) ∷ neg_ℤ (pos 5) ∷ [])
+four_lines : map (λ line. lines_below line 4) (pos 7 ∷ pos 0 ∷ neg_ℤ (pos 2) ∷ neg_ℤ (pos 4) ∷ neg_ℤ (pos 5) ∷ [])
     ≡ lines 7 4 ∷ lines 0 4 ∷ lines 0 2 ∷ lines 0 0 ∷ lines 0 0 ∷ []
 four_lines = refl
 
@@ -273,7 +279,9 @@ above_the_fine_margin : map (lies_fine 0) (neg_ℤ (pos 1) ∷ neg_ℤ (pos 3600
 above_the_fine_margin = refl
 
 -- no command changes it: ESC&l1O, ESC&l6A, ESC&l2S
-still_fine : map (λ env. env.page_setup.resolution) (set_orientation (tenthousandths_of (codes "1")) fine ∷ set_page_size (tenthousandths_of (codes "6")) fine ∷ set_duplex (tenthousandths_of (codes "2")) fine ∷ [])
+still_fine : map (λ env. env.page_setup.resolution)
+    (set_orientation (tenthousandths_of (codes "1")) fine ∷ set_page_size (tenthousandths_of (codes "6")) fine
+    ∷ set_duplex (tenthousandths_of (codes "2")) fine ∷ [])
     ≡ Dpi600 ∷ Dpi600 ∷ Dpi600 ∷ []
 still_fine = refl
 

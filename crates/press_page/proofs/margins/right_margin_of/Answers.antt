@@ -1,4 +1,4 @@
-use Rattle.std.proofs.Common.{◌≡◌, ◌∙◌, ap, rules, ℤ, pos, ◌+ℤ◌, w64}
+use Rattle.std.proofs.Common.{◌∙◌, ap, rules, ℤ, pos, ◌+ℤ◌, w64}
 use Rattle.std.proofs.lemmas.Int.{to_z-of_z}
 use mir.Val.{to_z, of_z, SFits}
 use Rattle.press_units.specs.Position.{position_of}

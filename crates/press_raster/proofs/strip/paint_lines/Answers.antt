@@ -12,8 +12,11 @@ use Rattle.press_raster.proofs.StripLemmas.{painted_row, painted_strip_no_lines,
 use Rattle.press_raster.proofs.strip.paint_lines.Goals as goal
 
 pub loop-line-init : goal.loop-line-init
-loop-line-init c =
-    (painted_strip_no_lines Portrait c.args.frame.now.page c.args.corner.x c.args.corner.y c.args.source.dots (row_dot c.args.source.bits.now) c.args.brush.now.tile c.args.brush.now.mode c.height.ensures.inside, refl)
+loop-line-init c = (
+  painted_strip_no_lines Portrait c.args.frame.now.page c.args.corner.x c.args.corner.y c.args.source.dots
+      (row_dot c.args.source.bits.now) c.args.brush.now.tile c.args.brush.now.mode c.height.ensures.inside,
+  refl,
+)
 
 pub paint_row-requires-clause-ready : goal.paint_row-requires-clause-ready
 paint_row-requires-clause-ready c =
@@ -58,6 +61,8 @@ returns c =
           c.loop-line.invariant.0
           ∙ ap (λ (n : ℕ). painted frame (strip_mark Portrait frame.width frame.height c.args.corner.x c.args.corner.y c.args.source.dots n dots tile mode)) last
           ∙ painted_strip_cut Portrait frame c.args.corner.x c.args.corner.y c.args.source.dots lines c.args.source.dots c.args.lines dots tile mode refl
-          (sym (ap (λ n. min (c.args.corner.y + c.args.lines) n) (sym c.height.ensures.height) ∙ c.cut_length-lines.ensures.same_end ∙ ap (λ n. min (c.args.corner.y + lines) n) c.height.ensures.height));
+          (sym (ap (λ n. min (c.args.corner.y + c.args.lines) n) (sym c.height.ensures.height)
+          ∙ c.cut_length-lines.ensures.same_end
+          ∙ ap (λ n. min (c.args.corner.y + lines) n) c.height.ensures.height));
       ready = c.loop-line.invariant.1;
     }

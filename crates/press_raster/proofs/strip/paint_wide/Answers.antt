@@ -26,8 +26,8 @@ returns-then-size-eq1-clause-painted c =
     let same : (i : ℕ) → i < columns → row_dot source.bits i ≡ row_dot source.bits (i / across.size)
     = λ i _. ap (row_dot source.bits) (whole i) ∙ ap (λ n. row_dot source.bits (i / n)) (sym c.if-size-eq1.true) in
     c.paint_lines.ensures.painted
-    ∙ painted_raster Portrait frame across.left c.args.lines across.size columns source (row_dot source.bits) c.args.brush.now
-    (covered_end across.left (across.size * source.dots) frame.width columns c.requires.columns)
+    ∙ painted_raster Portrait frame across.column c.args.lines across.size columns source (row_dot source.bits) c.args.brush.now
+    (covered_end across.column (across.size * source.dots) frame.width columns c.requires.columns)
     same
 
 -- how long the room is, by what it is
@@ -37,7 +37,7 @@ room_is n columns size apart is = is ∙ ap (λ (t : Bool). if t then 0 else col
 pub widen-requires-clause-wide : goal.widen-requires-clause-wide
 widen-requires-clause-wide c =
     let across = c.args.across in
-    let some : 1 ≤ across.size = some_size across.columns across.size (row c.args.source).dots (c.args.frame.now.page.width - across.left) c.requires.some c.requires.columns in
+    let some : 1 ≤ across.size = some_size across.columns across.size (row c.args.source).dots (c.args.frame.now.page.width - across.column) c.requires.some c.requires.columns in
     (omega (arith, some, c.if-size-eq1.false), c.requires.size)
 
 pub widen-requires-clause-room : goal.widen-requires-clause-room
@@ -54,7 +54,7 @@ returns-clause-painted c =
     let read = c.deref.ensures.value ∙ with_items_is c.args.scratch.now bits (c.widen.auto.out ∙ c.deref_mut.ensures.len) in
     let long : length c.deref_mut.result.now ≡ columns / 8 + 8 = ap length c.deref_mut.ensures.value ∙ room_is _ columns across.size c.if-size-eq1.false c.requires.room.dots in
     c.paint_lines-2.ensures.painted
-    ∙ (λ i. painted frame (strip_mark Portrait frame.width frame.height across.left c.args.lines.first columns c.args.lines.count (row_dot (read i)) c.args.brush.now.tile c.args.brush.now.mode))
-    ∙ painted_raster Portrait frame across.left c.args.lines across.size columns source (row_dot bits) c.args.brush.now
-    (covered_end across.left (across.size * source.dots) frame.width columns c.requires.columns)
+    ∙ (λ i. painted frame (strip_mark Portrait frame.width frame.height across.column c.args.lines.first columns c.args.lines.count (row_dot (read i)) c.args.brush.now.tile c.args.brush.now.mode))
+    ∙ painted_raster Portrait frame across.column c.args.lines across.size columns source (row_dot bits) c.args.brush.now
+    (covered_end across.column (across.size * source.dots) frame.width columns c.requires.columns)
     (λ i within. c.widen.ensures i (omega (arith, long, within)))

@@ -18,11 +18,13 @@ paint_across-requires-clause-size c =
 
 pub returns-in_err-painted-clause-takes_none : goal.returns-in_err-painted-clause-takes_none
 returns-in_err-painted-clause-takes_none c = λ ready.
-    absurd (true≢false (sym (c.in_err-painted.ensures.takes_none (row_ready c.args.setup.now (layout c.args.frame.now) c.args.self.now c.args.cursor.now.y c.lines-lines.result c.requires c.lines-lines.ensures ready))))
+    absurd (true≢false (sym (c.in_err-painted.ensures.takes_none (row_ready c.args.setup.now (layout c.args.frame.now) c.args.self.now
+    c.args.cursor.now.y c.lines-lines.result c.requires c.lines-lines.ensures ready))))
 
 pub returns-in_err-painted-clause-layout : goal.returns-in_err-painted-clause-layout
 returns-in_err-painted-clause-layout c = λ ready.
-    absurd (true≢false (sym (c.in_err-painted.ensures.takes_none (row_ready c.args.setup.now (layout c.args.frame.now) c.args.self.now c.args.cursor.now.y c.lines-lines.result c.requires c.lines-lines.ensures ready))))
+    absurd (true≢false (sym (c.in_err-painted.ensures.takes_none (row_ready c.args.setup.now (layout c.args.frame.now) c.args.self.now
+    c.args.cursor.now.y c.lines-lines.result c.requires c.lines-lines.ensures ready))))
 
 pub returns-clause-layout : goal.returns-clause-layout
 returns-clause-layout c = λ ready.

@@ -15,7 +15,9 @@ next_ready setup page now y count drawn same more ready =
 
 pub returns-in_err-draw_row : goal.returns-in_err-draw_row
 returns-in_err-draw_row c =
-    absurd (true≢false (sym (c.in_err-draw_row.ensures.takes_none (next_ready c.args.setup.now (layout c.args.frame.now) (layout c.loop-drawn.frame) c.loop-drawn.cursor.y c.args.count c.loop-drawn.drawn
+    absurd (true≢false (sym (c.in_err-draw_row.ensures.takes_none
+    (next_ready c.args.setup.now (layout c.args.frame.now) (layout c.loop-drawn.frame) c.loop-drawn.cursor.y c.args.count
+    c.loop-drawn.drawn
     c.loop-drawn.invariant.same_layout c.loop-drawn-test.true c.loop-drawn.invariant.ready))))
 
 pub returns-then-not-branch-clause-layout : goal.returns-then-not-branch-clause-layout

@@ -35,8 +35,13 @@ returns-clause-rows c =
     let lies = ap (λ (s : RowSetup). s.environment.page_setup.orientation) c.new-setup.ensures.setup in
     (λ i. drawn (graphics (Some c.draw.new.self.position) (c.swap.ensures.x_after i).items) (page_of_frame (sym lies i) c.draw.new.frame.page) c.draw.new.cursor)
     ∙ c.in_ok-draw.ensures.items
-    ∙ ap (λ coding. with_items setup.environment setup.settings brush (items_of coding c.args.data.now) (drawn_by setup c.begin.new.self bands cursor)) (ap (λ (s : RowSetup). s.settings.coding) c.new-setup.ensures.setup)
+    ∙ ap (λ coding.
+    with_items setup.environment setup.settings brush (items_of coding c.args.data.now)
+    (drawn_by setup c.begin.new.self bands cursor))
+    (ap (λ (s : RowSetup). s.settings.coding) c.new-setup.ensures.setup)
     ∙ drawn-fitted setup environment settings brush bands.page.width position seed c.begin.new.self bands page cursor (items_of settings.coding c.args.data.now)
-    c.new-setup.ensures.setup c.in_ok-begin.ensures.position (c.in_ok-begin.ensures.seed ∙ ap (fitted (bytes_per_line setup.dots)) c.deref.ensures.value) (ap (page_of_frame o) c.bands-bands.ensures.value)
+    c.new-setup.ensures.setup c.in_ok-begin.ensures.position
+    (c.in_ok-begin.ensures.seed ∙ ap (fitted (bytes_per_line setup.dots)) c.deref.ensures.value)
+    (ap (page_of_frame o) c.bands-bands.ensures.value)
     (ap (takes_row settings) on ∙ taken.0) taken.1
     ∙ ap (λ g. with_items environment settings brush (items_of settings.coding c.args.data.now) (drawn g page cursor)) on

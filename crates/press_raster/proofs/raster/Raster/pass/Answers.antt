@@ -1,4 +1,4 @@
-use Rattle.std.proofs.Common.{◌≡◌, ◌∙◌, if◌then◌else◌, ap, sym}
+use Rattle.std.proofs.Common.{◌∙◌, if◌then◌else◌, ap, sym}
 use Rattle.press_raster.specs.Graphics.{whitened}
 use Rattle.press_raster.proofs.SeedLemmas.{whitened-graphics}
 use Rattle.press_raster.proofs.raster.Raster.pass.Goals as goal
