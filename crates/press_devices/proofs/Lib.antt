@@ -1,0 +1,2 @@
+-- Lemmas on devices.
+pub mod WritesLemmas

@@ -1,0 +1,4 @@
+-- Devices: reads, writes, and when they fail.
+pub mod Faults
+pub mod Reading
+pub mod Writing

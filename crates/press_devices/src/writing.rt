@@ -1,0 +1,113 @@
+//! Bytes that are written whole (this profile).
+ghost use Rattle.std.specs.Prelude.{◌≡◌, ◌<◌, ◌⊎◌, true, length, IfOk, OnErr};
+ghost use Rattle.std.specs.Io.{WritesAtMost};
+ghost use Rattle.std.specs.Io.KnownBytes.{Keeps, WriteAppends};
+ghost use Rattle.std.specs.List.{flat_map};
+ghost use Rattle.press_devices.specs.Writing.{Writes};
+
+use std::io::{self, ErrorKind, Write};
+
+/// The most writes of one list of bytes that may be interrupted.
+const MOST_INTERRUPTED: u32 = u32::MAX;
+
+/// What is written to: a writer of std, or any other.
+pub trait WriteDevice {
+    ghost use Rattle.std.specs.Prelude.{Option, List, ℕ, Bool};
+
+    /// The bytes that it holds, where they are known.
+    ghost contents: { Self → Option (List ℕ) };
+
+    /// Whether a write or a flush of such a device may fail, be interrupted, or take nothing of some bytes.
+    ghost can_fail: { Bool };
+
+    /// One write: how many bytes it took of the front of these.
+    ///
+    /// # Errors
+    ///
+    /// Where it failed or was interrupted; nothing was written then.
+    fn write_some(&mut self, bytes: &[u8]) -> io::Result<usize>
+        ensures bound { WritesAtMost result bytes.now }
+        ensures bytes { WriteAppends (contents self.old) (contents self.new) result bytes.now }
+        ensures takes { IfOk result (λ count.
+            0 < length bytes.now → (can_fail ≡ true) ⊎ (0 < count)) }
+        ensures cause { OnErr result (can_fail ≡ true) };
+
+    /// Sees to it that what was written does not wait in the program.
+    ///
+    /// # Errors
+    ///
+    /// Where that failed.
+    fn flush_all(&mut self) -> io::Result<()>
+        ensures bytes { Keeps (contents self.old) (contents self.new) }
+        ensures cause { OnErr result (can_fail ≡ true) };
+}
+
+/// Any writer of std, of which it is not known that its writes do not fail.
+impl<W: Write> WriteDevice for W {
+    ghost contents = { λ writer. W.Write.contents writer };
+
+    ghost can_fail = { true };
+
+    fn write_some(&mut self, bytes: &[u8]) -> io::Result<usize> {
+        self.write(bytes)
+    }
+
+    fn flush_all(&mut self) -> io::Result<()> {
+        self.flush()
+    }
+}
+
+/// Writes all the bytes, or a prefix of them where a write failed. The `write_all` of std does not say what was written then.
+///
+/// # Errors
+///
+/// Where a write failed, or took nothing. An interrupted one is made again, up to 4,294,967,295 times.
+pub fn write_whole<W: WriteDevice>(output: &mut W, bytes: &[u8]) -> io::Result<()>
+    ensures written { Writes result (W.contents output.old) (W.contents output.new) bytes.now }
+    ensures cause { OnErr result (W.can_fail ≡ true) }
+{
+    let mut rest = bytes;
+    let mut interrupted = 0;
+    while !rest.is_empty() {
+        match output.write_some(rest) {
+            Ok(0) => return Err(io::Error::from(ErrorKind::WriteZero)),
+            Ok(count) => rest = &rest[count..],
+            Err(error) => {
+                if error.kind() != ErrorKind::Interrupted || interrupted == MOST_INTERRUPTED {
+                    return Err(error);
+                }
+                interrupted += 1;
+            }
+        }
+    }
+    Ok(())
+}
+
+/// Writes pieces one after the other, each as [`write_whole`] does.
+///
+/// # Errors
+///
+/// Those of [`write_whole`]. A prefix of the pieces is written then.
+pub fn write_pieces<W: WriteDevice>(output: &mut W, pieces: &[&[u8]]) -> io::Result<()>
+    ensures written { Writes result (W.contents output.old) (W.contents output.new)
+        (flat_map (λ piece. piece.now) pieces.now) }
+    ensures cause { OnErr result (W.can_fail ≡ true) }
+{
+    for piece in pieces {
+        write_whole(output, piece)?;
+    }
+    Ok(())
+}
+
+/// Writes bytes whole, and flushes.
+///
+/// # Errors
+///
+/// Where a write or the flush failed. A prefix of the bytes is written then.
+pub fn write_flushed<W: WriteDevice>(output: &mut W, bytes: &[u8]) -> io::Result<()>
+    ensures written { Writes result (W.contents output.old) (W.contents output.new) bytes.now }
+    ensures cause { OnErr result (W.can_fail ≡ true) }
+{
+    write_whole(output, bytes)?;
+    output.flush_all()
+}
