@@ -28,7 +28,8 @@ compare (h ∷ a) (k ∷ b) x y same =
       | inr (c, longer, rest) ↦ inr (c, (λ i. sym head i ∷ longer i), rest)
     ]
 
-runs : (bytes : List ℕ) (parts : HeaderParts) → AreHeaderParts parts → bytes ≡ header_spelling parts → run at.Start bytes ≡ Some (at.End (min (width_of parts) past_longest) (min (height_of parts) past_longest))
+runs : (bytes : List ℕ) (parts : HeaderParts) → AreHeaderParts parts → bytes ≡ header_spelling parts
+    → run at.Start bytes ≡ Some (at.End (min (width_of parts) past_longest) (min (height_of parts) past_longest))
 runs bytes parts are is = ap (run at.Start) is ∙ run-spelling parts are
 
 nothing_behind : (width height : ℕ) (more : List ℕ) (w h : ℕ) → run (at.End width height) more ≡ Some (at.End w h) → more ≡ []
@@ -50,14 +51,20 @@ same_header a b x y is_a is_b same =
     ]
 
 -- the parts of one header have one size, as far as it is a page's
-same_size : (parts others : HeaderParts) → AreHeaderParts parts → AreHeaderParts others → header_spelling parts ≡ header_spelling others → is_page_size (width_of parts) (height_of parts) ≡ is_page_size (width_of others) (height_of others)
+same_size : (parts others : HeaderParts) → AreHeaderParts parts → AreHeaderParts others → header_spelling parts ≡ header_spelling others
+    → is_page_size (width_of parts) (height_of parts) ≡ is_page_size (width_of others) (height_of others)
 same_size parts others are others_are same =
-    let ends = end_sizes (min (width_of parts) past_longest) (min (height_of parts) past_longest) (min (width_of others) past_longest) (min (height_of others) past_longest) (sym (run-spelling parts are) ∙ runs (header_spelling parts) others others_are same) in
+    let ends =
+    end_sizes (min (width_of parts) past_longest) (min (height_of parts) past_longest) (min (width_of others) past_longest)
+    (min (height_of others) past_longest) (sym (run-spelling parts are) ∙ runs (header_spelling parts) others others_are same) in
     sym (cut_size (width_of parts) (height_of parts)) ∙ (λ i. is_page_size (ends.0 i) (ends.1 i)) ∙ cut_size (width_of others) (height_of others)
 
-same_sides : (parts others : HeaderParts) → AreHeaderParts parts → AreHeaderParts others → header_spelling parts ≡ header_spelling others → is_page_size (width_of parts) (height_of parts) ≡ true → (width_of parts ≡ width_of others) × (height_of parts ≡ height_of others)
+same_sides : (parts others : HeaderParts) → AreHeaderParts parts → AreHeaderParts others → header_spelling parts ≡ header_spelling others
+    → is_page_size (width_of parts) (height_of parts) ≡ true → (width_of parts ≡ width_of others) × (height_of parts ≡ height_of others)
 same_sides parts others are others_are same size =
-    let ends = end_sizes (min (width_of parts) past_longest) (min (height_of parts) past_longest) (min (width_of others) past_longest) (min (height_of others) past_longest) (sym (run-spelling parts are) ∙ runs (header_spelling parts) others others_are same) in
+    let ends =
+    end_sizes (min (width_of parts) past_longest) (min (height_of parts) past_longest) (min (width_of others) past_longest)
+    (min (height_of others) past_longest) (sym (run-spelling parts are) ∙ runs (header_spelling parts) others others_are same) in
     let one = not_cut (width_of parts) (height_of parts) size in
     let other = not_cut (width_of others) (height_of others) (sym (same_size parts others are others_are same) ∙ size) in
     (sym one.0 ∙ ends.0 ∙ other.0, sym one.1 ∙ ends.1 ∙ other.1)
@@ -109,7 +116,8 @@ bad_or_file bad x page file y is whole same =
 
 -- two files at the front of an input have one header, and rows of one length
 same_rows : (page other : Page) (file more x y : List ℕ) (one : IsFile page file) (two : IsFile other more) → file ++ x ≡ more ++ y →
-    (width_of one.parts ≡ width_of two.parts) × (height_of one.parts ≡ height_of two.parts) × (header_spelling one.parts ≡ header_spelling two.parts) × (one.rows ++ x ≡ two.rows ++ y) × (length one.rows ≡ length two.rows)
+    (width_of one.parts ≡ width_of two.parts) × (height_of one.parts ≡ height_of two.parts)
+    × (header_spelling one.parts ≡ header_spelling two.parts) × (one.rows ++ x ≡ two.rows ++ y) × (length one.rows ≡ length two.rows)
 same_rows page other file more x y one two same =
     let begins : header_spelling one.parts ++ (one.rows ++ x) ≡ header_spelling two.parts ++ (two.rows ++ y) =
     sym (append_assoc (header_spelling one.parts) one.rows x) ∙ ap (λ l. l ++ x) (sym one.spelled) ∙ same ∙ ap (λ l. l ++ y) two.spelled ∙ append_assoc (header_spelling two.parts) two.rows y in
@@ -143,7 +151,8 @@ file_ends page other file x input more one begins some two =
 
 file_no_header : (page : Page) (file x read y : List ℕ) → IsFile page file → IsNoHeader read → file ++ x ≡ read ++ y → ⊥
 file_no_header page file x read y whole none same =
-    header_goes_on (header_spelling whole.parts) (whole.rows ++ x) read y (whole.parts, whole.header, refl) none (sym (append_assoc (header_spelling whole.parts) whole.rows x) ∙ ap (λ l. l ++ x) (sym whole.spelled) ∙ same)
+    header_goes_on (header_spelling whole.parts) (whole.rows ++ x) read y (whole.parts, whole.header, refl) none
+    (sym (append_assoc (header_spelling whole.parts) whole.rows x) ∙ ap (λ l. l ++ x) (sym whole.spelled) ∙ same)
 
 no_header_cut : (input read y : List ℕ) → IsNoHeader read → input ≡ read ++ y → IsHeaderPrefix input ⊎ IsFilePrefix input → ⊥
 no_header_cut input read y none begins (inl (more, some, header)) = none.none (y ++ more, subst IsHeader (ap (λ l. l ++ more) begins ∙ append_assoc read y more) header)

@@ -1,7 +1,9 @@
 -- What a header and the rows behind it make.
-use Rattle.std.proofs.Common.{◌≡◌, ℕ, ◌-◌, ◌*◌, ◌<◌, min, Bool, true, false, List, ◌++◌, length, replicate, Option, Result, Ok, IsErrOf, refl, sym, ap, ◌∙◌, arith, subst, inr, length-append, append_assoc}
+use Rattle.std.proofs.Common.{◌≡◌, ℕ, ◌-◌, ◌*◌, ◌+◌, ◌<◌, ◌≤◌, ◌⊎◌, min, Bool, true, false, List, ◌++◌, length, replicate, Option}
+use Rattle.std.proofs.Common.{Result, Ok, Err, IsErrOf, refl, sym, ap, ◌∙◌, arith, subst, inl, inr, length-append, append_assoc}
 use Rattle.std.specs.Io.KnownBytes.{Consumes}
 use Rattle.std.proofs.KnownBytes.{Consumes-trans}
+use Rattle.std.proofs.Math.Nat.{mul-le-mul_right}
 use Rattle.std.proofs.lemmas.Bool.Decides.{nat_tests}
 use Rattle.std.proofs.lemmas.List.{length-replicate}
 use Rattle.press_bits.specs.Page.{Page, blank, is_page_size}
@@ -10,6 +12,9 @@ use Rattle.press_bits.specs.DotRows.{page_of_rows}
 use Rattle.press_bits.proofs.PageLemmas.{width-blank, height-blank}
 use Rattle.press_bits.specs.declared.fault.BlankError.{BlankError}
 use Rattle.press_bits.specs.declared.fault.BlankError.TheVariants as blanks
+use Rattle.press_devices.specs.Reading.{most_reads, no_reads}
+use Rattle.press_devices.specs.declared.reading.ReadCount.{ReadCount}
+use Rattle.press_pbm.specs.Blank.{refusal_of}
 use Rattle.press_pbm.specs.Header.{header_spelling, width_of, height_of}
 use Rattle.press_pbm.specs.File.{IsFile, Refused}
 use Rattle.press_pbm.specs.Reading.{past_longest, ReadHeader, RowsStop}
@@ -28,7 +33,8 @@ either true other = refl
 either false other = absurd (other refl)
 
 -- where a blank page was made, the size is a page's
-pub made : (width height : ℕ) (page : Page) (result : Result Page BlankError) → result ≡ Ok page → (is_page_size width height ≡ false → IsErrOf result blanks.BadSize) → is_page_size width height ≡ true
+pub made : (width height : ℕ) (page : Page) (result : Result Page BlankError) → result ≡ Ok page
+    → (is_page_size width height ≡ false → IsErrOf result blanks.BadSize) → is_page_size width height ≡ true
 made width height page result is refuses =
     either (is_page_size width height) (λ none. no_error page (subst (λ r. IsErrOf r blanks.BadSize) is (refuses none)))
   where
@@ -52,7 +58,8 @@ sizes width height had middle header is =
     (whole, header.width ∙ same.0, header.height ∙ same.1)
 
 -- a header and its rows are a file
-pub file_read : (width height : ℕ) (had middle left : Option (List ℕ)) (old page : Page) (rows : List ℕ) → ReadHeader (width, height) had middle → is_page_size width height ≡ true → old ≡ blank width height →
+pub file_read : (width height : ℕ) (had middle left : Option (List ℕ)) (old page : Page) (rows : List ℕ)
+    → ReadHeader (width, height) had middle → is_page_size width height ≡ true → old ≡ blank width height →
     length rows ≡ old.height * bytes_per_line old.width → Consumes middle left rows → page ≡ page_of_rows old.width old.height rows → (file : List ℕ) × IsFile page file × Consumes had left file
 file_read width height had middle left old page rows header is white long reads shown =
     let (size, wide, high) = sizes width height had middle header is in
@@ -72,7 +79,8 @@ file_read width height had middle left old page rows header is white long reads 
     )
 
 -- the input ended within the rows, or memory ran out
-pub rows_stopped : (error : ReadPbmError) (width height : ℕ) (had middle left : Option (List ℕ)) (old : Page) → ReadHeader (width, height) had middle → is_page_size width height ≡ true → old ≡ blank width height →
+pub rows_stopped : (error : ReadPbmError) (width height : ℕ) (had middle left : Option (List ℕ)) (old : Page)
+    → ReadHeader (width, height) had middle → is_page_size width height ≡ true → old ≡ blank width height →
     RowsStop error (old.height * bytes_per_line old.width) middle left → Refused error had left
 rows_stopped Truncated width height had middle left old header is white (rows, few, reads, ends) =
     let (size, wide, high) = sizes width height had middle header is in
@@ -105,3 +113,36 @@ rows_stopped ReadFault width height had middle left old header is white stopped 
 rows_stopped NotPbm width height had middle left old header is white stopped = absurd stopped
 rows_stopped BadSize width height had middle left old header is white stopped = absurd stopped
 rows_stopped NoMemory width height had middle left old header is white stopped = tt
+
+-- no page has the size of a header, or memory ran out
+pub blank_stopped : (error : BlankError) (width height : ℕ) (had middle : Option (List ℕ)) (result : Result Page BlankError) → ReadHeader (width, height) had middle → result ≡ Err error →
+    (IsErrOf result blanks.BadSize → is_page_size width height ≡ false) → Refused (refusal_of error) had middle
+blank_stopped blanks.BadSize width height had middle result header is bad =
+    let size : is_page_size width height ≡ false = bad (subst (λ r. IsErrOf r blanks.BadSize) (sym is) refl) in (
+      header_spelling header.parts,
+      header.read,
+      record {
+        parts = header.parts;
+        header = header.header;
+        spelled = refl;
+        size = sym (cut_size (width_of header.parts) (height_of header.parts)) ∙ (λ i. is_page_size (sym header.width i) (sym header.height i)) ∙ size;
+      },
+    )
+blank_stopped blanks.NoMemory width height had middle result header is bad = tt
+
+-- a file has fewer bytes than an input has reads
+pub never_most : {F : Type 0} (width height : ℕ) (page : Page) (start count : ReadCount) → start ≡ no_reads → is_page_size width height ≡ true → page ≡ blank width height →
+    F ⊎ (count.reads ≤ start.reads + 65536) → F ⊎ (most_reads ≤ count.reads + page.height * bytes_per_line page.width) → F
+never_most width height page start count none size white (inl fails) most = fails
+never_most width height page start count none size white (inr few) (inl fails) = fails
+never_most width height page start count none size white (inr few) (inr most) =
+    let wide : page.width ≡ width = ap (λ (p : Page). p.width) white ∙ width-blank width height in
+    let high : page.height ≡ height = ap (λ (p : Page). p.height) white ∙ height-blank width height in
+    let zero : start.reads ≡ 0 = ap (λ (c : ReadCount). c.reads) none in
+    let bounds : (page.width ≤ 16384) × (page.height ≤ 16384) = page_bounds width height page.width page.height size wide high in
+    let many = mul-le-mul_right (bytes_per_line page.width) bounds.1 in
+    let narrow : bytes_per_line page.width ≤ 2048 = omega (arith, bounds.0) in
+    absurd (omega (arith, many, narrow, few, most, zero))
+  where
+    page_bounds : (w h width height : ℕ) → is_page_size w h ≡ true → width ≡ w → height ≡ h → (width ≤ 16384) × (height ≤ 16384)
+    page_bounds w h width height size wide high = (grind (arith, nat_tests), grind (arith, nat_tests))

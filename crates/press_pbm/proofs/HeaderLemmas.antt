@@ -1,12 +1,15 @@
 -- A header is read byte by byte: where a reader stands behind bytes, and which bytes complete a header there.
-use Rattle.std.proofs.Common.{◌≡◌, ℕ, ◌+◌, ◌-◌, ◌*◌, ◌<◌, ◌≤◌, min, Bool, true, false, List, [], ◌∷◌, ◌++◌, length, Option, None, Some, refl, sym, ap, ◌∙◌, arith, subst, inl, inr, ◌⊎◌, append_assoc, length-append}
+use Rattle.std.proofs.Common.{◌≡◌, ℕ, ◌+◌, ◌-◌, ◌*◌, ◌<◌, ◌≤◌, min, Bool, true, false, List, [], ◌∷◌, ◌++◌, length, Option}
+use Rattle.std.proofs.Common.{None, Some, refl, sym, ap, ◌∙◌, arith, subst, inl, inr, ◌⊎◌, append_assoc, length-append}
 use Rattle.std.specs.Prelude.{nat_eq, option_and_then, if◌then◌else◌}
 use Rattle.std.specs.List.{AllByRecursion, fold}
 use Rattle.std.specs.Char.{is_ascii_digit}
 use Rattle.std.proofs.lemmas.Bool.{eqb-true}
 use Rattle.std.proofs.lemmas.Bool.Decides.{nat_tests}
 use Rattle.press_units.specs.Value.{number_of}
-use Rattle.press_pbm.specs.Header.{is_white_space, is_line_end, Piece, White, Comment, IsPiece, piece_bytes, gap_bytes, IsGap, IsNumber, HeaderParts, header_spelling, AreHeaderParts, width_of, height_of, IsHeader, BeginsHeader, IsHeaderPrefix}
+use Rattle.press_pbm.specs.Header.{is_white_space, is_line_end, Piece, White, Comment, IsPiece, piece_bytes}
+use Rattle.press_pbm.specs.Header.{gap_bytes, IsGap, IsNumber, HeaderParts, header_spelling, AreHeaderParts}
+use Rattle.press_pbm.specs.Header.{width_of, height_of, IsHeader, BeginsHeader, IsHeaderPrefix}
 use Rattle.press_pbm.specs.Reading.{past_longest, with_digit, place_in_gap, place_after, least_behind_gap, least_behind}
 use Rattle.press_pbm.specs.declared.place.Side.{Side}
 use Rattle.press_pbm.specs.declared.place.Side.TheVariants.{Width, Height}
@@ -21,7 +24,10 @@ run place (byte ∷ bytes) = option_and_then (λ next. run next bytes) (place_af
 pub run-append : (place : Place) (bytes others : List ℕ) → run place (bytes ++ others) ≡ option_and_then (λ next. run next others) (run place bytes)
 run-append place [] others = refl
 run-append place (byte ∷ bytes) others =
-    elim (place_after place byte) as (λ after. option_and_then (λ next. run next (bytes ++ others)) after ≡ option_and_then (λ next. run next others) (option_and_then (λ next. run next bytes) after)) [
+    elim (place_after place byte) as
+    (λ after.
+    option_and_then (λ next. run next (bytes ++ others)) after
+    ≡ option_and_then (λ next. run next others) (option_and_then (λ next. run next bytes) after)) [
       | None ↦ refl
       | Some next ↦ run-append next bytes others
     ]
@@ -214,7 +220,8 @@ comment_before Rest bytes comment = record {
       ap (λ l. 35 ∷ l)
       (comment.is
       ∙ ap (λ l. comment.text ++ comment.end ∷ l) comment.follows.is
-      ∙ sym (ap (λ l. l ++ comment.follows.rest) (append_assoc comment.text (comment.end ∷ []) (gap_bytes comment.follows.pieces)) ∙ append_assoc comment.text (comment.end ∷ gap_bytes comment.follows.pieces) comment.follows.rest));
+      ∙ sym (ap (λ l. l ++ comment.follows.rest) (append_assoc comment.text (comment.end ∷ []) (gap_bytes comment.follows.pieces))
+      ∙ append_assoc comment.text (comment.end ∷ gap_bytes comment.follows.pieces) comment.follows.rest));
 }
 
 -- a gap has pieces
@@ -315,7 +322,8 @@ step (at.Number (Height width) number) next byte bytes is behind =
 step (at.End width height) next byte bytes is behind = never next (byte ∷ bytes ≡ []) is
 
 -- where reading bytes gives a place, the first of them gave one
-first_step : (after : Option Place) (bytes : List ℕ) (next : Place) → option_and_then (λ place. run place bytes) after ≡ Some next → (place : Place) × (after ≡ Some place) × (run place bytes ≡ Some next)
+first_step : (after : Option Place) (bytes : List ℕ) (next : Place) → option_and_then (λ place. run place bytes) after ≡ Some next
+    → (place : Place) × (after ≡ Some place) × (run place bytes ≡ Some next)
 first_step None bytes next is = cc
 first_step (Some place) bytes next is = (place, refl, is)
 
@@ -380,7 +388,8 @@ completes (at.Number Width number) = record { more = 32 ∷ 49 ∷ 32 ∷ []; wi
 completes (at.Number (Height width) number) = record { more = 32 ∷ []; width = width; height = number; long = refl; runs = refl }
 completes (at.End width height) = record { more = []; width = width; height = height; long = refl; runs = refl }
 
-chosen_least : (test : Bool) (place next : Place) (other : Option Place) (n : ℕ) → (if test then Some place else other) ≡ Some next → n ≤ least_behind place + 1 → (other ≡ Some next → n ≤ least_behind next + 1) → n ≤ least_behind next + 1
+chosen_least : (test : Bool) (place next : Place) (other : Option Place) (n : ℕ) → (if test then Some place else other) ≡ Some next
+    → n ≤ least_behind place + 1 → (other ≡ Some next → n ≤ least_behind next + 1) → n ≤ least_behind next + 1
 chosen_least true place next other n is one others = let same : place ≡ next = cc in subst (λ p. n ≤ least_behind p + 1) same one
 chosen_least false place next other n is one others = others is
 
@@ -394,12 +403,14 @@ step_least at.Start next byte is = chosen_least (nat_eq byte 80) at.Letter next 
 step_least at.Letter next byte is = chosen_least (nat_eq byte 52) at.Magic next None 6 is (omega arith) (λ none. never next (6 ≤ least_behind next + 1) none)
 step_least at.Magic next byte is = gap_least Width next byte 5 is (omega arith)
 step_least (at.Gap side) next byte is =
-    chosen_least (is_ascii_digit byte) (at.Number side (with_digit 0 byte)) next (place_in_gap side byte) (least_behind_gap side) is (omega arith) (λ other. gap_least side next byte (least_behind_gap side) other (omega arith))
+    chosen_least (is_ascii_digit byte) (at.Number side (with_digit 0 byte)) next (place_in_gap side byte) (least_behind_gap side) is
+    (omega arith) (λ other. gap_least side next byte (least_behind_gap side) other (omega arith))
 step_least (at.Comment side) next byte is =
     chosen_least (is_line_end byte) (at.Gap side) next (Some (at.Comment side)) (least_behind_gap side + 1) is (omega arith)
     (λ other. chosen_least true (at.Comment side) next None (least_behind_gap side + 1) other (omega arith) (λ none. never next (least_behind_gap side + 1 ≤ least_behind next + 1) none))
 step_least (at.Number Width number) next byte is =
-    chosen_least (is_ascii_digit byte) (at.Number Width (with_digit number byte)) next (place_in_gap (Height number) byte) 3 is (omega arith) (λ other. gap_least (Height number) next byte 3 other (omega arith))
+    chosen_least (is_ascii_digit byte) (at.Number Width (with_digit number byte)) next (place_in_gap (Height number) byte) 3 is
+    (omega arith) (λ other. gap_least (Height number) next byte 3 other (omega arith))
 step_least (at.Number (Height width) number) next byte is =
     chosen_least (is_ascii_digit byte) (at.Number (Height width) (with_digit number byte)) next (if is_white_space byte then Some (at.End width number) else None) 1 is (omega arith)
     (λ other. chosen_least (is_white_space byte) (at.End width number) next None 1 other (omega arith) (λ none. never next (1 ≤ least_behind next + 1) none))
@@ -426,7 +437,8 @@ cut_header read place is short some =
     (last.more, omega (arith, last.long), (whole.parts, whole.are, whole.is))
 
 -- where a header begins with them, it is completed from their place
-completed : (read more : List ℕ) (after : Option Place) → run at.Start read ≡ after → IsHeader (read ++ more) → (width height : ℕ) × (option_and_then (λ place. run place more) after ≡ Some (at.End width height)) × (length (read ++ more) ≤ 65536)
+completed : (read more : List ℕ) (after : Option Place) → run at.Start read ≡ after → IsHeader (read ++ more)
+    → (width height : ℕ) × (option_and_then (λ place. run place more) after ≡ Some (at.End width height)) × (length (read ++ more) ≤ 65536)
 completed read more after is (parts, are, spelled) = (
   min (width_of parts) past_longest,
   min (height_of parts) past_longest,

@@ -1,8 +1,8 @@
+-- Lemmas on P4 files.
 pub mod AnswerLaws
 pub mod FileLemmas
 pub mod HeaderLemmas
 pub mod ReadingLemmas
 pub mod ReadBack
 pub mod RowsLemmas
-pub mod WritesLemmas
 pub mod LineLemmas

@@ -1,5 +1,6 @@
 -- The bytes of a line, from its dots.
-use Rattle.std.proofs.Common.{inl, inr, ◌≡◌, ℕ, ◌+◌, ◌-◌, ◌*◌, ◌/◌, ◌%◌, ◌<◌, ◌≤◌, ◌⊎◌, min, zero, suc, Bool, true, false, List, ◌++◌, take, drop, get_or, map, refl, sym, ap, ◌∙◌, arith, subst, append_assoc, take-append-drop}
+use Rattle.std.proofs.Common.{inl, inr, ◌≡◌, ℕ, ◌+◌, ◌-◌, ◌*◌, ◌/◌, ◌%◌, ◌<◌, ◌≤◌, ◌⊎◌, min, zero, suc, Bool, true, false, List}
+use Rattle.std.proofs.Common.{◌++◌, take, drop, get_or, map, refl, sym, ap, ◌∙◌, arith, subst, append_assoc, take-append-drop}
 use Rattle.std.specs.Prelude.{nat_eq, if◌then◌else◌}
 use Rattle.std.specs.Int.{bit_at}
 use Rattle.std.specs.List.{fold, flat_map, range_with_len}
@@ -105,7 +106,11 @@ pub IsPageLine-line_bytes : (page : Page) (y : ℕ) (bytes : List ℕ) → HasNo
 unfolding line_bytes
 IsPageLine-line_bytes page y bytes none small is =
     same_lists bytes (map byte (range_with_len 0 n)) (is.long ∙ sym (length-map-range_with_len byte 0 n))
-    (λ i d within. get_or_default bytes i d 0 within ∙ byte_of_dots-byte_dot (get_or bytes i 0) (λ j. black_at page (8 * i + j) y) (small i) (λ j inside. row_dot-byte bytes i j inside ∙ dot (8 * i + j)) ∙ sym (get_or-map-range_with_len byte 0 n i i d (subst (λ l. i < l) is.long within) (omega arith)))
+    (λ i d within.
+    get_or_default bytes i d 0 within
+    ∙ byte_of_dots-byte_dot (get_or bytes i 0) (λ j. black_at page (8 * i + j) y) (small i)
+    (λ j inside. row_dot-byte bytes i j inside ∙ dot (8 * i + j))
+    ∙ sym (get_or-map-range_with_len byte 0 n i i d (subst (λ l. i < l) is.long within) (omega arith)))
   where
     n : ℕ
     n = bytes_per_line page.width
@@ -117,7 +122,8 @@ IsPageLine-line_bytes page y bytes none small is =
     dot x = elim (cases_lt x page.width) [ inl left ↦ is.dots x left | inr right ↦ is.padding x right ∙ white_right page x y none right ]
 
 -- lines that stand one after the other are what the page's dots make
-pub ArePageLines-line_bytes : (page : Page) (count y : ℕ) (bytes : List ℕ) → HasNoDotOutside page → ((i : ℕ) → get_or bytes i 0 < 256) → ArePageLines page y count bytes → bytes ≡ flat_map (line_bytes page) (range_with_len y count)
+pub ArePageLines-line_bytes : (page : Page) (count y : ℕ) (bytes : List ℕ) → HasNoDotOutside page → ((i : ℕ) → get_or bytes i 0 < 256)
+    → ArePageLines page y count bytes → bytes ≡ flat_map (line_bytes page) (range_with_len y count)
 ArePageLines-line_bytes page zero y bytes none small are = nil_from_length bytes (are.long ∙ omega arith)
 ArePageLines-line_bytes page (suc count) y bytes none small are =
     let b : ℕ = bytes_per_line page.width in

@@ -90,7 +90,8 @@ read_back page size none =
     let width_is = number_of-decimal page.width (omega arith) in
     let height_is = number_of-decimal page.height (omega arith) in
     let short : length (header_spelling parts) ≤ 65536 =
-    header_short (decimal page.width) (decimal page.height) (length-decimal-le 5 page.width (omega arith) (omega arith) (omega arith)) (length-decimal-le 5 page.height (omega arith) (omega arith) (omega arith)) in
+    header_short (decimal page.width) (decimal page.height) (length-decimal-le 5 page.width (omega arith) (omega arith) (omega arith))
+    (length-decimal-le 5 page.height (omega arith) (omega arith) (omega arith)) in
     record {
       parts = parts;
       header = record {

@@ -1,5 +1,5 @@
 -- What reading a header byte by byte answers.
-use Rattle.std.proofs.Common.{◌≡◌, ℕ, ◌+◌, ◌<◌, ◌≤◌, List, [], ◌∷◌, ◌++◌, length, get_or, Option, Some, Result, Err, IfErr, IsErrAnd, refl, sym, ap, ◌∙◌, arith, subst, inl, append-nil}
+use Rattle.std.proofs.Common.{◌≡◌, ℕ, ◌+◌, ◌<◌, ◌≤◌, List, [], ◌∷◌, ◌++◌, length, get_or, Option, Some, Result, Err, IfErr, IsErrAnd, refl, sym, ap, ◌∙◌, arith, subst, ◌⊎◌, inl, inr, append-nil}
 use Rattle.std.proofs.lemmas.Result.{err_from_is_err_and}
 use Rattle.std.specs.Io.KnownBytes.{Consumes}
 use Rattle.std.proofs.KnownBytes.{Consumes-trans}
@@ -21,12 +21,23 @@ no_byte : (bytes : List ℕ) → length bytes < 1 → bytes ≡ []
 no_byte [] none = refl
 no_byte (byte ∷ bytes) none = absurd (omega arith)
 
+-- what holds unless a device may fail
+pub or_else : {F A B : Type 0} → F ⊎ A → (A → B) → F ⊎ B
+or_else (inl f) then = inl f
+or_else (inr a) then = inr (then a)
+
+pub or_both : {F A B C : Type 0} → F ⊎ A → F ⊎ B → (A → B → C) → F ⊎ C
+or_both (inl f) other then = inl f
+or_both (inr a) (inl f) then = inl f
+or_both (inr a) (inr b) then = inr (then a b)
+
 -- what an exit by `?` answers
 pub passed_on : {X : Type 0} (result : Result X ReadPbmError) (error : ReadPbmError) (P : ReadPbmError → Type 0) → IsErrAnd result (λ e. e ≡ error) → P error → IfErr result P
 passed_on result error P is holds = let p = err_from_is_err_and result is in subst (λ r. IfErr r P) (sym (p.1 ∙ ap Err p.2)) holds
 
 -- the bytes so far, and one more
-pub one_more : (had middle left : Option (List ℕ)) (read buffer : List ℕ) → Consumes had middle read → length buffer ≡ 1 → Consumes middle left buffer → Consumes had left (read ++ get_or buffer 0 0 ∷ [])
+pub one_more : (had middle left : Option (List ℕ)) (read buffer : List ℕ) → Consumes had middle read → length buffer ≡ 1
+    → Consumes middle left buffer → Consumes had left (read ++ get_or buffer 0 0 ∷ [])
 one_more had middle left read buffer first one more = subst (λ l. Consumes had left (read ++ l)) (one_byte buffer one) (Consumes-trans had middle left read buffer first more)
 
 -- the next byte was not read
@@ -41,11 +52,13 @@ stopped_in_header BadSize had middle left read place wanted first is short some 
 stopped_in_header NoMemory had middle left read place wanted first is short some one stopped = absurd stopped
 
 -- the bytes so far and one more lead to the next place
-pub run-more : (read : List ℕ) (byte : ℕ) (place : Place) (next : Option Place) (after : Place) → run at.Start read ≡ Some place → place_after place byte ≡ next → next ≡ Some after → run at.Start (read ++ byte ∷ []) ≡ Some after
+pub run-more : (read : List ℕ) (byte : ℕ) (place : Place) (next : Option Place) (after : Place) → run at.Start read ≡ Some place
+    → place_after place byte ≡ next → next ≡ Some after → run at.Start (read ++ byte ∷ []) ≡ Some after
 run-more read byte place next after is gives some = run-then at.Start place (Some after) read (byte ∷ []) is (run-byte place after (Some after) byte [] (gives ∙ some) refl)
 
 -- a header was read to its end
-pub read_header_of : (had left : Option (List ℕ)) (bytes : List ℕ) (width height : ℕ) → run at.Start bytes ≡ Some (at.End width height) → length bytes ≤ 65536 → Consumes had left bytes → ReadHeader (width, height) had left
+pub read_header_of : (had left : Option (List ℕ)) (bytes : List ℕ) (width height : ℕ) → run at.Start bytes ≡ Some (at.End width height)
+    → length bytes ≤ 65536 → Consumes had left bytes → ReadHeader (width, height) had left
 read_header_of had left bytes width height is short reads =
     let whole = found bytes width height is short in
     record { parts = whole.parts; header = whole.are; read = subst (Consumes had left) whole.is reads; width = whole.width_is; height = whole.height_is }

@@ -1,8 +1,6 @@
 -- The P4 file that a page is written as (Netpbm, the PBM format).
-use Rattle.std.specs.Prelude.{◌≡◌, ℕ, ◌+◌, ◌*◌, Bool, if◌then◌else◌, List, ◌++◌, map, codes, decimal}
-use Rattle.std.specs.Prelude.{Option, Result, MatchResult}
+use Rattle.std.specs.Prelude.{ℕ, ◌+◌, ◌*◌, Bool, if◌then◌else◌, List, ◌++◌, map, codes, decimal}
 use Rattle.std.specs.List.{fold, flat_map, range_with_len}
-use Rattle.std.specs.Io.KnownBytes.{Appends}
 use Rattle.press_bits.specs.Page.{Page, black_at}
 use Rattle.press_bits.specs.Lines.{bytes_per_line}
 
@@ -21,11 +19,3 @@ header_of page = codes "P4\n" ++ (decimal page.width ++ (codes " " ++ (decimal p
 -- The file: the header, and the lines from the top.
 abbrev pub file_of : Page → List ℕ
 file_of page = header_of page ++ flat_map (line_bytes page) (range_with_len 0 page.height)
-
--- A prefix of the bytes was added.
-abbrev pub AppendsPrefix : Option (List ℕ) → Option (List ℕ) → List ℕ → Type 0
-AppendsPrefix old new bytes = (prefix back : List ℕ) × (bytes ≡ prefix ++ back) × Appends old new prefix
-
--- The bytes were written: all of them, or a prefix of them where a write failed.
-abbrev pub Writes : {X E : Type 0} → Result X E → Option (List ℕ) → Option (List ℕ) → List ℕ → Type 0
-Writes result old new bytes = MatchResult result (λ _. Appends old new bytes) (λ _. AppendsPrefix old new bytes)

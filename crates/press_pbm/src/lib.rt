@@ -13,4 +13,4 @@ pub use fault::{ReadPbmError, WRITE_FAULT, WritePbmError};
 pub use fuse_read::FuseRead;
 pub use fuse_write::FuseWrite;
 pub use reading::read_pbm;
-pub use writing::{write_pbm, write_whole};
+pub use writing::write_pbm;

@@ -1,8 +1,7 @@
 //! Worked files, and devices that fail.
 use press_bits::Bitmap;
-use press_pbm::{
-    FuseRead, FuseWrite, ReadPbmError, WritePbmError, read_pbm, write_pbm, write_whole,
-};
+use press_devices::write_whole;
+use press_pbm::{FuseRead, FuseWrite, ReadPbmError, WritePbmError, read_pbm, write_pbm};
 use std::alloc::Global;
 use std::io::{self, ErrorKind, Read, Write};
 use std::process::Abort;

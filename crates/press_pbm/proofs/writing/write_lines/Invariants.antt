@@ -9,4 +9,4 @@ abbrev pub invariant-loop-index : goal.invariant-loop-index
 invariant-loop-index g l =
     (done : List ℕ)
     × (flat_map (line_bytes l.fn.bitmap) (range_with_len 0 l.fn.bitmap.height) ≡ done ++ flat_map (line_bytes l.fn.bitmap) (range_with_len (64 * l.index) (l.fn.bitmap.height - 64 * l.index)))
-    × Appends (g.W.Write.contents l.fn.output) (g.W.Write.contents l.output) done
+    × Appends (g.W.WriteDevice.contents l.fn.output) (g.W.WriteDevice.contents l.output) done
