@@ -1,3 +1,4 @@
+-- Lemmas on sinks and outputs.
 pub mod FuseLemmas
 pub mod OutputsLemmas
 pub mod SendingLemmas

@@ -5,7 +5,8 @@ use Rattle.std.proofs.KnownBytes.{Appends-nil, Appends-trans}
 use Rattle.std.specs.Io.KnownBytes.{Appends}
 use Rattle.press_sink.specs.PrintedSheet.{PrintedSheet}
 use Rattle.press_sink.specs.SinkLog.{SinkLog}
-use Rattle.press_sink.specs.Sending.{Output, Deliver, Reply, Ending, Complete, AtSheet, AtReply, ForMemory, Refused, sheets_of, sheets_in, under_tag, reply_bytes_of, GoesOut, sheet_faults_after, reply_faults_after, WentOut}
+use Rattle.press_sink.specs.Sending.{Output, Deliver, Reply, Ending, Complete, AtSheet, AtReply, ForMemory, Refused, sheets_of}
+use Rattle.press_sink.specs.Sending.{sheets_in, under_tag, reply_bytes_of, GoesOut, sheet_faults_after, reply_faults_after, WentOut}
 
 -- the sheets of outputs, and of others behind them
 pub sheets_of-append : (outputs others : List Output) → sheets_of (outputs ++ others) ≡ sheets_of outputs ++ sheets_of others
@@ -91,7 +92,9 @@ goes-then ForMemory outputs went others (more, is) = (more, ap (λ all. outputs 
 goes-then Refused outputs went others none = none
 
 -- all of the outputs went out, and then others so far
-pub WentOut-then : (tag : ℕ) (outputs others : List Output) (ending : Ending) (before between after : SinkLog) → WentOut tag outputs Complete before between → WentOut tag others ending between after → WentOut tag (outputs ++ others) ending before after
+pub WentOut-then : (tag : ℕ) (outputs others : List Output) (ending : Ending) (before between after : SinkLog)
+    → WentOut tag outputs Complete before between → WentOut tag others ending between after
+    → WentOut tag (outputs ++ others) ending before after
 WentOut-then tag outputs others ending before between after first then = record {
   went = outputs ++ then.went;
   goes = goes-then ending outputs then.went others then.goes;
@@ -102,7 +105,8 @@ WentOut-then tag outputs others ending before between after first then = record 
       ∙ ap (λ more. option_map (λ all. all ++ more) before.sheets.delivered) (sym (tagged-append tag outputs then.went));
   replied =
       subst (Appends before.replies.replied after.replies.replied) (sym (reply_bytes_of-append outputs then.went))
-      (Appends-trans before.replies.replied between.replies.replied after.replies.replied (reply_bytes_of outputs) (reply_bytes_of then.went) (all-replied tag outputs before between first) then.replied);
+      (Appends-trans before.replies.replied between.replies.replied after.replies.replied (reply_bytes_of outputs)
+      (reply_bytes_of then.went) (all-replied tag outputs before between first) then.replied);
   sheet_faults = then.sheet_faults ∙ ap (sheet_faults_after ending) first.sheet_faults;
   reply_faults = then.reply_faults ∙ ap (reply_faults_after ending) first.reply_faults;
 }
@@ -118,7 +122,8 @@ goes-stopped ForMemory went outputs others stops (more, is) = (more ++ others, a
 goes-stopped Refused went outputs others stops none = none
 
 -- outputs that did not all go out, and others behind them
-pub WentOut-stopped : (tag : ℕ) (outputs others : List Output) (ending : Ending) (before after : SinkLog) → (ending ≡ Complete → ⊥) → WentOut tag outputs ending before after → WentOut tag (outputs ++ others) ending before after
+pub WentOut-stopped : (tag : ℕ) (outputs others : List Output) (ending : Ending) (before after : SinkLog) → (ending ≡ Complete → ⊥)
+    → WentOut tag outputs ending before after → WentOut tag (outputs ++ others) ending before after
 WentOut-stopped tag outputs others ending before after stops stopped = record {
   went = stopped.went;
   goes = goes-stopped ending stopped.went outputs others stops stopped.goes;

@@ -34,7 +34,8 @@ found_spells text front back i j h f b =
     sym (take-append-drop i text) ∙ ap (λ l. take i text ++ l) h.split ∙ ap (λ l. take i text ++ (place ++ l)) (sym b) ∙ ap (λ l. l ++ (place ++ back)) (sym f)
 
 -- the front and the back of the first place, where no other stands in the back
-pub first_alone : (text front back : List ℕ) (i j : ℕ) → FindsText place text (Some (i, j)) → front ≡ take i text → back ≡ drop j text → length front ≡ i → FindsText place back None → IsTemplate text (record { front = front; back = back })
+pub first_alone : (text front back : List ℕ) (i j : ℕ) → FindsText place text (Some (i, j)) → front ≡ take i text → back ≡ drop j text
+    → length front ≡ i → FindsText place back None → IsTemplate text (record { front = front; back = back })
 first_alone text front back i j found f b at none =
     let spells = found_spells text front back i j found.1 f b in
     let before : (k : ℕ) → k < length front → LacksTextAt place (front ++ (place ++ back)) k

@@ -9,7 +9,7 @@ use Rattle.press_sink.specs.declared.fuse_sink.FuseSink.{FuseSink}
 use Rattle.press_sink.specs.declared.write_replies.WriteReplies.{WriteReplies}
 use Rattle.press_sink.specs.declared.template.Template.{Template}
 use Rattle.press_sink.specs.declared.folder_sink.FolderSink.{FolderSink}
-use Rattle.press_sink.specs.declared.folder_sink.Side.{Side}
+use Rattle.press_sink.specs.declared.side.Side.{Side}
 use Rattle.press_sink.specs.declared.list_outputs.ListedOutput.{ListedOutput}
 use Rattle.press_sink.specs.declared.list_outputs.ListOutputs.{ListOutputs}
 use Rattle.press_pbm.specs.Spelling.{file_of}
@@ -59,11 +59,11 @@ abbrev pub own_reply_faults : {S : Type 0} → FuseReplies S → ℕ
 own_reply_faults fuse = fuse.faults
 
 -- the writer to which replies are written
-abbrev pub reply_writer : {W : Type 0} → WriteReplies W → W
+abbrev pub reply_writer : {W : Type 0} {w : _} → WriteReplies W w → W
 reply_writer sink = sink.writer
 
 -- how many replies failed there
-abbrev pub write_faults : {W : Type 0} → WriteReplies W → ℕ
+abbrev pub write_faults : {W : Type 0} {w : _} → WriteReplies W w → ℕ
 write_faults sink = sink.faults
 
 -- what stands before and behind the place of the number in a template
@@ -71,19 +71,19 @@ abbrev pub template_parts : Template → NameParts
 template_parts template = record { front = string_bytes template.front; back = string_bytes template.back }
 
 -- the same in the template of a folder sink
-abbrev pub name_parts : {F : Type 0} → FolderSink F → NameParts
+abbrev pub name_parts : {O X : Type 0} {o w : _} → FolderSink O X o w → NameParts
 name_parts sink = template_parts sink.template
 
 -- the number of the next side that a folder sink writes
-abbrev pub next_number : {F : Type 0} → FolderSink F → ℕ
+abbrev pub next_number : {O X : Type 0} {o w : _} → FolderSink O X o w → ℕ
 next_number sink = sink.number
 
 -- how many faults a folder sink had
-abbrev pub file_faults : {F : Type 0} → FolderSink F → ℕ
+abbrev pub file_faults : {O X : Type 0} {o w : _} → FolderSink O X o w → ℕ
 file_faults sink = sink.faults
 
 -- where a folder sink makes its outputs
-abbrev pub outputs_of : {O : Type 0} → FolderSink O → O
+abbrev pub outputs_of : {O X : Type 0} {o w : _} → FolderSink O X o w → O
 outputs_of sink = sink.outputs
 
 -- what is made of a side

@@ -1,3 +1,4 @@
+-- Sheets and replies, and where they go.
 pub mod Faults
 pub mod Kept
 pub mod Outputs

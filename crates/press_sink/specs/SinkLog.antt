@@ -43,6 +43,10 @@ most_faults = greatest_of_64_bits
 abbrev pub unlisted_log : ℕ → SheetLog
 unlisted_log faults = record { delivered = None; faults = faults }
 
+-- what a sink over a writer tells: the bytes that the writer holds, where they are known
+abbrev pub written_log : Option (List ℕ) → ℕ → ReplyLog
+written_log bytes faults = record { replied = bytes; faults = faults }
+
 -- what a sink over another tells, which had so many faults of its own
 abbrev pub with_own_faults : SheetLog → ℕ → SheetLog
 with_own_faults told own = record { delivered = told.delivered; faults = min (told.faults + own) most_faults }

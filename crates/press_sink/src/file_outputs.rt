@@ -1,6 +1,7 @@
 //! The files of a file system as named outputs (this profile).
 use crate::named_outputs::NamedOutputs;
 use crate::output_file::OutputFile;
+use press_devices::WriteDevice;
 use std::alloc::{AllocError, Global};
 use std::fmt::Write as _;
 use std::fs::{self, File, Files, Metadata, OpenFile, OpenOptions};
@@ -187,7 +188,7 @@ impl<F: Files> NamedOutputs for FileOutputs<'_, F> {
     }
 
     fn close(&mut self, mut output: OutputFile<F::File>) -> io::Result<()> {
-        let mut closed = output.flush();
+        let mut closed = output.flush_all();
         self.buffer = output.into_buffer();
         if closed.is_ok() {
             closed = self.place();

@@ -1,30 +1,29 @@
 //! The sink that makes an output for each side of a sheet (Netpbm, the raw form of the PBM format).
-ghost use Rattle.std.specs.Prelude.{◌≡◌, ◌∷◌, [], IfOk, IfErr, IsErrAnd, OnOk, OnErr, ◌<◌};
-ghost use Rattle.press_sink.specs.Kept.{name_parts, next_number, file_faults, outputs_of, output_of_side};
-ghost use Rattle.press_sink.specs.Outputs.{side_output, sheet_outputs, MakesOutputs};
-ghost use Rattle.press_sink.specs.Template.{IsTemplate, IsNoTemplate, number_after, side_count};
-ghost use Rattle.press_sink.specs.SinkLog.{Delivers, most_faults, unlisted_log};
+ghost use Rattle.std.specs.Prelude.{◌≡◌, ◌≢◌, true};
+ghost use Rattle.press_sink.specs.Template.{side_count};
 
 use crate::fault::{SinkError, TemplateError};
-use crate::named_outputs::{NamedOutputs, write_page};
+use crate::named_outputs::NamedOutputs;
 use crate::sheet::Sheet;
+use crate::side::{Side, make_side};
 use crate::sink::SheetSink;
 use crate::template::Template;
 use press_bits::Bitmap;
 use std::alloc::Global;
 
 /// A sheet sink that makes an output of its own for each side, a P4 file, whose name is a template with the number of the side,
-/// from 1 on, fronts before backs. It tells no list of sheets.
+/// from 1 on, fronts before backs. It tells no list of sheets. It counts the sheets at which an output failed.
 ///
 /// Source: Netpbm, the raw form of the PBM format; the names are this profile's.
 #[derive(Drop)]
-pub struct FolderSink<O> {
+pub struct FolderSink<O: NamedOutputs> {
     outputs: O,
     alloc: Global,
     template: Template,
     /// The number of the next side.
     number: u64,
     faults: u64,
+    pub ghost cause: { faults ≢ 0 → O.Output.can_fail ≡ true },
 }
 
 /// Why no folder sink was opened, and where it would have made its outputs.
@@ -34,14 +33,12 @@ pub struct Unopened<O> {
     pub outputs: O,
 }
 
-/// A side of a sheet, and the name of its output.
-#[derive(Drop)]
-struct Side<'a> {
-    page: &'a Bitmap,
-    name: String,
-}
-
 impl<O: NamedOutputs + Drop> FolderSink<O> {
+    ghost use Rattle.std.specs.Prelude.{◌≡◌, true, IfOk, IfErr, IsErrAnd};
+    ghost use Rattle.press_sink.specs.Kept.{name_parts, next_number, file_faults, outputs_of, output_of_side};
+    ghost use Rattle.press_sink.specs.Outputs.{side_output, sheet_outputs, MakesOutputs};
+    ghost use Rattle.press_sink.specs.Template.{IsTemplate, IsNoTemplate};
+
     /// A sink that makes its outputs by this template.
     ///
     /// # Errors
@@ -99,6 +96,8 @@ impl<O: NamedOutputs + Drop> FolderSink<O> {
         ensures template { name_parts self.new ≡ name_parts self.old }
         ensures number { next_number self.new ≡ next_number self.old }
         ensures faults { file_faults self.new ≡ file_faults self.old }
+        ensures cause { IfErr result (λ error.
+            error ≡ SinkError.SinkFault → O.Output.can_fail ≡ true) }
     {
         let front = self.side(self.number, &sheet.front)?;
         let Some(page) = &sheet.back else {
@@ -110,18 +109,6 @@ impl<O: NamedOutputs + Drop> FolderSink<O> {
     }
 }
 
-/// Makes the output of a side.
-fn make_side<O: NamedOutputs>(outputs: &mut O, side: &Side<'_>) -> Result<(), SinkError>
-    ensures made { MakesOutputs result (output_of_side side.now ∷ [])
-        (O.made outputs.old) (O.made outputs.new) }
-    ensures fault { IfErr result (λ error. error ≡ SinkError.SinkFault) }
-{
-    match write_page(outputs, side.name.as_str(), side.page) {
-        Ok(()) => Ok(()),
-        Err(_) => Err(SinkError::SinkFault),
-    }
-}
-
 /// How many sides of a sheet are printed.
 fn count_sides(sheet: &Sheet) -> u64
     ensures { result ≡ side_count sheet.now }
@@ -130,6 +117,12 @@ fn count_sides(sheet: &Sheet) -> u64
 }
 
 impl<O: NamedOutputs + Drop> SheetSink for FolderSink<O> {
+    ghost use Rattle.std.specs.Prelude.{◌≡◌, ◌<◌, true, IfErr, OnOk, OnErr};
+    ghost use Rattle.press_sink.specs.Kept.{name_parts, next_number, file_faults, outputs_of};
+    ghost use Rattle.press_sink.specs.Outputs.{sheet_outputs, MakesOutputs};
+    ghost use Rattle.press_sink.specs.Template.{number_after, side_count};
+    ghost use Rattle.press_sink.specs.SinkLog.{Delivers, most_faults, unlisted_log};
+
     ghost told = { λ sink. unlisted_log sink.faults };
 
     fn faults(&self) -> u64 {
@@ -150,6 +143,8 @@ impl<O: NamedOutputs + Drop> SheetSink for FolderSink<O> {
         ensures numbers { OnOk result
             (next_number self.new ≡ number_after (side_count sheet.now) (next_number self.old)) }
         ensures stays { OnErr result (next_number self.new ≡ next_number self.old) }
+        ensures cause { IfErr result (λ error.
+            error ≡ SinkError.SinkFault → O.Output.can_fail ≡ true) }
     {
         match self.make_sheet(sheet) {
             Ok(()) => self.number = self.number.saturating_add(count_sides(sheet)),

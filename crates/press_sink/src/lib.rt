@@ -12,6 +12,7 @@ mod list_sink;
 mod named_outputs;
 mod output_file;
 mod sheet;
+mod side;
 mod sink;
 mod template;
 mod write_replies;

@@ -1,12 +1,13 @@
 //! Outputs that are made by their names, one after another (this profile).
-ghost use Rattle.std.specs.Prelude.{◌≡◌, ◌∷◌, [], List, Option, option_map, IfOk, OnOk, OnErr};
+ghost use Rattle.std.specs.Prelude.{◌≡◌, ◌∷◌, [], true, List, Option, option_map, IfOk, OnOk, OnErr};
 ghost use Rattle.press_pbm.specs.Spelling.{file_of};
 ghost use Rattle.press_sink.specs.Outputs.{MadeOutput, MakesPrefix, Closes, GivesUp, opened, holding, with_outputs};
 
 use press_bits::Bitmap;
-use press_pbm::{WritePbmError, write_pbm, write_whole};
+use press_devices::{WriteDevice, write_whole};
+use press_pbm::{WritePbmError, write_pbm};
 use std::alloc::AllocError;
-use std::io::{self, Write};
+use std::io;
 
 /// Where outputs are made by their names, one after another. What stood under the name of an output before is replaced when it is whole.
 /// No output is an input: what an input has stays as it is, whatever is made.
@@ -14,8 +15,8 @@ pub trait NamedOutputs {
     /// What was made, in order, where that is known.
     ghost made: { Self → Option (List MadeOutput) };
 
-    /// An output that is open.
-    type Output: Write + Drop;
+    /// An output that is open. Its `can_fail` says whether making, writing or closing one may fail.
+    type Output: WriteDevice + Drop;
 
     /// Notes an input by its name: an output that would replace it, as far as that can be told, cannot be made.
     ///
@@ -35,7 +36,8 @@ pub trait NamedOutputs {
             (made self.new ≡ with_outputs (opened name.now ∷ []) (made self.old)) }
         ensures empty { IfOk result (λ output.
             Self.Output.contents output ≡ option_map (λ _. []) (made self.old)) }
-        ensures fault { OnErr result (made self.new ≡ made self.old) };
+        ensures fault { OnErr result (made self.new ≡ made self.old) }
+        ensures cause { OnErr result (Self.Output.can_fail ≡ true) };
 
     /// Closes the output that was made last. It holds what was written to it.
     ///
@@ -43,7 +45,9 @@ pub trait NamedOutputs {
     ///
     /// Where what was written does not come through; the output holds a prefix of it then.
     fn close(&mut self, output: Self::Output) -> io::Result<()>
-        ensures { Closes result (Self.Output.contents output) (made self.old) (made self.new) };
+        ensures closes { Closes result (Self.Output.contents output)
+            (made self.old) (made self.new) }
+        ensures cause { OnErr result (Self.Output.can_fail ≡ true) };
 
     /// Gives up the output that was made last, which is not whole. It holds a prefix of what was written to it, or is removed where
     /// nothing tells of it.
@@ -61,6 +65,7 @@ pub fn write_output<O: NamedOutputs>(outputs: &mut O, name: &str, bytes: &[u8]) 
         ≡ with_outputs (holding name.now bytes.now ∷ []) (O.made outputs.old)) }
     ensures fault { OnErr result (MakesPrefix (holding name.now bytes.now ∷ [])
         (O.made outputs.old) (O.made outputs.new)) }
+    ensures cause { OnErr result (O.Output.can_fail ≡ true) }
 {
     let mut output = outputs.make(name)?;
     match write_whole(&mut output, bytes) {
@@ -88,6 +93,7 @@ pub fn write_page<O: NamedOutputs>(
         ≡ with_outputs (holding name.now (file_of page.now) ∷ []) (O.made outputs.old)) }
     ensures fault { OnErr result (MakesPrefix (holding name.now (file_of page.now) ∷ [])
         (O.made outputs.old) (O.made outputs.new)) }
+    ensures cause { OnErr result (O.Output.can_fail ≡ true) }
 {
     let Ok(mut output) = outputs.make(name) else {
         return Err(WritePbmError::WriteFault);

@@ -1,5 +1,5 @@
 //! A file that is being written (this profile).
-use press_pbm::write_whole;
+use press_devices::write_whole;
 use std::io::{self, Write};
 
 /// A file that is open, behind a buffer: it takes one write for as many bytes as that has room for. What it holds is not known.

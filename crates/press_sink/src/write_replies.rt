@@ -1,22 +1,23 @@
 //! The reply sink over a writer.
-ghost use Rattle.std.specs.Prelude.{◌≡◌};
-ghost use Rattle.press_pbm.specs.Spelling.{Writes};
-ghost use Rattle.press_sink.specs.Kept.{reply_writer, write_faults};
+ghost use Rattle.std.specs.Prelude.{◌≡◌, ◌≢◌, true};
 
 use crate::fault::ReplyError;
 use crate::sink::ReplySink;
-use press_pbm::write_whole;
-use std::io::{self, Write};
+use press_devices::{WriteDevice, write_flushed};
 
 /// A sink that writes replies to a writer, and flushes it after each of them, so that a host has its answer before it goes on.
 /// It counts the replies at which a write or the flush failed.
 #[derive(Drop)]
-pub struct WriteReplies<W: Write + Drop> {
+pub struct WriteReplies<W: WriteDevice + Drop> {
     writer: W,
     faults: u64,
+    pub ghost cause: { faults ≢ 0 → W.can_fail ≡ true },
 }
 
-impl<W: Write + Drop> WriteReplies<W> {
+impl<W: WriteDevice + Drop> WriteReplies<W> {
+    ghost use Rattle.std.specs.Prelude.{◌≡◌};
+    ghost use Rattle.press_sink.specs.Kept.{reply_writer, write_faults};
+
     /// A sink over a writer, without a fault so far.
     pub fn new(writer: W) -> Self
         ensures writer { reply_writer result ≡ writer }
@@ -34,23 +35,26 @@ impl<W: Write + Drop> WriteReplies<W> {
     }
 }
 
-/// Writes all the bytes and flushes the writer; a prefix of them is written where that failed.
-fn send<W: Write>(writer: &mut W, bytes: &[u8]) -> io::Result<()>
-    ensures { Writes result (W.contents writer.old) (W.contents writer.new) bytes.now }
-{
-    write_whole(writer, bytes)?;
-    writer.flush()
-}
+impl<W: WriteDevice + Drop> ReplySink for WriteReplies<W> {
+    ghost use Rattle.std.specs.Prelude.{◌≡◌, ◌<◌, true, OnErr};
+    ghost use Rattle.press_sink.specs.SinkLog.{Replies, most_faults, written_log};
+    ghost use Rattle.press_sink.specs.Kept.{reply_writer, write_faults};
 
-impl<W: Write + Drop> ReplySink for WriteReplies<W> {
-    ghost told = { λ sink. record { replied = W.contents sink.writer; faults = sink.faults } };
+    ghost told = { λ sink. written_log (W.contents sink.writer) sink.faults };
 
     fn faults(&self) -> u64 {
         self.faults
     }
 
-    fn reply(&mut self, bytes: &[u8]) -> Result<(), ReplyError> {
-        if send(&mut self.writer, bytes).is_ok() {
+    /// Writes the bytes to the writer, and flushes it. `ReplyFault` (302): that failed; a prefix of them was written.
+    fn reply(&mut self, bytes: &[u8]) -> Result<(), ReplyError>
+        requires { write_faults self.old < most_faults }
+        ensures replies { Replies
+            (written_log (W.contents (reply_writer self.old)) (write_faults self.old)) bytes.now
+            result (written_log (W.contents (reply_writer self.new)) (write_faults self.new)) }
+        ensures cause { OnErr result (W.can_fail ≡ true) }
+    {
+        if write_flushed(&mut self.writer, bytes).is_ok() {
             return Ok(());
         }
         self.faults += 1;

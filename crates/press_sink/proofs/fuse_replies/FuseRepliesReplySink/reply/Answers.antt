@@ -4,7 +4,8 @@ use Rattle.press_sink.proofs.fuse_replies.FuseRepliesReplySink.reply.Goals as go
 
 pub returns-in-Err-ReplyFault-clause-replies : goal.returns-in-Err-ReplyFault-clause-replies
 returns-in-Err-ReplyFault-clause-replies g c =
-    fuse-passed (g.S.ReplySink.told c.args.self.now.sink) (g.S.ReplySink.told c.reply.new.self) c.args.self.now.faults (take c.min.result c.args.bytes.now) (drop c.min.result c.args.bytes.now) c.args.bytes.now
+    fuse-passed (g.S.ReplySink.told c.args.self.now.sink) (g.S.ReplySink.told c.reply.new.self) c.args.self.now.faults
+    (take c.min.result c.args.bytes.now) (drop c.min.result c.args.bytes.now) c.args.bytes.now
     c.in-Err-ReplyFault.field-0 c.in-Err-ReplyFault.field-0-is (sym (take-append-drop c.min.result c.args.bytes.now)) c.in-Err-ReplyFault.ensures (omega arith)
 
 pub returns-in-Ok-clause-replies : goal.returns-in-Ok-clause-replies
