@@ -41,7 +41,8 @@ IsLeft given job owing = (machine : Machine) → left given job.bodies machine �
 command_is_left : (bodies : List Activation) (command : Token) (machine : Machine) → bodies ≡ [] → left (command ∷ []) bodies machine ≡ trace_at macro_levels command machine
 command_is_left bodies command machine idle = ap (λ (these : List Activation). left (command ∷ []) these machine) idle ∙ left-one command machine
 
-does_step : (given : List Token) (old new : JobState) (owing : Machine → List StepResult) (step : StepOutput) → TakesGiven old given new → IsLeft given old owing → Steps old.machine owing step new.machine new.bodies → DoesStep old step new
+does_step : (given : List Token) (old new : JobState) (owing : Machine → List StepResult) (step : StepOutput) → TakesGiven old given new
+    → IsLeft given old owing → Steps old.machine owing step new.machine new.bodies → DoesStep old step new
 does_step given old new owing step takes is s = (
   s.after,
   record { given = given; takes = takes; from = s.before; starts = s.was; ends = s.is; is_kind = s.steps.kind; are = is s.before ∙ s.steps.owes },
@@ -56,25 +57,32 @@ abbrev running_job : ScannerState → Option Machine → List Activation → Job
 running_job held machine bodies = record { held = held; machine = machine; bodies = bodies; exited = false }
 
 -- a step that took a command that was held
-pub DoesStep-next : (held next : ScannerState) (old new : Option Machine) (bodies still : List Activation) (step : StepOutput) → bodies ≡ [] → CarriesNext held old (Ok (Some step)) next new still → DoesStep (running_job held old bodies) step (running_job next new still)
+pub DoesStep-next : (held next : ScannerState) (old new : Option Machine) (bodies still : List Activation) (step : StepOutput)
+    → bodies ≡ [] → CarriesNext held old (Ok (Some step)) next new still
+    → DoesStep (running_job held old bodies) step (running_job next new still)
 DoesStep-next held next old new bodies still step idle (command, passes, s) =
     does_step (command ∷ []) (running_job held old bodies) (running_job next new still) (trace_at macro_levels command) step
     (inr (inl (command, refl, idle, refl, refl, passes))) (λ machine. command_is_left bodies command machine idle) s
 
-pub Stops-next : (held next : ScannerState) (old new : Option Machine) (bodies still : List Activation) (error : JobError) → bodies ≡ [] → CarriesNext held old (Err error) next new still → TakesStep (running_job held old bodies) (Err error) (running_job next new still)
+pub Stops-next : (held next : ScannerState) (old new : Option Machine) (bodies still : List Activation) (error : JobError) → bodies ≡ []
+    → CarriesNext held old (Err error) next new still → TakesStep (running_job held old bodies) (Err error) (running_job next new still)
 Stops-next held next old new bodies still error idle (command, passes, (is, needs, gone)) =
     let P : JobError → Type 0 = λ one. TakesStep (running_job held old bodies) (Err one) (running_job next new still) in
     subst P (sym is) (inr (command, (idle, refl, inl (next, passes)), needs), gone)
 
 -- a step that took the exit, where nothing was held
-pub DoesStep-exit : (held next : ScannerState) (old between new : Option Machine) (bodies none still : List Activation) (step : StepOutput) → bodies ≡ [] → next.ended ≡ true → CarriesNext held old (Ok None) next between none → CarriesOne Uel between (Ok step) new still → DoesStep (running_job held old bodies) step (record { held = next; machine = new; bodies = still; exited = true })
+pub DoesStep-exit : (held next : ScannerState) (old between new : Option Machine) (bodies none still : List Activation) (step : StepOutput)
+    → bodies ≡ [] → next.ended ≡ true → CarriesNext held old (Ok None) next between none → CarriesOne Uel between (Ok step) new still
+    → DoesStep (running_job held old bodies) step (record { held = next; machine = new; bodies = still; exited = true })
 DoesStep-exit held next old between new bodies none still step idle ended nothing s =
     let P : Option Machine → Type 0 = λ machine. Steps machine (trace_at macro_levels Uel) step new still in
     let over : held.ended ≡ true = ap (λ (now : ScannerState). now.ended) (sym nothing.1) ∙ ended in
     does_step (Uel ∷ []) (running_job held old bodies) (record { held = next; machine = new; bodies = still; exited = true }) (trace_at macro_levels Uel) step
     (inr (inr (refl, idle, refl, refl, nothing.1, over, nothing.0))) (λ machine. command_is_left bodies Uel machine idle) (subst P nothing.2 s)
 
-pub Stops-exit : (held next : ScannerState) (old between new : Option Machine) (bodies none still : List Activation) (error : JobError) → bodies ≡ [] → next.ended ≡ true → CarriesNext held old (Ok None) next between none → CarriesOne Uel between (Err error) new still → TakesStep (running_job held old bodies) (Err error) (running_job next new still)
+pub Stops-exit : (held next : ScannerState) (old between new : Option Machine) (bodies none still : List Activation) (error : JobError)
+    → bodies ≡ [] → next.ended ≡ true → CarriesNext held old (Ok None) next between none → CarriesOne Uel between (Err error) new still
+    → TakesStep (running_job held old bodies) (Err error) (running_job next new still)
 Stops-exit held next old between new bodies none still error idle ended nothing (is, needs, gone) =
     let over : held.ended ≡ true = ap (λ (now : ScannerState). now.ended) (sym nothing.1) ∙ ended in
     let P : JobError → Type 0 = λ one. TakesStep (running_job held old bodies) (Err one) (running_job next new still) in
@@ -82,11 +90,13 @@ Stops-exit held next old between new bodies none still error idle ended nothing 
     subst P (sym is) (inr (Uel, (idle, refl, inr (over, nothing.0, refl)), subst Q nothing.2 needs), gone)
 
 -- what a step that took a command leaves
-pub Fits-next : (held next : ScannerState) (old new : Option Machine) (still : List Activation) (step : StepOutput) → held.room ≡ buffer_size → CarriesNext held old (Ok (Some step)) next new still → IsSome new × (next.room ≡ buffer_size)
+pub Fits-next : (held next : ScannerState) (old new : Option Machine) (still : List Activation) (step : StepOutput)
+    → held.room ≡ buffer_size → CarriesNext held old (Ok (Some step)) next new still → IsSome new × (next.room ≡ buffer_size)
 Fits-next held next old new still step room (command, passes, s) =
     (subst (λ (machine : Option Machine). IsSome machine) (sym s.is) refl, passes.room ∙ room)
 
-pub Fits-nothing : (held next : ScannerState) (old new : Option Machine) (still : List Activation) → IsSome old → held.room ≡ buffer_size → CarriesNext held old (Ok None) next new still → IsSome new × (next.room ≡ buffer_size)
+pub Fits-nothing : (held next : ScannerState) (old new : Option Machine) (still : List Activation) → IsSome old → held.room ≡ buffer_size
+    → CarriesNext held old (Ok None) next new still → IsSome new × (next.room ≡ buffer_size)
 Fits-nothing held next old new still running room nothing =
     (subst (λ (machine : Option Machine). IsSome machine) (sym nothing.2) running, ap (λ (now : ScannerState). now.room) nothing.1 ∙ room)
 
@@ -100,7 +110,9 @@ ending-same engine_errors.NoMemory = refl
 ending-same engine_errors.Failed = refl
 
 -- a step all of whose outputs went out
-pub Takes-sent : (old between new : JobState) (step : StepOutput) (sent : List Sent) (tag : ℕ) (before after : SinkLog) → DoesStep old step between → new ≡ between → sent ≡ step.sent.items → WentOut tag (all_outputs sent) Complete before after → Takes old tag (Ok (answers.Ran step.kind)) new before after
+pub Takes-sent : (old between new : JobState) (step : StepOutput) (sent : List Sent) (tag : ℕ) (before after : SinkLog)
+    → DoesStep old step between → new ≡ between → sent ≡ step.sent.items → WentOut tag (all_outputs sent) Complete before after
+    → Takes old tag (Ok (answers.Ran step.kind)) new before after
 Takes-sent old between new step sent tag before after (machine, did) same is hands =
     let P : List Sent → Type 0 = λ these. WentOut tag (all_outputs these) Complete before after in
     let item : StepResult = record { machine = machine; outputs = all_outputs step.sent.items } in
@@ -108,7 +120,8 @@ Takes-sent old between new step sent tag before after (machine, did) same is han
     (item, subst Q (sym same) did, subst P is hands)
 
 -- the outputs of a step's item went out so far
-stops-at : (old new : JobState) (item : StepResult) (kind : Kind) (tag : ℕ) (ending : Ending) (before after : SinkLog) → Does old item kind new → WentOut tag item.outputs ending before after → StopsAtDue old tag ending before after
+stops-at : (old new : JobState) (item : StepResult) (kind : Kind) (tag : ℕ) (ending : Ending) (before after : SinkLog)
+    → Does old item kind new → WentOut tag item.outputs ending before after → StopsAtDue old tag ending before after
 stops-at old new item kind tag ending before after did went = record {
   given = did.given;
   takes = taken-of old new did.given did.takes;
@@ -120,7 +133,9 @@ stops-at old new item kind tag ending before after did went = record {
   went = went;
 }
 
-faults-by : (old between new : JobState) (item : StepResult) (kind : Kind) (tag : ℕ) (error : JobError) (before after : SinkLog) → Does old item kind between → new.machine ≡ None → WentOut tag item.outputs (ending_by (Some error)) before after → FaultsBy (λ ending. StopsAtDue old tag ending before after) old error new before after
+faults-by : (old between new : JobState) (item : StepResult) (kind : Kind) (tag : ℕ) (error : JobError) (before after : SinkLog)
+    → Does old item kind between → new.machine ≡ None → WentOut tag item.outputs (ending_by (Some error)) before after
+    → FaultsBy (λ ending. StopsAtDue old tag ending before after) old error new before after
 faults-by old between new item kind tag errors.SinkFault before after did gone went = (gone, stops-at old between item kind tag AtSheet before after did went)
 faults-by old between new item kind tag errors.ReplyFault before after did gone went = (gone, stops-at old between item kind tag AtReply before after did went)
 faults-by old between new item kind tag errors.NoMemory before after did gone went = (gone, stops-at old between item kind tag ForMemory before after did went)
@@ -129,13 +144,17 @@ faults-by old between new item kind tag errors.ReadFault before after did gone w
 faults-by old between new item kind tag errors.AfterEnd before after did gone went = absurd went.goes
 
 -- a step whose outputs were not all taken
-pub Faults-sent : (old between new : JobState) (step : StepOutput) (sent : List Sent) (tag : ℕ) (error : JobError) (before after : SinkLog) → DoesStep old step between → sent ≡ step.sent.items → new.machine ≡ None → WentOut tag (all_outputs sent) (ending_by (Some error)) before after → FaultsBy (λ ending. StopsAtDue old tag ending before after) old error new before after
+pub Faults-sent : (old between new : JobState) (step : StepOutput) (sent : List Sent) (tag : ℕ) (error : JobError) (before after : SinkLog)
+    → DoesStep old step between → sent ≡ step.sent.items → new.machine ≡ None
+    → WentOut tag (all_outputs sent) (ending_by (Some error)) before after
+    → FaultsBy (λ ending. StopsAtDue old tag ending before after) old error new before after
 Faults-sent old between new step sent tag error before after (machine, did) is gone went =
     let P : List Sent → Type 0 = λ these. WentOut tag (all_outputs these) (ending_by (Some error)) before after in
     faults-by old between new (record { machine = machine; outputs = all_outputs step.sent.items }) step.kind tag error before after did gone (subst P is went)
 
 -- where something goes out in a step, what comes next may take memory
-needs-command : (old new : JobState) (item : StepResult) (kind : Kind) → (did : Does old item kind new) → item.outputs ≢ [] → (command : Token) → did.given ≡ command ∷ [] → old.bodies ≡ [] → NeedsMemory old.machine command
+needs-command : (old new : JobState) (item : StepResult) (kind : Kind) → (did : Does old item kind new) → item.outputs ≢ []
+    → (command : Token) → did.given ≡ command ∷ [] → old.bodies ≡ [] → NeedsMemory old.machine command
 needs-command old new item kind did some command is idle =
     let P : Option Machine → Type 0 = λ machine. NeedsMemory machine command in
     let owes = sym (command_is_left old.bodies command did.from idle) ∙ ap (λ (given : List Token). left given old.bodies did.from) (sym is) ∙ did.are in
@@ -158,7 +177,8 @@ wants-sent old new step sent (machine, did) is some =
 
 -- ---- where memory ran out in a step
 
-stopped-before : (given : List Token) (job : JobState) (machine : Machine) (tag : ℕ) (told : SinkLog) → TakesOf job given → job.machine ≡ Some machine → left given job.bodies machine ≢ [] → StopsAtDue job tag ForMemory told told
+stopped-before : (given : List Token) (job : JobState) (machine : Machine) (tag : ℕ) (told : SinkLog) → TakesOf job given
+    → job.machine ≡ Some machine → left given job.bodies machine ≢ [] → StopsAtDue job tag ForMemory told told
 stopped-before given job machine tag told takes is some =
     let (item, others, are) = some-items (left given job.bodies machine) some in
     record { given = given; takes = takes; from = machine; starts = is; item = item; others = others; are = are; went = WentOut-no_memory tag item.outputs told }
@@ -171,7 +191,8 @@ stops-inside job (Some machine) tag told is (activation, command, rest, outer, a
     let some : left [] job.bodies machine ≢ [] = λ none. inner-some job.bodies machine next (sym (left-none job.bodies machine) ∙ none) in
     stopped-before [] job machine tag told (inl (next_runs job.bodies next, refl)) is some
 
-stops-at_command : (job : JobState) (command : Token) (machine : Option Machine) (tag : ℕ) (told : SinkLog) → IsDue job command → job.machine ≡ machine → NeedsMemory machine command → StopsAtDue job tag ForMemory told told
+stops-at_command : (job : JobState) (command : Token) (machine : Option Machine) (tag : ℕ) (told : SinkLog) → IsDue job command
+    → job.machine ≡ machine → NeedsMemory machine command → StopsAtDue job tag ForMemory told told
 stops-at_command job command None tag told due is needs = absurd needs
 stops-at_command job command (Some machine) tag told due is needs =
     let some : left (command ∷ []) job.bodies machine ≢ [] = λ none. outer-some command machine (sym (command_is_left job.bodies command machine due.0) ∙ none) in

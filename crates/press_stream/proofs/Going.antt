@@ -38,7 +38,11 @@ same_some option one other p q = cc
 -- a job owes something, whatever comes
 pub Owes-some : (job : JobState) (bytes : List ℕ) → (job.held.ended ≡ true → bytes ≡ []) → (commands : List Token) × Owes job bytes commands
 Owes-some job bytes none_after = continuation job.exited where
-  continuation : (exited : Bool) → (commands : List Token) × ((job.held.ended ≡ true → bytes ≡ []) × MatchBool exited (commands ≡ []) ((closed : List Token) × ClosedFrom job.held.mode (job.held.bytes ++ bytes) closed × (commands ≡ with_exit closed)))
+  continuation : (exited : Bool)
+      → (commands : List Token)
+      × ((job.held.ended ≡ true → bytes ≡ [])
+      × MatchBool exited (commands ≡ [])
+      ((closed : List Token) × ClosedFrom job.held.mode (job.held.bytes ++ bytes) closed × (commands ≡ with_exit closed)))
   continuation true = ([], (none_after, refl))
   continuation false =
       let found = some_split job.held.mode (job.held.bytes ++ bytes) in
@@ -46,7 +50,8 @@ Owes-some job bytes none_after = continuation job.exited where
       (with_exit closed, (none_after, (closed, (found.commands, found.mode, found.rest, found.split, refl), refl)))
 
 -- steps, and then what closes what they leave
-pub closed-then : (from : ParserState) (bytes : List ℕ) (commands closed : List Token) (mode : ParserState) (rest : List ℕ) → Steps from bytes commands mode rest → ClosedFrom mode rest closed → ClosedFrom from bytes (commands ++ closed)
+pub closed-then : (from : ParserState) (bytes : List ℕ) (commands closed : List Token) (mode : ParserState) (rest : List ℕ)
+    → Steps from bytes commands mode rest → ClosedFrom mode rest closed → ClosedFrom from bytes (commands ++ closed)
 closed-then from bytes commands closed mode rest steps ends = (
   commands ++ ends.0,
   ends.1,
@@ -83,7 +88,11 @@ pub CarriesOut-push : (job : JobState) (piece : List ℕ) (tag : ℕ) (told : Si
 CarriesOut-push job piece tag told running going =
     stays job (with_piece piece job) piece tag told running refl refl (λ _. (going, (refl, refl)))
     (λ more commands owes. (λ ended. absurd (true≢false (sym ended ∙ going)), continuation job.exited more commands owes.1)) where
-      continuation : (exited : Bool) (more : List ℕ) (commands : List Token) → MatchBool exited (commands ≡ []) ((closed : List Token) × ClosedFrom job.held.mode ((job.held.bytes ++ piece) ++ more) closed × (commands ≡ with_exit closed)) → MatchBool exited (commands ≡ []) ((closed : List Token) × ClosedFrom job.held.mode (job.held.bytes ++ (piece ++ more)) closed × (commands ≡ with_exit closed))
+      continuation : (exited : Bool) (more : List ℕ) (commands : List Token)
+          → MatchBool exited (commands ≡ [])
+          ((closed : List Token) × ClosedFrom job.held.mode ((job.held.bytes ++ piece) ++ more) closed × (commands ≡ with_exit closed))
+          → MatchBool exited (commands ≡ [])
+          ((closed : List Token) × ClosedFrom job.held.mode (job.held.bytes ++ (piece ++ more)) closed × (commands ≡ with_exit closed))
       continuation true more commands none = none
       continuation false more commands some =
           let P : List ℕ → Type 0 = λ all. ClosedFrom job.held.mode all some.0 in
@@ -93,7 +102,10 @@ pub CarriesOut-ends : (job : JobState) (tag : ℕ) (told : SinkLog) → IsSome j
 CarriesOut-ends job tag told running =
     stays job (input_ended job) [] tag told running refl refl (λ going. absurd (true≢false going)) (λ more commands owes. (λ _. owes.0 refl, owes.1))
 
-pub CarriesOut-then : (old between new : JobState) (bytes more : List ℕ) (given others : List Token) (tag : ℕ) (before middle after : SinkLog) → CarriesOut old bytes given between (under tag before middle) → CarriesOut between more others new (under tag middle after) → CarriesOut old (bytes ++ more) (given ++ others) new (under tag before after)
+pub CarriesOut-then : (old between new : JobState) (bytes more : List ℕ) (given others : List Token) (tag : ℕ)
+    (before middle after : SinkLog)
+    → CarriesOut old bytes given between (under tag before middle) → CarriesOut between more others new (under tag middle after)
+    → CarriesOut old (bytes ++ more) (given ++ others) new (under tag before after)
 CarriesOut-then old between new bytes more given others tag before middle after first second =
     let items = first.items in
     let rest = second.items in
@@ -102,15 +114,21 @@ CarriesOut-then old between new bytes more given others tag before middle after 
     let same : second.from ≡ at = same_some between.machine second.from at second.starts first.ends in
     let last = last-append items rest from in
     let O : List Output → Type 0 = λ outputs. WentOut tag outputs Complete before after in
-    let second_are : left others between.bodies at ≡ rest ++ continuation new.bodies (last_machine at rest) = subst (λ (machine : Machine). left others between.bodies machine ≡ rest ++ continuation new.bodies (last_machine machine rest)) same second.are in
+    let second_are : left others between.bodies at ≡ rest ++ continuation new.bodies (last_machine at rest) =
+    subst (λ (machine : Machine). left others between.bodies machine ≡ rest ++ continuation new.bodies (last_machine machine rest))
+    same second.are in
     record {
       items = items ++ rest;
       so_far = λ going.
           let last = second.so_far going in
           let start = first.so_far last.0 in
           let longer = steps-more old.held.mode (old.held.bytes ++ bytes) more given between.held.mode between.held.bytes start.1 in
-          let P : List ℕ → Type 0 = λ all. Steps old.held.mode all (given ++ others) new.held.mode new.held.bytes in
-          (start.0, subst P (append_assoc old.held.bytes bytes more) (steps-then old.held.mode ((old.held.bytes ++ bytes) ++ more) given others between.held.mode new.held.mode (between.held.bytes ++ more) new.held.bytes longer last.1));
+          let P : List ℕ → Type 0 = λ all. Steps old.held.mode all (given ++ others) new.held.mode new.held.bytes in (
+            start.0,
+            subst P (append_assoc old.held.bytes bytes more)
+                (steps-then old.held.mode ((old.held.bytes ++ bytes) ++ more) given others between.held.mode new.held.mode
+                (between.held.bytes ++ more) new.held.bytes longer last.1),
+          );
       to_end = λ last commands owes.
           let P : List ℕ → Type 0 = λ all. Owes old all ((given ++ others) ++ commands) in
           let Q : List Token → Type 0 = λ all. Owes old (bytes ++ (more ++ last)) all in
@@ -135,7 +153,9 @@ CarriesOut-items old between new bytes more given others tag before middle after
     (CarriesOut-then old between new bytes more given others tag before middle after first second, refl)
 
 -- the next command of what a scanner holds
-passes_owed : (held next : ScannerState) (command : Token) (more : List ℕ) (closed : List Token) → Passes held command next → (next.ended ≡ true → more ≡ []) → ClosedFrom next.mode (next.bytes ++ more) closed → ClosedFrom held.mode (held.bytes ++ more) (command ∷ closed)
+passes_owed : (held next : ScannerState) (command : Token) (more : List ℕ) (closed : List Token) → Passes held command next
+    → (next.ended ≡ true → more ≡ []) → ClosedFrom next.mode (next.bytes ++ more) closed
+    → ClosedFrom held.mode (held.bytes ++ more) (command ∷ closed)
 passes_owed held next command more closed passes none_after ends = by held.ended refl where
   by : (ended : Bool) → held.ended ≡ ended → ClosedFrom held.mode (held.bytes ++ more) (command ∷ closed)
   by true e =
@@ -149,10 +169,15 @@ passes_owed held next command more closed passes none_after ends = by held.ended
       let steps = steps-more held.mode held.bytes more (command ∷ []) next.mode next.bytes (used, next.bytes, next.mode, bytes_are, head, (refl, refl)) in
       closed-then held.mode (held.bytes ++ more) (command ∷ []) closed next.mode (next.bytes ++ more) steps ends
 
-pub passes-to_end : (old new : JobState) (command : Token) (more : List ℕ) (commands : List Token) → old.exited ≡ false → new.exited ≡ false → Passes old.held command new.held → Owes new more commands → Owes old more (command ∷ commands)
+pub passes-to_end : (old new : JobState) (command : Token) (more : List ℕ) (commands : List Token) → old.exited ≡ false
+    → new.exited ≡ false → Passes old.held command new.held → Owes new more commands → Owes old more (command ∷ commands)
 passes-to_end old new command more commands going still passes owes =
     let P : Bool → Type 0 = λ exited. MatchBool exited (commands ≡ []) ((closed : List Token) × ClosedFrom new.held.mode (new.held.bytes ++ more) closed × (commands ≡ with_exit closed)) in
-    let Q : Bool → Type 0 = λ exited. MatchBool exited (command ∷ commands ≡ []) ((closed : List Token) × ClosedFrom old.held.mode (old.held.bytes ++ more) closed × (command ∷ commands ≡ with_exit closed)) in
+    let Q : Bool → Type 0 =
+    λ exited.
+    MatchBool exited (command ∷ commands ≡ [])
+    ((closed : List Token) × ClosedFrom old.held.mode (old.held.bytes ++ more) closed
+    × (command ∷ commands ≡ with_exit closed)) in
     let owing = subst P still owes.1 in (
       λ ended. owes.0 (passes.ended ∙ ended),
       subst Q (sym going) (command ∷ owing.0, passes_owed old.held new.held command more owing.0 passes owes.0 owing.1, ap (λ all. command ∷ all) owing.2),
@@ -183,7 +208,11 @@ taken-so_far old new given (inr (inr (_, _, _, _, held, ended, _))) going =
 pub taken-to_end : (old new : JobState) (given : List Token) → TakesGiven old given new → (more : List ℕ) (commands : List Token) → Owes new more commands → Owes old more (given ++ commands)
 taken-to_end old new given (inl (_, none, held, exited)) more commands owes =
     let P : List Token → Type 0 = λ prefix. Owes old more (prefix ++ commands) in
-    let Q : ScannerState → Bool → Type 0 = λ now out. (now.ended ≡ true → more ≡ []) × MatchBool out (commands ≡ []) ((closed : List Token) × ClosedFrom now.mode (now.bytes ++ more) closed × (commands ≡ with_exit closed)) in
+    let Q : ScannerState → Bool → Type 0 =
+    λ now out.
+    (now.ended ≡ true → more ≡ [])
+    × MatchBool out (commands ≡ [])
+    ((closed : List Token) × ClosedFrom now.mode (now.bytes ++ more) closed × (commands ≡ with_exit closed)) in
     subst P (sym none) (subst (λ (out : Bool). Q old.held out) exited (subst (λ (now : ScannerState). Q now new.exited) held owes))
 taken-to_end old new given (inr (inl (command, is, _, going, still, passes))) more commands owes =
     let P : List Token → Type 0 = λ prefix. Owes old more (prefix ++ commands) in
@@ -216,7 +245,9 @@ taken-of old new given (inr (inl (command, is, idle, going, _, passes))) = inr (
 taken-of old new given (inr (inr (is, idle, going, _, _, ended, done))) = inr (Uel, (idle, going, inr (ended, done, refl)), is)
 
 -- A step that did an item, all of whose outputs went out.
-pub CarriesOut-one : (old new : JobState) (item : StepResult) (kind : Kind) (tag : ℕ) (before after : SinkLog) → (did : Does old item kind new) → WentOut tag item.outputs Complete before after → CarriesOut old [] did.given new (under tag before after)
+pub CarriesOut-one : (old new : JobState) (item : StepResult) (kind : Kind) (tag : ℕ) (before after : SinkLog)
+    → (did : Does old item kind new) → WentOut tag item.outputs Complete before after
+    → CarriesOut old [] did.given new (under tag before after)
 CarriesOut-one old new item kind tag before after did went =
     let P : List Output → Type 0 = λ outputs. WentOut tag outputs Complete before after in
     record {
@@ -254,7 +285,8 @@ taken_owed job given more none_after (inr (command, (_, going, inr (ended, done,
     ([], subst P (sym is) (subst Q (sym exit) (subst R (sym (none_after ended)) (exit_owed job going ended done))))
 
 -- a step that stopped, and what was left behind it
-pub Stops-due : (job : JobState) (bytes : List ℕ) (tag : ℕ) (ending : Ending) (before after : SinkLog) → (ending ≡ Complete → ⊥) → (job.held.ended ≡ true → bytes ≡ []) → StopsAtDue job tag ending before after → Stops job bytes tag ending before after
+pub Stops-due : (job : JobState) (bytes : List ℕ) (tag : ℕ) (ending : Ending) (before after : SinkLog) → (ending ≡ Complete → ⊥)
+    → (job.held.ended ≡ true → bytes ≡ []) → StopsAtDue job tag ending before after → Stops job bytes tag ending before after
 Stops-due job bytes tag ending before after stops none_after stopped =
     let (others, owes) = taken_owed job stopped.given bytes none_after stopped.takes in
     let all = left stopped.given job.bodies stopped.from in
@@ -272,7 +304,10 @@ Stops-due job bytes tag ending before after stops none_after stopped =
     }
 
 -- a job that stopped after it had gone on
-pub Stops-then : (old between : JobState) (bytes more : List ℕ) (given : List Token) (tag : ℕ) (ending : Ending) (before middle after : SinkLog) → CarriesOut old bytes given between (under tag before middle) → Stops between more tag ending middle after → Stops old (bytes ++ more) tag ending before after
+pub Stops-then : (old between : JobState) (bytes more : List ℕ) (given : List Token) (tag : ℕ) (ending : Ending)
+    (before middle after : SinkLog)
+    → CarriesOut old bytes given between (under tag before middle) → Stops between more tag ending middle after
+    → Stops old (bytes ++ more) tag ending before after
 Stops-then old between bytes more given tag ending before middle after goes stops =
     let items = goes.items in
     let at = last_machine goes.from items in

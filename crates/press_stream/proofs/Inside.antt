@@ -25,13 +25,21 @@ engine_inside held engine phases.Failed inside = absurd (inside refl)
 
 module _ (held : ScannerState) (engine new : Engine) where
   -- a step that was taken
-  ran : (phase : Phase) (step : StepOutput) → (job_state held engine phase).bodies ≢ [] → HasNext (bodies engine) → Steps (machine_of engine) (continuation (bodies engine)) step (machine_of new) (bodies new) → DoesStep (job_state held engine phase) step (job_state held new phase)
+  ran : (phase : Phase) (step : StepOutput) → (job_state held engine phase).bodies ≢ [] → HasNext (bodies engine)
+      → Steps (machine_of engine) (continuation (bodies engine)) step (machine_of new) (bodies new)
+      → DoesStep (job_state held engine phase) step (job_state held new phase)
   ran phases.Running step inside next s = DoesStep-inside (job_state held engine phases.Running) (job_state held new phases.Running) step (next, refl, refl, refl) s
   ran phases.Exited step inside next s = DoesStep-inside (job_state held engine phases.Exited) (job_state held new phases.Exited) step (next, refl, refl, refl) s
   ran phases.Failed step inside next s = absurd (inside refl)
 
   -- the same of the job that these stand for
-  pub job_ran : (phase : Phase) (job : JobState) (step : StepOutput) → job_state held engine phase ≡ job → job.bodies ≢ [] → HasNext (bodies engine) → Steps (machine_of engine) (continuation (bodies engine)) step (machine_of new) (bodies new) → DoesStep job step (job_state held new phase)
+  pub job_ran : (phase : Phase) (job : JobState) (step : StepOutput) → job_state held engine phase ≡ job → job.bodies ≢ []
+      → HasNext (bodies engine) → Steps (machine_of engine) (continuation (bodies engine)) step (machine_of new) (bodies new)
+      → DoesStep job step (job_state held new phase)
   job_ran phase job step is =
-      let P : JobState → Type 0 = λ one. one.bodies ≢ [] → HasNext (bodies engine) → Steps (machine_of engine) (continuation (bodies engine)) step (machine_of new) (bodies new) → DoesStep one step (job_state held new phase) in
+      let P : JobState → Type 0 =
+      λ one.
+      one.bodies ≢ [] → HasNext (bodies engine)
+      → Steps (machine_of engine) (continuation (bodies engine)) step (machine_of new) (bodies new)
+      → DoesStep one step (job_state held new phase) in
       subst P is (ran phase step)

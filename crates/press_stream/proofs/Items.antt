@@ -24,7 +24,8 @@ unfolding trace_each
 left-one command machine = append-nil (trace_at macro_levels command machine)
 
 -- commands, and then others
-pub left-append : (given others : List Token) (bodies : List Activation) (machine : Machine) → left (given ++ others) bodies machine ≡ left given bodies machine ++ trace others (last_machine machine (left given bodies machine))
+pub left-append : (given others : List Token) (bodies : List Activation) (machine : Machine)
+    → left (given ++ others) bodies machine ≡ left given bodies machine ++ trace others (last_machine machine (left given bodies machine))
 left-append given others bodies machine =
     let owing = continuation bodies machine in
     let between = last_machine machine owing in
@@ -34,7 +35,9 @@ left-append given others bodies machine =
     ∙ ap (λ at. (owing ++ first) ++ trace others at) (sym (last_machine-append owing first machine))
 
 -- Where items were done of what is left of the first commands, the others come behind what is still owed.
-pub left-then : (given others : List Token) (bodies still : List Activation) (machine : Machine) (items : List StepResult) → left given bodies machine ≡ items ++ continuation still (last_machine machine items) → left (given ++ others) bodies machine ≡ items ++ left others still (last_machine machine items)
+pub left-then : (given others : List Token) (bodies still : List Activation) (machine : Machine) (items : List StepResult)
+    → left given bodies machine ≡ items ++ continuation still (last_machine machine items)
+    → left (given ++ others) bodies machine ≡ items ++ left others still (last_machine machine items)
 left-then given others bodies still machine items are =
     let now = last_machine machine items in
     let owing = continuation still now in

@@ -44,7 +44,8 @@ left_does old new item kind bytes items is did =
     }
 
 -- what was left before a step
-pub left_before : (old new : JobState) (item : StepResult) (kind : Kind) (bytes : List ℕ) (others : List StepResult) → LeftWith new bytes others → Does old item kind new → LeftWith old bytes (item ∷ others)
+pub left_before : (old new : JobState) (item : StepResult) (kind : Kind) (bytes : List ℕ) (others : List StepResult)
+    → LeftWith new bytes others → Does old item kind new → LeftWith old bytes (item ∷ others)
 left_before old new item kind bytes others is did =
     let same : is.from ≡ item.machine = same_some new.machine is.from item.machine is.starts did.ends in
     record {
@@ -137,7 +138,11 @@ exit_owes (command ∷ closed) bodies machine none = command_owes command (with_
 -- Before the exit something is left.
 pub left_before_exit : (job : JobState) (bytes : List ℕ) (items : List StepResult) → job.exited ≡ false → LeftWith job bytes items → items ≡ [] → ⊥
 left_before_exit job bytes items going is none =
-    let some = subst (λ (out : Bool). MatchBool out (is.commands ≡ []) ((closed : List Token) × ClosedFrom job.held.mode (job.held.bytes ++ bytes) closed × (is.commands ≡ with_exit closed))) going is.owes.1 in
+    let some =
+    subst (λ (out : Bool).
+    MatchBool out (is.commands ≡ [])
+    ((closed : List Token) × ClosedFrom job.held.mode (job.held.bytes ++ bytes) closed × (is.commands ≡ with_exit closed)))
+    going is.owes.1 in
     exit_owes some.0 job.bodies is.from (ap (λ (commands : List Token). left commands job.bodies is.from) (sym some.2) ∙ sym is.are ∙ none)
 
 -- While a body runs something is left.

@@ -43,7 +43,8 @@ each-steps (command ∷ given) old new going (next, passes, others) =
     let (used, bytes_are, head) = passes.head going in
     (used, next.bytes, next.mode, bytes_are, head, each-steps given next new (passes.ended ∙ going) others)
 
-each-owes : (given : List Token) (old new : JobState) → old.exited ≡ false → new.exited ≡ false → PassesEach old.held given new.held → (more : List ℕ) (commands : List Token) → Owes new more commands → Owes old more (given ++ commands)
+each-owes : (given : List Token) (old new : JobState) → old.exited ≡ false → new.exited ≡ false → PassesEach old.held given new.held
+    → (more : List ℕ) (commands : List Token) → Owes new more commands → Owes old more (given ++ commands)
 each-owes [] old new going still is more commands owes =
     let P : ScannerState → Bool → Type 0 = λ held exited. Owes (record old { held = held; exited = exited }) more commands in
     subst (λ (held : ScannerState). P held old.exited) is (subst (λ (exited : Bool). P new.held exited) (still ∙ sym going) owes)
@@ -64,7 +65,8 @@ no_effect controls state bytes some (Broken broken) one = absurd one
 no_effect controls state bytes some Uel one = absurd one
 no_effect controls state bytes some (PjlLine line) one = absurd one
 
-no_effects : (controls : Bool) (state : State) → SkipsBytes state → (IsTrue controls → SkipsControls state) → (commands : List Token) → AllByRecursion (IsOneByte controls) commands → AllByRecursion (HasNoEffect state) commands
+no_effects : (controls : Bool) (state : State) → SkipsBytes state → (IsTrue controls → SkipsControls state) → (commands : List Token)
+    → AllByRecursion (IsOneByte controls) commands → AllByRecursion (HasNoEffect state) commands
 no_effects controls state bytes some [] all = tt
 no_effects controls state bytes some (command ∷ commands) all = (no_effect controls state bytes some command all.0, no_effects controls state bytes some commands all.1)
 

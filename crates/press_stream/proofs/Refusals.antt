@@ -24,7 +24,8 @@ runs : (machine : Option Machine) (from : Machine) → machine ≡ Some from →
 runs machine from some none = cc
 
 -- a job went on
-went_on : (old new : JobState) (value : Unit {0}) (bytes : List ℕ) (given : List Token) (tag : ℕ) (before after : SinkLog) → CarriesOut old bytes given new (under tag before after) → Answered old (Ok value) new before after
+went_on : (old new : JobState) (value : Unit {0}) (bytes : List ℕ) (given : List Token) (tag : ℕ) (before after : SinkLog)
+    → CarriesOut old bytes given new (under tag before after) → Answered old (Ok value) new before after
 went_on old new value bytes given tag before after goes = record {
   failed = (λ is. absurd (cc), λ none. absurd (runs old.machine _ goes.starts none));
   unchanged = λ early. absurd early;
@@ -34,7 +35,9 @@ went_on old new value bytes given tag before after goes = record {
 }
 
 -- a job stopped at a fault
-stopped_by : (stops : Ending → Type 0) (old new : JobState) (error : JobError) (before after : SinkLog) → ((ending : Ending) → stops ending → Sent old ending before after) → FaultsBy stops old error new before after → Answered {X = Unit {0}} old (Err error) new before after
+stopped_by : (stops : Ending → Type 0) (old new : JobState) (error : JobError) (before after : SinkLog)
+    → ((ending : Ending) → stops ending → Sent old ending before after) → FaultsBy stops old error new before after
+    → Answered {X = Unit {0}} old (Err error) new before after
 stopped_by stops old new errors.SinkFault before after sent faults =
     let one = sent AtSheet faults.1 in
     record {
@@ -101,7 +104,8 @@ sent_of_stops old bytes tag before after ending stopped = record {
 }
 
 -- a job that had these bytes behind what it held
-stopped_with : (old new : JobState) (bytes : List ℕ) (tag : ℕ) (error : JobError) (before after : SinkLog) → Faults old bytes error new (under tag before after) → Answered {X = Unit {0}} old (Err error) new before after
+stopped_with : (old new : JobState) (bytes : List ℕ) (tag : ℕ) (error : JobError) (before after : SinkLog)
+    → Faults old bytes error new (under tag before after) → Answered {X = Unit {0}} old (Err error) new before after
 stopped_with old new bytes tag error before after faults =
     stopped_by (λ ending. Stops old bytes tag ending before after) old new error before after (sent_of_stops old bytes tag before after) faults
 
@@ -114,7 +118,8 @@ lost-finish old new tag (Ok done) before after finishes = tt
 lost-finish old new tag (Err error) before after faults = gone (λ ending. Stops old [] tag ending before after) old new error before after faults
 
 -- a job that takes more bytes was fed
-pub Answered-feed : (old new : JobState) (piece : List ℕ) (tag : ℕ) (result : Result (Unit {0}) JobError) (before after : SinkLog) → old.held.ended ≡ false → Feeds old piece result new (under tag before after) → Answered old result new before after
+pub Answered-feed : (old new : JobState) (piece : List ℕ) (tag : ℕ) (result : Result (Unit {0}) JobError) (before after : SinkLog)
+    → old.held.ended ≡ false → Feeds old piece result new (under tag before after) → Answered old result new before after
 Answered-feed old new piece tag (Ok done) before after going (given, goes, _) = went_on old new done piece given tag before after goes
 Answered-feed old new piece tag (Err error) before after going feeds = by error feeds where
   now : (error : JobError) → FaultsBefore old piece error new (under tag before after) → Answered {X = Unit {0}} old (Err error) new before after
@@ -129,7 +134,8 @@ Answered-feed old new piece tag (Err error) before after going feeds = by error 
   by errors.AfterEnd feeds = absurd (true≢false (sym feeds.0.1 ∙ going))
 
 -- a job ran the bytes of a reader
-pub Answered-run : (old new : JobState) (bytes : List ℕ) (tag : ℕ) (result : Result (Unit {0}) JobError) (before after : SinkLog) → RunsThrough old bytes result new (under tag before after) → Answered old result new before after
+pub Answered-run : (old new : JobState) (bytes : List ℕ) (tag : ℕ) (result : Result (Unit {0}) JobError) (before after : SinkLog)
+    → RunsThrough old bytes result new (under tag before after) → Answered old result new before after
 Answered-run old new bytes tag (Ok done) before after (given, goes, _) = went_on old new done bytes given tag before after goes
 Answered-run old new bytes tag (Err errors.ReadFault) before after (gone, given, last, goes, _) = record {
   failed = (λ is. absurd (cc), λ none. absurd (runs old.machine _ goes.starts none));

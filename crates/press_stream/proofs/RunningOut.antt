@@ -36,7 +36,9 @@ nothing_taken job given inside (inl (_, none)) = none
 nothing_taken job given inside (inr (command, due, is)) = absurd (inside due.0)
 
 -- the answer was a step
-pub ran_inside : (old new : JobState) (tag : ℕ) (step : Step) (before after : SinkLog) → old.bodies ≢ [] → Takes old tag (Ok step) new before after → (kind : Kind) × (item : StepResult) × Does old item kind new × WentOut tag item.outputs Complete before after
+pub ran_inside : (old new : JobState) (tag : ℕ) (step : Step) (before after : SinkLog) → old.bodies ≢ []
+    → Takes old tag (Ok step) new before after
+    → (kind : Kind) × (item : StepResult) × Does old item kind new × WentOut tag item.outputs Complete before after
 ran_inside old new tag (answers.Ran kind) before after inside (item, did, went) = (kind, item, did, went)
 ran_inside old new tag answers.Hungry before after inside (hungry, _, _) = absurd (inside hungry.idle)
 ran_inside old new tag answers.Ended before after inside (over, _, _) = absurd (inside over.idle)
@@ -58,7 +60,9 @@ one_fewer old new tag step before after inside takes =
     rw (here, there, all) (omega arith)
 
 -- the job goes on by it
-pub CarriesOut-more : (first old new : JobState) (tag : ℕ) (step : Step) (begin before after : SinkLog) → old.bodies ≢ [] → CarriesOut first [] [] old (under tag begin before) → Takes old tag (Ok step) new before after → CarriesOut first [] [] new (under tag begin after)
+pub CarriesOut-more : (first old new : JobState) (tag : ℕ) (step : Step) (begin before after : SinkLog) → old.bodies ≢ []
+    → CarriesOut first [] [] old (under tag begin before) → Takes old tag (Ok step) new before after
+    → CarriesOut first [] [] new (under tag begin after)
 CarriesOut-more first old new tag step begin before after inside goes takes =
     let (kind, item, did, went) = ran_inside old new tag step before after inside takes in
     let P : List Token → Type 0 = λ commands. CarriesOut first [] commands new (under tag begin after) in
@@ -70,6 +74,7 @@ one_taken job given idle (inl (inside, _)) = absurd (inside idle)
 one_taken job given idle (inr (command, due, is)) = rw is (omega arith)
 
 -- what a job comes to after it went on
-pub Wants-after : (old between : JobState) (given : List Token) (tag : ℕ) (before middle : SinkLog) → CarriesOut old [] given between (under tag before middle) → ComesToWant between tag middle → ComesToWant old tag before
+pub Wants-after : (old between : JobState) (given : List Token) (tag : ℕ) (before middle : SinkLog)
+    → CarriesOut old [] given between (under tag before middle) → ComesToWant between tag middle → ComesToWant old tag before
 Wants-after old between given tag before middle goes (more, last, told, then, wants) =
     (given ++ more, last, told, CarriesOut-after old between last [] given more tag before middle told goes then, wants)

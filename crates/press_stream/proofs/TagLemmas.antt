@@ -58,7 +58,8 @@ WentOut-under tag other outputs ending before after from went same = (
 )
 
 -- a job that went under a tag
-pub CarriesOut-under : (old new : JobState) (bytes : List ℕ) (given : List Token) (tag other : ℕ) (before after from : SinkLog) → CarriesOut old bytes given new (under tag before after) → SameButTags before from
+pub CarriesOut-under : (old new : JobState) (bytes : List ℕ) (given : List Token) (tag other : ℕ) (before after from : SinkLog)
+    → CarriesOut old bytes given new (under tag before after) → SameButTags before from
     → (to : SinkLog) × SameButTags after to × CarriesOut old bytes given new (under other from to)
 CarriesOut-under old new bytes given tag other before after from goes same =
     let told = WentOut-under tag other _ Complete before after from goes.went same in (

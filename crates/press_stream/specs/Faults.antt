@@ -1,11 +1,8 @@
--- The numbers of the faults of a job and of its reads (this profile).
+-- The numbers of the faults of a job (this profile).
 use Rattle.std.specs.Prelude.{ℕ, Option, Some, None}
+use Rattle.press_devices.specs.Faults.{read_fault}
 use Rattle.press_stream.specs.declared.fault.JobError.{JobError}
 use Rattle.press_stream.specs.declared.fault.JobError.TheVariants as errors
-
--- a read failed, or there were too many
-abbrev pub read_fault : ℕ
-read_fault = 304
 
 -- why a job did not do what was asked of it; none where memory ran out
 abbrev pub fault_number : JobError → Option ℕ

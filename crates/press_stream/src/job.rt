@@ -3,14 +3,13 @@
 use crate::carrying::{pass, take};
 use crate::fault::JobError;
 use crate::phase::Phase;
-use crate::reading::{PIECE, ReadCount, read_next};
 use crate::step::{JobStep, Step};
 use press_canvas::Canvas;
+use press_devices::{PIECE, ReadCount, ReadDevice, read_next};
 use press_engine::{Engine, Sent, View};
 use press_scan::Scanner;
 use press_sink::{ReplySink, SheetSink};
 use std::alloc::{AllocError, Global};
-use std::io::Read;
 use std::marker::Model;
 
 /// A stream that is carried out as its pieces come: what a scanner finds in them is handed to an engine.
@@ -56,7 +55,7 @@ impl Job {
     ghost use Rattle.press_stream.specs.State.{opened, with_piece, input_ended, most_commands, NeedsInput, IsOver, IsAfterEnd};
     ghost use Rattle.press_stream.specs.Meaning.{CarriesOut};
     ghost use Rattle.press_stream.specs.Answers.{fault_of, ending_by, Pushes, IsGoing, IsEarly, TakesStep, Takes, WantsMemory, FaultsBefore, PassesOn, IsIdle, ComesToWant, Feeds, Finishes, RunsReader, Answered};
-    ghost use Rattle.press_stream.specs.Pieces.{most_reads, no_reads, HasFault};
+    ghost use Rattle.press_devices.specs.Reading.{most_reads, no_reads, HasFault, ReadFails};
 
     /// A job at the beginning of a stream, with an engine after power on.
     ///
@@ -362,7 +361,7 @@ impl Job {
     /// `SinkFault` (301) and `ReplyFault` (302): a sink had a fault, and nothing came after it. `Failed` (303) and `AfterEnd`
     /// (305), where the end of input was given: nothing was read. `ReadFault` (304): a read failed, or one more would be too
     /// many; the commands of the bytes so far were carried out.
-    pub fn run<R: Read, S: SheetSink, P: ReplySink>(
+    pub fn run<R: ReadDevice, S: SheetSink, P: ReplySink>(
         &mut self,
         reader: &mut R,
         tag: u64,
@@ -379,6 +378,8 @@ impl Job {
         ensures answered { Answered self.old result self.new
             (logs (S.told sheets.old) (P.told replies.old))
             (logs (S.told sheets.new) (P.told replies.new)) }
+        ensures cause { IsErrOf result JobError.ReadFault
+            → ReadFails R.can_fail (R.remaining reader.old) (R.remaining reader.new) }
     {
         self.run_counted(reader, &mut ReadCount::none(), tag, sheets, replies)
     }
@@ -388,7 +389,7 @@ impl Job {
     /// # Errors
     ///
     /// Those of [`Job::run`]. `ReadFault` (304) comes only where a read failed, or where the most were made and none gave no bytes.
-    pub fn run_counted<R: Read, S: SheetSink, P: ReplySink>(
+    pub fn run_counted<R: ReadDevice, S: SheetSink, P: ReplySink>(
         &mut self,
         reader: &mut R,
         count: &mut ReadCount,
@@ -409,6 +410,8 @@ impl Job {
             (logs (S.told sheets.new) (P.told replies.new)) }
         ensures bound { count.new.reads ≤ most_reads }
         ensures fault { IsErrOf result JobError.ReadFault → HasFault count.new }
+        ensures cause { IsErrOf result JobError.ReadFault
+            → ReadFails R.can_fail (R.remaining reader.old) (R.remaining reader.new) }
     {
         self.check_going()?;
         self.read_through(reader, count, tag, sheets, replies)
@@ -495,7 +498,7 @@ impl Job {
     }
 
     /// Reads the rest of a stream piece by piece, and counts the reads.
-    fn read_through<R: Read, S: SheetSink, P: ReplySink>(
+    fn read_through<R: ReadDevice, S: SheetSink, P: ReplySink>(
         &mut self,
         reader: &mut R,
         count: &mut ReadCount,
@@ -513,6 +516,8 @@ impl Job {
             (logs (S.told sheets.new) (P.told replies.new))) }
         ensures bound { count.new.reads ≤ most_reads }
         ensures fault { IsErrOf result JobError.ReadFault → HasFault count.new }
+        ensures cause { IsErrOf result JobError.ReadFault
+            → ReadFails R.can_fail (R.remaining reader.old) (R.remaining reader.new) }
     {
         self.drain(tag, sheets, replies)?;
         let mut piece = [0; PIECE];

@@ -17,6 +17,14 @@ returns-in-Ok-clause-left g c = ap (λ (engine : Engine). job_state c.self.insid
 
 pub returns-in-Err-clause-hands : goal.returns-in-Err-clause-hands
 returns-in-Err-clause-hands g c =
-    let P : JobError → Type 0 = λ error. WentOut c.args.tag (all_outputs c.args.sent.now) (ending_by (Some error)) (logs (g.S.SheetSink.told c.args.sheets.now) (g.P.ReplySink.told c.args.replies.now)) (logs (g.S.SheetSink.told c.hand_over.new.sheets) (g.P.ReplySink.told c.hand_over.new.replies)) in
-    let Q : Ending → Type 0 = λ ending. WentOut c.args.tag (all_outputs c.args.sent.now) ending (logs (g.S.SheetSink.told c.args.sheets.now) (g.P.ReplySink.told c.args.replies.now)) (logs (g.S.SheetSink.told c.hand_over.new.sheets) (g.P.ReplySink.told c.hand_over.new.replies)) in
+    let P : JobError → Type 0 =
+    λ error.
+    WentOut c.args.tag (all_outputs c.args.sent.now) (ending_by (Some error))
+    (logs (g.S.SheetSink.told c.args.sheets.now) (g.P.ReplySink.told c.args.replies.now))
+    (logs (g.S.SheetSink.told c.hand_over.new.sheets) (g.P.ReplySink.told c.hand_over.new.replies)) in
+    let Q : Ending → Type 0 =
+    λ ending.
+    WentOut c.args.tag (all_outputs c.args.sent.now) ending
+    (logs (g.S.SheetSink.told c.args.sheets.now) (g.P.ReplySink.told c.args.replies.now))
+    (logs (g.S.SheetSink.told c.hand_over.new.sheets) (g.P.ReplySink.told c.hand_over.new.replies)) in
     subst P (sym c.from.ensures) (subst Q (ending-same c.in-Err.fault) c.in-Err.ensures.sends)

@@ -1,5 +1,5 @@
 use Rattle.std.proofs.Common.{[], ◌∙◌, Err, refl, ap, arith}
-use Rattle.std.proofs.lemmas.Result.{err_from_is_err_and}
+use Rattle.press_units.proofs.ExitLemmas.{exit-is}
 use Rattle.press_stream.specs.declared.fault.JobError.{JobError}
 use Rattle.press_engine.proofs.SendsLemmas.{has_fault_room-then}
 use Rattle.press_stream.proofs.Carries.{same_fault}
@@ -19,13 +19,13 @@ loop-self-init g c = record {
 
 pub returns-in_err-step-clause-runs_out : goal.returns-in_err-step-clause-runs_out
 returns-in_err-step-clause-runs_out g c =
-    let p = err_from_is_err_and c.from_residual.result c.from_residual.ensures.1 in
-    rw (p.1, p.2) (FaultsBefore-after c.args.self.now c.loop-self.self c.step.new.self [] [] c.args.tag _ _ _ _ c.loop-self.invariant.still c.loop-self.invariant.goes (FaultsBefore-step c.loop-self.self c.step.new.self c.args.tag _ _ _ (rw c.in_err-step.was at c.step.ensures.takes)))
+    rw (exit-is c.from_residual.ensures.1) (FaultsBefore-after c.args.self.now c.loop-self.self c.step.new.self [] [] c.args.tag _ _ _ _ c.loop-self.invariant.still
+    c.loop-self.invariant.goes
+    (FaultsBefore-step c.loop-self.self c.step.new.self c.args.tag _ _ _ (rw c.in_err-step.was at c.step.ensures.takes)))
 
 pub returns-in_err-step-clause-memory : goal.returns-in_err-step-clause-memory
 returns-in_err-step-clause-memory g c =
-    let p = err_from_is_err_and c.from_residual.result c.from_residual.ensures.1 in
-    rw (p.1, p.2) (λ e. ([], c.loop-self.self, _, c.loop-self.invariant.goes, c.step.ensures.memory (c.in_err-step.was ∙ ap (λ (fault : JobError). Err fault) (same_fault _ _ _ refl e))))
+    rw (exit-is c.from_residual.ensures.1) (λ e. ([], c.loop-self.self, _, c.loop-self.invariant.goes, c.step.ensures.memory (c.in_err-step.was ∙ ap (λ (fault : JobError). Err fault) (same_fault _ _ _ refl e))))
 
 pub loop-self-preserved : goal.loop-self-preserved
 loop-self-preserved g c =

@@ -9,7 +9,9 @@ use Rattle.press_stream.proofs.job.Job.run_out.Given as goal
 abbrev pub invariant-loop-self : goal.invariant-loop-self
 invariant-loop-self g l =
     record {
-      goes : CarriesOut l.initial.self [] [] l.self (under l.tag (logs (g.S.SheetSink.told l.initial.sheets) (g.P.ReplySink.told l.initial.replies)) (logs (g.S.SheetSink.told l.sheets) (g.P.ReplySink.told l.replies)));
+      goes : CarriesOut l.initial.self [] [] l.self
+          (under l.tag (logs (g.S.SheetSink.told l.initial.sheets) (g.P.ReplySink.told l.initial.replies))
+          (logs (g.S.SheetSink.told l.sheets) (g.P.ReplySink.told l.replies)));
       fewer : most_commands l.self ≤ most_commands l.initial.self;
       still : l.self.held.ended ≡ l.initial.self.held.ended;
       has_fault_room : HasFaultRoom (logs (g.S.SheetSink.told l.sheets) (g.P.ReplySink.told l.replies));
