@@ -130,7 +130,8 @@ where_no_float : (place : Place) (now : View) → members_have_float (where_memb
 where_no_float place now =
     rw (integer_no_float now.x.0, integer_no_float now.y.0) refl
 
-pub line_no_float : (place : Place) (sheets : ℕ) (replies : List ℕ) (before : Option View) (now : View) (opened page : Option Data) → HasNoFloat opened → HasNoFloat page → members_have_float (line_members place sheets replies before now opened page) ≡ false
+pub line_no_float : (place : Place) (sheets : ℕ) (replies : List ℕ) (before : Option View) (now : View) (opened page : Option Data)
+    → HasNoFloat opened → HasNoFloat page → members_have_float (line_members place sheets replies before now opened page) ≡ false
 line_no_float place sheets replies before now opened page plain_opened plain_page =
     some_no_float (codes "view") (view_object before now) _ (object_no_float (view_told before now) (groups_no_float before now all_groups no_members refl))
     (some_no_float (codes "reply") (reply_told replies) _ (either_no_float _ _ refl)

@@ -1,3 +1,4 @@
+-- The lemmas on the lines of a trace, and on pages that are rebuilt from them.
 pub mod FloatLemmas
 pub mod SeenLemmas
 pub mod SentLemmas

@@ -13,11 +13,15 @@ use Rattle.press_bits.specs.declared.region.Region.{Region}
 use Rattle.press_pbm.proofs.LineLemmas.{IsPageLine-line_bytes}
 use Rattle.press_trace.specs.Pages.{row_in, row_data, size_data, StartsFrom, Follows, IsPageTold}
 
-pub row_is : (page : Page) (region : Region) (y : ℕ) (line : List ℕ) (told : Data) → HasNoDotOutside page → ((i : ℕ) → get_or line i 0 < 256) → IsPageLine page y line → told ≡ string (encode_upper (row_in region line)) → told ≡ row_data page region y
+pub row_is : (page : Page) (region : Region) (y : ℕ) (line : List ℕ) (told : Data) → HasNoDotOutside page
+    → ((i : ℕ) → get_or line i 0 < 256) → IsPageLine page y line → told ≡ string (encode_upper (row_in region line))
+    → told ≡ row_data page region y
 row_is page region y line told none small is here =
     here ∙ ap (λ (bytes : List ℕ). string (encode_upper (row_in region bytes))) (IsPageLine-line_bytes page y line none small is)
 
-pub rows_more : (page : Page) (region : Region) (y : ℕ) (rows all : List Value) (value : Value) → region.top ≤ y → map view rows ≡ map (row_data page region) (range_with_len region.top (y - region.top)) → view value ≡ row_data page region y → all ≡ rows ++ value ∷ [] → map view all ≡ map (row_data page region) (range_with_len region.top (y + 1 - region.top))
+pub rows_more : (page : Page) (region : Region) (y : ℕ) (rows all : List Value) (value : Value) → region.top ≤ y
+    → map view rows ≡ map (row_data page region) (range_with_len region.top (y - region.top)) → view value ≡ row_data page region y
+    → all ≡ rows ++ value ∷ [] → map view all ≡ map (row_data page region) (range_with_len region.top (y + 1 - region.top))
 rows_more page region y rows all value behind so_far is more =
     let here : region.top + (y - region.top) ≡ y = omega (arith, behind) in
     let count : y - region.top + 1 ≡ y + 1 - region.top = omega (arith, behind) in
@@ -27,7 +31,8 @@ rows_more page region y rows all value behind so_far is more =
     ∙ sym (map-range_with_len_more (row_data page region) region.top (y - region.top) y here)
     ∙ ap (λ n. map (row_data page region) (range_with_len region.top n)) count
 
-pub starts_white : (before : Option Page) (after page : Page) (width height : ℕ) (opened : Data) → width ≡ after.width → height ≡ after.height → page ≡ blank width height → opened ≡ size_data after → StartsFrom before after page (Some opened)
+pub starts_white : (before : Option Page) (after page : Page) (width height : ℕ) (opened : Data) → width ≡ after.width
+    → height ≡ after.height → page ≡ blank width height → opened ≡ size_data after → StartsFrom before after page (Some opened)
 unfolding blank
 starts_white before after page width height opened wide high white is =
     let here : page ≡ blank after.width after.height = white ∙ (λ i. blank (wide i) (high i)) in

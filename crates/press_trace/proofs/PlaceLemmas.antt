@@ -20,7 +20,10 @@ bytes_in (piece ∷ pieces) = length piece.bytes + bytes_in pieces
 
 -- ---- pieces, and one more behind them
 
-pub prefix-then : (from : ParserState) (bytes : List ℕ) (pieces : List Piece) (mode : ParserState) (held : List ℕ) (piece : Piece) (left : List ℕ) (next : ParserState) → ArePrefix from bytes pieces mode held → held ≡ piece.bytes ++ left → Opens mode piece left next → ArePrefix from bytes (pieces ++ piece ∷ []) next left
+pub prefix-then : (from : ParserState) (bytes : List ℕ) (pieces : List Piece) (mode : ParserState) (held : List ℕ) (piece : Piece)
+    (left : List ℕ) (next : ParserState)
+    → ArePrefix from bytes pieces mode held → held ≡ piece.bytes ++ left → Opens mode piece left next
+    → ArePrefix from bytes (pieces ++ piece ∷ []) next left
 prefix-then from bytes [] mode held piece left next (same, are) cut opens =
     let P : ParserState → Type 0 = λ m. Opens m piece left next in
     (left, next, are ∙ cut, subst P (sym same) opens, (refl, refl))
@@ -28,7 +31,8 @@ prefix-then from bytes (first ∷ pieces) mode held piece left next (behind, bet
     (behind, between, cut_first, opens_first, prefix-then between behind pieces mode held piece left next others cut opens)
 
 -- the pieces and what is left are all the bytes
-pub prefix-length : (from : ParserState) (bytes : List ℕ) (pieces : List Piece) (mode : ParserState) (left : List ℕ) → ArePrefix from bytes pieces mode left → length bytes ≡ bytes_in pieces + length left
+pub prefix-length : (from : ParserState) (bytes : List ℕ) (pieces : List Piece) (mode : ParserState) (left : List ℕ)
+    → ArePrefix from bytes pieces mode left → length bytes ≡ bytes_in pieces + length left
 prefix-length from bytes [] mode left (same, are) = omega (arith, ap length are)
 prefix-length from bytes (piece ∷ pieces) mode left (behind, next, cut, opens, others) =
     let more = prefix-length next behind pieces mode left others in

@@ -199,7 +199,9 @@ module _ (bytes : List ℕ) (placed : List Placed) (old new : Tracer) (line : Li
       }
     where
       opens : (used : List ℕ) → old.job.held.bytes ≡ used ++ new.job.held.bytes
-          → Head old.job.held.mode used new.job.held.bytes command new.job.held.mode ⊎ (NoHead old.job.held.mode old.job.held.bytes × ClosesAs (scanned_in old.job.held.mode old.job.held.bytes) used new.job.held.bytes command new.job.held.mode)
+          → Head old.job.held.mode used new.job.held.bytes command new.job.held.mode
+          ⊎ (NoHead old.job.held.mode old.job.held.bytes
+          × ClosesAs (scanned_in old.job.held.mode old.job.held.bytes) used new.job.held.bytes command new.job.held.mode)
           → Opens old.job.held.mode (record { bytes = used; command = command }) new.job.held.bytes new.job.held.mode
       opens used cut (inl head) = inl head
       opens used cut (inr (none, closes)) =
@@ -245,7 +247,8 @@ module _ (bytes : List ℕ) (placed : List Placed) (old new : Tracer) (line : Li
 
 -- ---- the items so far are the first of the trace
 
-exit_behind : (commands : List Token) (machine : Machine) → machine ≡ last_machine power_on (trace commands power_on) → trace commands power_on ++ trace_at macro_levels Uel machine ≡ trace (with_exit commands) power_on
+exit_behind : (commands : List Token) (machine : Machine) → machine ≡ last_machine power_on (trace commands power_on)
+    → trace commands power_on ++ trace_at macro_levels Uel machine ≡ trace (with_exit commands) power_on
 unfolding trace_each
 exit_behind commands machine is =
     ap (λ (at : Machine). trace commands power_on ++ trace_at macro_levels Uel at) is
@@ -265,7 +268,9 @@ module _ (bytes : List ℕ) (placed : List Placed) (now : Tracer) (behind : Stan
       let found = some_split held_mode now.job.held.bytes in
       (found.commands ++ closing found.mode found.rest, (found.commands, found.mode, found.rest, found.split, refl))
 
-  items-so-far : (exited : Bool) → now.job.exited ≡ exited → trace (commands_of behind.pieces) power_on ++ runs_of (exit_if exited (length bytes) (machine_after behind.pieces power_on)) ≡ runs_of placed ++ continuation now.job.bodies behind.machine
+  items-so-far : (exited : Bool) → now.job.exited ≡ exited
+      → trace (commands_of behind.pieces) power_on ++ runs_of (exit_if exited (length bytes) (machine_after behind.pieces power_on))
+      ≡ runs_of placed ++ continuation now.job.bodies behind.machine
   items-so-far exited is =
       let exit = exit_if exited (length bytes) (machine_after behind.pieces power_on) in
       ap (λ (items : List StepResult). items ++ runs_of exit) (sym (runs-from 0 behind.pieces power_on))

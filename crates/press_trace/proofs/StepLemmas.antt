@@ -59,7 +59,8 @@ page-before None (Some seen) page keeps = absurd keeps
 page-before (Some machine) None page keeps = absurd keeps
 page-before (Some machine) (Some seen) page keeps = keeps.shown
 
-pub is_line : (before : Option Machine) (place : Place) (machine : Machine) (outputs : List Output) (kept : Option Seen) (page : Option Page) (seen : Option View) (now : View) (opened told : Option Data) (went : WentOut) (text : List ℕ)
+pub is_line : (before : Option Machine) (place : Place) (machine : Machine) (outputs : List Output) (kept : Option Seen)
+    (page : Option Page) (seen : Option View) (now : View) (opened told : Option Data) (went : WentOut) (text : List ℕ)
     → IsKept before kept page → IsAlikeIf kept seen → IsViewOf machine now → IsPageTold page machine.state.page opened told → AreOut went outputs
     → text ≡ line_text (line_members place went.sheets went.replies.items seen now opened told) → IsLine before (record { place = place; run = record { machine = machine; outputs = outputs } }) text
 is_line before place machine outputs kept page seen now opened told went text keeps alike is shows out here = record {
@@ -89,7 +90,8 @@ pub kept_page : (machine : Machine) (kept : Option Seen) (page : Option Page) �
 kept_page machine None page keeps = absurd keeps
 kept_page machine (Some seen) page keeps = keeps.shown
 
-pub kept_now : (machine : Machine) (kept : Option Seen) (page : Option Page) (now : Option Machine) → now ≡ Some machine → IsKept (Some machine) kept page → IsKept (cond (is_some kept) now None) kept page
+pub kept_now : (machine : Machine) (kept : Option Seen) (page : Option Page) (now : Option Machine) → now ≡ Some machine
+    → IsKept (Some machine) kept page → IsKept (cond (is_some kept) now None) kept page
 kept_now machine None page now is keeps = absurd keeps
 kept_now machine (Some seen) page now is keeps = subst (λ (one : Option Machine). IsKept one (Some seen) page) (sym is) keeps
 
@@ -117,7 +119,10 @@ ended_still old new item kind does was = by does.takes where
   by (inr (inr (is, idle, going, out, held, ended, done))) = ap (λ (now : ScannerState). now.ended) held ∙ was
 
 -- where its command stands
-pub place_is : (old new : JobState) (item : StepResult) (kind : Kind) (does : Does old item kind new) (outside : Bool) (long : ℕ) (place : Place) → IsTrue outside ↔ (old.bodies ≡ []) → place_if outside long (length old.held.bytes) (length new.held.bytes) place ≡ place_of long place does.given old.held new.held
+pub place_is : (old new : JobState) (item : StepResult) (kind : Kind) (does : Does old item kind new) (outside : Bool) (long : ℕ)
+    (place : Place)
+    → IsTrue outside ↔ (old.bodies ≡ [])
+    → place_if outside long (length old.held.bytes) (length new.held.bytes) place ≡ place_of long place does.given old.held new.held
 place_is old new item kind does true long place tells = by does.takes where
   idle : old.bodies ≡ []
   idle = tells.0 refl
@@ -137,7 +142,9 @@ kind_taken true command kind is = is
 kind_taken false command kind is = is
 
 -- a command of the stream of a kind that changes no page
-command_keeps : OthersKeepThePage → (old new : JobState) (item : StepResult) (kind : Kind) (does : Does old item kind new) (command : Token) → does.given ≡ command ∷ [] → old.bodies ≡ [] → kind_may_change_page kind ≡ false → item.machine.state.page ≡ does.from.state.page
+command_keeps : OthersKeepThePage
+    → (old new : JobState) (item : StepResult) (kind : Kind) (does : Does old item kind new) (command : Token) → does.given ≡ command ∷ []
+    → old.bodies ≡ [] → kind_may_change_page kind ≡ false → item.machine.state.page ≡ does.from.state.page
 command_keeps law old new item kind does command is idle keeps =
     let owes : trace_at macro_levels command does.from ≡ item ∷ continuation new.bodies item.machine =
     sym (left-one command does.from) ∙ (λ i. left (sym is i) (sym idle i) does.from) ∙ does.are in
@@ -151,7 +158,10 @@ outside_if : (outside changes : Bool) → not outside || changes ≡ false → (
 outside_if true changes none = (refl, none)
 outside_if false changes none = absurd (true≢false none)
 
-pub page_stays : OthersKeepThePage → (old new : JobState) (item : StepResult) (kind : Kind) (does : Does old item kind new) (outside : Bool) → IsTrue outside ↔ (old.bodies ≡ []) → not outside || kind_may_change_page kind ≡ false → item.machine.state.page ≡ does.from.state.page
+pub page_stays : OthersKeepThePage
+    → (old new : JobState) (item : StepResult) (kind : Kind) (does : Does old item kind new) (outside : Bool)
+    → IsTrue outside ↔ (old.bodies ≡ []) → not outside || kind_may_change_page kind ≡ false
+    → item.machine.state.page ≡ does.from.state.page
 page_stays law old new item kind does outside tells none = by does.takes where
   where_it_is : (outside ≡ true) × (kind_may_change_page kind ≡ false)
   where_it_is = outside_if outside (kind_may_change_page kind) none

@@ -3,7 +3,7 @@ use Rattle.std.proofs.Common.{◌∙◌, ℕ, List, [], ◌∷◌, ◌++◌, Opt
 use Rattle.std.proofs.lemmas.List.{append_assoc, append-nil}
 use Rattle.std.specs.Io.KnownBytes.{Appends}
 use Rattle.std.proofs.KnownBytes.{Appends-nil, Appends-trans}
-use Rattle.press_pbm.specs.Spelling.{AppendsPrefix}
+use Rattle.press_devices.specs.Writing.{AppendsPrefix}
 use Rattle.press_engine.specs.declared.machine.Machine.{Machine}
 use Rattle.press_stream.specs.State.{IsOver}
 use Rattle.press_trace.specs.declared.fault.TraceError.TheVariants.{Output, NoMemory}
@@ -14,7 +14,8 @@ use Rattle.press_trace.specs.Traced.{Traces, StopsTracing, last_of}
 use Rattle.press_trace.specs.Tracing.{IsAtStart, IsSound, TellsOne}
 use Rattle.press_trace.proofs.Standing.{StandsBehind, at_start, at_end, are_first, none_first, one_step, one_more}
 
-AreLines-then : (before : Option Machine) (placed : List Placed) (text : List ℕ) (one : Placed) (line : List ℕ) → AreLines before placed text → IsLine (last_of before placed) one line → AreLines before (placed ++ one ∷ []) (text ++ line)
+AreLines-then : (before : Option Machine) (placed : List Placed) (text : List ℕ) (one : Placed) (line : List ℕ)
+    → AreLines before placed text → IsLine (last_of before placed) one line → AreLines before (placed ++ one ∷ []) (text ++ line)
 AreLines-then before [] text one line none is =
     (line, [], is, refl, ap (λ (all : List ℕ). all ++ line) none ∙ sym (append-nil line))
 AreLines-then before (first ∷ placed) text one line (prefix, rest, here, others, cut) is =

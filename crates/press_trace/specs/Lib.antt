@@ -1,3 +1,4 @@
+-- The definitions of the trace of a stream, told line by line.
 pub mod Told
 pub mod Numbers
 pub mod Faults

@@ -1,7 +1,7 @@
 -- A stream whose trace was told.
-use Rattle.std.specs.Prelude.{◌≡◌, ℕ, List, [], ◌∷◌, ◌++◌, length, Option, None, Some}
+use Rattle.std.specs.Prelude.{◌≡◌, ℕ, List, [], ◌∷◌, ◌++◌, length, Option, None, Some, ⊤}
 use Rattle.std.specs.Io.KnownBytes.{Appends}
-use Rattle.press_pbm.specs.Spelling.{AppendsPrefix}
+use Rattle.press_devices.specs.Writing.{AppendsPrefix}
 use Rattle.press_cmd.specs.ParserState.{ParserState, Exit}
 use Rattle.press_engine.specs.declared.machine.Machine.{Machine}
 use Rattle.press_engine.specs.Machine.{StepResult, power_on}
@@ -42,6 +42,11 @@ StopsAtLine bytes placed old new (Output error) =
     (next : Placed) × (line : List ℕ) × AreFirst bytes (placed ++ next ∷ []) × IsLine (last_of None placed) next line
     × AppendsPrefix old new line
 StopsAtLine bytes placed old new NoMemory = new ≡ old
+
+-- that a line cannot be written
+abbrev pub IsOutput : TraceError → Type 0
+IsOutput (Output error) = ⊤
+IsOutput NoMemory = ⊥
 
 -- The lines of the first items were written, and then it stopped, and this is why.
 pub record StopsTracing (bytes : List ℕ) (old new : Option (List ℕ)) (why : TraceError) : Type 0 where

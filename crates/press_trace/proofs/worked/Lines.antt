@@ -1,6 +1,6 @@
--- The lines of traces, computed: of a stream in which a macro calls itself, 23 of them, of the commands of the stream and those of the two
--- bodies; of a page under an overlay; and of a row each way of four. What is told of the open page does not compute, and stands beside
--- each line.
+-- The lines of traces, computed. A stream in which a macro calls itself has 23 of them, those of its commands and of the commands of the
+-- two bodies. Others are of a page under an overlay, and of a row each way of four. What is told of the open page does not compute, and
+-- stands beside each line.
 use Prim.Native.String.{String}
 use Rattle.std.proofs.Common.{◌≡◌, ℕ, List, [], ◌∷◌, ◌++◌, Option, Some, None, length, refl, ap}
 use Rattle.std.specs.Fmt.{digits}
@@ -241,7 +241,9 @@ unfolding trace_at digits serde_json_on_literals hex_on_literals
 upright_row = refl
 
 landscape_row :
-    row_lines "1" (box_told 184 3232 8 (string (codes "1E") ∷ string (codes "1E") ∷ string (codes "1E") ∷ string (codes "1E") ∷ string (codes "1E") ∷ string (codes "1E") ∷ string (codes "1E") ∷ string (codes "1E") ∷ []))
+    row_lines "1" (box_told 184 3232 8
+    (string (codes "1E") ∷ string (codes "1E") ∷ string (codes "1E") ∷ string (codes "1E") ∷ string (codes "1E") ∷ string (codes "1E")
+    ∷ string (codes "1E") ∷ string (codes "1E") ∷ []))
     ≡ codes "{\"at\":0,\"bytes\":5,\"depth\":0,\"last\":\"par &lO\",\"sheets\":0,\"step\":1,\"view\":{\"margins\":{\"right\":76320,\"text_length\":54000},\"page\":{\"orientation\":1}},\"x\":0,\"y\":900}"
     ∷ codes "{\"at\":5,\"bytes\":5,\"depth\":0,\"last\":\"par *rA\",\"sheets\":0,\"step\":2,\"view\":{\"raster\":{\"left\":0,\"rows\":0}},\"x\":0,\"y\":900}"
     ∷ codes "{\"at\":10,\"bytes\":6,\"depth\":0,\"last\":\"par *bW\",\"opened\":[2550,3300],\"page\":{\"height\":8,\"rows\":[\"1E\",\"1E\",\"1E\",\"1E\",\"1E\",\"1E\",\"1E\",\"1E\"],\"width\":8,\"x\":184,\"y\":3232},\"sheets\":0,\"step\":3,\"view\":{\"page\":{\"marked\":true},\"raster\":{\"rows\":1}},\"x\":0,\"y\":996}"
@@ -259,7 +261,9 @@ unfolding trace_at digits serde_json_on_literals hex_on_literals
 reverse_portrait_row = refl
 
 reverse_landscape_row :
-    row_lines "3" (box_told 2352 60 16 (string (codes "01E0") ∷ string (codes "01E0") ∷ string (codes "01E0") ∷ string (codes "01E0") ∷ string (codes "01E0") ∷ string (codes "01E0") ∷ string (codes "01E0") ∷ string (codes "01E0") ∷ []))
+    row_lines "3" (box_told 2352 60 16
+    (string (codes "01E0") ∷ string (codes "01E0") ∷ string (codes "01E0") ∷ string (codes "01E0") ∷ string (codes "01E0")
+    ∷ string (codes "01E0") ∷ string (codes "01E0") ∷ string (codes "01E0") ∷ []))
     ≡ codes "{\"at\":0,\"bytes\":5,\"depth\":0,\"last\":\"par &lO\",\"sheets\":0,\"step\":1,\"view\":{\"margins\":{\"right\":76320,\"text_length\":54000},\"page\":{\"orientation\":3}},\"x\":0,\"y\":900}"
     ∷ codes "{\"at\":5,\"bytes\":5,\"depth\":0,\"last\":\"par *rA\",\"sheets\":0,\"step\":2,\"view\":{\"raster\":{\"left\":0,\"rows\":0}},\"x\":0,\"y\":900}"
     ∷ codes "{\"at\":10,\"bytes\":6,\"depth\":0,\"last\":\"par *bW\",\"opened\":[2550,3300],\"page\":{\"height\":8,\"rows\":[\"01E0\",\"01E0\",\"01E0\",\"01E0\",\"01E0\",\"01E0\",\"01E0\",\"01E0\"],\"width\":16,\"x\":2352,\"y\":60},\"sheets\":0,\"step\":3,\"view\":{\"page\":{\"marked\":true},\"raster\":{\"rows\":1}},\"x\":0,\"y\":996}"

@@ -25,9 +25,15 @@ returns-clause-line c = λ machine shows before keeps.
     let line = c.in_ok-line.ensures in
     let alike = subst (λ (kept : Option Seen). IsAlikeIf kept line.0) (ap (λ (tracer : Tracer). tracer.before) stays) line.1 in
     let out = rw c.deref.ensures.value at c.in_ok-went.ensures.went in
-    is_line before old.place machine (all_outputs c.args.step.now.sent.items) old.before old.page line.0 view (option_map told c.in_ok-page.page.opened) (option_map told c.in_ok-page.page.page) c.in_ok-went.went c.in_ok-line.line.items keeps alike is
+    is_line before old.place machine (all_outputs c.args.step.now.sent.items) old.before old.page line.0 view
+    (option_map told c.in_ok-page.page.opened) (option_map told c.in_ok-page.page.page) c.in_ok-went.went c.in_ok-line.line.items keeps
+    alike is
     (c.in_ok-page.ensures.told machine shows) out
-    (line.2 ∙ ap (λ (place : Place). line_text (line_members place c.in_ok-went.went.sheets c.in_ok-went.went.replies.items line.0 view (option_map told c.in_ok-page.page.opened) (option_map told c.in_ok-page.page.page))) (ap (λ (tracer : Tracer). tracer.place) stays))
+    (line.2
+    ∙ ap (λ (place : Place).
+    line_text (line_members place c.in_ok-went.went.sheets c.in_ok-went.went.replies.items line.0 view
+    (option_map told c.in_ok-page.page.opened) (option_map told c.in_ok-page.page.page)))
+    (ap (λ (tracer : Tracer). tracer.place) stays))
 
 pub returns-clause-kept : goal.returns-clause-kept
 returns-clause-kept c = λ machine shows.
