@@ -1,6 +1,8 @@
 -- How many commands a job has at most.
-use Rattle.std.proofs.Common.{◌≡◌, ◌≤◌, ◌*◌, ◌/◌, ◌%◌, ◌==◌, ℕ, zero, suc, Bool, true, false, if◌then◌else◌, List, [], ◌∷◌, ◌++◌, length, map, replicate, Option, Some, None, IfSome, IsTrue, ◌&&◌, nat_le, ◌∙◌, refl, sym, ap, subst, arith, rules, le_trans, true≢false, length-append}
-use Rattle.std.specs.List.{All, flat_map}
+use Rattle.std.proofs.Common.{◌≡◌, ◌≤◌, ◌*◌, ◌/◌, ◌%◌, ◌==◌, ℕ, zero, suc, Bool, true, false, if◌then◌else◌}
+use Rattle.std.proofs.Common.{List, [], ◌∷◌, ◌++◌, length, replicate, Option, Some, None, IfSome, ◌&&◌, nat_le}
+use Rattle.std.proofs.Common.{◌∙◌, refl, sym, ap, subst, arith, rules, le_trans, true≢false, length-append}
+use Rattle.std.specs.List.{flat_map}
 use Rattle.std.proofs.lemmas.Grind.{flat_map-append}
 use Rattle.std.proofs.lemmas.List.{length-map, length-replicate}
 use Rattle.std.proofs.lemmas.List.FromFn.{length-map-range_with_len}
@@ -54,7 +56,9 @@ left_out-few (suc n) = omega arith
 row-few : (method : Method) (before row : List ℕ) → length (row_commands method before row) ≤ 2
 row-few method before row =
     let best : Method = best_method row before in
-    let change : length (method_change method best) ≤ 1 = either-few [] (command CompressionMethod (method_number best) ∷ []) (method_number method == method_number best) 1 (omega arith) (omega arith) in
+    let change : length (method_change method best) ≤ 1 =
+    either-few [] (command CompressionMethod (method_number best) ∷ []) (method_number method == method_number best) 1 (omega arith)
+    (omega arith) in
     omega (arith, change, length-append (method_change method best) (sent best row before ∷ []))
 
 rows-few : (method : Method) (before : List ℕ) (white : ℕ) (rows : List (List ℕ)) → length (raster_rows method before white rows) ≤ 3 * length rows

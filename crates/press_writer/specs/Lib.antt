@@ -1,3 +1,4 @@
+-- The job of a ticket, as a stream.
 pub mod Medium
 pub mod Faults
 pub mod Fitting

@@ -64,7 +64,8 @@ fn begin_page(
 ) -> Result<Option<PageLeft>, AllocError>
     requires { number < length images.now }
     ensures appends { IfOk result (λ begun. AppendsSome 3
-        (page (image_of images.now number)) (rest_of_begun images.now begun) out.old.items out.new.items) }
+        (page (image_of images.now number)) (rest_of_begun images.now begun)
+        out.old.items out.new.items) }
     ensures fits { IfOk result (λ begun. IfSome begun (λ left. left.page < length images.now)) }
 {
     push_start(out, &images[usize::from(number)])?;
@@ -84,7 +85,8 @@ fn begin_part(
 ) -> Result<Option<PageLeft>, AllocError>
     requires { FitsPart (length images.now) part }
     ensures appends { IfOk result (λ begun. AppendsSome 8
-        (commands_of_part medium images.now part) (rest_of_begun images.now begun) out.old.items out.new.items) }
+        (commands_of_part medium images.now part) (rest_of_begun images.now begun)
+        out.old.items out.new.items) }
     ensures fits { IfOk result (λ begun. IfSome begun (λ left. left.page < length images.now)) }
 {
     match part {
@@ -117,7 +119,8 @@ fn go_on(
 ) -> Result<Option<PageLeft>, AllocError>
     requires { left.page < length images.now }
     ensures appends { IfOk result (λ begun. AppendsSome 3
-        (rest_of_begun images.now (Some left)) (rest_of_begun images.now begun) out.old.items out.new.items) }
+        (rest_of_begun images.now (Some left)) (rest_of_begun images.now begun)
+        out.old.items out.new.items) }
     ensures fits { IfOk result (λ begun. IfSome begun (λ left. left.page < length images.now)) }
 {
     push_next_row(alloc, out, &images[usize::from(left.page)], left)

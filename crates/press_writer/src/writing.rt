@@ -1,9 +1,9 @@
 //! The bytes of a whole job.
 
-ghost use Rattle.std.specs.Prelude.{◌≡◌, ◌++◌, ◌⊎◌, [], None, Err, length, OnOk, OnErr, IfSome, IsSome, IfErr};
+ghost use Rattle.std.specs.Prelude.{◌≡◌, ◌++◌, ◌⊎◌, true, [], None, Err, length, OnOk, OnErr, IfSome, IsSome, IfErr};
 ghost use Rattle.std.specs.Io.KnownBytes.{Appends};
 ghost use Rattle.press_cmd.specs.Token.{bytes_of};
-ghost use Rattle.press_pbm.specs.Spelling.{AppendsPrefix, Writes};
+ghost use Rattle.press_devices.specs.Writing.{AppendsPrefix, Writes};
 ghost use Rattle.press_writer.specs.declared.fault.WriterError.TheVariants.{WriteFault, NoMemory};
 ghost use Rattle.press_writer.specs.Fitting.{refusal};
 ghost use Rattle.press_writer.specs.Job.{set_resolution, head_of, tail, job_bytes};
@@ -18,12 +18,11 @@ use crate::sequence::Sequence;
 use itoa::Buffer;
 use press_bits::Bitmap;
 use press_cmd::{ESCAPE, UEL};
+use press_devices::{WriteDevice, write_whole};
 use press_page::{Numbered, PageSetup};
-use press_pbm::write_whole;
 use press_ticket::Ticket;
 use press_units::Resolution;
 use std::alloc::{AllocError, Global};
-use std::io::Write;
 
 /// A printer reset.
 const RESET: [u8; 2] = [ESCAPE, b'E'];
@@ -73,9 +72,10 @@ pub(crate) fn push_tail(out: &mut Vec<u8>) -> Result<(), AllocError>
 }
 
 /// Writes all these bytes, or a prefix of them.
-fn write_bytes<W: Write>(output: &mut W, bytes: &[u8]) -> Result<(), WriterError>
+fn write_bytes<W: WriteDevice>(output: &mut W, bytes: &[u8]) -> Result<(), WriterError>
     ensures written { Writes result (W.contents output.old) (W.contents output.new) bytes.now }
     ensures fault { IfErr result (λ error. error ≡ WriteFault) }
+    ensures cause { IfErr result (λ error. error ≡ WriteFault → W.can_fail ≡ true) }
 {
     match write_whole(output, bytes) {
         Ok(()) => Ok(()),
@@ -84,7 +84,7 @@ fn write_bytes<W: Write>(output: &mut W, bytes: &[u8]) -> Result<(), WriterError
 }
 
 /// Writes what is left of a job, piece after piece.
-fn write_pieces<W: Write>(
+fn write_pieces<W: WriteDevice>(
     alloc: Global,
     writer: &mut JobWriter,
     images: &[Bitmap],
@@ -94,6 +94,7 @@ fn write_pieces<W: Write>(
     ensures written { Writes result (W.contents output.old) (W.contents output.new)
         (bytes_left writer.old images.now) }
     ensures fault { IfErr result (λ error. (error ≡ WriteFault) ⊎ (error ≡ NoMemory)) }
+    ensures cause { IfErr result (λ error. error ≡ WriteFault → W.can_fail ≡ true) }
 {
     let mut held = Vec::new(alloc);
     while writer.piece(images, &mut held)? {
@@ -118,7 +119,7 @@ fn write_pieces<W: Write>(
 ///
 /// Source: PCL 5 Printer Language Technical Reference Manual, PJL Technical Reference Manual; which commands a job has is this
 /// profile's.
-pub fn write_job<W: Write>(
+pub fn write_job<W: WriteDevice>(
     alloc: Global,
     ticket: &Ticket,
     images: &[Bitmap],
@@ -135,6 +136,7 @@ pub fn write_job<W: Write>(
         → Appends (W.contents output.old) (W.contents output.new) [] }
     ensures fault { refusal ticket.now images.now ≡ None
         → IfErr result (λ error. (error ≡ WriteFault) ⊎ (error ≡ NoMemory)) }
+    ensures cause { IfErr result (λ error. error ≡ WriteFault → W.can_fail ≡ true) }
 {
     let mut writer = JobWriter::open(alloc, ticket, images)?;
     write_pieces(alloc, &mut writer, images, output)

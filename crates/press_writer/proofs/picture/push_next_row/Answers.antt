@@ -31,6 +31,9 @@ returns-clause-appends c =
     let appended = c.in_ok-method.ensures.ok ∙ ap (λ bytes. bytes ++ written row) c.in_ok-push_left_out.ensures
     ∙ append_assoc before (written (left_out _)) (written row)
     ∙ ap (λ bytes. before ++ bytes) (sym (written-append (left_out _) row)) in
-    subst (λ (method : Method). AppendsSome 3 (rest_of_page image left) (rest_of_page image (record { page = left.page; line = y + 1; method = method })) before c.push_line.new.out.items) (sym c.in_ok-method.ensures.method)
+    subst (λ (method : Method).
+    AppendsSome 3 (rest_of_page image left) (rest_of_page image (record { page = left.page; line = y + 1; method = method }))
+    before c.push_line.new.out.items)
+    (sym c.in_ok-method.ensures.method)
     (appends_some 3 (rest_of_page image left) (row_commands_from image left y) (rest_of_page image (page_behind image left y)) before _
     (row_few image left y) (row_of_page image left y c.first_black-line.ensures.skips below (c.first_black-line.ensures.black below)) (row_some image left y) appended)

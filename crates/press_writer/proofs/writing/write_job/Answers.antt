@@ -1,6 +1,6 @@
 use Rattle.std.proofs.Common.{subst}
-use Rattle.press_pbm.specs.Spelling.{Writes}
-use Rattle.press_pbm.proofs.WritesLemmas.{OnErr-Writes}
+use Rattle.press_devices.specs.Writing.{Writes}
+use Rattle.press_devices.proofs.WritesLemmas.{OnErr-Writes}
 use Rattle.press_writer.proofs.PartLemmas.{OnOk-Writes}
 use Rattle.press_writer.proofs.writing.write_job.Goals as goal
 

@@ -2,8 +2,8 @@ use Rattle.std.proofs.Common.{◌≡◌, ◌++◌, [], List, ℕ, sym, ap, ◌�
 use Rattle.std.specs.Io.KnownBytes.{Appends}
 use Rattle.std.proofs.KnownBytes.{Appends-trans}
 use Rattle.std.proofs.lemmas.Result.{MatchResult-from_err}
-use Rattle.press_pbm.specs.Spelling.{AppendsPrefix, Writes}
-use Rattle.press_pbm.proofs.WritesLemmas.{prefix_more, prefix_then, Writes-then}
+use Rattle.press_devices.specs.Writing.{AppendsPrefix, Writes}
+use Rattle.press_devices.proofs.WritesLemmas.{prefix_more, prefix_then, Writes-then}
 use Rattle.press_writer.specs.Left.{bytes_left}
 use Rattle.press_writer.proofs.LeftLemmas.{held_more}
 use Rattle.press_writer.proofs.writing.write_pieces.Goals as goal

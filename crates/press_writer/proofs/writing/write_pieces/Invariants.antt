@@ -9,7 +9,7 @@ invariant-loop-held g l = record {
   images : HasImages (length l.images) l.writer;
   done : List ℕ;
   left : bytes_left l.fn.writer l.images ≡ done ++ (l.held.items ++ bytes_left l.writer l.images);
-  wrote : Appends (g.W.Write.contents l.fn.output) (g.W.Write.contents l.output) done;
+  wrote : Appends (g.W.WriteDevice.contents l.fn.output) (g.W.WriteDevice.contents l.output) done;
 }
 
 abbrev pub decreases-loop-held : goal.decreases-loop-held

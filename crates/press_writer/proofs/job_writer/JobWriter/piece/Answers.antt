@@ -13,7 +13,9 @@ returns-in-Some-clause-ok c =
     let before = c.args.out.now.items in
     let after = c.extend_from_slice.new.self.items in
     let bytes = c.go_on.new.out.items in
-    let appends = subst (λ items. AppendsSome 3 (rest_of_begun images (Some c.in-Some.left)) (rest_of_begun images c.in_ok-begun.begun) items bytes) c.new-bytes.ensures.items c.in_ok-begun.ensures.appends in
+    let appends =
+    subst (λ items. AppendsSome 3 (rest_of_begun images (Some c.in-Some.left)) (rest_of_begun images c.in_ok-begun.begun) items bytes)
+    c.new-bytes.ensures.items c.in_ok-begun.ensures.appends in
     let appended : after ≡ before ++ bytes = c.in_ok-extend_from_slice.ensures.items ∙ ap (λ l. before ++ l) c.deref.ensures.value in
     subst (λ left. GivesPiece left images true (with_begun c.in_ok-begun.begun old.parts old) before after) c.self.view_is
     (goes_on old images c.in-Some.left c.in_ok-begun.begun bytes before after c.in-Some.is appends appended)
@@ -33,7 +35,11 @@ returns-clause-ok c =
     let after = c.extend_from_slice-2.new.self.items in
     let bytes = c.begin_part.new.out.items in
     let next = next_part (plan_parts c.self.inside.plan) c.self.inside.place c.part_at-part.result c.part_at-part.ensures in
-    let appends = subst (λ items. AppendsSome 8 (commands_of_part old.medium images c.part_at-part.result) (rest_of_begun images c.in_ok-begun-2.begun) items bytes) c.new-bytes.ensures.items c.in_ok-begun-2.ensures.appends in
+    let appends =
+    subst (λ items.
+    AppendsSome 8 (commands_of_part old.medium images c.part_at-part.result) (rest_of_begun images c.in_ok-begun-2.begun) items
+    bytes)
+    c.new-bytes.ensures.items c.in_ok-begun-2.ensures.appends in
     let appended : after ≡ before ++ bytes = c.in_ok-extend_from_slice-2.ensures.items ∙ ap (λ l. before ++ l) c.deref-2.ensures.value in
     subst (λ left. GivesPiece left images true (with_begun c.in_ok-begun-2.begun parts old) before after) c.self.view_is
     (begins old images c.part_at-part.result parts c.in_ok-begun-2.begun bytes before after c.in_default.is next appends appended)
