@@ -1,5 +1,6 @@
 -- The calls of a job, one after another.
-use Rattle.std.proofs.Common.{◌≡◌, ◌∙◌, ◌<◌, ◌+◌, ℕ, List, [], ◌∷◌, ◌++◌, length, take, drop, get_or, Ok, Err, Result, Option, Some, None, IsSome, is_some, OnOk, OnErr, IfErr, false, refl, sym, ap, subst, append_assoc}
+use Rattle.std.proofs.Common.{◌≡◌, ◌∙◌, ◌<◌, ◌+◌, ℕ, List, [], ◌∷◌, ◌++◌, length, take, drop, get_or, Ok, Err, Result, Option}
+use Rattle.std.proofs.Common.{Some, None, IsSome, is_some, OnOk, OnErr, IfErr, false, refl, sym, ap, subst, append_assoc}
 use Rattle.std.specs.List.{flat_map}
 use Rattle.std.proofs.KnownBytes.{Consumes-nil}
 use Rattle.std.proofs.lemmas.Grind.{flat_map-append}
@@ -36,36 +37,52 @@ pub opened-going : (job : JobState) → job ≡ opened → job.held.ended ≡ fa
 opened-going job is = ap (λ (one : JobState). one.held.ended) is
 
 -- one call more
-pub CarriesOut-more : CallsGo → (bytes more all : List ℕ) (given others : List Token) (tag : ℕ) (job new : JobState) (before middle after : SinkLog) → all ≡ bytes ++ more → CarriesOut opened bytes given job (under tag before middle) → CarriesOut job more others new (under tag middle after) → CarriesOut opened all (given ++ others) new (under tag before after)
+pub CarriesOut-more : CallsGo
+    → (bytes more all : List ℕ) (given others : List Token) (tag : ℕ) (job new : JobState) (before middle after : SinkLog)
+    → all ≡ bytes ++ more → CarriesOut opened bytes given job (under tag before middle)
+    → CarriesOut job more others new (under tag middle after) → CarriesOut opened all (given ++ others) new (under tag before after)
 CarriesOut-more calls bytes more all given others tag job new before middle after is first second =
-    subst (λ (handed : List ℕ). CarriesOut opened handed (given ++ others) new (under tag before after)) (sym is) (calls.then opened job new bytes more given others tag before middle after first second).0
+    subst (λ (handed : List ℕ). CarriesOut opened handed (given ++ others) new (under tag before after)) (sym is)
+    (calls.then opened job new bytes more given others tag before middle after first second).0
 
 -- a stream to its end
-pub Prints-end : CallsGo → PrintsAll → (bytes all : List ℕ) (given : List Token) (tag : ℕ) (job new : JobState) (result : Result (Unit {0}) JobError) (done : Unit {0}) (before middle after : SinkLog) → result ≡ Ok done → all ≡ bytes → CarriesOut opened bytes given job (under tag before middle) → Finishes job tag result new middle after → Prints all tag Complete new.machine before after
+pub Prints-end : CallsGo → PrintsAll
+    → (bytes all : List ℕ) (given : List Token) (tag : ℕ) (job new : JobState) (result : Result (Unit {0}) JobError) (done : Unit {0})
+    (before middle after : SinkLog)
+    → result ≡ Ok done → all ≡ bytes → CarriesOut opened bytes given job (under tag before middle)
+    → Finishes job tag result new middle after → Prints all tag Complete new.machine before after
 Prints-end calls prints bytes all given tag job new result done before middle after answer is first finishes =
     let P : Result (Unit {0}) JobError → Type 0 = λ one. Finishes job tag one new middle after in
     let last = subst P answer finishes in
     prints.at_end all (given ++ last.0) tag new before after (CarriesOut-more calls bytes [] all given last.0 tag job new before middle after (is ∙ sym (append-nil bytes)) first last.1) last.2
 
 -- a job that was finished is over
-pub finish-over : (job new : JobState) (tag : ℕ) (result : Result (Unit {0}) JobError) (done : Unit {0}) (before after : SinkLog) → result ≡ Ok done → Finishes job tag result new before after → IsOver new
+pub finish-over : (job new : JobState) (tag : ℕ) (result : Result (Unit {0}) JobError) (done : Unit {0}) (before after : SinkLog)
+    → result ≡ Ok done → Finishes job tag result new before after → IsOver new
 finish-over job new tag result done before after answer finishes =
     let P : Result (Unit {0}) JobError → Type 0 = λ one. Finishes job tag one new before after in
     (subst P answer finishes).2
 
 -- a piece that was pushed
-pub pushed : CallsGo → (old new : JobState) (piece : List ℕ) (tag : ℕ) (result : Result (Unit {0}) JobError) (told : SinkLog) → Pushes old piece result new → OnOk result ((given : List Token) × CarriesOut old piece given new (under tag told told))
+pub pushed : CallsGo → (old new : JobState) (piece : List ℕ) (tag : ℕ) (result : Result (Unit {0}) JobError) (told : SinkLog)
+    → Pushes old piece result new → OnOk result ((given : List Token) × CarriesOut old piece given new (under tag told told))
 pushed calls old new piece tag (Ok done) told pushes =
     ([], subst (λ (one : JobState). CarriesOut old piece [] one (under tag told told)) (sym pushes.2) (calls.pushes old piece tag told pushes.0 pushes.1))
 pushed calls old new piece tag (Err error) told pushes = tt
 
 -- nothing changed
-still : CallsGo → (old new : JobState) (tag : ℕ) (before after : SinkLog) → IsSome old.machine → new ≡ old → after ≡ before → (given : List Token) × CarriesOut old [] given new (under tag before after)
-still calls old new tag before after running same quiet =
-    ([], subst (λ (told : SinkLog). CarriesOut old [] [] new (under tag before told)) (sym quiet) (subst (λ (one : JobState). CarriesOut old [] [] one (under tag before before)) (sym same) (calls.begins old tag before running)))
+still : CallsGo → (old new : JobState) (tag : ℕ) (before after : SinkLog) → IsSome old.machine → new ≡ old → after ≡ before
+    → (given : List Token) × CarriesOut old [] given new (under tag before after)
+still calls old new tag before after running same quiet = (
+  [],
+  subst (λ (told : SinkLog). CarriesOut old [] [] new (under tag before told)) (sym quiet)
+      (subst (λ (one : JobState). CarriesOut old [] [] one (under tag before before)) (sym same) (calls.begins old tag before running)),
+)
 
 -- a step that was taken, or found nothing to take
-pub stepped : CallsGo → (old new : JobState) (tag : ℕ) (result : Result Step JobError) (step : Step) (before after : SinkLog) → IsSome old.machine → result ≡ Ok step → Takes old tag result new before after → (given : List Token) × CarriesOut old [] given new (under tag before after)
+pub stepped : CallsGo → (old new : JobState) (tag : ℕ) (result : Result Step JobError) (step : Step) (before after : SinkLog)
+    → IsSome old.machine → result ≡ Ok step → Takes old tag result new before after
+    → (given : List Token) × CarriesOut old [] given new (under tag before after)
 stepped calls old new tag result step before after running answer takes = by step (subst (λ (one : Result Step JobError). Takes old tag one new before after) answer takes) where
   by : (step : Step) → Takes old tag (Ok step) new before after → (given : List Token) × CarriesOut old [] given new (under tag before after)
   by (steps.Ran kind) ran = (ran.1.given, CarriesOut-one old new ran.0 kind tag before after ran.1 ran.2)
@@ -78,7 +95,8 @@ pushed-going old new piece (Ok done) pushes = ap (λ (job : JobState). job.held.
 pushed-going old new piece (Err error) pushes = tt
 
 -- and behind a step
-pub stepped-going : (old new : JobState) (tag : ℕ) (result : Result Step JobError) (step : Step) (before after : SinkLog) → old.held.ended ≡ false → result ≡ Ok step → Takes old tag result new before after → new.held.ended ≡ false
+pub stepped-going : (old new : JobState) (tag : ℕ) (result : Result Step JobError) (step : Step) (before after : SinkLog)
+    → old.held.ended ≡ false → result ≡ Ok step → Takes old tag result new before after → new.held.ended ≡ false
 stepped-going old new tag result step before after going answer takes = by step (subst (λ (one : Result Step JobError). Takes old tag one new before after) answer takes) where
   by : (step : Step) → Takes old tag (Ok step) new before after → new.held.ended ≡ false
   by (steps.Ran kind) ran = taken-ended old new ran.1.given ran.1.takes ∙ going
@@ -86,7 +104,8 @@ stepped-going old new tag result step before after going answer takes = by step 
   by steps.Ended quiet = ap (λ (job : JobState). job.held.ended) quiet.1 ∙ going
 
 -- the bytes of the first pieces, of one more, and of the others
-pub pieces-rest : {A : Type 0} (f : A → List ℕ) (pieces : List A) (i : ℕ) (other : A) → i < length pieces → (flat_map f (take i pieces) ++ f (get_or pieces i other)) ++ flat_map f (drop (i + 1) pieces) ≡ flat_map f pieces
+pub pieces-rest : {A : Type 0} (f : A → List ℕ) (pieces : List A) (i : ℕ) (other : A) → i < length pieces
+    → (flat_map f (take i pieces) ++ f (get_or pieces i other)) ++ flat_map f (drop (i + 1) pieces) ≡ flat_map f pieces
 pieces-rest f pieces i other inside =
     ap (λ (prefix : List ℕ). prefix ++ flat_map f (drop (i + 1) pieces)) (sym (pieces-next f pieces i other inside))
     ∙ sym (flat_map-append f (take (i + 1) pieces) (drop (i + 1) pieces))
@@ -97,7 +116,10 @@ has_failed : (machine : Option Machine) (one : Machine) → machine ≡ None →
 has_failed machine one none some = cc
 
 -- A job that went on stopped at a fault: the bytes are printed as far as the answer says.
-pub PrintedTo-fault : PrintsAll → (bytes more : List ℕ) (given : List Token) (tag : ℕ) (error : JobError) (job new : JobState) (before middle after : SinkLog) → CarriesOut opened bytes given job (under tag before middle) → Faults job more error new (under tag middle after) → PrintedTo (Some error) (bytes ++ more) tag None before after
+pub PrintedTo-fault : PrintsAll
+    → (bytes more : List ℕ) (given : List Token) (tag : ℕ) (error : JobError) (job new : JobState) (before middle after : SinkLog)
+    → CarriesOut opened bytes given job (under tag before middle) → Faults job more error new (under tag middle after)
+    → PrintedTo (Some error) (bytes ++ more) tag None before after
 PrintedTo-fault prints bytes more given tag errors.SinkFault job new before middle after goes faults = prints.stopped bytes more given tag AtSheet job before middle after (λ e. cc) goes faults.1 None
 PrintedTo-fault prints bytes more given tag errors.ReplyFault job new before middle after goes faults = prints.stopped bytes more given tag AtReply job before middle after (λ e. cc) goes faults.1 None
 PrintedTo-fault prints bytes more given tag errors.NoMemory job new before middle after goes faults = prints.stopped bytes more given tag ForMemory job before middle after (λ e. cc) goes faults.1 None
@@ -106,7 +128,11 @@ PrintedTo-fault prints bytes more given tag errors.ReadFault job new before midd
 PrintedTo-fault prints bytes more given tag errors.AfterEnd job new before middle after goes faults = absurd faults.1.went.goes
 
 -- the same of a fault whatever bytes come behind the piece, in the midst of all bytes
-pub PrintedTo-before : PrintsAll → (bytes piece more all : List ℕ) (given : List Token) (tag : ℕ) (error : JobError) (job new : JobState) (before middle after : SinkLog) → job.held.ended ≡ false → (bytes ++ piece) ++ more ≡ all → CarriesOut opened bytes given job (under tag before middle) → FaultsBefore job piece error new (under tag middle after) → PrintedTo (Some error) all tag None before after
+pub PrintedTo-before : PrintsAll
+    → (bytes piece more all : List ℕ) (given : List Token) (tag : ℕ) (error : JobError) (job new : JobState)
+    (before middle after : SinkLog)
+    → job.held.ended ≡ false → (bytes ++ piece) ++ more ≡ all → CarriesOut opened bytes given job (under tag before middle)
+    → FaultsBefore job piece error new (under tag middle after) → PrintedTo (Some error) all tag None before after
 PrintedTo-before prints bytes piece more all given tag error job new before middle after going is goes faults =
     let P : List ℕ → Type 0 = λ handed. PrintedTo (Some error) handed tag None before after in
     subst P (sym (append_assoc bytes piece more) ∙ is)
@@ -114,7 +140,8 @@ PrintedTo-before prints bytes piece more all given tag error job new before midd
     (faults more (λ ended. absurd (true≢false (sym ended ∙ going)))))
 
 -- a fault of a piece that was fed before the end of input
-pub fed-fault : (old new : JobState) (piece : List ℕ) (tag : ℕ) (error : JobError) (before after : SinkLog) → old.held.ended ≡ false → Feeds old piece (Err error) new (under tag before after) → FaultsBefore old piece error new (under tag before after)
+pub fed-fault : (old new : JobState) (piece : List ℕ) (tag : ℕ) (error : JobError) (before after : SinkLog) → old.held.ended ≡ false
+    → Feeds old piece (Err error) new (under tag before after) → FaultsBefore old piece error new (under tag before after)
 fed-fault old new piece tag errors.SinkFault before after going feeds = feeds
 fed-fault old new piece tag errors.ReplyFault before after going feeds = feeds
 fed-fault old new piece tag errors.NoMemory before after going feeds = feeds
@@ -128,20 +155,27 @@ on_err (Ok a) p = tt
 on_err (Err e) p = p
 
 -- a piece that was fed
-pub fed : (old new : JobState) (piece : List ℕ) (tag : ℕ) (result : Result (Unit {0}) JobError) (before after : SinkLog) → Feeds old piece result new (under tag before after) → OnOk result ((given : List Token) × CarriesOut old piece given new (under tag before after))
+pub fed : (old new : JobState) (piece : List ℕ) (tag : ℕ) (result : Result (Unit {0}) JobError) (before after : SinkLog)
+    → Feeds old piece result new (under tag before after)
+    → OnOk result ((given : List Token) × CarriesOut old piece given new (under tag before after))
 fed old new piece tag (Ok done) before after feeds = (feeds.0, feeds.1)
 fed old new piece tag (Err error) before after feeds = tt
 
-pub fed-going : (old new : JobState) (piece : List ℕ) (tag : ℕ) (result : Result (Unit {0}) JobError) (before after : SinkLog) → Feeds old piece result new (under tag before after) → OnOk result (new.held.ended ≡ false)
+pub fed-going : (old new : JobState) (piece : List ℕ) (tag : ℕ) (result : Result (Unit {0}) JobError) (before after : SinkLog)
+    → Feeds old piece result new (under tag before after) → OnOk result (new.held.ended ≡ false)
 fed-going old new piece tag (Ok done) before after feeds = feeds.2.going
 fed-going old new piece tag (Err error) before after feeds = tt
 
-pub fed-faults : (old new : JobState) (piece : List ℕ) (tag : ℕ) (result : Result (Unit {0}) JobError) (before after : SinkLog) → old.held.ended ≡ false → Feeds old piece result new (under tag before after) → IfErr result (λ error. FaultsBefore old piece error new (under tag before after))
+pub fed-faults : (old new : JobState) (piece : List ℕ) (tag : ℕ) (result : Result (Unit {0}) JobError) (before after : SinkLog)
+    → old.held.ended ≡ false → Feeds old piece result new (under tag before after)
+    → IfErr result (λ error. FaultsBefore old piece error new (under tag before after))
 fed-faults old new piece tag (Ok done) before after going feeds = tt
 fed-faults old new piece tag (Err error) before after going feeds = fed-fault old new piece tag error before after going feeds
 
 -- of a piece that was pushed
-pub pushed-fault : CallsGo → (old new : JobState) (piece : List ℕ) (tag : ℕ) (result : Result (Unit {0}) JobError) (told : SinkLog) → IsSome old.machine → old.held.ended ≡ false → Pushes old piece result new → IfErr result (λ error. FaultsBefore old piece error new (under tag told told))
+pub pushed-fault : CallsGo → (old new : JobState) (piece : List ℕ) (tag : ℕ) (result : Result (Unit {0}) JobError) (told : SinkLog)
+    → IsSome old.machine → old.held.ended ≡ false → Pushes old piece result new
+    → IfErr result (λ error. FaultsBefore old piece error new (under tag told told))
 pushed-fault calls old new piece tag (Ok done) told running going pushes = tt
 pushed-fault calls old new piece tag (Err errors.NoMemory) told running going pushes = λ more none_after. (pushes.2, calls.wants old (piece ++ more) tag told running none_after)
 pushed-fault calls old new piece tag (Err errors.Failed) told running going pushes = absurd (no_machine old.machine running pushes.0) where
@@ -164,16 +198,20 @@ stopped-by job new bytes tag errors.Failed before after runs faults = absurd (no
 stopped-by job new bytes tag errors.ReadFault before after runs faults = faults.0
 stopped-by job new bytes tag errors.AfterEnd before after runs faults = faults.0
 
-pub stopped-failed : (job new : JobState) (piece : List ℕ) (tag : ℕ) (error : JobError) (before after : SinkLog) → IsSome job.machine → job.held.ended ≡ false → FaultsBefore job piece error new (under tag before after) → new.machine ≡ None
+pub stopped-failed : (job new : JobState) (piece : List ℕ) (tag : ℕ) (error : JobError) (before after : SinkLog) → IsSome job.machine
+    → job.held.ended ≡ false → FaultsBefore job piece error new (under tag before after) → new.machine ≡ None
 stopped-failed job new piece tag error before after runs going faults =
     stopped-by job new (piece ++ []) tag error before after runs (faults [] (λ ended. absurd (true≢false (sym ended ∙ going))))
 
-pub on_failed : (job new : JobState) (piece : List ℕ) (tag : ℕ) (result : Result (Unit {0}) JobError) (before after : SinkLog) → IsSome job.machine → job.held.ended ≡ false → IfErr result (λ error. FaultsBefore job piece error new (under tag before after)) → OnErr result (new.machine ≡ None)
+pub on_failed : (job new : JobState) (piece : List ℕ) (tag : ℕ) (result : Result (Unit {0}) JobError) (before after : SinkLog)
+    → IsSome job.machine → job.held.ended ≡ false → IfErr result (λ error. FaultsBefore job piece error new (under tag before after))
+    → OnErr result (new.machine ≡ None)
 on_failed job new piece tag (Ok done) before after runs going faults = tt
 on_failed job new piece tag (Err error) before after runs going faults = stopped-failed job new piece tag error before after runs going faults
 
 -- what went out where a job stopped, whatever machine is left
-PrintedTo-any : (error : JobError) (bytes : List ℕ) (tag : ℕ) (one other : Option Machine) (before after : SinkLog) → PrintedTo (Some error) bytes tag one before after → PrintedTo (Some error) bytes tag other before after
+PrintedTo-any : (error : JobError) (bytes : List ℕ) (tag : ℕ) (one other : Option Machine) (before after : SinkLog)
+    → PrintedTo (Some error) bytes tag one before after → PrintedTo (Some error) bytes tag other before after
 PrintedTo-any errors.SinkFault bytes tag one other before after printed = printed
 PrintedTo-any errors.ReplyFault bytes tag one other before after printed = printed
 PrintedTo-any errors.NoMemory bytes tag one other before after printed = printed
@@ -182,7 +220,8 @@ PrintedTo-any errors.ReadFault bytes tag one other before after printed = printe
 PrintedTo-any errors.AfterEnd bytes tag one other before after printed = printed
 
 -- a call stopped, and nothing was read
-pub Printed-stopped : (bytes : List ℕ) (had : Option (List ℕ)) (tag : ℕ) (error : JobError) (new : Option Machine) (before after : SinkLog) → PrintedTo (Some error) bytes tag None before after → Printed bytes had had (Some error) new (under tag before after)
+pub Printed-stopped : (bytes : List ℕ) (had : Option (List ℕ)) (tag : ℕ) (error : JobError) (new : Option Machine) (before after : SinkLog)
+    → PrintedTo (Some error) bytes tag None before after → Printed bytes had had (Some error) new (under tag before after)
 Printed-stopped bytes had tag error new before after printed = record {
   bytes = [];
   read = record { lost = Consumes-nil had; at_end = λ none. absurd (cc) };
@@ -190,11 +229,14 @@ Printed-stopped bytes had tag error new before after printed = record {
 }
 
 -- it is over then, or has failed
-pub read-over : (job new : JobState) (bytes : List ℕ) (tag : ℕ) (result : Result (Unit {0}) JobError) (before after : SinkLog) → RunsThrough job bytes result new (under tag before after) → OnOk result (IsOver new)
+pub read-over : (job new : JobState) (bytes : List ℕ) (tag : ℕ) (result : Result (Unit {0}) JobError) (before after : SinkLog)
+    → RunsThrough job bytes result new (under tag before after) → OnOk result (IsOver new)
 read-over job new bytes tag (Ok done) before after runs = runs.2
 read-over job new bytes tag (Err error) before after runs = tt
 
-pub read-failed : (job new : JobState) (bytes : List ℕ) (tag : ℕ) (result : Result (Unit {0}) JobError) (before after : SinkLog) → IsSome job.machine → job.held.ended ≡ false → RunsThrough job bytes result new (under tag before after) → OnErr result (new.machine ≡ None)
+pub read-failed : (job new : JobState) (bytes : List ℕ) (tag : ℕ) (result : Result (Unit {0}) JobError) (before after : SinkLog)
+    → IsSome job.machine → job.held.ended ≡ false → RunsThrough job bytes result new (under tag before after)
+    → OnErr result (new.machine ≡ None)
 read-failed job new bytes tag (Ok done) before after some going runs = tt
 read-failed job new bytes tag (Err errors.ReadFault) before after some going runs = runs.0
 read-failed job new bytes tag (Err errors.AfterEnd) before after some going runs = absurd (true≢false (sym runs.0.1 ∙ going))
@@ -215,7 +257,17 @@ PrintedTo-none calls prints all tag told =
     prints.stopped [] all [] tag ForMemory opened told told told (λ e. cc) (calls.begins opened tag told refl) (calls.wants opened all tag told refl (λ ended. absurd (true≢false (sym ended)))) None
 
 -- the fault of the end of a stream
-pub PrintedTo-end : PrintsAll → (bytes all : List ℕ) (given : List Token) (tag : ℕ) (error : JobError) (job new : JobState) (before middle after : SinkLog) → all ≡ bytes → CarriesOut opened bytes given job (under tag before middle) → Faults job [] error new (under tag middle after) → PrintedTo (Some error) all tag None before after
+pub PrintedTo-end : PrintsAll
+    → (bytes all : List ℕ) (given : List Token) (tag : ℕ) (error : JobError) (job new : JobState) (before middle after : SinkLog)
+    → all ≡ bytes → CarriesOut opened bytes given job (under tag before middle) → Faults job [] error new (under tag middle after)
+    → PrintedTo (Some error) all tag None before after
 PrintedTo-end prints bytes all given tag error job new before middle after is goes faults =
     let P : List ℕ → Type 0 = λ handed. PrintedTo (Some error) handed tag None before after in
     subst P (append-nil bytes ∙ sym is) (PrintedTo-fault prints bytes [] given tag error job new before middle after goes faults)
+
+-- no call before the end of input answers that a read failed
+pub no-read-fault : (old new : JobState) (bytes : List ℕ) (tag : ℕ) (error : JobError) (before after : SinkLog) → old.held.ended ≡ false
+    → error ≡ errors.ReadFault → FaultsBefore old bytes error new (under tag before after) → ⊥
+no-read-fault old new bytes tag error before after going is faults =
+    let P : JobError → Type 0 = λ fault. FaultsBefore old bytes fault new (under tag before after) in
+    (subst P is faults [] (λ ended. absurd (true≢false (sym ended ∙ going)))).1.went.goes

@@ -7,7 +7,7 @@ use Rattle.std.proofs.lemmas.List.{append_assoc, append-nil, map-append, take-ap
 use Rattle.std.specs.declared.alloc.AllocError.{AllocError}
 use Rattle.std.specs.declared.alloc.Global.{Global}
 use Rattle.press_bits.specs.Page.{Page}
-use Rattle.press_pbm.specs.Spelling.{AppendsPrefix}
+use Rattle.press_devices.specs.Writing.{AppendsPrefix}
 use Rattle.press_sink.specs.declared.sheet.Delivery.{Delivery}
 use Rattle.press_sink.specs.SinkLog.{SheetLog, most_faults}
 use Rattle.press_core.specs.declared.operator.OperatorCommand.{OperatorCommand}
@@ -30,7 +30,9 @@ Leads-join world middle last [] others first second = subst (λ (w : World). IsE
 Leads-join world middle last (happening ∷ happenings) others first second =
     (first.0, Leads-join happening.next middle last happenings others first.1 second)
 
-took-join : (before middle after : Option (List Delivery)) (first second : List Delivery) → middle ≡ option_map (λ all. all ++ first) before → after ≡ option_map (λ all. all ++ second) middle → after ≡ option_map (λ all. all ++ (first ++ second)) before
+took-join : (before middle after : Option (List Delivery)) (first second : List Delivery)
+    → middle ≡ option_map (λ all. all ++ first) before → after ≡ option_map (λ all. all ++ second) middle
+    → after ≡ option_map (λ all. all ++ (first ++ second)) before
 took-join None middle after first second one two = two ∙ ap (option_map (λ all. all ++ second)) one
 took-join (Some all) middle after first second one two = two ∙ ap (option_map (λ all. all ++ second)) one ∙ ap Some (append_assoc all first second)
 
@@ -52,7 +54,10 @@ HappenAll-none world told bytes = record {
 }
 
 -- one event happened
-HappenAll-one : (world last : World) (event : Event) (answer : EventAnswer) (handed : List Delivery) (before after : SheetLog) (old new : List ℕ) → Happens world event answer handed last → IsAnswered answer → after.delivered ≡ option_map (λ all. all ++ handed) before.delivered → after.faults ≡ before.faults → new ≡ old ++ line_of answer → HappenAll world (event ∷ []) last (handing before after old new)
+HappenAll-one : (world last : World) (event : Event) (answer : EventAnswer) (handed : List Delivery) (before after : SheetLog)
+    (old new : List ℕ)
+    → Happens world event answer handed last → IsAnswered answer → after.delivered ≡ option_map (λ all. all ++ handed) before.delivered
+    → after.faults ≡ before.faults → new ≡ old ++ line_of answer → HappenAll world (event ∷ []) last (handing before after old new)
 HappenAll-one world last event answer handed before after old new happens answered told faults responses = record {
   happenings = record { event = event; answer = answer; handed = handed; next = last } ∷ [];
   are = refl;
@@ -64,7 +69,10 @@ HappenAll-one world last event answer handed before after old new happens answer
 }
 
 -- a message was answered
-pub message-happened : (world last : World) (text : List ℕ) (images : List Page) (result : Result (Vec ℕ Global) AllocError) (response : Vec ℕ Global) (told : SheetLog) (line old new : List ℕ) → result ≡ Ok response → Happens world (Message text images) (response_to result) [] last → line ≡ response.items → new ≡ old ++ (line ++ 10 ∷ []) → HappenAll world (Message text images ∷ []) last (handing told told old new)
+pub message-happened : (world last : World) (text : List ℕ) (images : List Page) (result : Result (Vec ℕ Global) AllocError)
+    (response : Vec ℕ Global) (told : SheetLog) (line old new : List ℕ)
+    → result ≡ Ok response → Happens world (Message text images) (response_to result) [] last → line ≡ response.items
+    → new ≡ old ++ (line ++ 10 ∷ []) → HappenAll world (Message text images ∷ []) last (handing told told old new)
 message-happened world last text images result response told line old new answer happens is appended =
     HappenAll-one world last (Message text images) (Response (Some response.items)) [] told told old new
     (subst (λ (one : Result (Vec ℕ Global) AllocError). Happens world (Message text images) (response_to one) [] last) answer happens) tt
@@ -72,7 +80,12 @@ message-happened world last text images result response told line old new answer
     (appended ∙ ap (λ (bytes : List ℕ). old ++ (bytes ++ 10 ∷ [])) is)
 
 -- a turn was taken
-pub turn-happened : (world last : World) (engine most : ℕ) (result : Result Turn TurnError) (turn : Turn) (before after : SheetLog) (bytes : List ℕ) → result ≡ Ok turn → ((handed : List Delivery) × Happens world (TurnOn engine most) (Turned result) handed last × WereHandedOut handed result before after) → HappenAll world (TurnOn engine most ∷ []) last (handing before after bytes bytes)
+pub turn-happened : (world last : World) (engine most : ℕ) (result : Result Turn TurnError) (turn : Turn) (before after : SheetLog)
+    (bytes : List ℕ)
+    → result ≡ Ok turn
+    → ((handed : List Delivery) × Happens world (TurnOn engine most) (Turned result) handed last
+    × WereHandedOut handed result before after)
+    → HappenAll world (TurnOn engine most ∷ []) last (handing before after bytes bytes)
 turn-happened world last engine most result turn before after bytes answer taken =
     HappenAll-one world last (TurnOn engine most) (Turned result) taken.0 before after bytes bytes taken.1
     (subst (λ (one : Result Turn TurnError). IsAnswered (Turned one)) (sym answer) tt) taken.2.told
@@ -80,12 +93,16 @@ turn-happened world last engine most result turn before after bytes answer taken
     (sym (append-nil bytes))
 
 -- the operator asked for something
-pub operator-happened : (world last : World) (command : OperatorCommand) (told : SheetLog) (bytes : List ℕ) → Happens world (Operator command) Nothing [] last → HappenAll world (Operator command ∷ []) last (handing told told bytes bytes)
+pub operator-happened : (world last : World) (command : OperatorCommand) (told : SheetLog) (bytes : List ℕ)
+    → Happens world (Operator command) Nothing [] last → HappenAll world (Operator command ∷ []) last (handing told told bytes bytes)
 operator-happened world last command told bytes happens =
     HappenAll-one world last (Operator command) Nothing [] told told bytes bytes happens tt (took-nothing told.delivered) refl (sym (append-nil bytes))
 
 -- events, and then others
-pub HappenAll-then : (world middle last : World) (events others all : List Event) (before between after : SheetLog) (old written new : List ℕ) → all ≡ events ++ others → HappenAll world events middle (handing before between old written) → HappenAll middle others last (handing between after written new) → HappenAll world all last (handing before after old new)
+pub HappenAll-then : (world middle last : World) (events others all : List Event) (before between after : SheetLog)
+    (old written new : List ℕ)
+    → all ≡ events ++ others → HappenAll world events middle (handing before between old written)
+    → HappenAll middle others last (handing between after written new) → HappenAll world all last (handing before after old new)
 HappenAll-then world middle last events others all before between after old written new is first second = record {
   happenings = first.happenings ++ second.happenings;
   are =
@@ -107,12 +124,14 @@ HappenAll-then world middle last events others all before between after old writ
 }
 
 -- the first events, and one more
-pub events-next : {A : Type 0} (f : A → Event) (events : List A) (i : ℕ) (event : A) → i < length events → event ≡ get_or events i event → map f (take (i + 1) events) ≡ map f (take i events) ++ f event ∷ []
+pub events-next : {A : Type 0} (f : A → Event) (events : List A) (i : ℕ) (event : A) → i < length events → event ≡ get_or events i event
+    → map f (take (i + 1) events) ≡ map f (take i events) ++ f event ∷ []
 events-next {A} f events i event inside is =
     ap (map f) (take_more events i event inside ∙ ap (λ (one : A). take i events ++ one ∷ []) (sym is)) ∙ map-append f (take i events) (event ∷ [])
 
 -- the events: the first, one, and the others
-pub events-rest : {A : Type 0} (f : A → Event) (events : List A) (i : ℕ) (event : A) → i < length events → event ≡ get_or events i event → map f events ≡ (map f (take i events) ++ f event ∷ []) ++ map f (drop (i + 1) events)
+pub events-rest : {A : Type 0} (f : A → Event) (events : List A) (i : ℕ) (event : A) → i < length events → event ≡ get_or events i event
+    → map f events ≡ (map f (take i events) ++ f event ∷ []) ++ map f (drop (i + 1) events)
 events-rest {A} f events i event inside is =
     sym
     (ap (λ (prefix : List Event). prefix ++ map f (drop (i + 1) events)) (sym (events-next f events i event inside is))
@@ -126,7 +145,10 @@ has_fault_room-then before after is can = subst (λ (n : ℕ). n < most_faults) 
 -- ---- up to a fault
 
 -- the fault came at one event
-HappenUpTo-one : (error : TurnError) (world last : World) (event : Event) (answer : EventAnswer) (handed : List Delivery) (before after : SheetLog) (old new : List ℕ) → Happens world event answer handed last → WereHandedOut {A = Turn} handed (Err error) before after → FaultLeaves answer error old new → HappenUpTo error world (event ∷ []) last (handing before after old new)
+HappenUpTo-one : (error : TurnError) (world last : World) (event : Event) (answer : EventAnswer) (handed : List Delivery)
+    (before after : SheetLog) (old new : List ℕ)
+    → Happens world event answer handed last → WereHandedOut {A = Turn} handed (Err error) before after → FaultLeaves answer error old new
+    → HappenUpTo error world (event ∷ []) last (handing before after old new)
 HappenUpTo-one error world last event answer handed before after old new happens took leaves = record {
   prefix = [];
   stopped = record { event = event; answer = answer; handed = handed; next = last };
@@ -142,25 +164,36 @@ HappenUpTo-one error world last event answer handed before after old new happens
 }
 
 -- a message, for which there was no memory
-message-stopped : (world last : World) (text : List ℕ) (images : List Page) (response : Option (List ℕ)) (told : SheetLog) (old new : List ℕ) → Happens world (Message text images) (Response response) [] last → FaultLeaves (Response response) NoMemory old new → HappenUpTo NoMemory world (Message text images ∷ []) last (handing told told old new)
+message-stopped : (world last : World) (text : List ℕ) (images : List Page) (response : Option (List ℕ)) (told : SheetLog)
+    (old new : List ℕ)
+    → Happens world (Message text images) (Response response) [] last → FaultLeaves (Response response) NoMemory old new
+    → HappenUpTo NoMemory world (Message text images ∷ []) last (handing told told old new)
 message-stopped world last text images response told old new happens leaves =
     HappenUpTo-one NoMemory world last (Message text images) (Response response) [] told told old new happens
     (record { told = took-nothing told.delivered; faults = refl }) leaves
 
 -- it was not answered
-pub message-unanswered : (world last : World) (text : List ℕ) (images : List Page) (told : SheetLog) (bytes : List ℕ) → Happens world (Message text images) (Response None) [] last → HappenUpTo NoMemory world (Message text images ∷ []) last (handing told told bytes bytes)
+pub message-unanswered : (world last : World) (text : List ℕ) (images : List Page) (told : SheetLog) (bytes : List ℕ)
+    → Happens world (Message text images) (Response None) [] last
+    → HappenUpTo NoMemory world (Message text images ∷ []) last (handing told told bytes bytes)
 message-unanswered world last text images told bytes happens =
     message-stopped world last text images None told bytes bytes happens (refl, ([], [], refl, sym (append-nil bytes)))
 
 -- it was answered, and there was no memory for the line
-pub message-cut : (world last : World) (text : List ℕ) (images : List Page) (result : Result (Vec ℕ Global) AllocError) (response : Vec ℕ Global) (told : SheetLog) (line old new : List ℕ) → result ≡ Ok response → Happens world (Message text images) (response_to result) [] last → line ≡ response.items → AppendsPrefix (Some old) (Some new) line → HappenUpTo NoMemory world (Message text images ∷ []) last (handing told told old new)
+pub message-cut : (world last : World) (text : List ℕ) (images : List Page) (result : Result (Vec ℕ Global) AllocError)
+    (response : Vec ℕ Global) (told : SheetLog) (line old new : List ℕ)
+    → result ≡ Ok response → Happens world (Message text images) (response_to result) [] last → line ≡ response.items
+    → AppendsPrefix (Some old) (Some new) line → HappenUpTo NoMemory world (Message text images ∷ []) last (handing told told old new)
 message-cut world last text images result response told line old new answer happens is appends =
     message-stopped world last text images (Some response.items) told old new
     (subst (λ (one : Result (Vec ℕ Global) AllocError). Happens world (Message text images) (response_to one) [] last) answer happens)
     (refl, subst (λ (bytes : List ℕ). AppendsPrefix (Some old) (Some new) bytes) is appends)
 
 -- a turn that was answered by it
-pub turn-stopped : (error : TurnError) (world last : World) (engine most : ℕ) (before after : SheetLog) (bytes : List ℕ) → ((handed : List Delivery) × Happens world (TurnOn engine most) (Turned (Err error)) handed last × WereHandedOut {A = Turn} handed (Err error) before after) → HappenUpTo error world (TurnOn engine most ∷ []) last (handing before after bytes bytes)
+pub turn-stopped : (error : TurnError) (world last : World) (engine most : ℕ) (before after : SheetLog) (bytes : List ℕ)
+    → ((handed : List Delivery) × Happens world (TurnOn engine most) (Turned (Err error)) handed last
+    × WereHandedOut {A = Turn} handed (Err error) before after)
+    → HappenUpTo error world (TurnOn engine most ∷ []) last (handing before after bytes bytes)
 turn-stopped error world last engine most before after bytes taken =
     HappenUpTo-one error world last (TurnOn engine most) (Turned (Err error)) taken.0 before after bytes bytes taken.1 taken.2 (refl, refl)
 
@@ -172,7 +205,11 @@ append-around events prefix behind others one =
     ∙ sym (append_assoc events prefix (one ∷ (behind ++ others)))
 
 -- events, and then others up to a fault, whatever stands behind them
-pub HappenUpTo-behind : (error : TurnError) (world middle last : World) (events others more all : List Event) (before between after : SheetLog) (old written new : List ℕ) → all ≡ (events ++ others) ++ more → HappenAll world events middle (handing before between old written) → HappenUpTo error middle others last (handing between after written new) → HappenUpTo error world all last (handing before after old new)
+pub HappenUpTo-behind : (error : TurnError) (world middle last : World) (events others more all : List Event)
+    (before between after : SheetLog) (old written new : List ℕ)
+    → all ≡ (events ++ others) ++ more → HappenAll world events middle (handing before between old written)
+    → HappenUpTo error middle others last (handing between after written new)
+    → HappenUpTo error world all last (handing before after old new)
 HappenUpTo-behind error world middle last events others more all before between after old written new is first second = record {
   prefix = events ++ second.prefix;
   stopped = second.stopped;
@@ -193,7 +230,8 @@ HappenUpTo-behind error world middle last events others more all before between 
 -- ---- from a new press
 
 -- a new press that came to a world is one that the laws of every run are about
-comes_from_new : SheetsAreGiven → EntriesAreBounded → (engines : ℕ) (happenings : List Transition) (last : World) → are_engines engines ≡ true → IsExecution (new_world engines) happenings last → ComesFromNew engines happenings last
+comes_from_new : SheetsAreGiven → EntriesAreBounded → (engines : ℕ) (happenings : List Transition) (last : World)
+    → are_engines engines ≡ true → IsExecution (new_world engines) happenings last → ComesFromNew engines happenings last
 comes_from_new given bounded engines happenings last are leads =
     let run : IsRun happenings last = record { engines = engines; are = are; leads = leads } in
     record {

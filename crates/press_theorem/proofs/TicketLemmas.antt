@@ -21,33 +21,43 @@ abbrev pub told_by : List Delivery → List ℕ → SinkLog
 told_by sheets replies = logs (record { delivered = Some sheets; faults = 0 }) (record { replied = Some replies; faults = 0 })
 
 -- a stream that was printed to lists, which had nothing before
-pub delivers-of : (bytes : List ℕ) (tag : ℕ) (machine : Option Machine) (sheets : List Delivery) (replies : List ℕ) → Prints bytes tag Complete machine (told_by [] []) (told_by sheets replies) → Delivers bytes tag sheets replies
+pub delivers-of : (bytes : List ℕ) (tag : ℕ) (machine : Option Machine) (sheets : List Delivery) (replies : List ℕ)
+    → Prints bytes tag Complete machine (told_by [] []) (told_by sheets replies) → Delivers bytes tag sheets replies
 delivers-of bytes tag machine sheets replies prints = record {
   commands = prints.commands;
   closed = prints.closed;
-  sheets_are = same_Some sheets (under_tag tag (sheets_of (meaning_of (with_exit prints.commands)).outputs)) (all-delivered tag (meaning_of (with_exit prints.commands)).outputs (told_by [] []) (told_by sheets replies) prints.went);
+  sheets_are =
+      same_Some sheets (under_tag tag (sheets_of (meaning_of (with_exit prints.commands)).outputs))
+      (all-delivered tag (meaning_of (with_exit prints.commands)).outputs (told_by [] []) (told_by sheets replies) prints.went);
   replies_are = all-replied tag (meaning_of (with_exit prints.commands)).outputs (told_by [] []) (told_by sheets replies) prints.went;
 }
 
 -- the outputs of the job of a ticket
-job_outputs : (ticket : JobTicket) (images : List Page) (writer : JobLeft) (tag : ℕ) (sheets : List Delivery) (replies : List ℕ) → IsPrinterOf ticket images writer → (printed : Delivers (bytes_left writer images) tag sheets replies) → (meaning_of (with_exit printed.commands)).outputs ≡ map Deliver (wanted ticket images)
+job_outputs : (ticket : JobTicket) (images : List Page) (writer : JobLeft) (tag : ℕ) (sheets : List Delivery) (replies : List ℕ)
+    → IsPrinterOf ticket images writer → (printed : Delivers (bytes_left writer images) tag sheets replies)
+    → (meaning_of (with_exit printed.commands)).outputs ≡ map Deliver (wanted ticket images)
 job_outputs ticket images writer tag sheets replies job printed =
     let P : List ℕ → Type 0 = λ bytes. Closed bytes printed.commands in
     ap (λ (commands : List Token). (meaning_of (with_exit commands)).outputs) (job.prints.only printed.commands (subst P job.is_job printed.closed))
     ∙ job.prints.outputs
 
 -- they are the wanted sheets, and there is no reply
-pub wanted-delivered : (ticket : JobTicket) (images : List Page) (writer : JobLeft) (tag : ℕ) (sheets : List Delivery) (replies : List ℕ) → IsPrinterOf ticket images writer → Delivers (bytes_left writer images) tag sheets replies → sheets ≡ under_tag tag (wanted ticket images)
+pub wanted-delivered : (ticket : JobTicket) (images : List Page) (writer : JobLeft) (tag : ℕ) (sheets : List Delivery) (replies : List ℕ)
+    → IsPrinterOf ticket images writer → Delivers (bytes_left writer images) tag sheets replies
+    → sheets ≡ under_tag tag (wanted ticket images)
 wanted-delivered ticket images writer tag sheets replies job printed =
     printed.sheets_are
     ∙ ap (λ (outputs : List Output). under_tag tag (sheets_of outputs)) (job_outputs ticket images writer tag sheets replies job printed)
     ∙ ap (under_tag tag) (sheets_of-delivered (wanted ticket images))
 
-pub no_reply-delivered : (ticket : JobTicket) (images : List Page) (writer : JobLeft) (tag : ℕ) (sheets : List Delivery) (replies : List ℕ) → IsPrinterOf ticket images writer → Delivers (bytes_left writer images) tag sheets replies → replies ≡ []
+pub no_reply-delivered : (ticket : JobTicket) (images : List Page) (writer : JobLeft) (tag : ℕ) (sheets : List Delivery) (replies : List ℕ)
+    → IsPrinterOf ticket images writer → Delivers (bytes_left writer images) tag sheets replies → replies ≡ []
 no_reply-delivered ticket images writer tag sheets replies job printed =
     printed.replies_are ∙ ap reply_bytes_of (job_outputs ticket images writer tag sheets replies job printed) ∙ reply_bytes_of-delivered (wanted ticket images)
 
 -- what is true of an answer whose error alone was told in another way
-pub at_ok : {X E F : Type 0} (P : X → Type 0) (f : E → F) (result : Result X E) (answer : Result X F) (value : X) → MatchResult result (λ one. answer ≡ Ok one) (λ error. IsErrAnd answer (λ why. why ≡ f error)) → IfOk result P → answer ≡ Ok value → P value
+pub at_ok : {X E F : Type 0} (P : X → Type 0) (f : E → F) (result : Result X E) (answer : Result X F) (value : X)
+    → MatchResult result (λ one. answer ≡ Ok one) (λ error. IsErrAnd answer (λ why. why ≡ f error)) → IfOk result P → answer ≡ Ok value
+    → P value
 at_ok {X} {E} {F} P f (Ok one) answer value told holds is = subst (λ (result : Result X F). IfOk result P) (sym told ∙ is) holds
 at_ok {X} {E} {F} P f (Err error) answer value told holds is = absurd (subst (λ (result : Result X F). IsErrAnd result (λ why. why ≡ f error)) is told)

@@ -1,7 +1,7 @@
 -- What happens to a press, one event after another.
 use Rattle.std.specs.Prelude.{◌≡◌, ℕ, List, [], ◌∷◌, ◌++◌, length, Some, map, option_map, unwrap_or, Err}
 use Rattle.std.specs.List.{All, flat_map}
-use Rattle.press_pbm.specs.Spelling.{AppendsPrefix}
+use Rattle.press_devices.specs.Writing.{AppendsPrefix}
 use Rattle.press_queue.specs.EveryQueue.{IsQueue}
 use Rattle.press_sink.specs.SinkLog.{SheetLog}
 use Rattle.press_core.specs.declared.turn.Turn.{Turn}
@@ -49,7 +49,8 @@ pub record HappenAll (world : World) (events : List Event) (last : World) (outpu
   pub responses : outputs.new ≡ outputs.old ++ flat_map (λ happening. line_of happening.answer) happenings
 
 -- By these happenings a new press of so many engines came to this world. Under each number was handed out what its entry says, as it was
--- seen last, with the steps that its turns were answered. Each entry that runs is on an engine of its own, there are as many engines, and the
+-- seen last, with the steps that its turns were answered. Each entry that runs is on an engine of its own, there are as many engines, and
+-- the
 -- queue is as every queue is.
 pub record ComesFromNew (engines : ℕ) (happenings : List Transition) (last : World) : Type 0 where
   pub given : (number : ℕ) → GivenUnder (new_world engines) happenings last number

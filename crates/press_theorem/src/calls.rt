@@ -1,6 +1,7 @@
 //! A stream by any calls of a job, and by a reader behind them.
-ghost use Rattle.std.specs.Prelude.{◌≡◌, List, Some, None, IsSome, false, IfOk, IfErr, OnErr, OnOk};
+ghost use Rattle.std.specs.Prelude.{◌≡◌, List, Some, None, IsSome, false, IfOk, IfErr, IsErrOf, OnErr, OnOk};
 ghost use Rattle.std.specs.List.{flat_map};
+ghost use Rattle.press_devices.specs.Reading.{ReadFails};
 ghost use Rattle.press_sink.specs.SinkLog.{logs, HasFaultRoom, under};
 ghost use Rattle.press_sink.specs.Sending.{Complete, WentOut};
 ghost use Rattle.press_stream.specs.Answers.{FaultsBefore, fault_of};
@@ -11,10 +12,10 @@ ghost use Rattle.press_cmd.specs.Token.{Token};
 ghost use Rattle.press_theorem.specs.AtEnd.{meaning_at_end};
 ghost use Rattle.press_theorem.specs.Calls.{bytes_of};
 
+use press_devices::ReadDevice;
 use press_sink::{ReplySink, SheetSink};
 use press_stream::{Job, JobError, laws};
 use std::alloc::{AllocError, Global};
-use std::io::Read;
 
 /// A call of a job while its stream comes.
 #[derive(Clone, Copy)]
@@ -79,13 +80,13 @@ pub struct PrintedStream {
 /// after another, and one more universal exit. No step of the job is left then.
 ///
 /// Where it stopped early, the job has failed, and answers 303 from then on: at `SinkFault` (301) and `ReplyFault` (302) a sink had a
-/// fault, at `ReadFault` (304) a read failed, or memory ran out. What went out by then is a prefix of what the whole stream prints, at
+/// fault, at `ReadFault` (304) a read failed, or there were too many, or memory ran out. What went out by then is a prefix of what the whole stream prints, at
 /// 304 all of the commands so far.
 ///
 /// # Errors
 ///
 /// Where there is no memory for a job; nothing was read, and nothing went out.
-pub fn print_stream<R: Read, S: SheetSink, P: ReplySink>(
+pub fn print_stream<R: ReadDevice, S: SheetSink, P: ReplySink>(
     alloc: Global,
     calls: &[Call<'_>],
     reader: &mut R,
@@ -100,6 +101,8 @@ pub fn print_stream<R: Read, S: SheetSink, P: ReplySink>(
         (logs (S.told sheets.new) (P.told replies.new)))) }
     ensures over { IfOk result (λ printed. OnOk printed.result (IsOver printed.job)) }
     ensures failed { IfOk result (λ printed. OnErr printed.result (printed.job.machine ≡ None)) }
+    ensures cause { IfOk result (λ printed. IsErrOf printed.result JobError.ReadFault
+        → ReadFails R.can_fail (R.remaining reader.old) (R.remaining reader.new)) }
     ensures nothing { OnErr result ((reader.new ≡ reader.old) × (sheets.new ≡ sheets.old)
         × (replies.new ≡ replies.old)) }
 {
@@ -109,7 +112,7 @@ pub fn print_stream<R: Read, S: SheetSink, P: ReplySink>(
 }
 
 /// Makes calls of a job that was opened, and then runs what a reader has.
-fn run_calls<R: Read, S: SheetSink, P: ReplySink>(
+fn run_calls<R: ReadDevice, S: SheetSink, P: ReplySink>(
     job: &mut Job,
     calls: &[Call<'_>],
     reader: &mut R,
@@ -125,6 +128,8 @@ fn run_calls<R: Read, S: SheetSink, P: ReplySink>(
         (logs (S.told sheets.new) (P.told replies.new))) }
     ensures over { OnOk result (IsOver job.new) }
     ensures failed { OnErr result (job.new.machine ≡ None) }
+    ensures cause { IsErrOf result JobError.ReadFault
+        → ReadFails R.can_fail (R.remaining reader.old) (R.remaining reader.new) }
 {
     laws::chain();
     for call in calls {

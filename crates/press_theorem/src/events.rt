@@ -1,6 +1,6 @@
 //! What happens to a press, one event after another (CIP4 JDF 1.5, the queue and JMF messages).
 ghost use Rattle.std.specs.Prelude.{◌≡◌, ◌<◌, ℕ, [], ◌∷◌, ◌++◌, IsTrue, IfErr, OnErr, OnOk, map};
-ghost use Rattle.press_pbm.specs.Spelling.{AppendsPrefix};
+ghost use Rattle.press_devices.specs.Writing.{AppendsPrefix};
 ghost use Rattle.press_sink.specs.SinkLog.{most_faults};
 ghost use Rattle.press_core.specs.Engines.{are_engines};
 ghost use Rattle.press_core.specs.World.{new_world};

@@ -18,7 +18,9 @@ returns-in-Push-clause-failed g c =
     (pushed-fault c.chain.ensures.calls c.args.job.now c.push.new.self c.in-Push.piece.now c.args.tag c.push.result told c.requires.running c.requires.going c.push.ensures.pushes)
 
 pub returns-in-Push-clause-faults : goal.returns-in-Push-clause-faults
-returns-in-Push-clause-faults g c = rw c.in-Push.is (pushed-fault c.chain.ensures.calls c.args.job.now c.push.new.self c.in-Push.piece.now c.args.tag c.push.result _ c.requires.running c.requires.going c.push.ensures.pushes)
+returns-in-Push-clause-faults g c =
+    rw c.in-Push.is (pushed-fault c.chain.ensures.calls c.args.job.now c.push.new.self c.in-Push.piece.now c.args.tag c.push.result _
+    c.requires.running c.requires.going c.push.ensures.pushes)
 
 pub returns-in-Feed-clause-goes : goal.returns-in-Feed-clause-goes
 returns-in-Feed-clause-goes g c = rw c.in-Feed.is (fed c.args.job.now c.feed.new.self c.in-Feed.piece.now c.args.tag c.feed.result _ _ c.feed.ensures.feeds)
@@ -35,10 +37,14 @@ pub returns-in-Feed-clause-faults : goal.returns-in-Feed-clause-faults
 returns-in-Feed-clause-faults g c = rw c.in-Feed.is (fed-faults c.args.job.now c.feed.new.self c.in-Feed.piece.now c.args.tag c.feed.result _ _ c.requires.going c.feed.ensures.feeds)
 
 pub returns-in_ok-step-in-Step-clause-goes : goal.returns-in_ok-step-in-Step-clause-goes
-returns-in_ok-step-in-Step-clause-goes g c = rw c.in-Step.is (stepped c.chain.ensures.calls c.args.job.now c.step.new.self c.args.tag c.step.result c.in_ok-step-in-Step.field-0 _ _ c.requires.running c.in_ok-step-in-Step.was c.step.ensures.takes)
+returns-in_ok-step-in-Step-clause-goes g c =
+    rw c.in-Step.is (stepped c.chain.ensures.calls c.args.job.now c.step.new.self c.args.tag c.step.result c.in_ok-step-in-Step.field-0 _ _
+    c.requires.running c.in_ok-step-in-Step.was c.step.ensures.takes)
 
 pub returns-in_ok-step-in-Step-clause-going : goal.returns-in_ok-step-in-Step-clause-going
-returns-in_ok-step-in-Step-clause-going g c = stepped-going c.args.job.now c.step.new.self c.args.tag c.step.result c.in_ok-step-in-Step.field-0 _ _ c.requires.going c.in_ok-step-in-Step.was c.step.ensures.takes
+returns-in_ok-step-in-Step-clause-going g c =
+    stepped-going c.args.job.now c.step.new.self c.args.tag c.step.result c.in_ok-step-in-Step.field-0 _ _ c.requires.going
+    c.in_ok-step-in-Step.was c.step.ensures.takes
 
 pub returns-in_err-step-in-Step-clause-failed : goal.returns-in_err-step-in-Step-clause-failed
 returns-in_err-step-in-Step-clause-failed g c =

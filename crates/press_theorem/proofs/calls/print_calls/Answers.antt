@@ -27,7 +27,9 @@ loop-call-preserved g c =
     let goes = c.loop-call.invariant.goes in
     record {
       given = _;
-      goes = CarriesOut-more c.chain.ensures.calls (flat_map bytes_of (take i pieces)) (bytes_of call) _ c.loop-call.invariant.given more.0 c.args.tag c.loop-call.job c.make.new.job _ _ _ (pieces-next bytes_of pieces i first c.loop-call-test.true) goes more.1;
+      goes =
+          CarriesOut-more c.chain.ensures.calls (flat_map bytes_of (take i pieces)) (bytes_of call) _ c.loop-call.invariant.given more.0
+          c.args.tag c.loop-call.job c.make.new.job _ _ _ (pieces-next bytes_of pieces i first c.loop-call-test.true) goes more.1;
       going = c.in_ok-make.ensures.going;
       has_fault_room = has_fault_room-then c.args.tag _ _ _ more.1.went c.loop-call.invariant.has_fault_room;
     }
@@ -36,7 +38,10 @@ pub returns-clause-ok : goal.returns-clause-ok
 returns-clause-ok g c =
     let pieces = c.args.calls.now in
     let i = c.loop-call.call-index in
-    Prints-end c.chain.ensures.calls c.chain.ensures.prints (flat_map bytes_of (take i pieces)) (flat_map bytes_of pieces) c.loop-call.invariant.given c.args.tag c.loop-call.job c.finish.new.self c.finish.result c.in_ok-finish.field-0 _ _ _ c.in_ok-finish.was (sym (ap (flat_map bytes_of) (take_all i pieces c.loop-call-test.false))) c.loop-call.invariant.goes c.finish.ensures.finishes
+    Prints-end c.chain.ensures.calls c.chain.ensures.prints (flat_map bytes_of (take i pieces)) (flat_map bytes_of pieces)
+    c.loop-call.invariant.given c.args.tag c.loop-call.job c.finish.new.self c.finish.result c.in_ok-finish.field-0 _ _ _
+    c.in_ok-finish.was (sym (ap (flat_map bytes_of) (take_all i pieces c.loop-call-test.false))) c.loop-call.invariant.goes
+    c.finish.ensures.finishes
 
 pub returns-clause-machine : goal.returns-clause-machine
 returns-clause-machine g c = (printed-means (flat_map bytes_of c.args.calls.now) c.args.tag c.finish.new.self.machine _ _ (returns-clause-ok g c)).0
@@ -61,7 +66,8 @@ returns-in_err-make-clause-err g c =
     let first = Push (record { ref_ptr = (0, 0); now = [] }) in
     let call = get_or calls i first in
     rw (exit-is c.from_residual-in_err-make.ensures.1)
-    (PrintedTo-before c.chain.ensures.prints (flat_map bytes_of (take i calls)) (bytes_of call) (flat_map bytes_of (drop (i + 1) calls)) (flat_map bytes_of calls) c.loop-call.invariant.given c.args.tag c.in_err-make.field-0.0 c.loop-call.job c.make.new.job _ _ _
+    (PrintedTo-before c.chain.ensures.prints (flat_map bytes_of (take i calls)) (bytes_of call) (flat_map bytes_of (drop (i + 1) calls))
+    (flat_map bytes_of calls) c.loop-call.invariant.given c.args.tag c.in_err-make.field-0.0 c.loop-call.job c.make.new.job _ _ _
     c.loop-call.invariant.going (pieces-rest bytes_of calls i first c.loop-call-test.true) c.loop-call.invariant.goes c.in_err-make.ensures.faults)
 
 pub returns-in_err-finish-clause-err : goal.returns-in_err-finish-clause-err
@@ -69,5 +75,6 @@ returns-in_err-finish-clause-err g c =
     let calls = c.args.calls.now in
     let i = c.loop-call.call-index in
     rw (exit-is c.from_residual-in_err-finish.ensures.1)
-    (PrintedTo-end c.chain.ensures.prints (flat_map bytes_of (take i calls)) (flat_map bytes_of calls) c.loop-call.invariant.given c.args.tag c.in_err-finish.field-0.0 c.loop-call.job c.finish.new.self _ _ _
+    (PrintedTo-end c.chain.ensures.prints (flat_map bytes_of (take i calls)) (flat_map bytes_of calls) c.loop-call.invariant.given
+    c.args.tag c.in_err-finish.field-0.0 c.loop-call.job c.finish.new.self _ _ _
     (sym (ap (flat_map bytes_of) (take_all i calls c.loop-call-test.false))) c.loop-call.invariant.goes c.in_err-finish.ensures.finishes)

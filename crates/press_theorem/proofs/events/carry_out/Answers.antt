@@ -4,7 +4,9 @@ use Rattle.press_theorem.proofs.events.carry_out.Goals as goal
 
 pub returns-in_ok-append_line-in-Message-clause-all : goal.returns-in_ok-append_line-in-Message-clause-all
 returns-in_ok-append_line-in-Message-clause-all g c =
-    rw c.in-Message.is (message-happened c.args.press.now c.message.new.self c.in-Message.text.now c.in-Message.images.now c.message.result c.in_ok-response-in-Message.response _ c.deref.result.now c.args.responses.now.items c.append_line.new.out.items c.in_ok-response-in-Message.was c.message.ensures c.deref.ensures.value c.in_ok-append_line-in-Message.ensures.ok)
+    rw c.in-Message.is (message-happened c.args.press.now c.message.new.self c.in-Message.text.now c.in-Message.images.now c.message.result
+    c.in_ok-response-in-Message.response _ c.deref.result.now c.args.responses.now.items c.append_line.new.out.items
+    c.in_ok-response-in-Message.was c.message.ensures c.deref.ensures.value c.in_ok-append_line-in-Message.ensures.ok)
 
 pub returns-in_ok-turn_on-in-Turn-clause-all : goal.returns-in_ok-turn_on-in-Turn-clause-all
 returns-in_ok-turn_on-in-Turn-clause-all g c =
@@ -25,10 +27,13 @@ pub returns-in_err-append_line-in-Message-clause-err : goal.returns-in_err-appen
 returns-in_err-append_line-in-Message-clause-err g c =
     rw (exit-is c.from_residual-in_err-append_line-in-Message.ensures.1)
     (rw c.in-Message.is
-    (message-cut c.args.press.now c.message.new.self c.in-Message.text.now c.in-Message.images.now c.message.result c.in_ok-response-in-Message.response _ c.deref.result.now c.args.responses.now.items c.append_line.new.out.items c.in_ok-response-in-Message.was c.message.ensures c.deref.ensures.value
+    (message-cut c.args.press.now c.message.new.self c.in-Message.text.now c.in-Message.images.now c.message.result
+    c.in_ok-response-in-Message.response _ c.deref.result.now c.args.responses.now.items c.append_line.new.out.items
+    c.in_ok-response-in-Message.was c.message.ensures c.deref.ensures.value
     c.in_err-append_line-in-Message.ensures.err))
 
 pub returns-in_err-turn_on-in-Turn-clause-err : goal.returns-in_err-turn_on-in-Turn-clause-err
 returns-in_err-turn_on-in-Turn-clause-err g c =
     rw (exit-is c.from_residual-in_err-turn_on-in-Turn.ensures.1)
-    (rw c.in-Turn.is (turn-stopped c.in_err-turn_on-in-Turn.field-0.0 c.args.press.now c.turn_on.new.self c.in-Turn.engine c.in-Turn.most _ _ c.args.responses.now.items c.in_err-turn_on-in-Turn.ensures.turn))
+    (rw c.in-Turn.is (turn-stopped c.in_err-turn_on-in-Turn.field-0.0 c.args.press.now c.turn_on.new.self c.in-Turn.engine c.in-Turn.most _
+    _ c.args.responses.now.items c.in_err-turn_on-in-Turn.ensures.turn))

@@ -20,7 +20,10 @@ loop-event-preserved g c =
     let so_far = c.loop-event.invariant in
     let more = c.in_ok-carry_out.ensures.all in
     record {
-      happened = HappenAll-then c.args.press.now c.loop-event.press c.carry_out.new.press (map event_of (take i events)) (event_of event ∷ []) (map event_of (take (i + 1) events)) _ _ _ _ c.loop-event.responses.items _ (events-next event_of events i event c.loop-event-test.true c.event-item.is) so_far.happened more;
+      happened =
+          HappenAll-then c.args.press.now c.loop-event.press c.carry_out.new.press (map event_of (take i events)) (event_of event ∷ [])
+          (map event_of (take (i + 1) events)) _ _ _ _ c.loop-event.responses.items _
+          (events-next event_of events i event c.loop-event-test.true c.event-item.is) so_far.happened more;
       has_fault_room = has_fault_room-then (told c.loop-event.sheets) (told c.carry_out.new.sheets) more.no_fault so_far.has_fault_room;
     }
 
@@ -29,15 +32,22 @@ returns-clause-all g c =
     let told = g.S.SheetSink.told in
     let events = c.args.events.now in
     let i = c.loop-event.event-index in
-    subst (λ (some : _). HappenAll c.args.press.now (map event_of some) c.loop-event.press (handing (told c.args.sheets.now) (told c.loop-event.sheets) c.args.responses.now.items c.loop-event.responses.items)) (take_all i events c.loop-event-test.false) c.loop-event.invariant.happened
+    subst (λ (some : _).
+    HappenAll c.args.press.now (map event_of some) c.loop-event.press
+    (handing (told c.args.sheets.now) (told c.loop-event.sheets) c.args.responses.now.items c.loop-event.responses.items))
+    (take_all i events c.loop-event-test.false) c.loop-event.invariant.happened
 
 pub returns-clause-from_new : goal.returns-clause-from_new
 returns-clause-from_new g c = λ engines are new.
     let told = g.S.SheetSink.told in
     let events = c.args.events.now in
     let i = c.loop-event.event-index in
-    from-new c.sheets_are_given.ensures c.entries_are_bounded.ensures c.args.press.now engines (map event_of events) c.loop-event.press (told c.args.sheets.now) (told c.loop-event.sheets) c.args.responses.now.items c.loop-event.responses.items are new
-    (subst (λ (some : _). HappenAll c.args.press.now (map event_of some) c.loop-event.press (handing (told c.args.sheets.now) (told c.loop-event.sheets) c.args.responses.now.items c.loop-event.responses.items)) (take_all i events c.loop-event-test.false) c.loop-event.invariant.happened)
+    from-new c.sheets_are_given.ensures c.entries_are_bounded.ensures c.args.press.now engines (map event_of events) c.loop-event.press
+    (told c.args.sheets.now) (told c.loop-event.sheets) c.args.responses.now.items c.loop-event.responses.items are new
+    (subst (λ (some : _).
+    HappenAll c.args.press.now (map event_of some) c.loop-event.press
+    (handing (told c.args.sheets.now) (told c.loop-event.sheets) c.args.responses.now.items c.loop-event.responses.items))
+    (take_all i events c.loop-event-test.false) c.loop-event.invariant.happened)
 
 pub returns-in_err-carry_out-clause-err : goal.returns-in_err-carry_out-clause-err
 returns-in_err-carry_out-clause-err g c =
@@ -46,7 +56,10 @@ returns-in_err-carry_out-clause-err g c =
     let i = c.loop-event.event-index in
     let event = c.event-item.result in
     rw (exit-is c.from_residual.ensures.1)
-    (HappenUpTo-behind c.in_err-carry_out.field-0.0 c.args.press.now c.loop-event.press c.carry_out.new.press (map event_of (take i events)) (event_of event ∷ []) (map event_of (drop (i + 1) events)) (map event_of events) (told c.args.sheets.now) (told c.loop-event.sheets) (told c.carry_out.new.sheets) c.args.responses.now.items c.loop-event.responses.items c.carry_out.new.responses.items
+    (HappenUpTo-behind c.in_err-carry_out.field-0.0 c.args.press.now c.loop-event.press c.carry_out.new.press
+    (map event_of (take i events)) (event_of event ∷ []) (map event_of (drop (i + 1) events)) (map event_of events)
+    (told c.args.sheets.now) (told c.loop-event.sheets) (told c.carry_out.new.sheets) c.args.responses.now.items
+    c.loop-event.responses.items c.carry_out.new.responses.items
     (events-rest event_of events i event c.loop-event-test.true c.event-item.is) c.loop-event.invariant.happened c.in_err-carry_out.ensures.err)
 
 pub returns-in_err-carry_out-clause-err_from_new : goal.returns-in_err-carry_out-clause-err_from_new
@@ -56,6 +69,12 @@ returns-in_err-carry_out-clause-err_from_new g c =
     let i = c.loop-event.event-index in
     let event = c.event-item.result in
     rw (exit-is c.from_residual.ensures.1)
-    (λ engines are new. up-to-from-new c.sheets_are_given.ensures c.entries_are_bounded.ensures c.args.press.now c.in_err-carry_out.field-0.0 engines (map event_of events) c.carry_out.new.press (told c.args.sheets.now) (told c.carry_out.new.sheets) c.args.responses.now.items c.carry_out.new.responses.items are new
-    (HappenUpTo-behind c.in_err-carry_out.field-0.0 c.args.press.now c.loop-event.press c.carry_out.new.press (map event_of (take i events)) (event_of event ∷ []) (map event_of (drop (i + 1) events)) (map event_of events) (told c.args.sheets.now) (told c.loop-event.sheets) (told c.carry_out.new.sheets) c.args.responses.now.items c.loop-event.responses.items c.carry_out.new.responses.items
+    (λ engines are new.
+    up-to-from-new c.sheets_are_given.ensures c.entries_are_bounded.ensures c.args.press.now c.in_err-carry_out.field-0.0 engines
+    (map event_of events) c.carry_out.new.press (told c.args.sheets.now) (told c.carry_out.new.sheets) c.args.responses.now.items
+    c.carry_out.new.responses.items are new
+    (HappenUpTo-behind c.in_err-carry_out.field-0.0 c.args.press.now c.loop-event.press c.carry_out.new.press
+    (map event_of (take i events)) (event_of event ∷ []) (map event_of (drop (i + 1) events)) (map event_of events)
+    (told c.args.sheets.now) (told c.loop-event.sheets) (told c.carry_out.new.sheets) c.args.responses.now.items
+    c.loop-event.responses.items c.carry_out.new.responses.items
     (events-rest event_of events i event c.loop-event-test.true c.event-item.is) c.loop-event.invariant.happened c.in_err-carry_out.ensures.err))

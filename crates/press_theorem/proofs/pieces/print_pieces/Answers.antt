@@ -22,7 +22,11 @@ loop-piece-preserved g c =
     let goes = c.loop-piece.invariant.goes in
     record {
       given = _;
-      goes = CarriesOut-more c.chain.ensures.calls (flat_map (λ piece. piece.now) (take i pieces)) (get_or pieces i (record { ref_ptr = (0, 0); now = [] })).now _ c.loop-piece.invariant.given more.0 c.args.tag c.loop-piece.job c.feed.new.self _ _ _ (pieces-next (λ piece. piece.now) pieces i (record { ref_ptr = (0, 0); now = [] }) c.loop-piece-test.true) goes more.1;
+      goes =
+          CarriesOut-more c.chain.ensures.calls (flat_map (λ piece. piece.now) (take i pieces))
+          (get_or pieces i (record { ref_ptr = (0, 0); now = [] })).now _ c.loop-piece.invariant.given more.0 c.args.tag
+          c.loop-piece.job c.feed.new.self _ _ _
+          (pieces-next (λ piece. piece.now) pieces i (record { ref_ptr = (0, 0); now = [] }) c.loop-piece-test.true) goes more.1;
       going = more.2.going;
       has_fault_room = has_fault_room-then c.args.tag _ _ _ more.1.went c.loop-piece.invariant.has_fault_room;
     }
@@ -31,7 +35,11 @@ pub returns-clause-ok : goal.returns-clause-ok
 returns-clause-ok g c =
     let pieces = c.args.pieces.now in
     let i = c.loop-piece.piece-index in
-    Prints-end c.chain.ensures.calls c.chain.ensures.prints (flat_map (λ piece. piece.now) (take i pieces)) (flat_map (λ piece. piece.now) pieces) c.loop-piece.invariant.given c.args.tag c.loop-piece.job c.finish.new.self c.finish.result c.in_ok-finish.field-0 _ _ _ c.in_ok-finish.was (sym (ap (flat_map (λ piece. piece.now)) (take_all i pieces c.loop-piece-test.false))) c.loop-piece.invariant.goes c.finish.ensures.finishes
+    Prints-end c.chain.ensures.calls c.chain.ensures.prints (flat_map (λ piece. piece.now) (take i pieces))
+    (flat_map (λ piece. piece.now) pieces) c.loop-piece.invariant.given c.args.tag c.loop-piece.job c.finish.new.self c.finish.result
+    c.in_ok-finish.field-0 _ _ _ c.in_ok-finish.was
+    (sym (ap (flat_map (λ piece. piece.now)) (take_all i pieces c.loop-piece-test.false))) c.loop-piece.invariant.goes
+    c.finish.ensures.finishes
 
 pub returns-in_err-job-clause-err : goal.returns-in_err-job-clause-err
 returns-in_err-job-clause-err g c =
@@ -43,7 +51,9 @@ returns-in_err-feed-clause-err g c =
     let i = c.loop-piece.piece-index in
     let piece = get_or pieces i (record { ref_ptr = (0, 0); now = [] }) in
     rw (exit-is c.from_residual-in_err-feed.ensures.1)
-    (PrintedTo-before c.chain.ensures.prints (flat_map (λ piece. piece.now) (take i pieces)) piece.now (flat_map (λ piece. piece.now) (drop (i + 1) pieces)) (flat_map (λ piece. piece.now) pieces) c.loop-piece.invariant.given c.args.tag c.in_err-feed.field-0.0 c.loop-piece.job c.feed.new.self _ _ _
+    (PrintedTo-before c.chain.ensures.prints (flat_map (λ piece. piece.now) (take i pieces)) piece.now
+    (flat_map (λ piece. piece.now) (drop (i + 1) pieces)) (flat_map (λ piece. piece.now) pieces) c.loop-piece.invariant.given
+    c.args.tag c.in_err-feed.field-0.0 c.loop-piece.job c.feed.new.self _ _ _
     c.loop-piece.invariant.going (pieces-rest (λ piece. piece.now) pieces i (record { ref_ptr = (0, 0); now = [] }) c.loop-piece-test.true) c.loop-piece.invariant.goes
     (fed-fault c.loop-piece.job c.feed.new.self piece.now c.args.tag c.in_err-feed.field-0.0 _ _ c.loop-piece.invariant.going c.in_err-feed.ensures.feeds))
 
@@ -52,5 +62,6 @@ returns-in_err-finish-clause-err g c =
     let pieces = c.args.pieces.now in
     let i = c.loop-piece.piece-index in
     rw (exit-is c.from_residual-in_err-finish.ensures.1)
-    (PrintedTo-end c.chain.ensures.prints (flat_map (λ piece. piece.now) (take i pieces)) (flat_map (λ piece. piece.now) pieces) c.loop-piece.invariant.given c.args.tag c.in_err-finish.field-0.0 c.loop-piece.job c.finish.new.self _ _ _
+    (PrintedTo-end c.chain.ensures.prints (flat_map (λ piece. piece.now) (take i pieces)) (flat_map (λ piece. piece.now) pieces)
+    c.loop-piece.invariant.given c.args.tag c.in_err-finish.field-0.0 c.loop-piece.job c.finish.new.self _ _ _
     (sym (ap (flat_map (λ piece. piece.now)) (take_all i pieces c.loop-piece-test.false))) c.loop-piece.invariant.goes c.in_err-finish.ensures.finishes)

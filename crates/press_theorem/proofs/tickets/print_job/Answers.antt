@@ -18,7 +18,9 @@ loop-piece-init c =
       left = refl;
       held = c.new-piece.ensures.items;
       given = [];
-      goes = subst (λ (told : SinkLog). CarriesOut opened [] [] c.in_ok-job.job (under c.args.tag (told_by [] []) told)) (sym fresh) (CarriesOut-opened c.chain.ensures.calls c.in_ok-job.job c.args.tag (told_by [] []) c.in_ok-job.ensures);
+      goes =
+          subst (λ (told : SinkLog). CarriesOut opened [] [] c.in_ok-job.job (under c.args.tag (told_by [] []) told)) (sym fresh)
+          (CarriesOut-opened c.chain.ensures.calls c.in_ok-job.job c.args.tag (told_by [] []) c.in_ok-job.ensures);
       going = opened-going c.in_ok-job.job c.in_ok-job.ensures;
     }
 
@@ -36,7 +38,9 @@ loop-piece-preserved c =
       left = inv.left ∙ ap (λ (rest : List ℕ). inv.done ++ rest) gives.next ∙ ap (λ (one : List ℕ). inv.done ++ (one ++ more)) (sym is) ∙ sym (append_assoc inv.done fed more);
       held = c.clear.ensures.items;
       given = _;
-      goes = CarriesOut-more c.chain.ensures.calls inv.done fed (inv.done ++ fed) inv.given goes.0 c.args.tag c.loop-piece.job c.feed.new.self (told_by [] []) (told_by (deliveries c.loop-piece.sheets) (replied c.loop-piece.replies))
+      goes =
+          CarriesOut-more c.chain.ensures.calls inv.done fed (inv.done ++ fed) inv.given goes.0 c.args.tag c.loop-piece.job c.feed.new.self
+          (told_by [] []) (told_by (deliveries c.loop-piece.sheets) (replied c.loop-piece.replies))
           (told_by (deliveries c.feed.new.sheets) (replied c.feed.new.replies)) refl inv.goes goes.1;
       going = goes.2.going;
     }
@@ -49,5 +53,8 @@ returns-clause-ok c =
     let before : bytes_left c.loop-piece.writer c.args.images.now ≡ [] = none.0 in
     let all : bytes_left c.args.writer.now c.args.images.now ≡ inv.done = inv.left ∙ ap (λ (rest : List ℕ). inv.done ++ rest) before ∙ append-nil inv.done in
     delivers-of (bytes_left c.args.writer.now c.args.images.now) c.args.tag c.finish.new.self.machine (deliveries c.finish.new.sheets) (replied c.finish.new.replies)
-    (Prints-end c.chain.ensures.calls c.chain.ensures.prints inv.done (bytes_left c.args.writer.now c.args.images.now) inv.given c.args.tag c.loop-piece.job c.finish.new.self c.finish.result c.in_ok-finish.field-0
-    (told_by [] []) (told_by (deliveries c.loop-piece.sheets) (replied c.loop-piece.replies)) (told_by (deliveries c.finish.new.sheets) (replied c.finish.new.replies)) c.in_ok-finish.was all inv.goes c.finish.ensures.finishes)
+    (Prints-end c.chain.ensures.calls c.chain.ensures.prints inv.done (bytes_left c.args.writer.now c.args.images.now) inv.given c.args.tag
+    c.loop-piece.job c.finish.new.self c.finish.result c.in_ok-finish.field-0
+    (told_by [] []) (told_by (deliveries c.loop-piece.sheets) (replied c.loop-piece.replies))
+    (told_by (deliveries c.finish.new.sheets) (replied c.finish.new.replies)) c.in_ok-finish.was all inv.goes
+    c.finish.ensures.finishes)
