@@ -1,3 +1,4 @@
+-- Lemmas on listings and files.
 mod AgainLemmas
 mod EntryLines
 mod FilesLemmas

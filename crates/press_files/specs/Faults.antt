@@ -1,7 +1,7 @@
 -- What the program tells of an input that is not read, in one line.
 use Rattle.std.specs.Prelude.{ℕ, List, Option, Some, None}
 use Rattle.press_units.specs.Faults.{fault_text}
-use Rattle.press_stream.specs.Faults.{read_fault}
+use Rattle.press_devices.specs.Faults.{read_fault}
 use Rattle.press_files.specs.declared.inputs.InputError.{InputError}
 use Rattle.press_files.specs.declared.inputs.InputError.TheVariants as inputs
 

@@ -1,3 +1,5 @@
+-- Streams that are printed or listed, the inputs and outputs of the program, and what it tells.
+pub mod Causes
 pub mod Change
 pub mod EntryListing
 pub mod EntrySheets

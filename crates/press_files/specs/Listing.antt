@@ -9,12 +9,16 @@ use Rattle.press_sink.specs.PrintedSheet.{PrintedSheet}
 use Rattle.press_sink.specs.declared.sheet.Delivery.{Delivery}
 use Rattle.press_sink.specs.SinkLog.{SinkLog, logs, under}
 use Rattle.press_sink.specs.Sending.{Output, sheets_of, sheets_in, reply_bytes_of}
+use Rattle.press_devices.specs.Reading.{ReadFails}
+use Rattle.press_devices.specs.Writing.{AppendsPrefix}
 use Rattle.press_stream.specs.declared.fault.JobError.{JobError}
+use Rattle.press_stream.specs.declared.fault.JobError.TheVariants.{ReadFault}
 use Rattle.press_stream.specs.State.{JobState}
 use Rattle.press_stream.specs.Answers.{fault_of}
 use Rattle.press_stream.specs.Meaning.{meaning_of, with_exit}
 use Rattle.press_stream.specs.Printed.{Printed}
 use Rattle.press_trace.specs.Faults.{output_text}
+use Rattle.press_files.specs.Causes.{MayFail}
 use Rattle.press_files.specs.Change.{Change}
 use Rattle.press_files.specs.Printing.{machine_of, status_of_fault, TellsFault}
 use Rattle.press_files.specs.Telling.{Tells, as_line}
@@ -56,13 +60,14 @@ Lists bytes old new = (commands : List Token) × Closed bytes commands × Append
 abbrev pub took : List Delivery → List ℕ → SinkLog
 took deliveries replies = logs (record { delivered = Some deliveries; faults = 0 }) (record { replied = Some replies; faults = 0 })
 
--- A stream was printed, and unless its listing cannot be written, what went out of it, by the fault that it had or had not, is
--- listed, and nothing else is written.
+-- A stream was printed, and what went out of it, by the fault that it had or had not, is listed, and nothing else is written; a prefix of
+-- that where a write failed.
 pub record ListsPrinted (printed : Result JobState JobError) (written : Bool) (had left old new : Option (List ℕ)) : Type 0 where
   pub deliveries : List Delivery
   pub replies : List ℕ
   pub prints : Printed [] had left (fault_of printed) (machine_of printed) (under 0 (took [] []) (took deliveries replies))
   pub lists : written ≡ true → Appends old new (lines_from 1 (sheets_in deliveries) ++ replies)
+  pub cut : written ≡ false → AppendsPrefix old new (lines_from 1 (sheets_in deliveries) ++ replies)
 
 -- the status after a stream and its listing
 abbrev pub status_of_listing : Option JobError → (written : Bool) → ℕ
@@ -74,10 +79,13 @@ abbrev pub TellsListing : Option JobError → (written : Bool) → (said says : 
 TellsListing error true said says = TellsFault error said says
 TellsListing error false said says = (between : Option (List ℕ)) × TellsFault error said between × Tells between says (as_line (Some output_text))
 
--- The same, with its status: 0 exactly where the stream had no fault and its listing was written; and what was told.
-pub record PrintsListing (status : ℕ) (told read output : Change (Option (List ℕ))) : Type 0 where
+-- The same, with its status: 0 exactly where the stream had no fault and its listing was written; and what was told. 304 comes only where
+-- reads may fail or there were too many, and the listing is cut only where the writer may fail.
+pub record PrintsListing (fails : MayFail) (status : ℕ) (told read output : Change (Option (List ℕ))) : Type 0 where
   pub printed : Result JobState JobError
   pub written : Bool
   pub stream : ListsPrinted printed written read.before read.after output.before output.after
   pub answers : status ≡ status_of_listing (fault_of printed) written
   pub tells : TellsListing (fault_of printed) written told.before told.after
+  pub reads : fault_of printed ≡ Some ReadFault → ReadFails fails.input read.before read.after
+  pub writes : written ≡ false → fails.output ≡ true

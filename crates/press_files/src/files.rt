@@ -1,5 +1,6 @@
 //! Streams that are printed to files.
-ghost use Rattle.std.specs.Prelude.{◌≡◌, ◌≤◌, ◌<◌, ◌⊎◌, IfSome};
+ghost use Rattle.std.specs.Prelude.{◌≡◌, ◌≤◌, ◌<◌, ◌⊎◌, true, false, IfSome};
+ghost use Rattle.press_files.specs.Causes.{may_fail};
 ghost use Rattle.press_files.specs.Change.{around, change};
 ghost use Rattle.press_sink.specs.Kept.{name_parts, next_number, file_faults, outputs_of};
 ghost use Rattle.press_sink.specs.SinkLog.{most_faults};
@@ -9,9 +10,9 @@ ghost use Rattle.press_files.specs.Files.{MakesFiles, PrintsBy, PrintsFiles, Pri
 use crate::stream::{print_stream, told_status};
 use crate::telling::{Teller, report};
 use crate::told_folder::{Folder, ToldFolder};
+use press_devices::{ReadDevice, WriteDevice};
 use press_sink::{FolderSink, NamedOutputs, SheetSink, WriteReplies};
 use std::alloc::Global;
-use std::io::{Read, Write};
 use std::marker::Brand;
 
 /// How what was asked for ended: the status, and the writer of its answers and the outputs that it made, which are handed back.
@@ -25,7 +26,7 @@ pub struct Finished<W, O> {
 /// Prints the stream that a reader has to files: a P4 file for each side, whose name is the template with the number of the
 /// side, from 1 on, in place of `%d`. Replies go to `out`, each when it is asked for, and a fault stands on `err`. A text that
 /// is no template (121) is told before the stream is read. The status is 0, or 1 after a fault.
-pub fn print_files<O: NamedOutputs + Drop, R: Read, W: Write + Drop, E: Teller>(
+pub fn print_files<O: NamedOutputs + Drop, R: ReadDevice, W: WriteDevice + Drop, E: Teller>(
     alloc: Global,
     outputs: O,
     reader: &mut R,
@@ -39,10 +40,12 @@ pub fn print_files<O: NamedOutputs + Drop, R: Read, W: Write + Drop, E: Teller>(
     ensures files { result.status ≡ 0 → IfSome (R.remaining reader.old) (λ bytes.
         MakesFiles template.now bytes (O.made outputs) (O.made result.outputs)) }
     ensures prints { PrintsFiles template.now result.status
-        (around (E.said err.old) (E.said err.new) (R.remaining reader.old) (R.remaining reader.new)
+        (around (may_fail R.can_fail false W.can_fail O.Output.can_fail)
+        (E.said err.old) (E.said err.new) (R.remaining reader.old) (R.remaining reader.new)
         (W.contents out) (W.contents result.out) (O.made outputs) (O.made result.outputs))
         ⊎ PrintsNoFiles template.now result.status
-        (around (E.said err.old) (E.said err.new) (R.remaining reader.old)
+        (around (may_fail R.can_fail false W.can_fail O.Output.can_fail)
+        (E.said err.old) (E.said err.new) (R.remaining reader.old)
         (R.remaining reader.new) (W.contents out) (W.contents result.out) (O.made outputs)
         (O.made result.outputs)) }
 {
@@ -57,7 +60,7 @@ pub fn print_files<O: NamedOutputs + Drop, R: Read, W: Write + Drop, E: Teller>(
 }
 
 /// Prints the stream that a reader has by a folder sink. The call's proof says which folder it is.
-fn print_by<O: NamedOutputs + Drop, R: Read, W: Write + Drop, E: Teller, D: Folder>(
+fn print_by<O: NamedOutputs + Drop, R: ReadDevice, W: WriteDevice + Drop, E: Teller, D: Folder>(
     alloc: Global,
     sink: FolderSink<O>,
     reader: &mut R,
@@ -69,7 +72,8 @@ fn print_by<O: NamedOutputs + Drop, R: Read, W: Write + Drop, E: Teller, D: Fold
     requires first { next_number sink ≡ 1 }
     requires faults { file_faults sink ≡ 0 }
     ensures { PrintsBy D.parts result.status
-        (around (E.said err.old) (E.said err.new) (R.remaining reader.old) (R.remaining reader.new)
+        (around (may_fail R.can_fail false W.can_fail O.Output.can_fail)
+        (E.said err.old) (E.said err.new) (R.remaining reader.old) (R.remaining reader.new)
         (W.contents out) (W.contents result.out) D.begun (O.made result.outputs)) }
 {
     let mut sheets: ToldFolder<O, D> = ToldFolder::new(sink);
@@ -83,7 +87,7 @@ fn print_by<O: NamedOutputs + Drop, R: Read, W: Write + Drop, E: Teller, D: Fold
 
 /// Prints the stream that a reader has to a sheet sink, and writes each reply when it is asked for. A fault stands on `err`. The
 /// answer has the status, and the writer of the replies.
-fn print_to<R: Read, S: SheetSink, W: Write + Drop, E: Teller>(
+fn print_to<R: ReadDevice, S: SheetSink, W: WriteDevice + Drop, E: Teller>(
     alloc: Global,
     reader: &mut R,
     sheets: &mut S,
@@ -91,7 +95,7 @@ fn print_to<R: Read, S: SheetSink, W: Write + Drop, E: Teller>(
     err: &mut E,
 ) -> (u8, W)
     requires { (S.told sheets.old).faults < most_faults }
-    ensures { PrintsTo result.0
+    ensures { PrintsTo (may_fail R.can_fail false W.can_fail true) result.0
         (change (E.said err.old) (E.said err.new))
         (change (R.remaining reader.old) (R.remaining reader.new))
         (change (S.told sheets.old) (S.told sheets.new))

@@ -1,13 +1,13 @@
 //! Inputs that are read whole.
-ghost use Rattle.std.specs.Prelude.{IfOk};
+ghost use Rattle.std.specs.Prelude.{IfOk, IfErr};
+ghost use Rattle.press_files.specs.Causes.{InputCause};
 ghost use Rattle.press_files.specs.Inputs.{ReadWhole};
 
-use press_stream::{PIECE, READ_FAULT, ReadCount, ReadFailed, read_next};
+use press_devices::{PIECE, READ_FAULT, ReadCount, ReadDevice, ReadFailed, read_next};
 use press_units::ToldFault;
 use std::alloc::{AllocError, Global};
 use std::error::Error;
 use std::fmt;
-use std::io::Read;
 
 /// Why an input was not read to its end.
 #[derive(Debug, Drop)]
@@ -72,9 +72,11 @@ impl From<AllocError> for InputError {
 /// # Errors
 ///
 /// `ReadFault` (304) where a read failed, or there were more than 4,294,967,295; `NoMemory`.
-pub fn read_all<R: Read>(alloc: Global, reader: &mut R) -> Result<Vec<u8>, InputError>
-    ensures { IfOk result (λ all.
+pub fn read_all<R: ReadDevice>(alloc: Global, reader: &mut R) -> Result<Vec<u8>, InputError>
+    ensures whole { IfOk result (λ all.
         ReadWhole (R.remaining reader.old) (R.remaining reader.new) all.items) }
+    ensures cause { IfErr result (InputCause R.can_fail
+        (R.remaining reader.old) (R.remaining reader.new)) }
 {
     let mut count = ReadCount::none();
     let mut piece = [0; PIECE];

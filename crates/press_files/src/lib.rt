@@ -20,4 +20,4 @@ pub use inputs::{InputError, read_all};
 pub use listing::{list_delivered, print_list};
 pub use named_inputs::{NamedFile, NamedFiles, NamedInputs, open_named};
 pub use stream::print_stream;
-pub use telling::{NO_OUTPUT, Teller, report, write_flushed};
+pub use telling::{NO_OUTPUT, Teller, report};

@@ -1,7 +1,9 @@
 //! The listings of streams and of presses.
-ghost use Rattle.std.specs.Prelude.{◌≡◌, ◌≤◌, ◌++◌, IfSome, OnOk};
+ghost use Rattle.std.specs.Prelude.{◌≡◌, ◌≤◌, ◌++◌, true, false, IfSome, OnErr, IsErrOf};
 ghost use Rattle.press_files.specs.Change.{change};
-ghost use Rattle.std.specs.Io.KnownBytes.{Appends};
+ghost use Rattle.press_devices.specs.Reading.{ReadFails};
+ghost use Rattle.press_devices.specs.Writing.{Writes};
+ghost use Rattle.press_files.specs.Causes.{may_fail};
 ghost use Rattle.press_files.specs.Listing.{measured_line, sheet_lines, lines_from, Lists, ListsPrinted, PrintsListing};
 ghost use Rattle.press_files.specs.Listed.{deliveries_of};
 ghost use Rattle.press_files.specs.EntryListing.{entry_mark, entry_measured_line, entry_sheet_lines, entry_lines, entry_listing};
@@ -13,16 +15,18 @@ use crate::listing_sink::{ListedSheet, ListingSink};
 use crate::measures::Measures;
 use crate::stream::{print_stream, told_status};
 use crate::telling::{NO_OUTPUT, Teller, report};
+use itoa::Buffer;
+use press_devices::{ReadDevice, WriteDevice, write_flushed, write_pieces};
 use press_sink::ListReplies;
 use press_stream::{Job, JobError};
 use std::alloc::Global;
-use std::io::{self, Read, Write};
+use std::io;
 
 /// Prints the stream that a reader has, and lists its sheets: a line for each side, and then the replies. In the line
 /// `sheet 1 front 2550x3300 black 6` stand the number of the sheet from 1, `front` or `back`, width and height in dots, and how
 /// many dots are black. After a fault the sheets before it are listed, and the fault stands on `err`. The answer is the status: 0, or 1
 /// after a fault.
-pub fn print_list<R: Read, W: Write, E: Teller>(
+pub fn print_list<R: ReadDevice, W: WriteDevice, E: Teller>(
     alloc: Global,
     reader: &mut R,
     out: &mut W,
@@ -31,7 +35,7 @@ pub fn print_list<R: Read, W: Write, E: Teller>(
     ensures status { result ≤ 1 }
     ensures lists { result ≡ 0 → IfSome (R.remaining reader.old) (λ bytes.
         Lists bytes (W.contents out.old) (W.contents out.new)) }
-    ensures printed { PrintsListing result
+    ensures printed { PrintsListing (may_fail R.can_fail false W.can_fail false) result
         (change (E.said err.old) (E.said err.new))
         (change (R.remaining reader.old) (R.remaining reader.new))
         (change (W.contents out.old) (W.contents out.new)) }
@@ -53,9 +57,16 @@ struct ListedStream {
 }
 
 /// Prints the stream that a reader has, and lists what went out of it, whatever fault it had.
-fn list_stream<R: Read, W: Write>(alloc: Global, reader: &mut R, out: &mut W) -> ListedStream
-    ensures { ListsPrinted result.printed result.written (R.remaining reader.old)
+fn list_stream<R: ReadDevice, W: WriteDevice>(
+    alloc: Global,
+    reader: &mut R,
+    out: &mut W,
+) -> ListedStream
+    ensures lists { ListsPrinted result.printed result.written (R.remaining reader.old)
         (R.remaining reader.new) (W.contents out.old) (W.contents out.new) }
+    ensures reads { IsErrOf result.printed JobError.ReadFault
+        → ReadFails R.can_fail (R.remaining reader.old) (R.remaining reader.new) }
+    ensures writes { result.written ≡ false → W.can_fail ≡ true }
 {
     let mut sheets = ListingSink::new(alloc);
     let mut replies = ListReplies::new(alloc);
@@ -65,19 +76,20 @@ fn list_stream<R: Read, W: Write>(alloc: Global, reader: &mut R, out: &mut W) ->
 }
 
 /// Lists the sides of the sheets, and then the replies.
-fn list<W: Write>(out: &mut W, sheets: &[ListedSheet], replies: &[u8]) -> io::Result<()>
-    ensures { OnOk result (Appends (W.contents out.old) (W.contents out.new)
-        (lines_from 1 (sheets_in (deliveries_of sheets.now)) ++ replies.now)) }
+fn list<W: WriteDevice>(out: &mut W, sheets: &[ListedSheet], replies: &[u8]) -> io::Result<()>
+    ensures written { Writes result (W.contents out.old) (W.contents out.new)
+        (lines_from 1 (sheets_in (deliveries_of sheets.now)) ++ replies.now) }
+    ensures cause { OnErr result (W.can_fail ≡ true) }
 {
     list_sheets(out, sheets)?;
-    out.write_all(replies)?;
-    out.flush()
+    write_flushed(out, replies)
 }
 
 /// Lists the sides of the sheets, which are numbered from 1.
-fn list_sheets<W: Write>(out: &mut W, sheets: &[ListedSheet]) -> io::Result<()>
-    ensures { OnOk result (Appends (W.contents out.old) (W.contents out.new)
-        (lines_from 1 (sheets_in (deliveries_of sheets.now)))) }
+fn list_sheets<W: WriteDevice>(out: &mut W, sheets: &[ListedSheet]) -> io::Result<()>
+    ensures written { Writes result (W.contents out.old) (W.contents out.new)
+        (lines_from 1 (sheets_in (deliveries_of sheets.now))) }
+    ensures cause { OnErr result (W.can_fail ≡ true) }
 {
     for (index, sheet) in sheets.iter().enumerate() {
         list_sheet(out, index + 1, sheet)?;
@@ -86,9 +98,10 @@ fn list_sheets<W: Write>(out: &mut W, sheets: &[ListedSheet]) -> io::Result<()>
 }
 
 /// Lists the sides of one sheet.
-fn list_sheet<W: Write>(out: &mut W, number: usize, sheet: &ListedSheet) -> io::Result<()>
-    ensures { OnOk result (Appends (W.contents out.old) (W.contents out.new)
-        (sheet_lines number sheet.now.sheet.value)) }
+fn list_sheet<W: WriteDevice>(out: &mut W, number: usize, sheet: &ListedSheet) -> io::Result<()>
+    ensures written { Writes result (W.contents out.old) (W.contents out.new)
+        (sheet_lines number sheet.now.sheet.value) }
+    ensures cause { OnErr result (W.can_fail ≡ true) }
 {
     list_side(out, number, "front", &sheet.front)?;
     match &sheet.back {
@@ -99,19 +112,32 @@ fn list_sheet<W: Write>(out: &mut W, number: usize, sheet: &ListedSheet) -> io::
 
 /// Writes the line of one side.
 #[tactic(auto, unfolding(crate::specs::Listing::measured_line))]
-fn list_side<W: Write>(
+fn list_side<W: WriteDevice>(
     out: &mut W,
     number: usize,
     side: &str,
     measures: &Measures,
 ) -> io::Result<()>
-    ensures { OnOk result (Appends (W.contents out.old) (W.contents out.new)
-        (measured_line number side.now measures.now)) }
+    ensures written { Writes result (W.contents out.old) (W.contents out.new)
+        (measured_line number side.now measures.now) }
+    ensures cause { OnErr result (W.can_fail ≡ true) }
 {
-    let width = measures.width;
-    let height = measures.height;
-    let black = measures.black;
-    writeln!(out, "sheet {number} {side} {width}x{height} black {black}")
+    write_pieces(
+        out,
+        &[
+            b"sheet ",
+            Buffer::new().format(number).as_bytes(),
+            b" ",
+            side.as_bytes(),
+            b" ",
+            Buffer::new().format(measures.width).as_bytes(),
+            b"x",
+            Buffer::new().format(measures.height).as_bytes(),
+            b" black ",
+            Buffer::new().format(measures.black).as_bytes(),
+            b"\n",
+        ],
+    )
 }
 
 /// Lists the sides of the sheets that a press delivered, in the order of delivery: each line as `print --list` has it, behind the
@@ -120,28 +146,31 @@ fn list_side<W: Write>(
 /// # Errors
 ///
 /// Where a write failed.
-pub fn list_delivered<W: Write>(out: &mut W, sheets: &EntrySheets) -> io::Result<()>
-    ensures { OnOk result (Appends (W.contents out.old) (W.contents out.new)
-        (entry_listing (entry_deliveries_of (kept sheets.now)))) }
+pub fn list_delivered<W: WriteDevice>(out: &mut W, sheets: &EntrySheets) -> io::Result<()>
+    ensures written { Writes result (W.contents out.old) (W.contents out.new)
+        (entry_listing (entry_deliveries_of (kept sheets.now))) }
+    ensures cause { OnErr result (W.can_fail ≡ true) }
 {
     list_entries(out, sheets.sheets())
 }
 
 /// Lists the sides of sheets of entries.
-fn list_entries<W: Write>(out: &mut W, sheets: &[EntrySheet]) -> io::Result<()>
-    ensures { OnOk result (Appends (W.contents out.old) (W.contents out.new)
-        (entry_lines sheets.now)) }
+fn list_entries<W: WriteDevice>(out: &mut W, sheets: &[EntrySheet]) -> io::Result<()>
+    ensures written { Writes result (W.contents out.old) (W.contents out.new)
+        (entry_lines sheets.now) }
+    ensures cause { OnErr result (W.can_fail ≡ true) }
 {
     for sheet in sheets {
         list_entry_sheet(out, sheet)?;
     }
-    out.flush()
+    out.flush_all()
 }
 
 /// Lists the sides of one sheet of an entry.
-fn list_entry_sheet<W: Write>(out: &mut W, sheet: &EntrySheet) -> io::Result<()>
-    ensures { OnOk result (Appends (W.contents out.old) (W.contents out.new)
-        (entry_sheet_lines sheet.now.sheet.tag sheet.now.number sheet.now.sheet.sheet.value)) }
+fn list_entry_sheet<W: WriteDevice>(out: &mut W, sheet: &EntrySheet) -> io::Result<()>
+    ensures written { Writes result (W.contents out.old) (W.contents out.new)
+        (entry_sheet_lines sheet.now.sheet.tag sheet.now.number sheet.now.sheet.sheet.value) }
+    ensures cause { OnErr result (W.can_fail ≡ true) }
 {
     let entry = sheet.sheet.tag;
     list_entry_side(out, entry, sheet.number, "front", &sheet.sheet.front)?;
@@ -152,24 +181,25 @@ fn list_entry_sheet<W: Write>(out: &mut W, sheet: &EntrySheet) -> io::Result<()>
 }
 
 /// Writes the line of one side of a sheet of an entry.
-fn list_entry_side<W: Write>(
+fn list_entry_side<W: WriteDevice>(
     out: &mut W,
     entry: u64,
     number: usize,
     side: &str,
     measures: &Measures,
 ) -> io::Result<()>
-    ensures { OnOk result (Appends (W.contents out.old) (W.contents out.new)
-        (entry_measured_line entry number side.now measures.now)) }
+    ensures written { Writes result (W.contents out.old) (W.contents out.new)
+        (entry_measured_line entry number side.now measures.now) }
+    ensures cause { OnErr result (W.can_fail ≡ true) }
 {
     write_entry(out, entry)?;
     list_side(out, number, side, measures)
 }
 
 /// Writes the ID of an entry, and a space.
-fn write_entry<W: Write>(out: &mut W, entry: u64) -> io::Result<()>
-    ensures { OnOk result (Appends (W.contents out.old) (W.contents out.new)
-        (entry_mark entry)) }
+fn write_entry<W: WriteDevice>(out: &mut W, entry: u64) -> io::Result<()>
+    ensures written { Writes result (W.contents out.old) (W.contents out.new) (entry_mark entry) }
+    ensures cause { OnErr result (W.can_fail ≡ true) }
 {
-    write!(out, "Q{entry} ")
+    write_pieces(out, &[b"Q", Buffer::new().format(entry).as_bytes(), b" "])
 }

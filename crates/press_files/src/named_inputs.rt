@@ -4,7 +4,7 @@ ghost use Rattle.std.specs.Str.{IsUtf8};
 ghost use Rattle.press_files.specs.declared.inputs.InputError.TheVariants.{ReadFault};
 
 use crate::inputs::InputError;
-use press_stream::PIECE;
+use press_devices::{PIECE, ReadDevice};
 use std::alloc::Global;
 use std::fs::{self, Files, OpenFile};
 use std::io::{self, BufReader, Read};
@@ -20,7 +20,7 @@ pub trait NamedInputs {
     /// That the input of this name may be one that cannot be opened.
     ghost missing: { Self → List ℕ → Type 0 };
 
-    type Input: Read + Drop;
+    type Input: ReadDevice + Drop;
 
     /// Opens the input of this name.
     ///

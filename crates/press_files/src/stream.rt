@@ -1,15 +1,16 @@
 //! Streams that are printed from a reader to two sinks.
-ghost use Rattle.std.specs.Prelude.{◌≡◌, []};
+ghost use Rattle.std.specs.Prelude.{◌≡◌, [], IsErrOf};
+ghost use Rattle.press_devices.specs.Reading.{ReadFails};
 ghost use Rattle.press_sink.specs.SinkLog.{logs, HasFaultRoom, under};
 ghost use Rattle.press_stream.specs.Answers.{fault_of};
 ghost use Rattle.press_stream.specs.Printed.{Printed};
 ghost use Rattle.press_files.specs.Printing.{machine_of, status_of_fault, TellsFault};
 
 use crate::telling::{Teller, report};
+use press_devices::ReadDevice;
 use press_sink::{ReplySink, SheetSink};
 use press_stream::{Job, JobError};
 use std::alloc::Global;
-use std::io::Read;
 
 /// Prints the stream that a reader has, from power on: its sheets are delivered under the tag, and the job is handed back.
 ///
@@ -17,7 +18,7 @@ use std::io::Read;
 ///
 /// `ReadFault` (304): a read failed; the commands that were whole by then were carried out. `SinkFault` (301) and
 /// `ReplyFault` (302): a sink had a fault, and nothing came after it.
-pub fn print_stream<R: Read, S: SheetSink, P: ReplySink>(
+pub fn print_stream<R: ReadDevice, S: SheetSink, P: ReplySink>(
     alloc: Global,
     reader: &mut R,
     tag: u64,
@@ -25,10 +26,12 @@ pub fn print_stream<R: Read, S: SheetSink, P: ReplySink>(
     replies: &mut P,
 ) -> Result<Job, JobError>
     requires { HasFaultRoom (logs (S.told sheets.old) (P.told replies.old)) }
-    ensures { Printed [] (R.remaining reader.old) (R.remaining reader.new) (fault_of result)
+    ensures printed { Printed [] (R.remaining reader.old) (R.remaining reader.new) (fault_of result)
         (machine_of result)
         (under tag (logs (S.told sheets.old) (P.told replies.old))
         (logs (S.told sheets.new) (P.told replies.new))) }
+    ensures cause { IsErrOf result JobError.ReadFault
+        → ReadFails R.can_fail (R.remaining reader.old) (R.remaining reader.new) }
 {
     press_stream::laws::chain();
     let mut job = Job::open(alloc)?;

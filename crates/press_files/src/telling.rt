@@ -1,12 +1,10 @@
-//! What the program tells, and how it writes its answers.
+//! What the program tells.
 ghost use Rattle.std.specs.Prelude.{◌≡◌};
-ghost use Rattle.press_pbm.specs.Spelling.{Writes};
 ghost use Rattle.press_files.specs.Telling.{Tells, as_line};
 
-use press_pbm::write_whole;
 pub use press_trace::NO_OUTPUT;
 use std::fmt::{self, Display};
-use std::io::{self, Write};
+use std::io::Write;
 
 /// Where faults are told, text behind text. Whether what is told reaches somebody is not asked: a teller has no faults.
 pub trait Teller {
@@ -50,16 +48,4 @@ pub fn report<D: Display, E: Teller>(error: &D, err: &mut E) -> u8
 {
     err.tell(&Line(error));
     1
-}
-
-/// Writes bytes whole, and flushes.
-///
-/// # Errors
-///
-/// Where a write or the flush failed. A prefix of the bytes is written then.
-pub fn write_flushed<W: Write>(out: &mut W, bytes: &[u8]) -> io::Result<()>
-    ensures { Writes result (W.contents out.old) (W.contents out.new) bytes.now }
-{
-    write_whole(out, bytes)?;
-    out.flush()
 }

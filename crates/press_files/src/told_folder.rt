@@ -1,5 +1,5 @@
 //! A folder sink that tells the sheets that it took.
-ghost use Rattle.std.specs.Prelude.{◌≡◌, ◌+◌, Some, None, []};
+ghost use Rattle.std.specs.Prelude.{◌≡◌, ◌≢◌, ◌+◌, true, Some, None, []};
 ghost use Rattle.press_sink.specs.Kept.{name_parts, next_number, file_faults, outputs_of};
 ghost use Rattle.press_sink.specs.Outputs.{MadeOutput};
 ghost use Rattle.press_sink.specs.Sending.{sheets_in};
@@ -36,6 +36,7 @@ pub struct ToldFolder<O: NamedOutputs, D: Folder> {
     of: PhantomData<D>,
     ghost keeps: { ∥ KeepsFolder D.parts D.begun (sheets_in taken) faults (folder (name_parts sink)
         (next_number sink) (file_faults sink) (O.made (outputs_of sink))) ∥₁ },
+    ghost cause: { faults ≢ 0 → O.Output.can_fail ≡ true },
 }
 
 impl<O: NamedOutputs + Drop, D: Folder> ToldFolder<O, D> {
@@ -58,8 +59,9 @@ impl<O: NamedOutputs + Drop, D: Folder> ToldFolder<O, D> {
 
     /// Where its outputs were made.
     pub fn into_outputs(self) -> O
-        ensures { ∥ MakesSheets D.parts (sheets_in self.taken) self.faults
+        ensures makes { ∥ MakesSheets D.parts (sheets_in self.taken) self.faults
             D.begun (O.made result) ∥₁ }
+        ensures cause { self.faults ≢ 0 → O.Output.can_fail ≡ true }
     {
         let ToldFolder { sink, .. } = self;
         sink.into_outputs()

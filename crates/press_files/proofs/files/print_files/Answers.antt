@@ -1,4 +1,5 @@
-use Rattle.std.proofs.Common.{ap, refl, subst, inl, inr, List, Option}
+use Rattle.std.proofs.Common.{ap, refl, subst, false, inl, inr, List, Option}
+use Rattle.press_files.specs.Causes.{may_fail}
 use Rattle.press_files.specs.Change.{around}
 use Rattle.press_sink.specs.Kept.{name_parts}
 use Rattle.press_sink.specs.Outputs.{MadeOutput}
@@ -9,16 +10,34 @@ use Rattle.press_files.proofs.files.print_files.Goals as goal
 pub returns-in-Ok-clause-files : goal.returns-in-Ok-clause-files
 returns-in-Ok-clause-files g c = λ zero.
     let begun = ap g.O.NamedOutputs.made c.in-Ok.ensures.outputs in
-    let P : Option (List MadeOutput) → Type 0 = λ before. PrintsBy (name_parts c.in-Ok.sink) c.print_by.result.status (around (g.E.Teller.said c.args.err.now) (g.E.Teller.said c.print_by.new.err) (g.R.Read.remaining c.args.reader.now) (g.R.Read.remaining c.print_by.new.reader) (g.W.Write.contents c.args.out) (g.W.Write.contents c.print_by.result.out) before (g.O.NamedOutputs.made c.print_by.result.outputs)) in
-    makes_files c.args.template.now (name_parts c.in-Ok.sink) c.print_by.result.status (g.E.Teller.said c.args.err.now) (g.E.Teller.said c.print_by.new.err) (g.R.Read.remaining c.args.reader.now) (g.R.Read.remaining c.print_by.new.reader) (g.W.Write.contents c.args.out) (g.W.Write.contents c.print_by.result.out) (g.O.NamedOutputs.made c.args.outputs) (g.O.NamedOutputs.made c.print_by.result.outputs) c.in-Ok.ensures.template (subst P begun c.print_by.ensures) zero
+    let fails = may_fail g.R.ReadDevice.can_fail false g.W.WriteDevice.can_fail g.O.Output.WriteDevice.can_fail in
+    let P : Option (List MadeOutput) → Type 0 =
+    λ before.
+    PrintsBy (name_parts c.in-Ok.sink) c.print_by.result.status
+    (around fails (g.E.Teller.said c.args.err.now) (g.E.Teller.said c.print_by.new.err)
+    (g.R.ReadDevice.remaining c.args.reader.now) (g.R.ReadDevice.remaining c.print_by.new.reader) (g.W.WriteDevice.contents c.args.out)
+    (g.W.WriteDevice.contents c.print_by.result.out) before (g.O.NamedOutputs.made c.print_by.result.outputs)) in
+    makes_files c.args.template.now _ _ _ _ _ _ _ _ _ _ _ c.in-Ok.ensures.template (subst P begun c.print_by.ensures) zero
 
 pub returns-in-Ok-clause-prints : goal.returns-in-Ok-clause-prints
 returns-in-Ok-clause-prints g c =
     let begun = ap g.O.NamedOutputs.made c.in-Ok.ensures.outputs in
-    let P : Option (List MadeOutput) → Type 0 = λ before. PrintsBy (name_parts c.in-Ok.sink) c.print_by.result.status (around (g.E.Teller.said c.args.err.now) (g.E.Teller.said c.print_by.new.err) (g.R.Read.remaining c.args.reader.now) (g.R.Read.remaining c.print_by.new.reader) (g.W.Write.contents c.args.out) (g.W.Write.contents c.print_by.result.out) before (g.O.NamedOutputs.made c.print_by.result.outputs)) in
+    let fails = may_fail g.R.ReadDevice.can_fail false g.W.WriteDevice.can_fail g.O.Output.WriteDevice.can_fail in
+    let P : Option (List MadeOutput) → Type 0 =
+    λ before.
+    PrintsBy (name_parts c.in-Ok.sink) c.print_by.result.status
+    (around fails (g.E.Teller.said c.args.err.now) (g.E.Teller.said c.print_by.new.err)
+    (g.R.ReadDevice.remaining c.args.reader.now) (g.R.ReadDevice.remaining c.print_by.new.reader) (g.W.WriteDevice.contents c.args.out)
+    (g.W.WriteDevice.contents c.print_by.result.out) before (g.O.NamedOutputs.made c.print_by.result.outputs)) in
     inl (record { parts = name_parts c.in-Ok.sink; is_template = c.in-Ok.ensures.template; by_parts = subst P begun c.print_by.ensures })
 
 pub returns-in-Err-clause-prints : goal.returns-in-Err-clause-prints
 returns-in-Err-clause-prints g c =
-    inr (prints-no-files c.in-Err.unopened.error c.args.template.now _ _ _ _ _ _ _ _ _ c.in-Err.ensures.bad
-    (record { answers = c.report.ensures.status; told = c.report.ensures.told; unread = refl; unwritten = refl; unmade = ap g.O.NamedOutputs.made c.in-Err.ensures.back }))
+    inr (prints-no-files c.in-Err.unopened.error c.args.template.now _ _ _ _ _ _ _ _ _ _ c.in-Err.ensures.bad
+    (record {
+      answers = c.report.ensures.status;
+      told = c.report.ensures.told;
+      unread = refl;
+      unwritten = refl;
+      unmade = ap g.O.NamedOutputs.made c.in-Err.ensures.back;
+    }))

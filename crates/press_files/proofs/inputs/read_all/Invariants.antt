@@ -1,11 +1,15 @@
-use Rattle.std.proofs.Common.{◌-◌}
+use Rattle.std.proofs.Common.{◌≡◌, ◌≤◌, ◌⊎◌, ◌-◌, true, length}
 use Rattle.std.specs.Io.KnownBytes.{Consumes}
-use Rattle.press_stream.specs.Pieces.{most_reads}
+use Rattle.press_devices.specs.Reading.{most_reads}
 use Rattle.press_files.proofs.inputs.read_all.Given as goal
 
--- the bytes are those that the reader gave so far
+-- the bytes are those that the reader gave so far, and each read gave some
 abbrev pub invariant-loop-all : goal.invariant-loop-all
-invariant-loop-all g l = Consumes (g.R.Read.remaining l.initial.reader) (g.R.Read.remaining l.reader) l.all.items
+invariant-loop-all g l =
+    record {
+      read : Consumes (g.R.ReadDevice.remaining l.initial.reader) (g.R.ReadDevice.remaining l.reader) l.all.items;
+      few : (g.R.ReadDevice.can_fail ≡ true) ⊎ (l.count.reads ≤ length l.all.items);
+    }
 
 abbrev pub decreases-loop-all : goal.decreases-loop-all
 decreases-loop-all g l = most_reads - l.count.reads

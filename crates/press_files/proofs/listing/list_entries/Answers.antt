@@ -1,14 +1,27 @@
-use Rattle.std.proofs.Common.{List, ℕ, ◌<◌, length, sym, subst, arith}
-use Rattle.std.specs.Io.KnownBytes.{Appends}
-use Rattle.std.proofs.KnownBytes.{Appends-trans}
-use Rattle.press_files.proofs.ListingLemmas.{at_ok}
-use Rattle.press_files.proofs.EntryLines.{entry_lines-more}
+use Rattle.std.proofs.Common.{[], ◌<◌, length, refl, sym, subst, arith}
+use Rattle.std.proofs.KnownBytes.{Appends-nil, Appends-trans}
+use Rattle.std.proofs.lemmas.Result.{MatchResult-from_err}
+use Rattle.press_devices.specs.Writing.{AppendsPrefix}
+use Rattle.press_devices.proofs.WritesLemmas.{prefix_then, prefix_more}
+use Rattle.press_files.proofs.EntryLines.{entry_lines-next}
 use Rattle.press_files.proofs.listing.list_entries.Goals as goal
+
+pub loop-sheet-init : goal.loop-sheet-init
+loop-sheet-init g c = ([], refl, Appends-nil _)
+
+pub returns-in_err-list_entry_sheet-clause-written : goal.returns-in_err-list_entry_sheet-clause-written
+returns-in_err-list_entry_sheet-clause-written g c =
+    let (done, split, wrote) = c.loop-sheet.invariant in
+    let inside : c.loop-sheet.sheet-index < length c.args.sheets.now = omega arith in
+    let all = entry_lines-next c.args.sheets.now c.loop-sheet.sheet-index c.sheet-item.result done _ inside c.sheet-item.is split in
+    MatchResult-from_err _ _ _ c.from_residual.ensures.0
+    (λ _. subst (AppendsPrefix _ _) (sym all) (prefix_more _ _ _ _ (prefix_then _ _ _ _ _ wrote c.in_err-list_entry_sheet.ensures.written)))
 
 pub loop-sheet-preserved : goal.loop-sheet-preserved
 loop-sheet-preserved g c =
-    let item = c.sheet-item.result in
-    let inside : c.loop-sheet.sheet-index < length c.args.sheets.now = omega arith in
-    let more = at_ok _ c.list_entry_sheet.result _ c.list_entry_sheet.ensures c.in_ok-list_entry_sheet.was in
-    let P : List ℕ → Type 0 = λ lines. Appends (g.W.Write.contents c.args.out.now) (g.W.Write.contents c.list_entry_sheet.new.out) lines in
-    subst P (sym (entry_lines-more c.args.sheets.now c.loop-sheet.sheet-index item inside c.sheet-item.is)) (Appends-trans (g.W.Write.contents c.args.out.now) (g.W.Write.contents c.loop-sheet.out) (g.W.Write.contents c.list_entry_sheet.new.out) _ _ c.loop-sheet.invariant more)
+    let (done, split, wrote) = c.loop-sheet.invariant in
+    let inside : c.loop-sheet.sheet-index < length c.args.sheets.now = omega arith in (
+      _,
+      entry_lines-next c.args.sheets.now c.loop-sheet.sheet-index c.sheet-item.result done _ inside c.sheet-item.is split,
+      Appends-trans _ _ _ _ _ wrote c.in_ok-list_entry_sheet.ensures.written,
+    )

@@ -19,7 +19,8 @@ invariant_of-self-2 c =
     let kept = c.reserve.new.self in
     let one : EntrySheet = record { number = c.delivered-number.result + 1; sheet = c.args.sheet } in
     let room : kept.len < kept.cap = omega (arith, c.in_ok-reserve.ensures.ok) in
-    let all : c.push.new.self.items ≡ kept.items ++ one ∷ [] = pushed c.push.result kept.items c.push.new.self.items one c.push.ensures.items (c.push.ensures.succeeds room) in
+    let all : c.push.new.self.items ≡ kept.items ++ one ∷ [] =
+    pushed c.push.result kept.items c.push.new.self.items one c.push.ensures.items (c.push.ensures.succeeds room) in
     let same : kept.items ≡ old.sheets.items = c.reserve.ensures.items in
     let next : one.number ≡ occurrences_of one.sheet.tag (entries_of kept.items) + 1 = ap (λ (n : ℕ). n + 1) c.delivered-number.ensures in
     let Numbered : List EntrySheet → Type 0 = λ sheets. numbers_of sheets ≡ numbers_after [] (entries_of sheets) in
