@@ -1,1 +1,2 @@
-mod JobLemmas
+-- Lemmas on jobs of tickets over files.
+pub mod JobLemmas

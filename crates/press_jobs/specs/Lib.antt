@@ -1,2 +1,4 @@
+-- Jobs of tickets, over files.
+pub mod Causes
 pub mod Faults
 pub mod Jobs

@@ -1,5 +1,8 @@
 //! Jobs of tickets, over readers, named inputs and writers.
-ghost use Rattle.std.specs.Prelude.{map, IfOk, IfErr, OnOk};
+ghost use Rattle.std.specs.Prelude.{◌≡◌, true, false, map, IfOk, IfErr, OnOk};
+ghost use Rattle.press_devices.specs.Reading.{ReadFails};
+ghost use Rattle.press_files.specs.Causes.{may_fail};
+ghost use Rattle.press_jobs.specs.Causes.{JobCause};
 ghost use Rattle.press_jobs.specs.Jobs.{
   TicketRead,
   HasImage,
@@ -16,8 +19,8 @@ ghost use Rattle.press_jobs.specs.Faults.{told_of_job};
 ghost use Rattle.press_files.specs.NamedInputs.{named};
 ghost use Rattle.press_files.specs.Telling.{Ended};
 
-use crate::counted_read::CountedRead;
 use press_bits::Bitmap;
+use press_devices::{ReadDevice, WriteDevice};
 use press_files::{InputError, NamedInputs, Teller, open_named, read_all, report};
 use press_pbm::{ReadPbmError, read_pbm};
 use press_ticket::{Ticket, TicketError, read_ticket};
@@ -26,7 +29,6 @@ use press_writer::{WriterError, write_job};
 use std::alloc::Global;
 use std::error::Error;
 use std::fmt;
-use std::io::{Read, Write};
 
 /// Why no job was written.
 #[derive(Debug, Drop)]
@@ -76,11 +78,13 @@ impl From<InputError> for JobFileError {
 /// # Errors
 ///
 /// 304 where it cannot be read; 601 to 605 where it has no ticket; `NoMemory`.
-pub fn ticket_in<R: Read>(alloc: Global, reader: &mut R) -> Result<Ticket, JobFileError>
+pub fn ticket_in<R: ReadDevice>(alloc: Global, reader: &mut R) -> Result<Ticket, JobFileError>
     ensures ticket { IfOk result (λ ticket.
         TicketRead (R.remaining reader.old) (R.remaining reader.new) ticket) }
     ensures refused { IfErr result (λ why.
         TicketRefused (R.remaining reader.old) (R.remaining reader.new) why) }
+    ensures cause { IfErr result (λ why. why ≡ JobFileError.Input InputError.ReadFault
+        → ReadFails R.can_fail (R.remaining reader.old) (R.remaining reader.new)) }
 {
     let text = read_all(alloc, reader)?;
     read_ticket(alloc, &text).map_err(JobFileError::Ticket)
@@ -94,9 +98,10 @@ fn image_named<I: NamedInputs>(
 ) -> Result<Bitmap, JobFileError>
     ensures image { IfOk result (λ image. HasImage (I.bytes inputs.now name.now) image) }
     ensures refused { IfErr result (λ why.
-        ImageRefused (named (I.bytes inputs.now) (I.missing inputs.now) name.now) why) }
+        ImageRefused (named I.Input.can_fail (I.bytes inputs.now) (I.missing inputs.now)
+        name.now) why) }
 {
-    let mut input = CountedRead::new(open_named(inputs, name)?);
+    let mut input = open_named(inputs, name)?;
     read_pbm(alloc, &mut input).map_err(JobFileError::Image)
 }
 
@@ -112,10 +117,13 @@ pub fn images_named<I: NamedInputs>(
     names: &[&[u8]],
 ) -> Result<Vec<Bitmap>, JobFileError>
     ensures images { IfOk result (λ images.
-        HaveImages (map (λ name. named (I.bytes inputs.now) (I.missing inputs.now) name.now)
+        HaveImages (map (λ name. named I.Input.can_fail (I.bytes inputs.now) (I.missing inputs.now)
+        name.now)
         names.now) images.items) }
     ensures refused { IfErr result (λ why.
-        ImagesRefused (map (λ name. named (I.bytes inputs.now) (I.missing inputs.now) name.now)
+        ImagesRefused (map (λ name. named I.Input.can_fail
+        (I.bytes inputs.now) (I.missing inputs.now)
+        name.now)
         names.now) why) }
 {
     let mut images = Vec::new(alloc);
@@ -127,7 +135,7 @@ pub fn images_named<I: NamedInputs>(
 }
 
 /// Writes the job of a ticket with these images.
-fn write_to<W: Write>(
+fn write_to<W: WriteDevice>(
     alloc: Global,
     ticket: &Ticket,
     images: &[Bitmap],
@@ -137,13 +145,15 @@ fn write_to<W: Write>(
         (WritesAJob ticket.now images.now (W.contents out.old) (W.contents out.new)) }
     ensures err { IfErr result (λ why.
         WritesNoJob ticket.now images.now (W.contents out.old) (W.contents out.new) why) }
+    ensures cause { IfErr result (λ why.
+        why ≡ WriterError.WriteFault → W.can_fail ≡ true) }
 {
     write_job(alloc, ticket, images, out)?;
-    out.flush().map_err(|_| WriterError::WriteFault)
+    out.flush_all().map_err(|_| WriterError::WriteFault)
 }
 
 /// Writes the job of the ticket that a reader has, with the images of these inputs, to `out`.
-fn write_from<T: Read, I: NamedInputs, W: Write>(
+fn write_from<T: ReadDevice, I: NamedInputs, W: WriteDevice>(
     alloc: Global,
     ticket: &mut T,
     inputs: &I,
@@ -151,12 +161,18 @@ fn write_from<T: Read, I: NamedInputs, W: Write>(
     out: &mut W,
 ) -> Result<(), JobFileError>
     ensures ok { OnOk result (WritesTheTicket (T.remaining ticket.old) (T.remaining ticket.new)
-        (map (λ name. named (I.bytes inputs.now) (I.missing inputs.now) name.now) names.now)
+        (map (λ name. named I.Input.can_fail (I.bytes inputs.now) (I.missing inputs.now)
+        name.now) names.now)
         (W.contents out.old) (W.contents out.new)) }
     ensures err { IfErr result (λ why.
         StopsWriting (T.remaining ticket.old) (T.remaining ticket.new)
-        (map (λ name. named (I.bytes inputs.now) (I.missing inputs.now) name.now) names.now)
+        (map (λ name. named I.Input.can_fail (I.bytes inputs.now) (I.missing inputs.now)
+        name.now) names.now)
         (W.contents out.old) (W.contents out.new) why) }
+    ensures cause { IfErr result (JobCause (may_fail T.can_fail I.Input.can_fail false W.can_fail)
+        (T.remaining ticket.old) (T.remaining ticket.new)
+        (map (λ name. named I.Input.can_fail (I.bytes inputs.now) (I.missing inputs.now)
+        name.now) names.now)) }
 {
     let ticket = ticket_in(alloc, ticket)?;
     let images = images_named(alloc, inputs, names)?;
@@ -166,7 +182,7 @@ fn write_from<T: Read, I: NamedInputs, W: Write>(
 /// Writes the job of the ticket that a reader has, with the images of the inputs of these names in the order of its pages, to
 /// `out`, and a fault to `err`. Nothing is written to `out` before the images are found to fit. The answer is the status: 0, or
 /// 1 after a fault.
-pub fn write_files<T: Read, I: NamedInputs, W: Write, E: Teller>(
+pub fn write_files<T: ReadDevice, I: NamedInputs, W: WriteDevice, E: Teller>(
     alloc: Global,
     ticket: &mut T,
     inputs: &I,
@@ -176,11 +192,17 @@ pub fn write_files<T: Read, I: NamedInputs, W: Write, E: Teller>(
 ) -> u8
     ensures { Ended result (E.said err.old) (E.said err.new) told_of_job
         (WritesTheTicket (T.remaining ticket.old) (T.remaining ticket.new)
-        (map (λ name. named (I.bytes inputs.now) (I.missing inputs.now) name.now) names.now)
+        (map (λ name. named I.Input.can_fail (I.bytes inputs.now) (I.missing inputs.now)
+        name.now) names.now)
         (W.contents out.old) (W.contents out.new))
-        (StopsWriting (T.remaining ticket.old) (T.remaining ticket.new)
-        (map (λ name. named (I.bytes inputs.now) (I.missing inputs.now) name.now) names.now)
-        (W.contents out.old) (W.contents out.new)) }
+        (λ why. StopsWriting (T.remaining ticket.old) (T.remaining ticket.new)
+        (map (λ name. named I.Input.can_fail (I.bytes inputs.now) (I.missing inputs.now)
+        name.now) names.now)
+        (W.contents out.old) (W.contents out.new) why
+        × JobCause (may_fail T.can_fail I.Input.can_fail false W.can_fail)
+        (T.remaining ticket.old) (T.remaining ticket.new)
+        (map (λ name. named I.Input.can_fail (I.bytes inputs.now) (I.missing inputs.now)
+        name.now) names.now) why) }
 {
     match write_from(alloc, ticket, inputs, names, out) {
         Ok(()) => 0,

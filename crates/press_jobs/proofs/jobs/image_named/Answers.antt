@@ -3,10 +3,15 @@ use Rattle.press_files.specs.NamedInputs.{named}
 use Rattle.press_jobs.proofs.JobLemmas.{image-refused, unopened}
 use Rattle.press_jobs.proofs.jobs.image_named.Goals as goal
 
-pub returns-in_err-open_named-clause-refused : goal.returns-in_err-open_named-clause-refused
-returns-in_err-open_named-clause-refused g c =
-    rw (exit-is c.from_residual.ensures.1) (unopened (named (g.I.NamedInputs.bytes c.args.inputs.now) (g.I.NamedInputs.missing c.args.inputs.now) c.args.name.now) c.in_err-open_named.field-0.0 c.in_err-open_named.ensures.missing)
+pub returns-in_err-input-clause-refused : goal.returns-in_err-input-clause-refused
+returns-in_err-input-clause-refused g c =
+    rw (exit-is c.from_residual.ensures.1) (unopened (named g.I.Input.ReadDevice.can_fail (g.I.NamedInputs.bytes c.args.inputs.now)
+    (g.I.NamedInputs.missing c.args.inputs.now) c.args.name.now)
+    c.in_err-input.field-0.0 c.in_err-input.ensures.missing)
 
 pub returns-clause-refused : goal.returns-clause-refused
 returns-clause-refused g c =
-    image-refused c.read_pbm.result c.map_err.result (named (g.I.NamedInputs.bytes c.args.inputs.now) (g.I.NamedInputs.missing c.args.inputs.now) c.args.name.now) _ c.map_err.ensures.cases (rw (c.new-input.ensures.reader, c.in_ok-open_named.ensures.bytes) at c.read_pbm.ensures.refused)
+    image-refused c.read_pbm.result c.map_err.result
+    (named g.I.Input.ReadDevice.can_fail (g.I.NamedInputs.bytes c.args.inputs.now) (g.I.NamedInputs.missing c.args.inputs.now)
+    c.args.name.now)
+    _ c.map_err.ensures.cases (rw (c.in_ok-input.ensures.bytes) at c.read_pbm.ensures.refused) c.read_pbm.ensures.cause

@@ -10,7 +10,11 @@ pub returns-in_err-image-clause-refused : goal.returns-in_err-image-clause-refus
 returns-in_err-image-clause-refused g c =
     let names = c.args.names.now in
     rw (exit-is c.from_residual.ensures.1)
-    (inl (lacks-an-image (λ name. named (g.I.NamedInputs.bytes c.args.inputs.now) (g.I.NamedInputs.missing c.args.inputs.now) name.now) names c.loop-name.name-index _ c.loop-name.images.items c.in_err-image.field-0.0 c.loop-name-test.true c.loop-name.invariant c.in_err-image.ensures.refused))
+    (inl (lacks-an-image (λ name.
+    named g.I.Input.ReadDevice.can_fail (g.I.NamedInputs.bytes c.args.inputs.now) (g.I.NamedInputs.missing c.args.inputs.now)
+    name.now)
+    names c.loop-name.name-index _ c.loop-name.images.items c.in_err-image.field-0.0 c.loop-name-test.true c.loop-name.invariant
+    c.in_err-image.ensures.refused))
 
 pub loop-name-preserved : goal.loop-name-preserved
 loop-name-preserved g c =
@@ -18,6 +22,15 @@ loop-name-preserved g c =
     let i = c.loop-name.name-index in
     let image = c.in_ok-image.image in
     let inside : i < length names = c.loop-name-test.true in
-    let P : List Page → Type 0 = λ images. HaveImages (map (λ name. named (g.I.NamedInputs.bytes c.args.inputs.now) (g.I.NamedInputs.missing c.args.inputs.now) name.now) (take (i + 1) names)) images in
+    let P : List Page → Type 0 =
+    λ images.
+    HaveImages (map (λ name.
+    named g.I.Input.ReadDevice.can_fail (g.I.NamedInputs.bytes c.args.inputs.now)
+    (g.I.NamedInputs.missing c.args.inputs.now) name.now)
+    (take (i + 1) names))
+    images in
     subst P (search rules)
-    (images-more (λ name. named (g.I.NamedInputs.bytes c.args.inputs.now) (g.I.NamedInputs.missing c.args.inputs.now) name.now) names i _ c.loop-name.images.items image inside c.loop-name.invariant c.in_ok-image.ensures.image)
+    (images-more (λ name.
+    named g.I.Input.ReadDevice.can_fail (g.I.NamedInputs.bytes c.args.inputs.now) (g.I.NamedInputs.missing c.args.inputs.now)
+    name.now)
+    names i _ c.loop-name.images.items image inside c.loop-name.invariant c.in_ok-image.ensures.image)

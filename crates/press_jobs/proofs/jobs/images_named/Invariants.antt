@@ -5,4 +5,9 @@ use Rattle.press_jobs.proofs.jobs.images_named.Given as goal
 
 -- the inputs so far had the images so far
 abbrev pub invariant-loop-name : goal.invariant-loop-name
-invariant-loop-name g l = HaveImages (map (λ name. named (g.I.NamedInputs.bytes l.initial.inputs) (g.I.NamedInputs.missing l.initial.inputs) name.now) (take l.name-index l.names)) l.images.items
+invariant-loop-name g l =
+    HaveImages (map (λ name.
+    named g.I.Input.ReadDevice.can_fail (g.I.NamedInputs.bytes l.initial.inputs) (g.I.NamedInputs.missing l.initial.inputs)
+    name.now)
+    (take l.name-index l.names))
+    l.images.items
