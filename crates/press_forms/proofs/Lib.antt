@@ -1,1 +1,2 @@
+-- Lemmas on pages of streams.
 mod PagingLemmas

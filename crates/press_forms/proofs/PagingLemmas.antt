@@ -1,7 +1,7 @@
 -- A stream behind so many of its steps.
-use Rattle.std.proofs.Common.{◌≡◌, ◌∙◌, ◌≤◌, ◌+◌, ℕ, List, [], ◌∷◌, ◌++◌, length, length-append, take, Option, Some, Result, Err, IfErr, IfSome, IsErrAnd, refl, sym, ap, subst, arith}
+use Rattle.std.proofs.Common.{◌≡◌, ◌∙◌, ◌≤◌, ◌+◌, ℕ, List, [], ◌∷◌, ◌++◌, length, length-append}
+use Rattle.std.proofs.Common.{take, Option, Some, Err, IfSome, refl, sym, ap, subst, arith}
 use Rattle.press_files.specs.Change.{change}
-use Rattle.std.proofs.lemmas.Result.{err_from_is_err_and}
 use Rattle.std.proofs.lemmas.List.{take_all}
 use Rattle.std.proofs.Math.Seq.{take-append_seam}
 use Rattle.press_pbm.specs.Spelling.{file_of}
@@ -28,7 +28,8 @@ pub record StandsBehindSo (bytes : List ℕ) (count : ℕ) (now : DebuggerState)
 pub begins_so : PlacesGoOn → (bytes : List ℕ) (now : DebuggerState) → now ≡ at_start bytes → StandsBehindSo bytes 0 now
 begins_so law bytes now is = record { items = []; many = refl; behind = subst (StandsBehind bytes []) (sym is) (law.begins bytes) }
 
-pub goes_so : PlacesGoOn → (bytes : List ℕ) (count : ℕ) (item : StepResult) (old new : DebuggerState) → StandsBehindSo bytes count old → Advances old (item ∷ []) new → StandsBehindSo bytes (count + 1) new
+pub goes_so : PlacesGoOn → (bytes : List ℕ) (count : ℕ) (item : StepResult) (old new : DebuggerState) → StandsBehindSo bytes count old
+    → Advances old (item ∷ []) new → StandsBehindSo bytes (count + 1) new
 goes_so law bytes count item old new so advances = record {
   items = so.items ++ item ∷ [];
   many = length-append so.items (item ∷ []) ∙ ap (λ (n : ℕ). n + 1) so.many;
@@ -47,11 +48,14 @@ stands_at bytes steps now so =
     }
 
 -- no step was left, before as many were taken
-pub stands_at_end : PlacesGoOn → (bytes : List ℕ) (count steps : ℕ) (now : DebuggerState) → count ≤ steps → StandsBehindSo bytes count now → IsOver now.job → StandsAt bytes steps now
+pub stands_at_end : PlacesGoOn → (bytes : List ℕ) (count steps : ℕ) (now : DebuggerState) → count ≤ steps → StandsBehindSo bytes count now
+    → IsOver now.job → StandsAt bytes steps now
 stands_at_end law bytes count steps now few so over = record {
   items = so.items;
   trace = law.at_end bytes so.items now so.behind over;
-  state = so.behind.state ∙ ap (λ (items : List StepResult). Some (last_machine power_on items)) (sym (take_all steps so.items (omega (arith, few, so.many))));
+  state =
+      so.behind.state
+      ∙ ap (λ (items : List StepResult). Some (last_machine power_on items)) (sym (take_all steps so.items (omega (arith, few, so.many))));
 }
 
 -- ---- its page, made an output
@@ -70,7 +74,8 @@ module _ (had left : Option (List ℕ)) (bytes : List ℕ) (read : ReadWhole had
   page_made name before after at makes = (
     page_behind steps at.items,
     has_page at,
-    at_machine now.job.machine (λ machine. after ≡ with_outputs (holding name (file_of (page_now machine.state)) ∷ []) before) (machine_of at) at.state makes,
+    at_machine now.job.machine (λ machine. after ≡ with_outputs (holding name (file_of (page_now machine.state)) ∷ []) before)
+        (machine_of at) at.state makes,
   )
 
   no_page : (name : List ℕ) (before after : Option (List MadeOutput)) (why : PagingError) → (at : StandsAt bytes steps now)
@@ -79,10 +84,10 @@ module _ (had left : Option (List ℕ)) (bytes : List ℕ) (read : ReadWhole had
   no_page name before after NoMemory at same = same
   no_page name before after (Input why) at makes = absurd makes
 
-  pub page_stopped : (name : List ℕ) (before after : Option (List MadeOutput)) (result : Result ℕ PagingError) (error : PagingError)
-      → StandsAt bytes steps now → IfSome now.job.machine (λ machine. MakesPage (page_now machine.state) name (Err error) before after)
-      → IsErrAnd result (λ why. why ≡ error) → IfErr result (λ why. StopsPaging steps name had left (change before after) why)
-  page_stopped name before after result error at makes is =
-      let found = err_from_is_err_and result is in
-      let here = at_machine now.job.machine (λ machine. MakesPage (page_now machine.state) name (Err error) before after) (machine_of at) at.state makes in
-      rw found.1 (subst (λ (why : PagingError). StopsPaging steps name had left (change before after) why) (sym found.2) (no_page name before after error at here))
+  pub page_stopped : (name : List ℕ) (before after : Option (List MadeOutput)) (error : PagingError) → StandsAt bytes steps now
+      → IfSome now.job.machine (λ machine. MakesPage (page_now machine.state) name (Err error) before after)
+      → StopsPaging steps name had left (change before after) error
+  page_stopped name before after error at makes =
+      no_page name before after error at
+      (at_machine now.job.machine (λ machine. MakesPage (page_now machine.state) name (Err error) before after) (machine_of at) at.state
+      makes)

@@ -1,7 +1,7 @@
 -- Streams and assembly text, over readers and writers.
 use Rattle.std.specs.Prelude.{◌≡◌, ℕ, List, [], ◌∷◌, Option, ⊤}
 use Rattle.std.specs.Io.KnownBytes.{Appends}
-use Rattle.press_pbm.specs.Spelling.{AppendsPrefix}
+use Rattle.press_devices.specs.Writing.{AppendsPrefix}
 use Rattle.press_sink.specs.Outputs.{MadeOutput, MakesPrefix, holding, with_outputs}
 use Rattle.press_asm.specs.Text.{Assembles, Refuses}
 use Rattle.press_disasm.specs.Disassembly.{IsDisassembly}

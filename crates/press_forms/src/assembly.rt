@@ -1,19 +1,21 @@
 //! Assembly text to bytes, and back.
-ghost use Rattle.std.specs.Prelude.{◌≡◌, IfOk, IfErr, OnOk};
+ghost use Rattle.std.specs.Prelude.{◌≡◌, false, IfOk, IfErr, OnOk};
 ghost use Rattle.std.specs.String.{string_bytes};
 ghost use Rattle.press_forms.specs.Assembly.{Assembled, AssembledTo, TextRefused, StopsAssembling, Disassembled, DisassembledTo, StreamUnread, StopsDisassembling};
 ghost use Rattle.press_forms.specs.Faults.{told_of_text};
+ghost use Rattle.press_forms.specs.Causes.{TextCause};
+ghost use Rattle.press_files.specs.Causes.{may_fail};
 ghost use Rattle.press_files.specs.Telling.{Ended};
 
 use press_asm::{AssembleError, assemble};
+use press_devices::{ReadDevice, WriteDevice, write_flushed};
 use press_disasm::disassemble;
-use press_files::{InputError, NO_OUTPUT, Teller, read_all, report, write_flushed};
+use press_files::{InputError, NO_OUTPUT, Teller, read_all, report};
 use press_pbm::WRITE_FAULT;
 use press_units::ToldFault;
 use std::alloc::{AllocError, Global};
 use std::error::Error;
 use std::fmt;
-use std::io::{Read, Write};
 
 /// Why an input was not assembled or disassembled.
 #[derive(Debug, Drop)]
@@ -74,18 +76,20 @@ impl From<AllocError> for TextError {
 /// # Errors
 ///
 /// 304 where it cannot be read; 401 to 403 of its first line that is none; `NoMemory`.
-pub fn assembled<R: Read>(alloc: Global, reader: &mut R) -> Result<Vec<u8>, TextError>
+pub fn assembled<R: ReadDevice>(alloc: Global, reader: &mut R) -> Result<Vec<u8>, TextError>
     ensures ok { IfOk result (λ bytes.
         Assembled (R.remaining reader.old) (R.remaining reader.new) bytes.items) }
     ensures err { IfErr result (λ why.
         TextRefused (R.remaining reader.old) (R.remaining reader.new) why) }
+    ensures cause { IfErr result (TextCause (may_fail R.can_fail false false false)
+        (R.remaining reader.old) (R.remaining reader.new)) }
 {
     let text = read_all(alloc, reader)?;
     assemble(alloc, &text).map_err(TextError::Refused)
 }
 
 /// Writes the bytes of the assembly text that a reader has to `out`.
-fn assemble_to<R: Read, W: Write>(
+fn assemble_to<R: ReadDevice, W: WriteDevice>(
     alloc: Global,
     reader: &mut R,
     out: &mut W,
@@ -95,6 +99,8 @@ fn assemble_to<R: Read, W: Write>(
     ensures err { IfErr result (λ why.
         StopsAssembling (R.remaining reader.old) (R.remaining reader.new)
         (W.contents out.old) (W.contents out.new) why) }
+    ensures cause { IfErr result (TextCause (may_fail R.can_fail false false W.can_fail)
+        (R.remaining reader.old) (R.remaining reader.new)) }
 {
     let bytes = assembled(alloc, reader)?;
     write_flushed(out, &bytes).map_err(|_| TextError::WriteFault)
@@ -102,7 +108,7 @@ fn assemble_to<R: Read, W: Write>(
 
 /// Writes the bytes of the assembly text that a reader has to `out`, and a fault to `err`. Of a text that is refused nothing is
 /// written. The answer is the status: 0, or 1 after a fault.
-pub fn asm_text<R: Read, W: Write, E: Teller>(
+pub fn asm_text<R: ReadDevice, W: WriteDevice, E: Teller>(
     alloc: Global,
     reader: &mut R,
     out: &mut W,
@@ -111,8 +117,10 @@ pub fn asm_text<R: Read, W: Write, E: Teller>(
     ensures { Ended result (E.said err.old) (E.said err.new) told_of_text
         (AssembledTo (R.remaining reader.old) (R.remaining reader.new)
         (W.contents out.old) (W.contents out.new))
-        (StopsAssembling (R.remaining reader.old) (R.remaining reader.new)
-        (W.contents out.old) (W.contents out.new)) }
+        (λ why. StopsAssembling (R.remaining reader.old) (R.remaining reader.new)
+        (W.contents out.old) (W.contents out.new) why
+        × TextCause (may_fail R.can_fail false false W.can_fail)
+        (R.remaining reader.old) (R.remaining reader.new) why) }
 {
     match assemble_to(alloc, reader, out) {
         Ok(()) => 0,
@@ -121,17 +129,19 @@ pub fn asm_text<R: Read, W: Write, E: Teller>(
 }
 
 /// The assembly text of the stream that a reader has.
-fn disassembled<R: Read>(alloc: Global, reader: &mut R) -> Result<String, TextError>
+fn disassembled<R: ReadDevice>(alloc: Global, reader: &mut R) -> Result<String, TextError>
     ensures ok { IfOk result (λ text.
         Disassembled (R.remaining reader.old) (R.remaining reader.new) (string_bytes text)) }
     ensures err { IfErr result StreamUnread }
+    ensures cause { IfErr result (TextCause (may_fail R.can_fail false false false)
+        (R.remaining reader.old) (R.remaining reader.new)) }
 {
     let bytes = read_all(alloc, reader)?;
     Ok(disassemble(alloc, &bytes)?)
 }
 
 /// Writes the assembly text of the stream that a reader has to `out`.
-fn disassemble_to<R: Read, W: Write>(
+fn disassemble_to<R: ReadDevice, W: WriteDevice>(
     alloc: Global,
     reader: &mut R,
     out: &mut W,
@@ -141,6 +151,8 @@ fn disassemble_to<R: Read, W: Write>(
     ensures err { IfErr result (λ why.
         StopsDisassembling (R.remaining reader.old) (R.remaining reader.new)
         (W.contents out.old) (W.contents out.new) why) }
+    ensures cause { IfErr result (TextCause (may_fail R.can_fail false W.can_fail false)
+        (R.remaining reader.old) (R.remaining reader.new)) }
 {
     let text = disassembled(alloc, reader)?;
     write_flushed(out, text.as_bytes()).map_err(|_| TextError::NoOutput)
@@ -148,7 +160,7 @@ fn disassemble_to<R: Read, W: Write>(
 
 /// Writes the assembly text of the stream that a reader has to `out`, and a fault to `err`. Where the stream was not read to its
 /// end nothing is written. The answer is the status: 0, or 1 after a fault.
-pub fn disasm_bytes<R: Read, W: Write, E: Teller>(
+pub fn disasm_bytes<R: ReadDevice, W: WriteDevice, E: Teller>(
     alloc: Global,
     reader: &mut R,
     out: &mut W,
@@ -157,8 +169,10 @@ pub fn disasm_bytes<R: Read, W: Write, E: Teller>(
     ensures { Ended result (E.said err.old) (E.said err.new) told_of_text
         (DisassembledTo (R.remaining reader.old) (R.remaining reader.new)
         (W.contents out.old) (W.contents out.new))
-        (StopsDisassembling (R.remaining reader.old) (R.remaining reader.new)
-        (W.contents out.old) (W.contents out.new)) }
+        (λ why. StopsDisassembling (R.remaining reader.old) (R.remaining reader.new)
+        (W.contents out.old) (W.contents out.new) why
+        × TextCause (may_fail R.can_fail false W.can_fail false)
+        (R.remaining reader.old) (R.remaining reader.new) why) }
 {
     match disassemble_to(alloc, reader, out) {
         Ok(()) => 0,

@@ -1,6 +1,8 @@
 //! The page that is open at a step of a stream, made an output.
-ghost use Rattle.std.specs.Prelude.{◌≡◌, ◌<◌, IfOk, IfErr, IfSome, OnOk};
+ghost use Rattle.std.specs.Prelude.{◌≡◌, ◌<◌, true, false, IfOk, IfErr, IfSome, OnOk};
+ghost use Rattle.press_files.specs.Causes.{may_fail};
 ghost use Rattle.press_files.specs.Change.{change};
+ghost use Rattle.press_forms.specs.Causes.{PageCause};
 ghost use Rattle.press_engine.specs.Closing.{page_now};
 ghost use Rattle.press_engine.specs.Place.{blank_page};
 ghost use Rattle.press_forms.specs.Paging.{MakesPage, PagedInto, Paging, StandsAt, StopsPaging};
@@ -9,6 +11,7 @@ ghost use Rattle.press_forms.specs.declared.paging.PagingError.{PagingError};
 use press_bits::{Bitmap, BlankError};
 use press_debug::laws::places;
 use press_debug::{Stepper, Taken};
+use press_devices::ReadDevice;
 use press_files::{InputError, Teller, read_all, report};
 use press_page::PageSetup;
 use press_pbm::{WRITE_FAULT, WritePbmError};
@@ -17,7 +20,6 @@ use press_units::ToldFault;
 use std::alloc::{AllocError, Global};
 use std::error::Error;
 use std::fmt;
-use std::io::{Read, Write};
 
 /// Why no page was made an output.
 #[derive(Debug, Drop)]
@@ -99,7 +101,7 @@ impl fmt::Display for EndsBehind {
 /// are. A fault is told to `err`, too. The answer is the status: 0, or 1 after a fault.
 ///
 /// Source: PCL 5 Printer Language Technical Reference Manual, The PCL Print Model; Netpbm, the raw form of the PBM format.
-pub fn page_file<R: Read, O: NamedOutputs, E: Teller>(
+pub fn page_file<R: ReadDevice, O: NamedOutputs, E: Teller>(
     alloc: Global,
     reader: &mut R,
     steps: u64,
@@ -107,7 +109,7 @@ pub fn page_file<R: Read, O: NamedOutputs, E: Teller>(
     name: &str,
     err: &mut E,
 ) -> u8
-    ensures { Paging steps name.now result
+    ensures { Paging (may_fail R.can_fail false false O.Output.can_fail) steps name.now result
         (change (E.said err.old) (E.said err.new))
         (change (R.remaining reader.old) (R.remaining reader.new))
         (change (O.made outputs.old) (O.made outputs.new)) }
@@ -124,7 +126,7 @@ pub fn page_file<R: Read, O: NamedOutputs, E: Teller>(
 }
 
 /// Makes the output of this name of the stream that a reader has. The answer is how many steps were taken.
-fn make_page<R: Read, O: NamedOutputs>(
+fn make_page<R: ReadDevice, O: NamedOutputs>(
     alloc: Global,
     reader: &mut R,
     steps: u64,
@@ -136,6 +138,8 @@ fn make_page<R: Read, O: NamedOutputs>(
     ensures err { IfErr result (λ why. StopsPaging steps name.now (R.remaining reader.old)
         (R.remaining reader.new)
         (change (O.made outputs.old) (O.made outputs.new)) why) }
+    ensures cause { IfErr result (PageCause (may_fail R.can_fail false false O.Output.can_fail)
+        (R.remaining reader.old) (R.remaining reader.new)) }
 {
     let bytes = read_all(alloc, reader)?;
     let stepper = behind_steps(alloc, &bytes, steps)?;
@@ -166,9 +170,11 @@ fn write_open_page<O: NamedOutputs>(
     outputs: &mut O,
     name: &str,
 ) -> Result<(), PagingError>
-    ensures { IfSome stepper.now.job.machine (λ machine.
+    ensures makes { IfSome stepper.now.job.machine (λ machine.
         MakesPage (page_now machine.state) name.now result
         (O.made outputs.old) (O.made outputs.new)) }
+    ensures cause { IfErr result (λ why.
+        why ≡ PagingError.WriteFault → O.Output.can_fail ≡ true) }
 {
     match stepper.page() {
         Some(canvas) => match canvas.upright() {

@@ -1,16 +1,17 @@
 //! The trace of a stream, told to a writer.
-ghost use Rattle.std.specs.Prelude.{IfErr, OnOk};
+ghost use Rattle.std.specs.Prelude.{false, IfErr, OnOk};
 ghost use Rattle.press_files.specs.Change.{change};
-ghost use Rattle.press_pbm.specs.Spelling.{Writes};
+ghost use Rattle.press_files.specs.Causes.{may_fail};
+ghost use Rattle.press_forms.specs.Causes.{TraceCause};
 ghost use Rattle.press_forms.specs.Traced.{StopsTelling, Traced, Tracing};
 
-use press_files::{InputError, NO_OUTPUT, Teller, read_all, report, write_flushed};
+use press_devices::{ReadDevice, WriteDevice, write_flushed};
+use press_files::{InputError, NO_OUTPUT, Teller, read_all, report};
 use press_trace::{TraceError, trace_lines};
 use press_units::ToldFault;
 use std::alloc::Global;
 use std::error::Error;
 use std::fmt;
-use std::io::{Read, Write};
 
 /// Why a trace was not told to its end.
 #[derive(Debug, Drop)]
@@ -64,13 +65,13 @@ impl From<TraceError> for TracedError {
 
 /// Tells the trace of the stream that a reader has to `out`, and a fault to `err`. The stream is read whole before the first step.
 /// The answer is the status: 0, or 1 after a fault.
-pub fn tell_trace<R: Read, W: Write, E: Teller>(
+pub fn tell_trace<R: ReadDevice, W: WriteDevice, E: Teller>(
     alloc: Global,
     reader: &mut R,
     out: &mut W,
     err: &mut E,
 ) -> u8
-    ensures { Tracing result
+    ensures { Tracing (may_fail R.can_fail false W.can_fail false) result
         (change (E.said err.old) (E.said err.new))
         (change (R.remaining reader.old) (R.remaining reader.new))
         (change (W.contents out.old) (W.contents out.new)) }
@@ -82,7 +83,7 @@ pub fn tell_trace<R: Read, W: Write, E: Teller>(
 }
 
 /// Tells the trace of the stream that a reader has to `out`.
-fn trace_to<R: Read, W: Write>(
+fn trace_to<R: ReadDevice, W: WriteDevice>(
     alloc: Global,
     reader: &mut R,
     out: &mut W,
@@ -91,6 +92,8 @@ fn trace_to<R: Read, W: Write>(
         (W.contents out.old) (W.contents out.new)) }
     ensures err { IfErr result (StopsTelling (R.remaining reader.old) (R.remaining reader.new)
         (W.contents out.old) (W.contents out.new)) }
+    ensures cause { IfErr result (TraceCause (may_fail R.can_fail false W.can_fail false)
+        (R.remaining reader.old) (R.remaining reader.new)) }
 {
     let bytes = read_all(alloc, reader)?;
     trace_lines(alloc, &bytes, out)?;
