@@ -1,5 +1,6 @@
 -- The talk of a debugger, and where it stands in the trace of its stream.
-use Rattle.std.proofs.Common.{◌≡◌, ◌∙◌, ℕ, List, [], ◌∷◌, Option, sym, ap, subst, inr}
+use Rattle.std.proofs.Common.{◌≡◌, ◌∙◌, ℕ, true, List, [], ◌∷◌, Option, sym, ap, subst, inr}
+use Rattle.press_files.specs.Causes.{MayFail, InputCause}
 use Rattle.press_files.specs.Change.{change}
 use Rattle.press_debug.specs.declared.breakpoints.Break.{Break}
 use Rattle.press_debug.specs.Breaks.{no_breaks}
@@ -8,10 +9,10 @@ use Rattle.press_sessions.specs.declared.debugging.DebugError.{DebugError}
 use Rattle.press_sessions.specs.declared.debugging.DebugError.TheVariants.{Input, Output, NoMemory}
 use Rattle.press_files.specs.Inputs.{ReadWhole}
 use Rattle.press_sessions.specs.DebuggerLines.{asked_of}
-use Rattle.press_sessions.specs.Debugging.{Seat, seat, opened, DoesLine, StandsIn, AnswersLine, debugging, Debugs, StopsDebugging}
-use Rattle.press_sessions.specs.Talking.{Talking, AnswersLines, AnswersAll, AnswersSome, line_by_line}
+use Rattle.press_sessions.specs.Debugging.{Seat, seat, opened, DoesLine, StandsIn, AnswersLine, debugging, debugging_over, Debugs, StopsDebugging}
+use Rattle.press_sessions.specs.Talking.{Talking, AnswersLines, AnswersAll, AnswersSome, caused, line_by_line}
 use Rattle.press_sessions.proofs.DebuggerSteps.{stands_at_start, stands_line}
-use Rattle.press_sessions.proofs.TalkLemmas.{IsSeen, AnswersAll-seen, AnswersSome-seen}
+use Rattle.press_sessions.proofs.TalkLemmas.{IsSeen, IsSeen-caused, AnswersAll-seen, AnswersSome-seen}
 
 module _ {S : Type 0} (steps : S → DebuggerState) (breaks : S → List (Option Break)) where
   abbrev sits : S → Seat
@@ -42,7 +43,8 @@ module _ {S : Type 0} (steps : S → DebuggerState) (breaks : S → List (Option
   }
 
   -- a debugger that was opened
-  module _ (first : S) (stream rest had left old new : Option (List ℕ)) (bytes : List ℕ) (read : ReadWhole stream rest bytes) (starts : steps first ≡ at_start bytes) (none : breaks first ≡ no_breaks) where
+  module _ (first : S) (stream rest had left old new : Option (List ℕ)) (bytes : List ℕ) (read : ReadWhole stream rest bytes)
+      (starts : steps first ≡ at_start bytes) (none : breaks first ≡ no_breaks) where
     seen : IsSeen debugs (debugging bytes) sits first
     seen = is_seen bytes first (subst (StandsIn bytes) (sym starts) (stands_at_start bytes))
 
@@ -52,6 +54,10 @@ module _ {S : Type 0} (steps : S → DebuggerState) (breaks : S → List (Option
     pub Debugs-all : AnswersAll debugs first had left old new → Debugs stream rest had left old new
     Debugs-all all = (bytes, read, subst (λ (at : Seat). AnswersAll (debugging bytes) at had left old new) same_seat (AnswersAll-seen seen had left old new all))
 
-    pub StopsDebugging-some : (why : DebugError) → AnswersSome debugs first had left (change old new) why → StopsDebugging stream rest had left (change old new) why
-    StopsDebugging-some why some =
-        inr (bytes, read, subst (λ (at : Seat). AnswersSome (debugging bytes) at had left (change old new) why) same_seat (AnswersSome-seen seen had left old new why some))
+    pub StopsDebugging-some : (missing : Type 0) (fails : MayFail) (why : DebugError)
+        → AnswersSome (caused debugs (InputCause fails.input had left) (fails.output ≡ true)) first had left (change old new) why
+        → StopsDebugging missing fails (change stream rest) (change had left) (change old new) why
+    StopsDebugging-some missing fails why some =
+        let over = IsSeen-caused (InputCause fails.input had left) (fails.output ≡ true) seen in
+        let P : Seat → Type 0 = λ at. AnswersSome (debugging_over bytes fails (change had left)) at had left (change old new) why in
+        inr (bytes, read, subst P same_seat (AnswersSome-seen over had left old new why some))

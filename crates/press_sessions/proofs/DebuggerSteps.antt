@@ -33,8 +33,15 @@ module _ (watches : View → Bool → Type 0) (quiet : IsQuiet watches) (table :
       record { view = state.view; shows = state.shows; stack = state.stack; meets = MetBy-silent number state.view state.meets }
 
   StopsAt-silent : (items : List StepResult) (max : ℕ) (stop : Stop) (new : JobState) → StopsAt watches table items max stop new → StopsAt NeverMet table items max stop new
-  StopsAt-silent items max (AtBreak number) new (passed, here, is, few, all, meets) =
-      (passed, here, is, few, All-weaker (λ item. StateMeets watches table None item.machine) (λ item. StateMeets NeverMet table None item.machine) (λ item. StateMeets-silent None item.machine) passed all, StateMeets-silent (Some number) here.machine meets)
+  StopsAt-silent items max (AtBreak number) new (passed, here, is, few, all, meets) = (
+    passed,
+    here,
+    is,
+    few,
+    All-weaker (λ item. StateMeets watches table None item.machine) (λ item. StateMeets NeverMet table None item.machine)
+        (λ item. StateMeets-silent None item.machine) passed all,
+    StateMeets-silent (Some number) here.machine meets,
+  )
   StopsAt-silent items max Ended new (few, all, over) =
       (few, All-weaker (λ item. StateMeets watches table None item.machine) (λ item. StateMeets NeverMet table None item.machine) (λ item. StateMeets-silent None item.machine) items all, over)
   StopsAt-silent items max LimitReached new (many, all, some) =
@@ -105,7 +112,8 @@ kinds_text-append (kind ∷ kinds) others =
     ap (λ (text : List ℕ). kind_line kind ++ (10 ∷ text)) (kinds_text-append kinds others) ∙ sym (append_assoc (kind_line kind) (10 ∷ kinds_text kinds) (kinds_text others))
 
 -- one kind more
-pub kinds_text-more : (recent : List Kind) (i : ℕ) (kind : Kind) (old mid new : List ℕ) → slice_get recent i ≡ Some kind → old ≡ kinds_text (take i recent) → mid ≡ old ++ kind_line kind → new ≡ mid ++ 10 ∷ [] → new ≡ kinds_text (take (i + 1) recent)
+pub kinds_text-more : (recent : List Kind) (i : ℕ) (kind : Kind) (old mid new : List ℕ) → slice_get recent i ≡ Some kind
+    → old ≡ kinds_text (take i recent) → mid ≡ old ++ kind_line kind → new ≡ mid ++ 10 ∷ [] → new ≡ kinds_text (take (i + 1) recent)
 kinds_text-more recent i kind old mid new is so_far writes ends =
     let inside : i < length recent = slice_get_within recent i kind is in
     let one : take (i + 1) recent ≡ take i recent ++ kind ∷ [] = take_more recent i kind inside ∙ ap (λ (k : Kind). take i recent ++ k ∷ []) (get_or_from_slice_get recent i kind kind is) in

@@ -1,6 +1,8 @@
+-- Lemmas on lines, talks, sessions and debuggers.
 mod DebuggerLemmas
 mod DebuggerSteps
 mod LineLemmas
 mod SessionLemmas
 mod TalkLemmas
 mod WordLemmas
+mod ReadsLemmas

@@ -43,7 +43,8 @@ HasNoFeed-all [] none = tt
 HasNoFeed-all (byte ∷ bytes) none = (none 0 (omega arith), HasNoFeed-all bytes (λ k before. none (suc k) (omega (arith, before))))
 
 -- up to the first line feed
-pub takes-line : (held ahead old new left : List ℕ) (place : ℕ) → ahead ≡ held → position is_feed ahead ≡ Some place → new ≡ old ++ take place ahead → left ≡ drop (place + 1) held → TakesLine true held left old new
+pub takes-line : (held ahead old new left : List ℕ) (place : ℕ) → ahead ≡ held → position is_feed ahead ≡ Some place
+    → new ≡ old ++ take place ahead → left ≡ drop (place + 1) held → TakesLine true held left old new
 takes-line held ahead old new left place is first adds leaves =
     let there = position-Some is_feed ahead place 0 first in
     let feed : get_or ahead place 0 ≡ 10 = eqb-true _ _ there.1 in (
@@ -86,7 +87,9 @@ gathered old held left line new read none is taken =
     (subst HasNoFeed (sym taken.2) (HasNoFeed-append line held none taken.0), is ∙ sym taken.2)
 
 -- with the next piece
-pub gathers-more : (old : List ℕ) (had middle rest : Option (List ℕ)) (line held left new piece : List ℕ) (ended more : Bool) → ended ≡ false → more ≡ true → IsGathered old had middle line held → TakesLine ended held left line new → Refills (Ok more) piece middle rest → IsGathered old had rest new piece
+pub gathers-more : (old : List ℕ) (had middle rest : Option (List ℕ)) (line held left new piece : List ℕ) (ended more : Bool)
+    → ended ≡ false → more ≡ true → IsGathered old had middle line held → TakesLine ended held left line new
+    → Refills (Ok more) piece middle rest → IsGathered old had rest new piece
 gathers-more old had middle rest line held left new piece false true lacks goes so_far taken refilled =
     let all = gathered old held left line new so_far.read so_far.none so_far.is taken in
     record {
@@ -99,7 +102,9 @@ gathers-more old had middle rest line held left new piece true more lacks goes s
 gathers-more old had middle rest line held left new piece false false lacks goes so_far taken refilled = absurd cc
 
 -- at the end
-pub gives-last : (old : List ℕ) (had middle rest : Option (List ℕ)) (line held left new piece holds : List ℕ) (ended more : Bool) → ended ≡ false → more ≡ false → IsGathered old had middle line held → TakesLine ended held left line new → Refills (Ok more) piece middle rest → GivesLine (Ok false) old holds had rest new
+pub gives-last : (old : List ℕ) (had middle rest : Option (List ℕ)) (line held left new piece holds : List ℕ) (ended more : Bool)
+    → ended ≡ false → more ≡ false → IsGathered old had middle line held → TakesLine ended held left line new
+    → Refills (Ok more) piece middle rest → GivesLine (Ok false) old holds had rest new
 gives-last old had middle rest line held left new piece holds false false lacks last so_far taken refilled =
     let all = gathered old held left line new so_far.read so_far.none so_far.is taken in
     (so_far.read ++ [], Consumes-trans had middle rest so_far.read [] so_far.lost refilled.0, all.0, sym (append_assoc old so_far.read []) ∙ append-nil (old ++ so_far.read) ∙ all.1, refilled.2)
@@ -107,7 +112,10 @@ gives-last old had middle rest line held left new piece holds true more lacks la
 gives-last old had middle rest line held left new piece holds false true lacks last so_far taken refilled = absurd cc
 
 -- where no piece was read
-pub gives-none : (error : InputError) (old : List ℕ) (had middle rest : Option (List ℕ)) (line held left new piece holds : List ℕ) (ended : Bool) → ended ≡ false → IsGathered old had middle line held → TakesLine ended held left line new → Refills (Err error) piece middle rest → GivesLine (Err error) old holds had rest new
+pub gives-none : (error : InputError) (old : List ℕ) (had middle rest : Option (List ℕ)) (line held left new piece holds : List ℕ)
+    (ended : Bool)
+    → ended ≡ false → IsGathered old had middle line held → TakesLine ended held left line new → Refills (Err error) piece middle rest
+    → GivesLine (Err error) old holds had rest new
 gives-none ReadFault old had middle rest line held left new piece holds false lacks so_far taken refilled =
     let all = gathered old held left line new so_far.read so_far.none so_far.is taken in
     (so_far.read ++ [], Consumes-trans had middle rest so_far.read [] so_far.lost refilled, all.0, sym (append_assoc old so_far.read []) ∙ append-nil (old ++ so_far.read) ∙ all.1)
@@ -116,7 +124,8 @@ gives-none NoMemory old had middle rest line held left new piece holds false lac
 gives-none error old had middle rest line held left new piece holds true lacks so_far taken refilled = absurd cc
 
 -- up to a line feed
-pub gives-line : (old : List ℕ) (had rest : Option (List ℕ)) (line held left new : List ℕ) (ended : Bool) → ended ≡ true → IsGathered old had rest line held → TakesLine ended held left line new → GivesLine (Ok true) old left had rest new
+pub gives-line : (old : List ℕ) (had rest : Option (List ℕ)) (line held left new : List ℕ) (ended : Bool) → ended ≡ true
+    → IsGathered old had rest line held → TakesLine ended held left line new → GivesLine (Ok true) old left had rest new
 gives-line old had rest line held left new true goes so_far taken = (
   so_far.read,
   so_far.lost,
@@ -143,7 +152,10 @@ next-line line rest lines all none is =
     ap (λ (bytes : List ℕ). lines ++ lines_of bytes) is ∙ ap (λ (others : List (List ℕ)). lines ++ others) (lines_of-feed line rest none) ∙ sym (append_assoc lines (line ∷ []) (lines_of rest))
 
 -- no line was read
-pub reads-no-more : (error : InputError) (held holds : List ℕ) (left rest : Option (List ℕ)) (line : List ℕ) (text : List ℕ) (lines : List (List ℕ)) → ((more : List ℕ) → lines_of (text ++ more) ≡ lines ++ lines_of (held ++ more)) → GivesLine (Err error) held holds left rest line → (read : List ℕ) × Consumes left rest read × ReadsNoMore error (text ++ read) lines
+pub reads-no-more : (error : InputError) (held holds : List ℕ) (left rest : Option (List ℕ)) (line : List ℕ) (text : List ℕ)
+    (lines : List (List ℕ))
+    → ((more : List ℕ) → lines_of (text ++ more) ≡ lines ++ lines_of (held ++ more)) → GivesLine (Err error) held holds left rest line
+    → (read : List ℕ) × Consumes left rest read × ReadsNoMore error (text ++ read) lines
 reads-no-more ReadFault held holds left rest line text lines cut given =
     (given.0, given.1, (line, cut given.0 ∙ ap (λ (bytes : List ℕ). lines ++ lines_of bytes) given.3, given.2))
 reads-no-more NoMemory held holds left rest line text lines cut given = (given.0, given.1, (lines_of (held ++ given.0), cut given.0))

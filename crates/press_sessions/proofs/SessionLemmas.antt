@@ -1,6 +1,10 @@
 -- Lines of a session, some after others.
 use Rattle.std.proofs.Common.{◌≡◌, ◌∙◌, ℕ, List, [], ◌∷◌, ◌++◌, codes, true, false, Option, Some, None, option_map, Ok, refl, sym, ap, subst, inl, inr}
+use Rattle.press_files.specs.Causes.{MayFail, InputCause}
 use Rattle.press_files.specs.Change.{change}
+use Rattle.press_files.specs.NamedInputs.{NamedInput}
+use Rattle.press_files.specs.declared.inputs.InputError.{InputError}
+use Rattle.press_files.specs.declared.inputs.InputError.TheVariants as input_fault
 use Rattle.std.specs.Io.KnownBytes.{Appends}
 use Rattle.std.specs.List.{All}
 use Rattle.std.proofs.lemmas.List.{append_assoc, append-nil}
@@ -17,9 +21,11 @@ use Rattle.press_sessions.specs.declared.sessions.SessionError.{SessionError}
 use Rattle.press_sessions.specs.declared.sessions.SessionError.TheVariants.{Engines, File, Output}
 use Rattle.press_files.specs.EntryListing.{entry_listing}
 use Rattle.press_sessions.specs.EventLines.{EventLine, event_of_line}
-use Rattle.press_sessions.specs.Sessions.{Inputs, answer_text, answer_to, answers_to, happenings_in, handed_in, turn_text, AreLinesOf, TakesEvent, TakesAsked, TakesLines, IsUnanswered, Plays, PlaysToItsEnd, StopsListing, StopsPlaying, Stops, Standing, standing, playing}
-use Rattle.press_sessions.specs.Talking.{Talking, AnswersLines, AnswersAll, AnswersSome, line_by_line}
-use Rattle.press_sessions.proofs.TalkLemmas.{IsSeen, AnswersAll-seen, AnswersSome-seen}
+use Rattle.press_sessions.specs.Sessions.{Inputs, answer_text, answer_to, answers_to, happenings_in, handed_in, turn_text}
+use Rattle.press_sessions.specs.Sessions.{AreLinesOf, TakesEvent, TakesAsked, TakesLines, IsUnanswered, IsUnread, Plays}
+use Rattle.press_sessions.specs.Sessions.{PlaysToItsEnd, StopsListing, StopsPlaying, Stops, Standing, standing, playing}
+use Rattle.press_sessions.specs.Talking.{Talking, AnswersLines, AnswersAll, AnswersSome, caused, line_by_line}
+use Rattle.press_sessions.proofs.TalkLemmas.{IsSeen, IsSeen-caused, AnswersAll-seen, AnswersSome-seen}
 
 -- the event of this happening has its answer
 abbrev has_answer : Transition → Type 0
@@ -47,7 +53,8 @@ answers-join (None ∷ lines) others =
 answers-join (Some happening ∷ lines) others =
     ap (λ (all : List ℕ). answer_text happening.answer ++ all) (answers-join lines others) ∙ sym (append_assoc (answer_text happening.answer) (answers_to lines) (answers_to others))
 
-AreLinesOf-append : (inputs : Inputs) (lines others : List (List ℕ)) (happenings more : List (Option Transition)) → AreLinesOf inputs lines happenings → AreLinesOf inputs others more → AreLinesOf inputs (lines ++ others) (happenings ++ more)
+AreLinesOf-append : (inputs : Inputs) (lines others : List (List ℕ)) (happenings more : List (Option Transition))
+    → AreLinesOf inputs lines happenings → AreLinesOf inputs others more → AreLinesOf inputs (lines ++ others) (happenings ++ more)
 AreLinesOf-append inputs [] others [] more first second = second
 AreLinesOf-append inputs (line ∷ lines) others (happening ∷ happenings) more first second =
     (first.0, AreLinesOf-append inputs lines others happenings more first.1 second)
@@ -60,21 +67,31 @@ TakesLines-nothing inputs world had =
     record { happenings = []; are = tt; leads = refl; handed = sym (append-nil had); happened = All-nil has_answer; answered = refl }
 
 -- lines, and then others
-pub TakesLines-then : (inputs : Inputs) (lines others : List (List ℕ)) (world middle last : World) (had between has : List Delivery) (answers more : List ℕ) → TakesLines inputs lines (standing world had) (standing middle between) answers → TakesLines inputs others (standing middle between) (standing last has) more → TakesLines inputs (lines ++ others) (standing world had) (standing last has) (answers ++ more)
+pub TakesLines-then : (inputs : Inputs) (lines others : List (List ℕ)) (world middle last : World) (had between has : List Delivery)
+    (answers more : List ℕ)
+    → TakesLines inputs lines (standing world had) (standing middle between) answers
+    → TakesLines inputs others (standing middle between) (standing last has) more
+    → TakesLines inputs (lines ++ others) (standing world had) (standing last has) (answers ++ more)
 TakesLines-then inputs lines others world middle last had between has answers more first second = record {
   happenings = first.happenings ++ second.happenings;
   are = AreLinesOf-append inputs lines others first.happenings second.happenings first.are second.are;
-  leads = subst (λ (all : List Transition). IsExecution world all last) (sym (happenings-join first.happenings second.happenings)) (Leads-join world middle last (happenings_in first.happenings) (happenings_in second.happenings) first.leads second.leads);
+  leads =
+      subst (λ (all : List Transition). IsExecution world all last) (sym (happenings-join first.happenings second.happenings))
+      (Leads-join world middle last (happenings_in first.happenings) (happenings_in second.happenings) first.leads second.leads);
   handed =
       second.handed ∙ ap (λ (all : List Delivery). all ++ handed_in (happenings_in second.happenings)) first.handed
       ∙ append_assoc had (handed_in (happenings_in first.happenings)) (handed_in (happenings_in second.happenings))
-      ∙ sym (ap (λ (all : List Transition). had ++ handed_in all) (happenings-join first.happenings second.happenings) ∙ ap (λ (all : List Delivery). had ++ all) (handed-join (happenings_in first.happenings) (happenings_in second.happenings)));
-  happened = subst (All has_answer) (sym (happenings-join first.happenings second.happenings)) (All-append has_answer (happenings_in first.happenings) (happenings_in second.happenings) first.happened second.happened);
+      ∙ sym (ap (λ (all : List Transition). had ++ handed_in all) (happenings-join first.happenings second.happenings)
+      ∙ ap (λ (all : List Delivery). had ++ all) (handed-join (happenings_in first.happenings) (happenings_in second.happenings)));
+  happened =
+      subst (All has_answer) (sym (happenings-join first.happenings second.happenings))
+      (All-append has_answer (happenings_in first.happenings) (happenings_in second.happenings) first.happened second.happened);
   answered = ap (λ (all : List ℕ). all ++ more) first.answered ∙ ap (λ (all : List ℕ). answers_to first.happenings ++ all) second.answered ∙ sym (answers-join first.happenings second.happenings);
 }
 
 -- a line that is no event
-pub TakesLines-none : (inputs : Inputs) (line : List ℕ) (world : World) (had : List Delivery) (answer : List ℕ) → event_of_line line ≡ None → answer ≡ codes "what?" ++ 10 ∷ [] → TakesLines inputs (line ∷ []) (standing world had) (standing world had) answer
+pub TakesLines-none : (inputs : Inputs) (line : List ℕ) (world : World) (had : List Delivery) (answer : List ℕ) → event_of_line line ≡ None
+    → answer ≡ codes "what?" ++ 10 ∷ [] → TakesLines inputs (line ∷ []) (standing world had) (standing world had) answer
 TakesLines-none inputs line world had answer none is = record {
   happenings = None ∷ [];
   are = (none, tt);
@@ -85,7 +102,10 @@ TakesLines-none inputs line world had answer none is = record {
 }
 
 -- a line that is an event
-pub TakesLines-event : (inputs : Inputs) (line : List ℕ) (asked : EventLine) (world next : World) (had has : List Delivery) (answer : List ℕ) → event_of_line line ≡ Some asked → TakesAsked inputs asked (standing world had) (standing next has) answer → TakesLines inputs (line ∷ []) (standing world had) (standing next has) answer
+pub TakesLines-event : (inputs : Inputs) (line : List ℕ) (asked : EventLine) (world next : World) (had has : List Delivery)
+    (answer : List ℕ)
+    → event_of_line line ≡ Some asked → TakesAsked inputs asked (standing world had) (standing next has) answer
+    → TakesLines inputs (line ∷ []) (standing world had) (standing next has) answer
 TakesLines-event inputs line asked world next had has answer is taken =
     let its = taken.2.0 in
     let handed = taken.2.1 in
@@ -104,7 +124,9 @@ pub same_deliveries : (has had handed : List Delivery) → Some has ≡ option_m
 same_deliveries has had handed told = cc
 
 -- a turn was taken, and this is its line
-pub turn-taken : (world next : World) (engine most : ℕ) (turn : Turn) (had has handed : List Delivery) (line answer : List ℕ) → Happens world (TurnOn engine most) (Turned (Ok turn)) handed next → has ≡ had ++ handed → line ≡ turn_text turn.entry turn.steps → answer ≡ line → TakesEvent (TurnOn engine most) world had next has answer
+pub turn-taken : (world next : World) (engine most : ℕ) (turn : Turn) (had has handed : List Delivery) (line answer : List ℕ)
+    → Happens world (TurnOn engine most) (Turned (Ok turn)) handed next → has ≡ had ++ handed → line ≡ turn_text turn.entry turn.steps
+    → answer ≡ line → TakesEvent (TurnOn engine most) world had next has answer
 turn-taken world next engine most turn had has handed line answer happens all is same = (Turned (Ok turn), handed, happens, all, same ∙ is, tt)
 
 -- ---- the talk of a session
@@ -133,7 +155,8 @@ module _ {S I : Type 0} (bytes : I → Inputs) (inputs : S → I) (world : S →
   is_seen first = record {
     takes = λ lines answers last takes. (TakesLines-all lines first answers last takes).0;
     line = λ lines answers last takes line answer next more.
-        subst (λ (some : I). TakesLines (bytes some) (line ∷ []) (stands last) (stands next) answer) (TakesLines-all lines first answers last takes).1 (TakesLines-all (line ∷ []) last answer next more).0;
+        subst (λ (some : I). TakesLines (bytes some) (line ∷ []) (stands last) (stands next) answer)
+        (TakesLines-all lines first answers last takes).1 (TakesLines-all (line ∷ []) last answer next more).0;
     refuses = λ lines answers last takes line why refuses. subst (λ (some : I). IsUnanswered (bytes some) line (world last) why) (TakesLines-all lines first answers last takes).1 refuses;
     unread = λ error why is. is;
     unwritten = λ error why is. is;
@@ -144,32 +167,62 @@ module _ {S I : Type 0} (bytes : I → Inputs) (inputs : S → I) (world : S →
     at_start : stands first ≡ standing (new_world engines) []
     at_start = ap (λ (w : World). standing w (delivered first)) begins ∙ ap (λ (had : List Delivery). standing (new_world engines) had) none
 
-    pub Plays-listed : SheetsAreGiven → (all : AnswersAll plays first had left old between) (last : S) → all.last ≡ last → Appends between new (entry_listing (delivered last)) → Plays engines (bytes (inputs first)) had left old new
+    pub Plays-listed : SheetsAreGiven → (all : AnswersAll plays first had left old between) (last : S) → all.last ≡ last
+        → Appends between new (entry_listing (delivered last)) → Plays engines (bytes (inputs first)) had left old new
     Plays-listed given all last same listed =
         let played : PlaysToItsEnd (bytes (inputs first)) (stands first) had left old new =
-        record { between = between; answered = AnswersAll-seen (is_seen first) had left old between all; listed = subst (λ (at : S). Appends between new (entry_listing (delivered at))) (sym same) listed } in
+        record {
+          between = between;
+          answered = AnswersAll-seen (is_seen first) had left old between all;
+          listed = subst (λ (at : S). Appends between new (entry_listing (delivered at))) (sym same) listed;
+        } in
         let played = subst (λ (at : Standing). PlaysToItsEnd (bytes (inputs first)) at had left old new) at_start played in
         record {
           are = are;
           played = played;
-          given = λ number. given.under (happenings_in played.answered.takes.happenings) played.answered.last.world number (record { engines = engines; are = are; leads = played.answered.takes.leads });
+          given =
+              λ number.
+              given.under (happenings_in played.answered.takes.happenings) played.answered.last.world number
+              (record { engines = engines; are = are; leads = played.answered.takes.leads });
         }
 
-    stops_playing : (why : SessionError) → StopsPlaying (bytes (inputs first)) (stands first) had left (change old new) why → Stops engines (bytes (inputs first)) had left (change old new) why
-    stops_playing why stops = rw are (subst (λ (at : Standing). StopsPlaying (bytes (inputs first)) at had left (change old new) why) at_start stops)
+    stops_playing : (fails : MayFail) (why : SessionError)
+        → StopsPlaying (bytes (inputs first)) fails (stands first) (change had left) (change old new) why
+        → Stops engines (bytes (inputs first)) fails (change had left) (change old new) why
+    stops_playing fails why stops =
+        let P : Standing → Type 0 = λ at. StopsPlaying (bytes (inputs first)) fails at (change had left) (change old new) why in
+        rw are (subst P at_start stops)
 
-    pub Stops-some : (why : SessionError) → AnswersSome plays first had left (change old new) why → Stops engines (bytes (inputs first)) had left (change old new) why
-    Stops-some why some = stops_playing why (inl (AnswersSome-seen (is_seen first) had left old new why some))
+    pub Stops-some : (fails : MayFail) (why : SessionError)
+        → AnswersSome (caused plays (InputCause fails.input had left) (fails.output ≡ true)) first had left (change old new) why
+        → Stops engines (bytes (inputs first)) fails (change had left) (change old new) why
+    Stops-some fails why some =
+        let over = IsSeen-caused (InputCause fails.input had left) (fails.output ≡ true) (is_seen first) in
+        stops_playing fails why (inl (AnswersSome-seen over had left old new why some))
 
-    pub Stops-listing : (why : SessionError) (all : AnswersAll plays first had left old between) (last : S) → all.last ≡ last → StopsListing (delivered last) between new why → Stops engines (bytes (inputs first)) had left (change old new) why
-    Stops-listing why all last same stops =
-        stops_playing why
+    pub Stops-listing : (fails : MayFail) (why : SessionError) (all : AnswersAll plays first had left old between) (last : S)
+        → all.last ≡ last → StopsListing fails.output (delivered last) between new why
+        → Stops engines (bytes (inputs first)) fails (change had left) (change old new) why
+    Stops-listing fails why all last same stops =
+        stops_playing fails why
         (inr (record {
           between = between;
           answered = AnswersAll-seen (is_seen first) had left old between all;
-          stops = subst (λ (at : S). StopsListing (delivered at) between new why) (sym same) stops;
+          stops = subst (λ (at : S). StopsListing fails.output (delivered at) between new why) (sym same) stops;
         }))
 
 -- without a press
-pub stops-beginning : (engines : ℕ) (inputs : Inputs) (bytes old : Option (List ℕ)) (error : BadEngines) → are_engines engines ≡ false → Stops engines inputs bytes bytes (change old old) (Engines error)
-stops-beginning engines inputs bytes old error none = rw none ((error, refl), refl, refl)
+pub stops-beginning : (engines : ℕ) (inputs : Inputs) (fails : MayFail) (bytes old : Option (List ℕ)) (error : BadEngines)
+    → are_engines engines ≡ false → Stops engines inputs fails (change bytes bytes) (change old old) (Engines error)
+stops-beginning engines inputs fails bytes old error none = rw none ((error, refl), refl, refl)
+
+-- a file that is not opened
+pub IsUnread-missing : (input : NamedInput) (error : InputError) → (error ≡ input_fault.ReadFault → input.IsMissing) → IsUnread input (fault.Input error)
+IsUnread-missing input input_fault.ReadFault own = inl (own refl)
+IsUnread-missing input input_fault.NoMemory own = tt
+
+-- a file that is not read
+pub IsUnread-cause : (input : NamedInput) (left : Option (List ℕ)) (error : InputError) → InputCause input.can_fail input.bytes left error
+    → IsUnread input (fault.Input error)
+IsUnread-cause input left input_fault.ReadFault cause = inr (left, cause)
+IsUnread-cause input left input_fault.NoMemory cause = tt

@@ -7,7 +7,7 @@ use Rattle.std.proofs.lemmas.List.{append_assoc, append-nil}
 use Rattle.press_asm.specs.Text.{lines_of}
 use Rattle.press_files.specs.Change.{Change, change}
 use Rattle.press_files.specs.declared.inputs.InputError.{InputError}
-use Rattle.press_sessions.specs.Talking.{Talking, line_by_line, AnswersLines, AnswersAll, AnswersSome, StopsAtLine, StopsBehind}
+use Rattle.press_sessions.specs.Talking.{Talking, caused, line_by_line, AnswersLines, AnswersAll, AnswersSome, StopsAtLine, StopsBehind}
 use Rattle.press_sessions.specs.LineReading.{GivesLine}
 use Rattle.press_sessions.proofs.LineLemmas.{next-line, reads-no-more}
 
@@ -89,7 +89,8 @@ module _ {S : Type 0} (Answers : S → List ℕ → List ℕ → S → Type 0) (
             refl,
           )
 
-      stops_behind : (read : List ℕ) (out : Option (List ℕ)) (why : E) → Consumes left rest read → StopsBehind (line_by_line Answers Refuses Unread Unwritten) (so_far.text ++ read) so_far.lines mid (change written out) why
+      stops_behind : (read : List ℕ) (out : Option (List ℕ)) (why : E) → Consumes left rest read
+          → StopsBehind (line_by_line Answers Refuses Unread Unwritten) (so_far.text ++ read) so_far.lines mid (change written out) why
           → AnswersSome (line_by_line Answers Refuses Unread Unwritten) first had rest (change old out) why
       stops_behind read out why lost stops = record {
         text = so_far.text ++ read;
@@ -104,7 +105,8 @@ module _ {S : Type 0} (Answers : S → List ℕ → List ℕ → S → Type 0) (
       }
 
       -- no line was read
-      pub IsAnswered-unread : (error : InputError) (why : E) → Unread error why → GivesLine (Err error) held holds left rest line → AnswersSome (line_by_line Answers Refuses Unread Unwritten) first had rest (change old written) why
+      pub IsAnswered-unread : (error : InputError) (why : E) → Unread error why → GivesLine (Err error) held holds left rest line
+          → AnswersSome (line_by_line Answers Refuses Unread Unwritten) first had rest (change old written) why
       IsAnswered-unread error why is given =
           let last = reads-no-more error held holds left rest line so_far.text so_far.lines so_far.cut given in
           stops_behind last.0 written why last.1 (inr (error, is, last.2, refl))
@@ -116,7 +118,8 @@ module _ {S : Type 0} (Answers : S → List ℕ → List ℕ → S → Type 0) (
           stops_behind given.0 out why given.1 (inl (line, (lines_of holds, so_far.cut given.0 ∙ next-line line holds so_far.lines (held ++ given.0) given.2 given.3), stops))
 
       -- the last line was not answered
-      pub IsAnswered-stops_last : (out : Option (List ℕ)) (why : E) → GivesLine (Ok false) held holds left rest line → lines_of line ≡ line ∷ [] → StopsAtLine (line_by_line Answers Refuses Unread Unwritten) line mid written out why
+      pub IsAnswered-stops_last : (out : Option (List ℕ)) (why : E) → GivesLine (Ok false) held holds left rest line
+          → lines_of line ≡ line ∷ [] → StopsAtLine (line_by_line Answers Refuses Unread Unwritten) line mid written out why
           → AnswersSome (line_by_line Answers Refuses Unread Unwritten) first had rest (change old out) why
       IsAnswered-stops_last out why given one stops =
           stops_behind given.0 out why given.1
@@ -129,9 +132,22 @@ pub record IsSeen {S T E : Type 0} (talk : Talking S E) (shown : Talking T E) (s
   pub takes : (lines : List (List ℕ)) (answers : List ℕ) (last : S) → talk.Takes lines first answers last → shown.Takes lines (seen first) answers (seen last)
   pub line : (lines : List (List ℕ)) (answers : List ℕ) (last : S) → talk.Takes lines first answers last
       → (line answer : List ℕ) (next : S) → talk.Takes (line ∷ []) last answer next → shown.Takes (line ∷ []) (seen last) answer (seen next)
-  pub refuses : (lines : List (List ℕ)) (answers : List ℕ) (last : S) → talk.Takes lines first answers last → (line : List ℕ) (why : E) → talk.Refuses last line why → shown.Refuses (seen last) line why
+  pub refuses : (lines : List (List ℕ)) (answers : List ℕ) (last : S) → talk.Takes lines first answers last → (line : List ℕ) (why : E)
+      → talk.Refuses last line why → shown.Refuses (seen last) line why
   pub unread : (error : InputError) (why : E) → talk.Unread error why → shown.Unread error why
   pub unwritten : (error : Error) (why : E) → talk.Unwritten error why → shown.Unwritten error why
+
+-- the same where it is also said why lines are not read, and answers not written
+pub IsSeen-caused : {S T E : Type 0} {talk : Talking S E} {shown : Talking T E} {seen : S → T} {first : S}
+    (Unreads : InputError → Type 0) (Unwrites : Type 0) → IsSeen talk shown seen first
+    → IsSeen (caused talk Unreads Unwrites) (caused shown Unreads Unwrites) seen first
+IsSeen-caused Unreads Unwrites is = record {
+  takes = is.takes;
+  line = is.line;
+  refuses = is.refuses;
+  unread = λ error why told. (is.unread error why told.0, told.1);
+  unwritten = λ error why told. (is.unwritten error why told.0, told.1);
+}
 
 module _ {S T E : Type 0} {talk : Talking S E} {shown : Talking T E} {seen : S → T} {first : S} (is : IsSeen talk shown seen first) (had left old new : Option (List ℕ)) where
   abbrev pub AnswersAll-seen : AnswersAll talk first had left old new → AnswersAll shown (seen first) had left old new

@@ -1,5 +1,5 @@
 -- Sessions with a debugger: what each line is answered, and what is written.
-use Rattle.std.specs.Prelude.{◌≡◌, ◌⊎◌, ℕ, Bool, false, List, [], ◌∷◌, ◌++◌, Option, Some, None, Result, Ok, Err, IfSome, codes, ⊤}
+use Rattle.std.specs.Prelude.{◌≡◌, ◌⊎◌, ℕ, Bool, true, false, List, [], ◌∷◌, ◌++◌, Option, Some, None, Result, Ok, Err, IfSome, codes, ⊤}
 use Rattle.std.specs.Fmt.{decimal, signed_decimal}
 use Rattle.press_cmd.specs.declared.variant.Kind.{Kind}
 use Rattle.press_asm.specs.Kinds.{kind_line}
@@ -15,14 +15,17 @@ use Rattle.press_debug.specs.Breaks.{Sets, Clears, no_breaks, refusal_number}
 use Rattle.press_debug.specs.Places.{StandsBehind}
 use Rattle.press_debug.specs.Steps.{DebuggerState, at_start}
 use Rattle.press_debug.specs.Stops.{ContinuesTo, StopsInto, StopsOver}
+use Rattle.press_devices.specs.Reading.{ReadFails}
+use Rattle.press_files.specs.Causes.{MayFail, InputCause}
 use Rattle.press_files.specs.Change.{Change}
+use Rattle.press_files.specs.declared.inputs.InputError.TheVariants as input_fault
 use Rattle.press_sessions.specs.declared.debugger_lines.DebuggerLine.{DebuggerLine}
 use Rattle.press_sessions.specs.declared.debugger_lines.DebuggerLine.TheVariants as line
 use Rattle.press_sessions.specs.declared.debugging.DebugError.{DebugError}
 use Rattle.press_sessions.specs.declared.debugging.DebugError.TheVariants.{Input, Output, NoMemory}
 use Rattle.press_files.specs.Inputs.{ReadWhole}
 use Rattle.press_sessions.specs.DebuggerLines.{asked_of}
-use Rattle.press_sessions.specs.Talking.{Talking, AnswersAll, AnswersSome, line_by_line}
+use Rattle.press_sessions.specs.Talking.{Talking, AnswersAll, AnswersSome, caused, line_by_line}
 
 -- the debugger of a session: where it stands in its stream, and its breakpoints
 pub record Seat : Type 0 where
@@ -120,14 +123,24 @@ debugging bytes =
 abbrev pub Debugs : (stream rest had left old new : Option (List ℕ)) → Type 0
 Debugs stream rest had left old new = (bytes : List ℕ) × ReadWhole stream rest bytes × AnswersAll (debugging bytes) (opened bytes) had left old new
 
--- why no debugger was opened: the stream cannot be opened or read, or memory ran out
-abbrev pub IsUnopened : DebugError → Type 0
-IsUnopened (Input error) = ⊤
-IsUnopened NoMemory = ⊤
-IsUnopened (Output error) = ⊥
+-- Why no debugger was opened. 304: the stream may be one that cannot be opened; or its reads may fail, or there were too many. Else memory
+-- ran
+-- out.
+abbrev pub IsUnopened : (missing : Type 0) → (can_fail : Bool) → (stream : Change (Option (List ℕ))) → DebugError → Type 0
+IsUnopened missing can_fail stream (Input input_fault.ReadFault) = missing ⊎ ReadFails can_fail stream.before stream.after
+IsUnopened missing can_fail stream (Input input_fault.NoMemory) = ⊤
+IsUnopened missing can_fail stream NoMemory = ⊤
+IsUnopened missing can_fail stream (Output error) = ⊥
+
+-- The same talk over devices of which these may fail: lines are not read where their reads may fail, or there were too many, and answers
+-- are
+-- not written where the writer may fail.
+abbrev pub debugging_over : (bytes : List ℕ) → MayFail → (read : Change (Option (List ℕ))) → Talking Seat DebugError
+debugging_over bytes fails read = caused (debugging bytes) (InputCause fails.input read.before read.after) (fails.output ≡ true)
 
 -- It stopped early, and this is why: no debugger was opened, and no line was read; or one line was not answered, or not read.
-abbrev pub StopsDebugging : (stream rest had left : Option (List ℕ)) (output : Change (Option (List ℕ))) → DebugError → Type 0
-StopsDebugging stream rest had left output why =
-    (IsUnopened why × (left ≡ had) × (output.after ≡ output.before))
-    ⊎ ((bytes : List ℕ) × ReadWhole stream rest bytes × AnswersSome (debugging bytes) (opened bytes) had left output why)
+abbrev pub StopsDebugging : (missing : Type 0) → MayFail → (stream read output : Change (Option (List ℕ))) → DebugError → Type 0
+StopsDebugging missing fails stream read output why =
+    (IsUnopened missing fails.files stream why × (read.after ≡ read.before) × (output.after ≡ output.before))
+    ⊎ ((bytes : List ℕ) × ReadWhole stream.before stream.after bytes
+    × AnswersSome (debugging_over bytes fails read) (opened bytes) read.before read.after output why)

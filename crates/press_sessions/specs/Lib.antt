@@ -1,3 +1,4 @@
+-- Sessions: lines that are read, and what each is answered.
 pub mod DebuggerLines
 pub mod Debugging
 pub mod EventLines

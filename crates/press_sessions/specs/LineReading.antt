@@ -1,7 +1,7 @@
 -- A reader of lines: what it holds, and what it gives.
-use Rattle.std.specs.Prelude.{◌≡◌, ◌+◌, ◌-◌, ◌*◌, ℕ, Bool, true, false, List, [], ◌∷◌, ◌++◌, length, drop, Option, Result, Ok, Err}
+use Rattle.std.specs.Prelude.{◌≡◌, ◌≤◌, ◌⊎◌, ⊤, ◌+◌, ◌-◌, ◌*◌, ℕ, Bool, true, false, List, [], ◌∷◌, ◌++◌, length, drop, Option, Result, Ok, Err}
 use Rattle.std.specs.Io.KnownBytes.{Consumes, IsAtEnd}
-use Rattle.press_stream.specs.Pieces.{most_reads}
+use Rattle.press_devices.specs.Reading.{most_reads}
 use Rattle.press_files.specs.declared.inputs.InputError.{InputError}
 use Rattle.press_files.specs.declared.inputs.InputError.TheVariants.{ReadFault, NoMemory}
 use Rattle.press_sessions.specs.declared.line_reader.LineReader.{LineReader}
@@ -22,6 +22,16 @@ longest_piece = 16384
 -- the most bytes that it may give yet
 abbrev pub bytes_left : LineReader → ℕ
 bytes_left lines = length (held lines) + longest_piece * reads_left lines
+
+-- As many reads were made at most as bytes were read; or a read of such a reader may fail or be interrupted.
+abbrev pub ReadsFew : (can_fail : Bool) → (old new : ℕ) → (had left : Option (List ℕ)) → Type 0
+ReadsFew can_fail old new had left = (can_fail ≡ true) ⊎ ((read : List ℕ) × Consumes had left read × (new ≤ old + length read))
+
+-- Why no line was read after so many reads: reads may fail, or there were too many; or memory ran out.
+abbrev pub LineCause : (can_fail : Bool) → (reads : ℕ) → (had left : Option (List ℕ)) → InputError → Type 0
+LineCause can_fail reads had left ReadFault =
+    (can_fail ≡ true) ⊎ ((read : List ℕ) × Consumes had left read × (most_reads ≤ reads + length read))
+LineCause can_fail reads had left NoMemory = ⊤
 
 -- What was held was added to a line: up to a line feed, behind which the rest is held; or all, where none stood there.
 abbrev pub TakesLine : Bool → (held left : List ℕ) → (old new : List ℕ) → Type 0

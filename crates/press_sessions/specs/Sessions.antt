@@ -1,15 +1,17 @@
 -- Sessions with a press: what its lines ask, what comes of them, and what is written.
-use Rattle.std.specs.Prelude.{◌≡◌, ◌⊎◌, ℕ, List, [], ◌∷◌, ◌++◌, map, IsTrue, MatchBool, Option, Some, None, Ok, Err, codes, ⊤}
+use Rattle.std.specs.Prelude.{◌≡◌, ◌⊎◌, ℕ, Bool, true, List, [], ◌∷◌, ◌++◌, map, IsTrue, MatchBool, Option, Some, None, Ok, Err, codes, ⊤}
 use Rattle.std.specs.Fmt.{decimal}
 use Rattle.std.specs.List.{All}
 use Rattle.std.specs.Io.KnownBytes.{Appends}
-use Rattle.press_pbm.specs.Spelling.{AppendsPrefix}
+use Rattle.press_devices.specs.Reading.{ReadFails}
+use Rattle.press_devices.specs.Writing.{AppendsPrefix}
 use Rattle.press_sink.specs.declared.sheet.Delivery.{Delivery}
 use Rattle.press_core.specs.declared.engines.BadEngines.{BadEngines}
 use Rattle.press_core.specs.Engines.{are_engines}
 use Rattle.press_core.specs.Events.{Event, Message, TurnOn, Operator, Transition, Happens, EventAnswer, Response, Turned, Nothing, IsAnswered, IsExecution}
 use Rattle.press_core.specs.Laws.{GivenUnder}
 use Rattle.press_core.specs.World.{World, new_world}
+use Rattle.press_files.specs.Causes.{MayFail, InputCause}
 use Rattle.press_files.specs.Change.{Change}
 use Rattle.press_jobs.specs.declared.jobs.JobFileError.{JobFileError}
 use Rattle.press_jobs.specs.declared.jobs.JobFileError.TheVariants as fault
@@ -22,7 +24,8 @@ use Rattle.press_files.specs.EntrySheets.{kept, entry_deliveries_of}
 use Rattle.press_sessions.specs.EventLines.{EventLine, MessageLine, TurnLine, OperatorLine, event_of_line}
 use Rattle.press_jobs.specs.Jobs.{HaveImages, ImagesRefused}
 use Rattle.press_files.specs.NamedInputs.{NamedInput}
-use Rattle.press_sessions.specs.Talking.{Talking, AnswersAll, AnswersSome}
+use Rattle.press_files.specs.declared.inputs.InputError.TheVariants as input_fault
+use Rattle.press_sessions.specs.Talking.{Talking, AnswersAll, AnswersSome, caused}
 
 -- the line of a turn: the entry that took steps, and how many
 abbrev pub turn_text : Option ℕ → ℕ → List ℕ
@@ -111,14 +114,19 @@ pub record TakesLines (inputs : Inputs) (lines : List (List ℕ)) (old new : Sta
   pub happened : All (λ happening. IsAnswered happening.answer) (happenings_in happenings)
   pub answered : answers ≡ answers_to happenings
 
--- a fault of a file that is opened or read
-abbrev pub IsUnread : JobFileError → Type 0
-IsUnread (fault.Input why) = ⊤
-IsUnread why = ⊥
+-- Why an input of a name was not read: it may be one that cannot be opened; or its reads may fail, or there were too many.
+abbrev pub Unreadable : NamedInput → Type 0
+Unreadable input = input.IsMissing ⊎ ((left : Option (List ℕ)) × ReadFails input.can_fail input.bytes left)
+
+-- Why a file has no text: it was not read; or memory ran out.
+abbrev pub IsUnread : NamedInput → JobFileError → Type 0
+IsUnread input (fault.Input input_fault.ReadFault) = Unreadable input
+IsUnread input (fault.Input input_fault.NoMemory) = ⊤
+IsUnread input why = ⊥
 
 -- Why a message has no answer: its file is read first, then the images in their order.
 abbrev pub MessageFails : Inputs → (file : List ℕ) → (names : List (List ℕ)) → SessionError → Type 0
-MessageFails inputs file names (File why) = IsUnread why ⊎ ((text : List ℕ) × HasText (inputs file).bytes text × ImagesRefused (map inputs names) why)
+MessageFails inputs file names (File why) = IsUnread (inputs file) why ⊎ ((text : List ℕ) × HasText (inputs file).bytes text × ImagesRefused (map inputs names) why)
 MessageFails inputs file names NoMemory = ⊤
 MessageFails inputs file names why = ⊥
 
@@ -156,22 +164,29 @@ pub record PlaysToItsEnd (inputs : Inputs) (first : Standing) (bytes left old ne
   pub answered : AnswersAll (playing inputs) first bytes left old between
   pub listed : Appends between new (entry_listing answered.last.delivered)
 
--- What was written of a listing: a prefix of it, where a write failed; else nothing.
-abbrev pub StopsListing : (had : List Delivery) → (old new : Option (List ℕ)) → SessionError → Type 0
-StopsListing had old new (Output error) = AppendsPrefix old new (entry_listing had)
-StopsListing had old new NoMemory = new ≡ old
-StopsListing had old new why = ⊥
+-- What was written of a listing: a prefix of it, where a write failed, as the writer may; else nothing.
+abbrev pub StopsListing : (can_fail : Bool) → (had : List Delivery) → (old new : Option (List ℕ)) → SessionError → Type 0
+StopsListing can_fail had old new (Output error) = AppendsPrefix old new (entry_listing had) × (can_fail ≡ true)
+StopsListing can_fail had old new NoMemory = new ≡ old
+StopsListing can_fail had old new why = ⊥
 
 -- All lines were carried out, and their answers written; the session stopped at its listing.
-pub record StopsAtTheListing (inputs : Inputs) (first : Standing) (bytes left : Option (List ℕ)) (output : Change (Option (List ℕ))) (why : SessionError) : Type 0 where
+pub record StopsAtTheListing (inputs : Inputs) (can_fail : Bool) (first : Standing) (read output : Change (Option (List ℕ))) (why : SessionError) : Type 0 where
   pub between : Option (List ℕ)
-  pub answered : AnswersAll (playing inputs) first bytes left output.before between
-  pub stops : StopsListing answered.last.delivered between output.after why
+  pub answered : AnswersAll (playing inputs) first read.before read.after output.before between
+  pub stops : StopsListing can_fail answered.last.delivered between output.after why
+
+-- The same talk over devices of which these may fail: lines are not read where their reads may fail, or there were too many, and answers
+-- are
+-- not written where the writer may fail.
+abbrev pub playing_over : Inputs → MayFail → (read : Change (Option (List ℕ))) → Talking Standing SessionError
+playing_over inputs fails read = caused (playing inputs) (InputCause fails.input read.before read.after) (fails.output ≡ true)
 
 -- It stopped behind the first lines, or at its listing.
-abbrev pub StopsPlaying : Inputs → (first : Standing) → (bytes left : Option (List ℕ)) → Change (Option (List ℕ)) → SessionError → Type 0
-StopsPlaying inputs first bytes left output why =
-    AnswersSome (playing inputs) first bytes left output why ⊎ StopsAtTheListing inputs first bytes left output why
+abbrev pub StopsPlaying : Inputs → MayFail → (first : Standing) → (read output : Change (Option (List ℕ))) → SessionError → Type 0
+StopsPlaying inputs fails first read output why =
+    AnswersSome (playing_over inputs fails read) first read.before read.after output why
+    ⊎ StopsAtTheListing inputs fails.output first read output why
 
 -- what the press of a session delivered
 abbrev pub delivered_by : Session → List Delivery
@@ -189,7 +204,7 @@ abbrev pub DoesNotBegin : (bytes left old new : Option (List ℕ)) → SessionEr
 DoesNotBegin bytes left old new why = ((error : BadEngines) × (why ≡ Engines error)) × (left ≡ bytes) × (new ≡ old)
 
 -- It stopped early, and this is why.
-abbrev pub Stops : (engines : ℕ) → Inputs → (bytes left : Option (List ℕ)) → Change (Option (List ℕ)) → SessionError → Type 0
-Stops engines inputs bytes left output why =
-    MatchBool (are_engines engines) (StopsPlaying inputs (standing (new_world engines) []) bytes left output why)
-    (DoesNotBegin bytes left output.before output.after why)
+abbrev pub Stops : (engines : ℕ) → Inputs → MayFail → (read output : Change (Option (List ℕ))) → SessionError → Type 0
+Stops engines inputs fails read output why =
+    MatchBool (are_engines engines) (StopsPlaying inputs fails (standing (new_world engines) []) read output why)
+    (DoesNotBegin read.before read.after output.before output.after why)

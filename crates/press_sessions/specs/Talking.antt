@@ -2,7 +2,7 @@
 use Rattle.std.specs.Prelude.{◌≡◌, ◌⊎◌, ℕ, List, [], ◌∷◌, ◌++◌, Option}
 use Rattle.std.specs.declared.io.Error.{Error}
 use Rattle.std.specs.Io.KnownBytes.{Consumes, Appends}
-use Rattle.press_pbm.specs.Spelling.{AppendsPrefix}
+use Rattle.press_devices.specs.Writing.{AppendsPrefix}
 use Rattle.press_asm.specs.Text.{lines_of}
 use Rattle.press_files.specs.Change.{Change, change}
 use Rattle.press_files.specs.declared.inputs.InputError.{InputError}
@@ -25,7 +25,9 @@ AnswersLines {S} Answers (line ∷ lines) old answers new =
     (answer others : List ℕ) × (next : S) × Answers old line answer next × AnswersLines Answers lines next others new × (answers ≡ answer ++ others)
 
 -- the talk that answers each line so
-abbrev pub line_by_line : {S E : Type 0} (Answers : S → List ℕ → List ℕ → S → Type 0) (Refuses : S → List ℕ → E → Type 0) (Unread : InputError → E → Type 0) (Unwritten : Error → E → Type 0) → Talking S E
+abbrev pub line_by_line : {S E : Type 0} (Answers : S → List ℕ → List ℕ → S → Type 0) (Refuses : S → List ℕ → E → Type 0)
+    (Unread : InputError → E → Type 0) (Unwritten : Error → E → Type 0)
+    → Talking S E
 line_by_line Answers Refuses Unread Unwritten =
     record { Takes = AnswersLines Answers; Refuses = Refuses; Unread = Unread; Unwritten = Unwritten }
 
@@ -37,6 +39,13 @@ pub record AnswersAll {S E : Type 0} (talk : Talking S E) (first : S) (had left 
   pub read : ReadWhole had left text
   pub takes : talk.Takes (lines_of text) first answers last
   pub written : Appends old new answers
+
+-- The same talk, where it is also said why lines are not read, and why answers are not written.
+abbrev pub caused : {S E : Type 0} (talk : Talking S E) (Unreads : InputError → Type 0) (Unwrites : Type 0) → Talking S E
+caused talk Unreads Unwrites = record talk {
+  Unread = λ error why. talk.Unread error why × Unreads error;
+  Unwritten = λ error why. talk.Unwritten error why × Unwrites;
+}
 
 -- What was written of the answer of a line at which a talk stopped: nothing, where it has none; or a prefix of it, where a write failed.
 abbrev pub StopsAtLine : {S E : Type 0} (talk : Talking S E) (line : List ℕ) → S → (old new : Option (List ℕ)) → E → Type 0

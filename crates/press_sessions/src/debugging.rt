@@ -1,5 +1,6 @@
 //! Sessions with a debugger: what each line is answered.
-ghost use Rattle.std.specs.Prelude.{◌≡◌, ℕ, List, IfOk, IfErr, OnOk};
+ghost use Rattle.std.specs.Prelude.{◌≡◌, ℕ, false, List, IfOk, IfErr, OnOk};
+ghost use Rattle.press_files.specs.Causes.{may_fail};
 ghost use Rattle.press_files.specs.Change.{change};
 ghost use Rattle.std.specs.Fn.{FnReturnsAt};
 ghost use Rattle.std.specs.String.{string_bytes};
@@ -24,14 +25,14 @@ use crate::talking::{Talk, answer_lines};
 use press_asm::write_kind;
 use press_cmd::{Kind, LINE_FEED};
 use press_debug::{Break, BreakError, Debugger, Stop, Watch};
+use press_devices::{ReadDevice, WriteDevice};
 use press_engine::View;
 use press_files::{InputError, NO_OUTPUT, Teller, read_all, report};
 use press_units::ToldFault;
 use press_words::{WHAT, line_of};
 use std::alloc::{AllocError, Global};
 use std::error::Error;
-use std::fmt;
-use std::io::{self, Read, Write};
+use std::{fmt, io};
 
 /// Why a session with a debugger ended early.
 #[derive(Debug, Drop)]
@@ -95,7 +96,7 @@ impl From<AllocError> for DebugError {
 /// Has a session with a debugger of the stream that `input` has: answers each line that a reader has, to `out`. The stream is
 /// read whole before the first line. A breakpoint that is refused is an answer; after a fault, which stands on `err`, no line is
 /// answered. The answer is the status: 0, or 1 after a fault.
-pub fn debug_lines<I: Read, R: Read, W: Write, E: Teller>(
+pub fn debug_lines<I: ReadDevice, R: ReadDevice, W: WriteDevice, E: Teller>(
     alloc: Global,
     input: &mut I,
     reader: &mut R,
@@ -106,8 +107,9 @@ pub fn debug_lines<I: Read, R: Read, W: Write, E: Teller>(
         (Debugs (I.remaining input.old) (I.remaining input.new)
         (R.remaining reader.old) (R.remaining reader.new)
         (W.contents out.old) (W.contents out.new))
-        (StopsDebugging (I.remaining input.old) (I.remaining input.new) (R.remaining reader.old)
-        (R.remaining reader.new)
+        (StopsDebugging ⊥ (may_fail R.can_fail I.can_fail W.can_fail false)
+        (change (I.remaining input.old) (I.remaining input.new))
+        (change (R.remaining reader.old) (R.remaining reader.new))
         (change (W.contents out.old) (W.contents out.new))) }
 {
     match debug(alloc, input, reader, out) {
@@ -117,7 +119,7 @@ pub fn debug_lines<I: Read, R: Read, W: Write, E: Teller>(
 }
 
 /// Opens a debugger of the stream that `input` has, and answers each line that a reader has.
-fn debug<I: Read, R: Read, W: Write>(
+fn debug<I: ReadDevice, R: ReadDevice, W: WriteDevice>(
     alloc: Global,
     input: &mut I,
     reader: &mut R,
@@ -126,8 +128,9 @@ fn debug<I: Read, R: Read, W: Write>(
     ensures ok { OnOk result (Debugs (I.remaining input.old) (I.remaining input.new)
         (R.remaining reader.old) (R.remaining reader.new)
         (W.contents out.old) (W.contents out.new)) }
-    ensures err { IfErr result (StopsDebugging (I.remaining input.old) (I.remaining input.new)
-        (R.remaining reader.old) (R.remaining reader.new)
+    ensures err { IfErr result (StopsDebugging ⊥ (may_fail R.can_fail I.can_fail W.can_fail false)
+        (change (I.remaining input.old) (I.remaining input.new))
+        (change (R.remaining reader.old) (R.remaining reader.new))
         (change (W.contents out.old) (W.contents out.new))) }
 {
     let watch = Watch::new(|_view: &View<'_>| false);
@@ -137,7 +140,7 @@ fn debug<I: Read, R: Read, W: Write>(
 }
 
 /// A debugger of the stream that a reader has.
-fn opened<I: Read, F: Fn(&View<'_>) -> bool + Drop>(
+fn opened<I: ReadDevice, F: Fn(&View<'_>) -> bool + Drop>(
     alloc: Global,
     input: &mut I,
     watch: Watch<F>,
@@ -147,7 +150,8 @@ fn opened<I: Read, F: Fn(&View<'_>) -> bool + Drop>(
         × (debugger.stepper ≡ at_start bytes)) }
     ensures breaks { IfOk result (λ debugger. debugger.breaks ≡ no_breaks) }
     ensures watch { IfOk result (λ debugger. debugger.watch ≡ watch) }
-    ensures err { IfErr result IsUnopened }
+    ensures err { IfErr result (IsUnopened ⊥ I.can_fail
+        (change (I.remaining input.old) (I.remaining input.new))) }
 {
     let bytes = read_all(alloc, input)?;
     Ok(Debugger::open(alloc, &bytes, watch)?)

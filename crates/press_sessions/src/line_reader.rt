@@ -3,10 +3,10 @@ ghost use Rattle.std.specs.Prelude.{◌≡◌, ◌≤◌, length, position};
 ghost use Rattle.press_asm.specs.Text.{is_feed};
 
 use press_cmd::LINE_FEED;
+use press_devices::ReadDevice;
 use press_files::InputError;
 use press_stream::{PIECE, ReadCount, read_next};
 use std::alloc::{AllocError, Global};
-use std::io::Read;
 
 /// What a reader has, line by line. It is read by pieces; what stands behind the lines that were given is held.
 #[derive(Drop)]
@@ -19,12 +19,13 @@ pub struct LineReader {
 }
 
 impl LineReader {
-    ghost use Rattle.std.specs.Prelude.{◌≡◌, ◌<◌, true, [], IfOk, OnOk};
-    ghost use Rattle.press_sessions.specs.LineReading.{held, reads_left, bytes_left, TakesLine, GivesLine, Refills};
+    ghost use Rattle.std.specs.Prelude.{◌≡◌, ◌<◌, true, [], IfOk, IfErr, OnOk};
+    ghost use Rattle.press_sessions.specs.LineReading.{held, reads_left, bytes_left, TakesLine, GivesLine, Refills, ReadsFew, LineCause};
 
     /// Nothing was read.
     pub fn new(alloc: Global) -> Self
-        ensures { held result ≡ [] }
+        ensures held { held result ≡ [] }
+        ensures reads { result.count.reads ≡ 0 }
     {
         LineReader {
             count: ReadCount::none(),
@@ -39,11 +40,20 @@ impl LineReader {
     /// # Errors
     ///
     /// `ReadFault` (304) where a read failed, or there were more than 4,294,967,295; `NoMemory`.
-    pub fn next<R: Read>(&mut self, reader: &mut R, line: &mut Vec<u8>) -> Result<bool, InputError>
+    pub fn next<R: ReadDevice>(
+        &mut self,
+        reader: &mut R,
+        line: &mut Vec<u8>,
+    ) -> Result<bool, InputError>
         ensures line { GivesLine result (held self.old) (held self.new)
             (R.remaining reader.old) (R.remaining reader.new) line.new.items }
         ensures fewer { IfOk result (λ ended.
             ended ≡ true → bytes_left self.new < bytes_left self.old) }
+        ensures few { IfOk result (λ ended. ended ≡ true → ReadsFew R.can_fail
+            self.old.count.reads self.new.count.reads
+            (R.remaining reader.old) (R.remaining reader.new)) }
+        ensures cause { IfErr result (LineCause R.can_fail self.old.count.reads
+            (R.remaining reader.old) (R.remaining reader.new)) }
     {
         line.clear();
         while !self.take_line(line)? {
@@ -83,12 +93,17 @@ impl LineReader {
     }
 
     /// Reads the next piece, once all of the one before it was given. The answer is whether there was one.
-    fn refill<R: Read>(&mut self, reader: &mut R) -> Result<bool, InputError>
+    fn refill<R: ReadDevice>(&mut self, reader: &mut R) -> Result<bool, InputError>
         requires { held self.old ≡ [] }
         ensures piece { Refills result (held self.new)
             (R.remaining reader.old) (R.remaining reader.new) }
         ensures reads { OnOk result (reads_left self.new < reads_left self.old) }
         ensures fewer { OnOk result (bytes_left self.new ≤ bytes_left self.old) }
+        ensures few { IfOk result (λ more. more ≡ true → ReadsFew R.can_fail
+            self.old.count.reads self.new.count.reads
+            (R.remaining reader.old) (R.remaining reader.new)) }
+        ensures cause { IfErr result (LineCause R.can_fail self.old.count.reads
+            (R.remaining reader.old) (R.remaining reader.new)) }
     {
         let mut piece = [0; PIECE];
         let length = read_next(reader, &mut piece, &mut self.count)?;

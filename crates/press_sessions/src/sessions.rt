@@ -1,5 +1,6 @@
 //! Sessions with a press: lines of events, and what each is answered.
-ghost use Rattle.std.specs.Prelude.{◌≡◌, ◌∷◌, ◌++◌, ℕ, List, [], map, is_ok, IfOk, IfErr, OnOk};
+ghost use Rattle.std.specs.Prelude.{◌≡◌, ◌∷◌, ◌++◌, ℕ, false, List, [], map, is_ok, IfOk, IfErr, OnOk};
+ghost use Rattle.press_files.specs.Causes.{may_fail};
 ghost use Rattle.press_files.specs.Change.{change};
 ghost use Rattle.std.specs.Io.KnownBytes.{Appends};
 ghost use Rattle.std.specs.String.{string_bytes};
@@ -28,17 +29,17 @@ ghost use Rattle.press_sessions.specs.declared.sessions.SessionError.TheVariants
 use crate::event_lines::{LineEvent, event_of};
 use crate::talking::{Talk, answer_lines};
 use press_core::{BadEngines, OperatorCommand, Press, Turn, TurnError, laws};
+use press_devices::{ReadDevice, WriteDevice, write_flushed};
 use press_files::{
     EntrySheets, InputError, NO_OUTPUT, NamedInputs, Teller, list_delivered, open_named, read_all,
-    report, write_flushed,
+    report,
 };
 use press_jobs::{JobFileError, images_named};
 use press_units::ToldFault;
 use press_words::{WHAT, line_of, words_of};
 use std::alloc::{AllocError, Global};
 use std::error::Error;
-use std::fmt;
-use std::io::{self, Read, Write};
+use std::{fmt, io};
 
 /// Why a session ended early.
 #[derive(Debug, Drop)]
@@ -146,7 +147,7 @@ impl From<AllocError> for SessionError {
 /// In whatever order the events come, under the number of an entry in flight the sheets of the steps of its job were delivered. Of a
 /// completed one it is all that its ticket wants, of every other one a prefix of those. After a fault, which stands on `err`, no line
 /// is carried out, and nothing is listed. The answer is the status: 0, or 1 after a fault.
-pub fn press_lines<I: NamedInputs, R: Read, W: Write, E: Teller>(
+pub fn press_lines<I: NamedInputs, R: ReadDevice, W: WriteDevice, E: Teller>(
     alloc: Global,
     inputs: &I,
     engines: u64,
@@ -155,11 +156,12 @@ pub fn press_lines<I: NamedInputs, R: Read, W: Write, E: Teller>(
     err: &mut E,
 ) -> u8
     ensures { Ended result (E.said err.old) (E.said err.new) told_of_session
-        (Plays engines (named (I.bytes inputs.now) (I.missing inputs.now))
+        (Plays engines (named I.Input.can_fail (I.bytes inputs.now) (I.missing inputs.now))
         (R.remaining reader.old) (R.remaining reader.new)
         (W.contents out.old) (W.contents out.new))
-        (Stops engines (named (I.bytes inputs.now) (I.missing inputs.now))
-        (R.remaining reader.old) (R.remaining reader.new)
+        (Stops engines (named I.Input.can_fail (I.bytes inputs.now) (I.missing inputs.now))
+        (may_fail R.can_fail false W.can_fail false)
+        (change (R.remaining reader.old) (R.remaining reader.new))
         (change (W.contents out.old) (W.contents out.new))) }
 {
     match play(alloc, inputs, engines, reader, out) {
@@ -169,7 +171,7 @@ pub fn press_lines<I: NamedInputs, R: Read, W: Write, E: Teller>(
 }
 
 /// Has a session with a press of so many engines, and tells no fault.
-fn play<I: NamedInputs, R: Read, W: Write>(
+fn play<I: NamedInputs, R: ReadDevice, W: WriteDevice>(
     alloc: Global,
     inputs: &I,
     engines: u64,
@@ -177,12 +179,13 @@ fn play<I: NamedInputs, R: Read, W: Write>(
     out: &mut W,
 ) -> Result<(), SessionError>
     ensures ok { OnOk result (Plays engines
-        (named (I.bytes inputs.now) (I.missing inputs.now))
+        (named I.Input.can_fail (I.bytes inputs.now) (I.missing inputs.now))
         (R.remaining reader.old) (R.remaining reader.new)
         (W.contents out.old) (W.contents out.new)) }
     ensures err { IfErr result (Stops engines
-        (named (I.bytes inputs.now) (I.missing inputs.now)) (R.remaining reader.old)
-        (R.remaining reader.new)
+        (named I.Input.can_fail (I.bytes inputs.now) (I.missing inputs.now))
+        (may_fail R.can_fail false W.can_fail false)
+        (change (R.remaining reader.old) (R.remaining reader.new))
         (change (W.contents out.old) (W.contents out.new))) }
 {
     laws::sheets_are_given();
@@ -206,13 +209,15 @@ impl<I: NamedInputs> Talk for SessionTalk<'_, I> {
     type Error = SessionError;
 
     ghost answers = { λ old line answer new.
-        TakesLines (named (I.bytes old.inputs.now) (I.missing old.inputs.now)) (line ∷ [])
+        TakesLines (named I.Input.can_fail (I.bytes old.inputs.now) (I.missing old.inputs.now))
+        (line ∷ [])
         (standing old.session.press (delivered_by old.session))
         (standing new.session.press (delivered_by new.session)) answer
         × (new.inputs ≡ old.inputs) };
 
     ghost refuses = { λ at line. IsUnanswered
-        (named (I.bytes at.inputs.now) (I.missing at.inputs.now)) line at.session.press };
+        (named I.Input.can_fail (I.bytes at.inputs.now) (I.missing at.inputs.now))
+        line at.session.press };
 
     fn answer(&mut self, line: &[u8]) -> Result<Vec<u8>, SessionError> {
         self.session.answer(self.inputs, line)
@@ -246,11 +251,11 @@ impl Session {
     }
 
     /// Lists the sheets.
-    fn list<W: Write>(&self, out: &mut W) -> Result<(), SessionError>
+    fn list<W: WriteDevice>(&self, out: &mut W) -> Result<(), SessionError>
         ensures ok { OnOk result (Appends (W.contents out.old) (W.contents out.new)
             (entry_listing (delivered_by self.now))) }
-        ensures err { IfErr result
-            (StopsListing (delivered_by self.now) (W.contents out.old) (W.contents out.new)) }
+        ensures err { IfErr result (StopsListing W.can_fail (delivered_by self.now)
+            (W.contents out.old) (W.contents out.new)) }
     {
         let listing = self.listing()?;
         write_flushed(out, &listing)?;
@@ -271,11 +276,13 @@ impl Session {
     /// Carries out a line: its answer.
     fn answer<I: NamedInputs>(&mut self, inputs: &I, line: &[u8]) -> Result<Vec<u8>, SessionError>
         ensures ok { IfOk result (λ answer.
-            TakesLines (named (I.bytes inputs.now) (I.missing inputs.now)) (line.now ∷ [])
+            TakesLines (named I.Input.can_fail (I.bytes inputs.now) (I.missing inputs.now))
+            (line.now ∷ [])
             (standing self.old.press (delivered_by self.old))
             (standing self.new.press (delivered_by self.new)) answer.items) }
         ensures err { IfErr result (IsUnanswered
-            (named (I.bytes inputs.now) (I.missing inputs.now)) line.now self.old.press) }
+            (named I.Input.can_fail (I.bytes inputs.now) (I.missing inputs.now))
+            line.now self.old.press) }
     {
         let words = words_of(self.alloc, line)?;
         match event_of(&words) {
@@ -291,11 +298,12 @@ impl Session {
         event: LineEvent<'_>,
     ) -> Result<Vec<u8>, SessionError>
         ensures ok { IfOk result (λ answer. TakesAsked
-            (named (I.bytes inputs.now) (I.missing inputs.now)) (line_seen event.entry)
+            (named I.Input.can_fail (I.bytes inputs.now) (I.missing inputs.now))
+            (line_seen event.entry)
             (standing self.old.press (delivered_by self.old))
             (standing self.new.press (delivered_by self.new)) answer.items) }
         ensures err { IfErr result
-            (HasFault (named (I.bytes inputs.now) (I.missing inputs.now))
+            (HasFault (named I.Input.can_fail (I.bytes inputs.now) (I.missing inputs.now))
             (line_seen event.entry) self.old.press) }
     {
         match event {
@@ -313,12 +321,12 @@ impl Session {
         images: &[&[u8]],
     ) -> Result<Vec<u8>, SessionError>
         ensures ok { IfOk result (λ answer.
-            TakesAsked (named (I.bytes inputs.now) (I.missing inputs.now))
+            TakesAsked (named I.Input.can_fail (I.bytes inputs.now) (I.missing inputs.now))
             (MessageLine file.now (map (λ name. name.now) images.now))
             (standing self.old.press (delivered_by self.old))
             (standing self.new.press (delivered_by self.new)) answer.items) }
         ensures err { IfErr result (HasFault
-            (named (I.bytes inputs.now) (I.missing inputs.now))
+            (named I.Input.can_fail (I.bytes inputs.now) (I.missing inputs.now))
             (MessageLine file.now (map (λ name. name.now) images.now)) self.old.press) }
     {
         let mut input = open_named(inputs, file)?;

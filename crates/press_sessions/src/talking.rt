@@ -1,13 +1,15 @@
 //! Talks: lines that a reader has, each of which is answered.
-ghost use Rattle.std.specs.Prelude.{◌≡◌, ℕ, List, IfErr, OnOk};
+ghost use Rattle.std.specs.Prelude.{◌≡◌, ℕ, true, List, ⊤, IfErr, OnOk};
 ghost use Rattle.std.specs.Io.KnownBytes.{Appends};
+ghost use Rattle.press_files.specs.Causes.{InputCause};
 ghost use Rattle.press_files.specs.Change.{change};
-ghost use Rattle.press_sessions.specs.Talking.{AnswersAll, AnswersSome, StopsAtLine, line_by_line};
+ghost use Rattle.press_sessions.specs.Talking.{AnswersAll, AnswersSome, StopsAtLine, caused, line_by_line};
 
 use crate::line_reader::LineReader;
-use press_files::{InputError, write_flushed};
+use press_devices::{ReadDevice, WriteDevice, write_flushed};
+use press_files::InputError;
 use std::alloc::Global;
-use std::io::{self, Read, Write};
+use std::io;
 
 /// What answers lines.
 pub trait Talk {
@@ -34,7 +36,7 @@ pub trait Talk {
 }
 
 /// Answers the lines that a reader has, and writes the answers. A line is answered before more is read.
-pub fn answer_lines<T: Talk, R: Read, W: Write>(
+pub fn answer_lines<T: Talk, R: ReadDevice, W: WriteDevice>(
     alloc: Global,
     talk: &mut T,
     reader: &mut R,
@@ -45,8 +47,10 @@ pub fn answer_lines<T: Talk, R: Read, W: Write>(
         T.Error.From-1.from_gives T.Error.From-2.from_gives) talk.old
         (R.remaining reader.old) (R.remaining reader.new)
         (W.contents out.old) (W.contents out.new)) × (answered.last ≡ talk.new)) }
-    ensures err { IfErr result (AnswersSome (line_by_line T.answers T.refuses
-        T.Error.From-1.from_gives T.Error.From-2.from_gives) talk.old
+    ensures err { IfErr result (AnswersSome (caused (line_by_line T.answers T.refuses
+        T.Error.From-1.from_gives T.Error.From-2.from_gives)
+        (InputCause R.can_fail (R.remaining reader.old) (R.remaining reader.new))
+        (W.can_fail ≡ true)) talk.old
         (R.remaining reader.old) (R.remaining reader.new)
         (change (W.contents out.old) (W.contents out.new))) }
 {
@@ -62,13 +66,18 @@ pub fn answer_lines<T: Talk, R: Read, W: Write>(
 }
 
 /// Answers a line, and writes the answer.
-fn answer_line<T: Talk, W: Write>(talk: &mut T, line: &[u8], out: &mut W) -> Result<(), T::Error>
+fn answer_line<T: Talk, W: WriteDevice>(
+    talk: &mut T,
+    line: &[u8],
+    out: &mut W,
+) -> Result<(), T::Error>
     requires { T.IsReady talk.old }
     ensures ready { T.IsReady talk.new }
     ensures ok { OnOk result ((answer : List ℕ) × T.answers talk.old line.now answer talk.new
         × Appends (W.contents out.old) (W.contents out.new) answer) }
-    ensures err { IfErr result (StopsAtLine (line_by_line T.answers T.refuses
-        T.Error.From-1.from_gives T.Error.From-2.from_gives) line.now talk.old
+    ensures err { IfErr result (StopsAtLine (caused (line_by_line T.answers T.refuses
+        T.Error.From-1.from_gives T.Error.From-2.from_gives)
+        (λ _. ⊤) (W.can_fail ≡ true)) line.now talk.old
         (W.contents out.old) (W.contents out.new)) }
 {
     let answer = talk.answer(line)?;

@@ -1,4 +1,6 @@
 use Rattle.std.proofs.lemmas.Result.{on_ok_weaker, IfErr-weaker}
+use Rattle.std.proofs.Common.{false}
+use Rattle.press_files.specs.Causes.{may_fail}
 use Rattle.press_sessions.proofs.DebuggerLemmas.{Debugs-all, StopsDebugging-some}
 use Rattle.press_sessions.proofs.debugging.debug.Goals as goal
 
@@ -13,5 +15,7 @@ pub returns-clause-err : goal.returns-clause-err
 returns-clause-err g c =
     let stream = c.in_ok-debugger.ensures.stream in
     IfErr-weaker c.answer_lines.result _ _
-    (StopsDebugging-some (λ session. session.debugger.stepper) (λ session. session.debugger.breaks) _ _ _ _ _ _ _ stream.0 stream.1 stream.2 c.in_ok-debugger.ensures.breaks)
+    (StopsDebugging-some (λ session. session.debugger.stepper) (λ session. session.debugger.breaks) _ _ _ _ _ _ _
+    stream.0 stream.1 stream.2 c.in_ok-debugger.ensures.breaks _
+    (may_fail g.R.ReadDevice.can_fail g.I.ReadDevice.can_fail g.W.WriteDevice.can_fail false))
     c.answer_lines.ensures.err

@@ -4,57 +4,87 @@ use Rattle.std.proofs.lemmas.Result.{err_from_is_err_and, on_ok_weaker, IfErr-we
 use Rattle.press_units.proofs.ExitLemmas.{exit-is}
 use Rattle.press_sessions.specs.LineReading.{held, GivesLine}
 use Rattle.press_sessions.proofs.LineLemmas.{no-lines, one-line}
+use Rattle.press_sessions.proofs.ReadsLemmas.{ReadsFew-none, ReadsFew-then, LineCause-then, LineCause-cause}
 use Rattle.press_sessions.proofs.TalkLemmas.{AnswersLines-one, IsAnswered-begun, IsAnswered-more, IsAnswered-ends, IsAnswered-unread, IsAnswered-stops, IsAnswered-stops_last}
 use Rattle.press_sessions.proofs.talking.answer_lines.Goals as goal
 
 pub loop-line-init : goal.loop-line-init
-loop-line-init g c = record { ready = c.requires; answered = IsAnswered-begun g.T.Talk.answers c.args.talk.now _ _ (held c.new-lines.result) c.new-lines.ensures }
+loop-line-init g c = record {
+  ready = c.requires;
+  answered = IsAnswered-begun g.T.Talk.answers c.args.talk.now _ _ (held c.new-lines.result) c.new-lines.ensures.held;
+  reads = ReadsFew-none _ _ _ _ c.new-lines.ensures.reads;
+}
 
 pub returns-in_err-next-clause-err : goal.returns-in_err-next-clause-err
 returns-in_err-next-clause-err g c =
     let p = err_from_is_err_and c.from_residual.result c.from_residual.ensures.1 in
     rw p.1
-    (IsAnswered-unread g.T.Talk.answers c.args.talk.now _ _ _ (held c.loop-line.lines) c.loop-line.talk _ _ (held c.next.new.self) c.next.new.line.items c.loop-line.invariant.answered _ _ _ c.in_err-next.field-0.0 p.0 p.2
+    (IsAnswered-unread g.T.Talk.answers c.args.talk.now _ _ _ (held c.loop-line.lines) c.loop-line.talk _ _ (held c.next.new.self)
+    c.next.new.line.items c.loop-line.invariant.answered _ _ _ c.in_err-next.field-0.0 p.0
+    (p.2, LineCause-cause _ _ _ _ (LineCause-then _ _ _ _ _ _ _ c.loop-line.invariant.reads c.in_err-next.ensures.cause))
     c.in_err-next.ensures.line)
 
 pub loop-line-preserved : goal.loop-line-preserved
 loop-line-preserved g c =
-    let P : Bool → Type 0 = λ ended. GivesLine (Ok ended) (held c.loop-line.lines) (held c.next.new.self) (g.R.Read.remaining c.loop-line.reader) (g.R.Read.remaining c.next.new.reader) c.next.new.line.items in
+    let P : Bool → Type 0 =
+    λ ended.
+    GivesLine (Ok ended) (held c.loop-line.lines) (held c.next.new.self) (g.R.ReadDevice.remaining c.loop-line.reader)
+    (g.R.ReadDevice.remaining c.next.new.reader) c.next.new.line.items in
     record {
       ready = c.in_ok-answer_line.ensures.ready;
-      answered = IsAnswered-more g.T.Talk.answers c.args.talk.now _ _ _ (held c.loop-line.lines) c.loop-line.talk _ _ (held c.next.new.self) c.next.new.line.items c.loop-line.invariant.answered c.answer_line.new.talk (g.W.Write.contents c.answer_line.new.out)
+      answered =
+          IsAnswered-more g.T.Talk.answers c.args.talk.now _ _ _ (held c.loop-line.lines) c.loop-line.talk _ _ (held c.next.new.self)
+          c.next.new.line.items c.loop-line.invariant.answered c.answer_line.new.talk (g.W.WriteDevice.contents c.answer_line.new.out)
           (subst P c.if-branch.true c.in_ok-next.ensures.line) (rw c.deref.ensures.value at c.in_ok-answer_line.ensures.ok);
+      reads = ReadsFew-then _ _ _ _ _ _ _ c.loop-line.invariant.reads (c.in_ok-next.ensures.few c.if-branch.true);
     }
 
 pub returns-in_err-answer_line-clause-err : goal.returns-in_err-answer_line-clause-err
 returns-in_err-answer_line-clause-err g c =
-    let P : Bool → Type 0 = λ ended. GivesLine (Ok ended) (held c.loop-line.lines) (held c.next.new.self) (g.R.Read.remaining c.loop-line.reader) (g.R.Read.remaining c.next.new.reader) c.next.new.line.items in
+    let P : Bool → Type 0 =
+    λ ended.
+    GivesLine (Ok ended) (held c.loop-line.lines) (held c.next.new.self) (g.R.ReadDevice.remaining c.loop-line.reader)
+    (g.R.ReadDevice.remaining c.next.new.reader) c.next.new.line.items in
     rw (exit-is c.from_residual-in_err-answer_line.ensures.1)
-    (IsAnswered-stops g.T.Talk.answers c.args.talk.now _ _ _ (held c.loop-line.lines) c.loop-line.talk _ _ (held c.next.new.self) c.next.new.line.items c.loop-line.invariant.answered _ _ _ (g.W.Write.contents c.answer_line.new.out) c.in_err-answer_line.field-0.0
+    (IsAnswered-stops g.T.Talk.answers c.args.talk.now _ _ _ (held c.loop-line.lines) c.loop-line.talk _ _ (held c.next.new.self)
+    c.next.new.line.items c.loop-line.invariant.answered _ _ _ (g.W.WriteDevice.contents c.answer_line.new.out)
+    c.in_err-answer_line.field-0.0
     (subst P c.if-branch.true c.in_ok-next.ensures.line) (rw c.deref.ensures.value at c.in_err-answer_line.ensures.err))
 
 pub returns-then-is_empty-clause-ok : goal.returns-then-is_empty-clause-ok
 returns-then-is_empty-clause-ok g c =
-    let P : Bool → Type 0 = λ ended. GivesLine (Ok ended) (held c.loop-line.lines) (held c.next.new.self) (g.R.Read.remaining c.loop-line.reader) (g.R.Read.remaining c.next.new.reader) c.next.new.line.items in
-    IsAnswered-ends g.T.Talk.answers c.args.talk.now _ _ _ (held c.loop-line.lines) c.loop-line.talk _ _ (held c.next.new.self) c.next.new.line.items c.loop-line.invariant.answered _ _ _ [] c.loop-line.talk _
+    let P : Bool → Type 0 =
+    λ ended.
+    GivesLine (Ok ended) (held c.loop-line.lines) (held c.next.new.self) (g.R.ReadDevice.remaining c.loop-line.reader)
+    (g.R.ReadDevice.remaining c.next.new.reader) c.next.new.line.items in
+    IsAnswered-ends g.T.Talk.answers c.args.talk.now _ _ _ (held c.loop-line.lines) c.loop-line.talk _ _ (held c.next.new.self)
+    c.next.new.line.items c.loop-line.invariant.answered _ _ _ [] c.loop-line.talk _
     (subst P c.if-branch.false c.in_ok-next.ensures.line) (no-lines c.next.new.line.items (rw c.next.new.line.ok.0 at (sym c.is_empty.ensures ∙ c.if-is_empty.true))) ([], (refl, refl), Appends-nil _)
 
 pub returns-clause-ok : goal.returns-clause-ok
 returns-clause-ok g c =
-    let P : Bool → Type 0 = λ ended. GivesLine (Ok ended) (held c.loop-line.lines) (held c.next.new.self) (g.R.Read.remaining c.loop-line.reader) (g.R.Read.remaining c.next.new.reader) c.next.new.line.items in
+    let P : Bool → Type 0 =
+    λ ended.
+    GivesLine (Ok ended) (held c.loop-line.lines) (held c.next.new.self) (g.R.ReadDevice.remaining c.loop-line.reader)
+    (g.R.ReadDevice.remaining c.next.new.reader) c.next.new.line.items in
     let given = subst P c.if-branch.false c.in_ok-next.ensures.line in
     on_ok_weaker c.answer_line-2.result
     (λ does.
-    IsAnswered-ends g.T.Talk.answers c.args.talk.now _ _ _ (held c.loop-line.lines) c.loop-line.talk _ _ (held c.next.new.self) c.next.new.line.items c.loop-line.invariant.answered _ _ _ _ c.answer_line-2.new.talk _
+    IsAnswered-ends g.T.Talk.answers c.args.talk.now _ _ _ (held c.loop-line.lines) c.loop-line.talk _ _ (held c.next.new.self)
+    c.next.new.line.items c.loop-line.invariant.answered _ _ _ _ c.answer_line-2.new.talk _
     given (one-line c.next.new.line.items given.2 (rw c.next.new.line.ok.0 at (sym c.is_empty.ensures ∙ c.if-is_empty.false))) (does.0, AnswersLines-one g.T.Talk.answers _ _ _ _ does.1, does.2))
     (rw c.deref-2.ensures.value at c.answer_line-2.ensures.ok)
 
 pub returns-clause-err : goal.returns-clause-err
 returns-clause-err g c =
-    let P : Bool → Type 0 = λ ended. GivesLine (Ok ended) (held c.loop-line.lines) (held c.next.new.self) (g.R.Read.remaining c.loop-line.reader) (g.R.Read.remaining c.next.new.reader) c.next.new.line.items in
+    let P : Bool → Type 0 =
+    λ ended.
+    GivesLine (Ok ended) (held c.loop-line.lines) (held c.next.new.self) (g.R.ReadDevice.remaining c.loop-line.reader)
+    (g.R.ReadDevice.remaining c.next.new.reader) c.next.new.line.items in
     let given = subst P c.if-branch.false c.in_ok-next.ensures.line in
     IfErr-weaker c.answer_line-2.result _ _
     (λ why.
-    IsAnswered-stops_last g.T.Talk.answers c.args.talk.now _ _ _ (held c.loop-line.lines) c.loop-line.talk _ _ (held c.next.new.self) c.next.new.line.items c.loop-line.invariant.answered _ _ _ (g.W.Write.contents c.answer_line-2.new.out) why
+    IsAnswered-stops_last g.T.Talk.answers c.args.talk.now _ _ _ (held c.loop-line.lines) c.loop-line.talk _ _ (held c.next.new.self)
+    c.next.new.line.items c.loop-line.invariant.answered _ _ _ (g.W.WriteDevice.contents c.answer_line-2.new.out) why
     given (one-line c.next.new.line.items given.2 (rw c.next.new.line.ok.0 at (sym c.is_empty.ensures ∙ c.if-is_empty.false))))
     (rw c.deref-2.ensures.value at c.answer_line-2.ensures.err)

@@ -1,4 +1,4 @@
-use Rattle.press_sessions.specs.LineReading.{held, bytes_left}
+use Rattle.press_sessions.specs.LineReading.{held, bytes_left, ReadsFew}
 use Rattle.press_sessions.proofs.TalkLemmas.{IsAnswered}
 use Rattle.press_sessions.proofs.talking.answer_lines.Given as goal
 
@@ -6,7 +6,9 @@ use Rattle.press_sessions.proofs.talking.answer_lines.Given as goal
 abbrev pub invariant-loop-line : goal.invariant-loop-line
 invariant-loop-line g l = record {
   ready : g.T.Talk.IsReady l.talk;
-  answered : IsAnswered g.T.Talk.answers l.fn.talk (g.R.Read.remaining l.fn.reader) (g.R.Read.remaining l.reader) (g.W.Write.contents l.fn.out) (held l.lines) l.talk (g.W.Write.contents l.out);
+  answered : IsAnswered g.T.Talk.answers l.fn.talk (g.R.ReadDevice.remaining l.fn.reader) (g.R.ReadDevice.remaining l.reader)
+      (g.W.WriteDevice.contents l.fn.out) (held l.lines) l.talk (g.W.WriteDevice.contents l.out);
+  reads : ReadsFew g.R.ReadDevice.can_fail 0 l.lines.count.reads (g.R.ReadDevice.remaining l.fn.reader) (g.R.ReadDevice.remaining l.reader);
 }
 
 abbrev pub decreases-loop-line : goal.decreases-loop-line

@@ -13,7 +13,13 @@ returns-in-Some-clause-ok g c =
     let now : List (Bor (List ℕ)) → List (List ℕ) = map {A = Bor (List ℕ)} {B = List ℕ} (λ word. word.now) in
     let is : event_of_line c.args.line.now ≡ Some (line_seen c.in-Some.event) =
     ap event_in (sym (ap now c.deref.ensures.value ∙ c.in_ok-words.ensures)) ∙ sym c.event_of.ensures ∙ ap (option_map line_seen) c.in-Some.is in
-    IfOk-weaker c.happen.result _ _ (λ answer taken. TakesLines-event (named (g.I.NamedInputs.bytes c.args.inputs.now) (g.I.NamedInputs.missing c.args.inputs.now)) c.args.line.now (line_seen c.in-Some.event) old.press new.press (delivered_by old) (delivered_by new) answer.items is taken) c.happen.ensures.ok
+    IfOk-weaker c.happen.result _ _
+    (λ answer taken.
+    TakesLines-event
+    (named g.I.Input.ReadDevice.can_fail (g.I.NamedInputs.bytes c.args.inputs.now) (g.I.NamedInputs.missing c.args.inputs.now))
+    c.args.line.now (line_seen c.in-Some.event) old.press new.press (delivered_by old) (delivered_by new) answer.items is
+    taken)
+    c.happen.ensures.ok
 
 pub returns-clause-ok : goal.returns-clause-ok
 returns-clause-ok g c =
@@ -21,4 +27,6 @@ returns-clause-ok g c =
     let now : List (Bor (List ℕ)) → List (List ℕ) = map {A = Bor (List ℕ)} {B = List ℕ} (λ word. word.now) in
     let is : event_of_line c.args.line.now ≡ None =
     ap event_in (sym (ap now c.deref.ensures.value ∙ c.in_ok-words.ensures)) ∙ sym c.event_of.ensures ∙ ap (option_map line_seen) c.in-None.is in
-    TakesLines-none (named (g.I.NamedInputs.bytes c.args.inputs.now) (g.I.NamedInputs.missing c.args.inputs.now)) c.args.line.now old.press (delivered_by old) c.in_ok-line_of-in-None.field-0.items is c.in_ok-line_of-in-None.ensures
+    TakesLines-none
+    (named g.I.Input.ReadDevice.can_fail (g.I.NamedInputs.bytes c.args.inputs.now) (g.I.NamedInputs.missing c.args.inputs.now))
+    c.args.line.now old.press (delivered_by old) c.in_ok-line_of-in-None.field-0.items is c.in_ok-line_of-in-None.ensures

@@ -16,5 +16,6 @@ returns-clause-ok c =
     let P : Result Turn TurnError → Type 0 = λ result. Happens old.press (TurnOn c.args.engine c.args.most) (Turned result) handed c.turn_on.new.self in
     let taken : P (Ok c.in_ok-turn.turn) = subst P c.in_ok-turn.was c.turn_on.ensures.turn.1 in
     let all = same_deliveries has (delivered_by old) handed c.turn_on.ensures.turn.2.told in
-    turn-taken old.press c.turn_on.new.self c.args.engine c.args.most c.in_ok-turn.turn (delivered_by old) has handed (string_bytes c.in_ok-turn_line.field-0) c.into_bytes.result.items taken all c.in_ok-turn_line.ensures
+    turn-taken old.press c.turn_on.new.self c.args.engine c.args.most c.in_ok-turn.turn (delivered_by old) has handed
+    (string_bytes c.in_ok-turn_line.field-0) c.into_bytes.result.items taken all c.in_ok-turn_line.ensures
     (ap (λ (bytes : Vec ℕ Global). bytes.items) c.into_bytes.ensures.value)
