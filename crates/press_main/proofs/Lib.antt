@@ -1,1 +1,2 @@
+-- Lemmas on what the program does.
 pub mod ProgramLemmas

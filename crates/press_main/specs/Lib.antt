@@ -1,1 +1,2 @@
+-- What the program does for its words.
 pub mod Program

@@ -1,13 +1,15 @@
 -- What the program does for what its words ask.
-use Rattle.std.specs.Prelude.{◌≡◌, ◌⊎◌, ℕ, zero, suc, List, Option, Some, None, map}
+use Rattle.std.specs.Prelude.{◌≡◌, ◌⊎◌, ℕ, zero, suc, true, List, Option, Some, None, map, false}
 use Rattle.clap.specs.Words.{Text}
 use Rattle.press_units.specs.Faults.{fault_text}
 use Rattle.press_sink.specs.Faults.{sink_number}
 use Rattle.press_sink.specs.Outputs.{MadeOutput}
 use Rattle.press_sink.specs.declared.fault.SinkError.TheVariants.{SinkFault}
-use Rattle.press_stream.specs.Faults.{read_fault}
+use Rattle.press_devices.specs.Faults.{read_fault}
 use Rattle.press_trace.specs.Faults.{output_text}
-use Rattle.press_files.specs.Change.{Change, change, Edge, reading_from}
+use Rattle.press_files.specs.Causes.{MayFail, making, writing}
+use Rattle.press_files.specs.Change.{Change, change, Edge, reading_file, reading_from}
+use Rattle.press_forms.specs.Causes.{TextCause}
 use Rattle.press_forms.specs.Assembly.{AssembledInto, StopsMaking, DisassembledTo, StopsDisassembling}
 use Rattle.press_sessions.specs.Debugging.{Debugs, StopsDebugging}
 use Rattle.press_words.specs.Defaults.{HoldsBehind, with_prefix}
@@ -15,6 +17,7 @@ use Rattle.press_forms.specs.Faults.{told_of_text}
 use Rattle.press_jobs.specs.Faults.{told_of_job}
 use Rattle.press_sessions.specs.Faults.{told_of_debugger, told_of_session}
 use Rattle.press_files.specs.Files.{PrintsFiles, PrintsNoFiles, DoesNothing}
+use Rattle.press_jobs.specs.Causes.{JobCause}
 use Rattle.press_jobs.specs.Jobs.{MakesTheTicket, StopsMakingJob}
 use Rattle.press_files.specs.Listing.{PrintsListing}
 use Rattle.press_files.specs.NamedInputs.{NamedInput, named}
@@ -26,39 +29,46 @@ use Rattle.press_words.specs.View.{AsksHelp}
 use Rattle.press_words.specs.Words.{Source, Standard, FileNamed, Made, Listed, FilesBy, Answered, AsText, DebuggedOf, TracedOf, PageTo, StreamTo, JobTo, Arguments, arguments}
 
 -- A text was assembled into an output of this name, or not.
-abbrev pub Assembling : (name : Text) (status : ℕ) (told read : Change (Option (List ℕ))) (made : Change (Option (List MadeOutput))) → Type 0
-Assembling name status told read made =
+abbrev pub Assembling : (fails : MayFail) (name : Text) (status : ℕ) (told read : Change (Option (List ℕ))) (made : Change (Option (List MadeOutput))) → Type 0
+Assembling fails name status told read made =
     Ended status told.before told.after told_of_text
     (AssembledInto name read.before read.after made.before made.after)
-    (StopsMaking name read.before read.after made.before made.after)
+    (λ why. StopsMaking name read.before read.after made.before made.after why × TextCause (making fails) read.before read.after why)
 
 -- The same of a stream that was disassembled to a writer.
-abbrev pub Disassembling : (status : ℕ) (told read written : Change (Option (List ℕ))) → Type 0
-Disassembling status told read written =
+abbrev pub Disassembling : (fails : MayFail) (status : ℕ) (told read written : Change (Option (List ℕ))) → Type 0
+Disassembling fails status told read written =
     Ended status told.before told.after told_of_text
     (DisassembledTo read.before read.after written.before written.after)
-    (StopsDisassembling read.before read.after written.before written.after)
+    (λ why. StopsDisassembling read.before read.after written.before written.after why × TextCause (writing fails) read.before read.after why)
 
 -- The same of a ticket, of which an output of this name was made, the job with the images of these inputs.
-abbrev pub Writing : (name : Text) (status : ℕ) (told read : Change (Option (List ℕ))) (images : List NamedInput) (made : Change (Option (List MadeOutput))) → Type 0
-Writing name status told read images made =
-    Ended status told.before told.after told_of_job
+abbrev pub Writing : (name : Text) (status : ℕ) (images : List NamedInput) (edge : Edge) → Type 0
+Writing name status images edge =
+    let read = edge.read in
+    let made = edge.made in
+    Ended status edge.told.before edge.told.after told_of_job
     (MakesTheTicket name read.before read.after images made.before made.after)
-    (StopsMakingJob name read.before read.after images made)
+    (λ why. StopsMakingJob name read.before read.after images made why × JobCause (record edge.fails { output = false }) read.before read.after images why)
 
 -- A session with a press of so many engines was played to its end, or stopped, with the files of its messages among these inputs.
-abbrev pub Playing : (engines status : ℕ) (inputs : Text → NamedInput) (told read written : Change (Option (List ℕ))) → Type 0
-Playing engines status inputs told read written =
-    Ended status told.before told.after told_of_session
+abbrev pub Playing : (engines status : ℕ) (inputs : Text → NamedInput) (edge : Edge) → Type 0
+Playing engines status inputs edge =
+    let read = edge.read in
+    let written = edge.written in
+    Ended status edge.told.before edge.told.after told_of_session
     (Plays engines inputs read.before read.after written.before written.after)
-    (Stops engines inputs read.before read.after written)
+    (Stops engines inputs (writing edge.fails) read written)
 
--- A session with a debugger of the stream of an input came to the end of its lines, or stopped.
-abbrev pub Debugging : (status : ℕ) (stream : Option (List ℕ)) (told read written : Change (Option (List ℕ))) → Type 0
-Debugging status stream told read written =
-    (rest : Option (List ℕ)) × Ended status told.before told.after told_of_debugger
+-- A session with a debugger of the stream of an input came to the end of its lines, or stopped; 304 also where the input may be one that
+-- cannot be opened.
+abbrev pub Debugging : (missing : Type 0) (status : ℕ) (stream : Option (List ℕ)) (edge : Edge) → Type 0
+Debugging missing status stream edge =
+    let read = edge.read in
+    let written = edge.written in
+    (rest : Option (List ℕ)) × Ended status edge.told.before edge.told.after told_of_debugger
     (Debugs stream rest read.before read.after written.before written.after)
-    (StopsDebugging stream rest read.before read.after written)
+    (StopsDebugging missing (record edge.fails { outputs = false }) (change stream rest) read written)
 
 -- standard output takes nothing
 abbrev pub WritesNothing : Edge → Type 0
@@ -77,25 +87,26 @@ OpensNothing missing status edge = (missing × DoesNothing (Some read_fault) sta
 -- names, and no output that is made is one of them.
 abbrev pub Makes : Made → (inputs : Text → Option (List ℕ)) → (missing : Text → Type 0) → (status : ℕ) → Edge → Type 0
 Makes (Listed prefix) inputs missing status edge =
-    HoldsBehind prefix edge.read.before edge.read.after (λ had left. PrintsListing status edge.told (change had left) edge.written) × MakesNothing edge
+    HoldsBehind prefix edge.read.before edge.read.after (λ had left. PrintsListing (writing edge.fails) status edge.told (change had left) edge.written) × MakesNothing edge
 Makes (FilesBy prefix template) inputs missing status edge =
     HoldsBehind prefix edge.read.before edge.read.after
     (λ had left. PrintsFiles template status (reading_from had left edge) ⊎ PrintsNoFiles template status (reading_from had left edge))
-Makes (Answered engines) inputs missing status edge = Playing engines status (named inputs missing) edge.told edge.read edge.written × MakesNothing edge
-Makes AsText inputs missing status edge = Disassembling status edge.told edge.read edge.written × MakesNothing edge
+Makes (Answered engines) inputs missing status edge = Playing engines status (named edge.fails.files inputs missing) edge × MakesNothing edge
+Makes AsText inputs missing status edge = Disassembling edge.fails status edge.told edge.read edge.written × MakesNothing edge
 Makes (DebuggedOf prefix name) inputs missing status edge =
-    Debugging status (with_prefix prefix (inputs name)) edge.told edge.read edge.written × MakesNothing edge
+    Debugging (missing name) status (with_prefix prefix (inputs name)) edge × MakesNothing edge
 Makes (TracedOf prefix) inputs missing status edge =
-    HoldsBehind prefix edge.read.before edge.read.after (λ had left. Tracing status edge.told (change had left) edge.written) × MakesNothing edge
+    HoldsBehind prefix edge.read.before edge.read.after (λ had left. Tracing (writing edge.fails) status edge.told (change had left) edge.written) × MakesNothing edge
 Makes (PageTo prefix steps name) inputs missing status edge =
-    HoldsBehind prefix edge.read.before edge.read.after (λ had left. Paging steps name status edge.told (change had left) edge.made) × WritesNothing edge
-Makes (StreamTo name) inputs missing status edge = Assembling name status edge.told edge.read edge.made × WritesNothing edge
-Makes (JobTo name images) inputs missing status edge = Writing name status edge.told edge.read (map (named inputs missing) images) edge.made × WritesNothing edge
+    HoldsBehind prefix edge.read.before edge.read.after (λ had left. Paging (making edge.fails) steps name status edge.told (change had left) edge.made) × WritesNothing edge
+Makes (StreamTo name) inputs missing status edge = Assembling edge.fails name status edge.told edge.read edge.made × WritesNothing edge
+Makes (JobTo name images) inputs missing status edge =
+    Writing name status (map (named edge.fails.files inputs missing) images) edge × WritesNothing edge
 
 -- What is asked for was made of the bytes of a file; or it cannot be opened. Standard input stays.
 abbrev pub MakesOfFile : Text → Made → (inputs : Text → Option (List ℕ)) → (missing : Text → Type 0) → (status : ℕ) → Edge → Type 0
 MakesOfFile name made inputs missing status edge =
-    ((edge.read.after ≡ edge.read.before) × (rest : Option (List ℕ)) × Makes made inputs missing status (reading_from (inputs name) rest edge))
+    ((edge.read.after ≡ edge.read.before) × (rest : Option (List ℕ)) × Makes made inputs missing status (reading_file (inputs name) rest edge))
     ⊎ OpensNothing (missing name) status edge
 
 -- What is asked for was done, of what standard input had or of a file.
@@ -112,24 +123,25 @@ abbrev pub BeginsNothing : Arguments → (status : ℕ) → Edge → Type 0
 BeginsNothing arguments status edge =
     (PrintsAFile arguments × DoesNothing (sink_number SinkFault) status edge) ⊎ DoesNothing None status edge
 
--- What became of a refusal, by the status that is wanted. 0, help: nothing was told, or with status 1 that it cannot be written. 1, memory ran
--- out: that was told, and nothing was written. 2, the words are refused: some text was told, and nothing was written. Which text, no clause
--- says.
-abbrev pub RefusesBy : (wanted status : ℕ) → (said says old new : Option (List ℕ)) → Type 0
-RefusesBy zero status said says old new = ((status ≡ 0) × (says ≡ said)) ⊎ ((status ≡ 1) × Tells said says (as_line (Some output_text)))
-RefusesBy (suc zero) status said says old new = (status ≡ 1) × (new ≡ old) × Tells said says (as_line (Some (fault_text None)))
-RefusesBy (suc (suc more)) status said says old new = (status ≡ 2) × (new ≡ old) × Tells said says None
+-- What became of a refusal, by the status that is wanted. 0, help: nothing was told, or with status 1 that it cannot be written, as
+-- the writer may fail. 1, memory ran out: that was told, and nothing was written. 2, the words are refused: some text was told, and
+-- nothing was written. Which text, no clause says.
+abbrev pub RefusesBy : (wanted status : ℕ) → Edge → Type 0
+RefusesBy zero status edge =
+    ((status ≡ 0) × (edge.told.after ≡ edge.told.before))
+    ⊎ ((status ≡ 1) × Tells edge.told.before edge.told.after (as_line (Some output_text)) × (edge.fails.output ≡ true))
+RefusesBy (suc zero) status edge =
+    (status ≡ 1) × WritesNothing edge × Tells edge.told.before edge.told.after (as_line (Some (fault_text None)))
+RefusesBy (suc (suc more)) status edge = (status ≡ 2) × WritesNothing edge × Tells edge.told.before edge.told.after None
 
 -- What became of words that ask for nothing: they are refused, or memory ran out; or they ask for help.
-abbrev pub Refuses : List Text → (status : ℕ) → (said says old new : Option (List ℕ)) → Type 0
-Refuses words status said says old new =
-    RefusesBy 2 status said says old new ⊎ RefusesBy 1 status said says old new ⊎ (AsksHelp words × RefusesBy 0 status said says old new)
+abbrev pub Refuses : List Text → (status : ℕ) → Edge → Type 0
+Refuses words status edge = RefusesBy 2 status edge ⊎ RefusesBy 1 status edge ⊎ (AsksHelp words × RefusesBy 0 status edge)
 
 -- What was done for words that ask for this, or for nothing, when nothing is read or made.
 abbrev pub Does : List Text → Option Arguments → (inputs : Text → Option (List ℕ)) → (missing : Text → Type 0) → (status : ℕ) → Edge → Type 0
 Does words None inputs missing status edge =
-    Refuses words status edge.told.before edge.told.after edge.written.before edge.written.after
-    × (edge.read.after ≡ edge.read.before) × MakesNothing edge
+    Refuses words status edge × (edge.read.after ≡ edge.read.before) × MakesNothing edge
 Does words (Some arguments) inputs missing status edge =
     Performs arguments.source arguments.made inputs missing status edge ⊎ BeginsNothing arguments status edge
 

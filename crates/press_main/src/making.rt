@@ -1,6 +1,9 @@
 //! Outputs that are made of a text, and of a ticket.
-ghost use Rattle.std.specs.Prelude.{map, IfErr, OnOk};
+ghost use Rattle.std.specs.Prelude.{◌≡◌, true, false, map, IfErr, OnOk};
+ghost use Rattle.press_files.specs.Causes.{may_fail};
 ghost use Rattle.press_files.specs.Change.{change};
+ghost use Rattle.press_forms.specs.Causes.{TextCause};
+ghost use Rattle.press_jobs.specs.Causes.{JobCause};
 ghost use Rattle.press_forms.specs.Assembly.{AssembledInto, StopsMaking};
 ghost use Rattle.press_jobs.specs.Jobs.{MakesAJob, MakesNoJob, MakesTheTicket, StopsMakingJob};
 ghost use Rattle.press_forms.specs.Faults.{told_of_text};
@@ -9,6 +12,7 @@ ghost use Rattle.press_files.specs.NamedInputs.{named};
 ghost use Rattle.press_files.specs.Telling.{Ended};
 
 use press_bits::Bitmap;
+use press_devices::ReadDevice;
 use press_files::{NamedInputs, Teller, report};
 use press_forms::{TextError, assembled};
 use press_jobs::{JobFileError, images_named, ticket_in};
@@ -16,11 +20,10 @@ use press_sink::{NamedOutputs, write_output};
 use press_ticket::Ticket;
 use press_writer::{WriterError, check, write_job};
 use std::alloc::Global;
-use std::io::{Read, Write};
 
 /// Makes the output of this name, which holds the bytes of the assembly text that a reader has, and writes a fault to `err`. Of a text
 /// that is refused nothing is made. The answer is the status: 0, or 1 after a fault.
-pub fn asm_file<R: Read, O: NamedOutputs, E: Teller>(
+pub fn asm_file<R: ReadDevice, O: NamedOutputs, E: Teller>(
     alloc: Global,
     reader: &mut R,
     outputs: &mut O,
@@ -30,8 +33,10 @@ pub fn asm_file<R: Read, O: NamedOutputs, E: Teller>(
     ensures { Ended result (E.said err.old) (E.said err.new) told_of_text
         (AssembledInto name.now (R.remaining reader.old) (R.remaining reader.new)
         (O.made outputs.old) (O.made outputs.new))
-        (StopsMaking name.now (R.remaining reader.old) (R.remaining reader.new)
-        (O.made outputs.old) (O.made outputs.new)) }
+        (λ why. StopsMaking name.now (R.remaining reader.old) (R.remaining reader.new)
+        (O.made outputs.old) (O.made outputs.new) why
+        × TextCause (may_fail R.can_fail false false O.Output.can_fail)
+        (R.remaining reader.old) (R.remaining reader.new) why) }
 {
     match make_stream(alloc, reader, outputs, name) {
         Ok(()) => 0,
@@ -40,7 +45,7 @@ pub fn asm_file<R: Read, O: NamedOutputs, E: Teller>(
 }
 
 /// Makes the output of this name of the assembly text that a reader has.
-fn make_stream<R: Read, O: NamedOutputs>(
+fn make_stream<R: ReadDevice, O: NamedOutputs>(
     alloc: Global,
     reader: &mut R,
     outputs: &mut O,
@@ -50,6 +55,8 @@ fn make_stream<R: Read, O: NamedOutputs>(
         (R.remaining reader.new) (O.made outputs.old) (O.made outputs.new)) }
     ensures err { IfErr result (λ why. StopsMaking name.now (R.remaining reader.old)
         (R.remaining reader.new) (O.made outputs.old) (O.made outputs.new) why) }
+    ensures cause { IfErr result (TextCause (may_fail R.can_fail false false O.Output.can_fail)
+        (R.remaining reader.old) (R.remaining reader.new)) }
 {
     let bytes = assembled(alloc, reader)?;
     write_output(outputs, name, &bytes).map_err(|_| TextError::WriteFault)
@@ -58,7 +65,7 @@ fn make_stream<R: Read, O: NamedOutputs>(
 /// Makes the output of this name, which holds the job of the ticket that a reader has, with the images of the inputs of these names
 /// in the order of its pages, and writes a fault to `err`. Nothing is made before the images are found to fit. The answer is the
 /// status: 0, or 1 after a fault.
-pub fn job_file<T: Read, I: NamedInputs, O: NamedOutputs, E: Teller>(
+pub fn job_file<T: ReadDevice, I: NamedInputs, O: NamedOutputs, E: Teller>(
     alloc: Global,
     ticket: &mut T,
     inputs: &I,
@@ -69,11 +76,17 @@ pub fn job_file<T: Read, I: NamedInputs, O: NamedOutputs, E: Teller>(
 ) -> u8
     ensures { Ended result (E.said err.old) (E.said err.new) told_of_job
         (MakesTheTicket name.now (T.remaining ticket.old) (T.remaining ticket.new)
-        (map (λ name. named (I.bytes inputs.now) (I.missing inputs.now) name.now) names.now)
+        (map (λ name. named I.Input.can_fail (I.bytes inputs.now) (I.missing inputs.now)
+        name.now) names.now)
         (O.made outputs.old) (O.made outputs.new))
-        (StopsMakingJob name.now (T.remaining ticket.old) (T.remaining ticket.new)
-        (map (λ name. named (I.bytes inputs.now) (I.missing inputs.now) name.now) names.now)
-        (change (O.made outputs.old) (O.made outputs.new))) }
+        (λ why. StopsMakingJob name.now (T.remaining ticket.old) (T.remaining ticket.new)
+        (map (λ name. named I.Input.can_fail (I.bytes inputs.now) (I.missing inputs.now)
+        name.now) names.now)
+        (change (O.made outputs.old) (O.made outputs.new)) why
+        × JobCause (may_fail T.can_fail I.Input.can_fail false O.Output.can_fail)
+        (T.remaining ticket.old) (T.remaining ticket.new)
+        (map (λ name. named I.Input.can_fail (I.bytes inputs.now) (I.missing inputs.now)
+        name.now) names.now) why) }
 {
     match make_ticket(alloc, ticket, inputs, names, outputs, name) {
         Ok(()) => 0,
@@ -82,7 +95,7 @@ pub fn job_file<T: Read, I: NamedInputs, O: NamedOutputs, E: Teller>(
 }
 
 /// Makes the output of this name of the ticket that a reader has, with the images of these inputs.
-fn make_ticket<T: Read, I: NamedInputs, O: NamedOutputs>(
+fn make_ticket<T: ReadDevice, I: NamedInputs, O: NamedOutputs>(
     alloc: Global,
     ticket: &mut T,
     inputs: &I,
@@ -92,12 +105,19 @@ fn make_ticket<T: Read, I: NamedInputs, O: NamedOutputs>(
 ) -> Result<(), JobFileError>
     ensures ok { OnOk result (MakesTheTicket name.now
         (T.remaining ticket.old) (T.remaining ticket.new)
-        (map (λ name. named (I.bytes inputs.now) (I.missing inputs.now) name.now) names.now)
+        (map (λ name. named I.Input.can_fail (I.bytes inputs.now) (I.missing inputs.now)
+        name.now) names.now)
         (O.made outputs.old) (O.made outputs.new)) }
     ensures err { IfErr result (λ why. StopsMakingJob name.now (T.remaining ticket.old)
         (T.remaining ticket.new)
-        (map (λ name. named (I.bytes inputs.now) (I.missing inputs.now) name.now) names.now)
+        (map (λ name. named I.Input.can_fail (I.bytes inputs.now) (I.missing inputs.now)
+        name.now) names.now)
         (change (O.made outputs.old) (O.made outputs.new)) why) }
+    ensures cause { IfErr result (JobCause
+        (may_fail T.can_fail I.Input.can_fail false O.Output.can_fail)
+        (T.remaining ticket.old) (T.remaining ticket.new)
+        (map (λ name. named I.Input.can_fail (I.bytes inputs.now) (I.missing inputs.now)
+        name.now) names.now)) }
 {
     let ticket = ticket_in(alloc, ticket)?;
     let images = images_named(alloc, inputs, names)?;
@@ -119,6 +139,8 @@ fn make_job<O: NamedOutputs>(
         (O.made outputs.old) (O.made outputs.new)) }
     ensures err { IfErr result (λ why. MakesNoJob name.now ticket.now images.now
         (O.made outputs.old) (O.made outputs.new) why) }
+    ensures cause { IfErr result (λ error.
+        error ≡ WriterError.WriteFault → O.Output.can_fail ≡ true) }
 {
     check(ticket, images)?;
     let Ok(mut output) = outputs.make(name) else {

@@ -1,6 +1,7 @@
 //! What the words ask for, done.
-ghost use Rattle.std.specs.Prelude.{◌≡◌, ◌⊎◌, map, IfOk};
-ghost use Rattle.press_files.specs.Change.{around, change};
+ghost use Rattle.std.specs.Prelude.{◌≡◌, ◌⊎◌, false, None, map, IfOk};
+ghost use Rattle.press_files.specs.Causes.{may_fail};
+ghost use Rattle.press_files.specs.Change.{answering, around, change};
 ghost use Rattle.std.specs.String.{string_bytes};
 ghost use Rattle.press_words.specs.Defaults.{HoldsBehind, with_prefix};
 ghost use Rattle.press_files.specs.Files.{PrintsFiles, PrintsNoFiles};
@@ -13,6 +14,7 @@ ghost use Rattle.press_words.specs.View.{made_seen, request_seen, status_of};
 
 use crate::making::{asm_file, job_file};
 use crate::sparing::spare_inputs;
+use press_devices::{Behind, ReadDevice, WriteDevice, write_flushed};
 use press_files::{Finished, NO_OUTPUT, NamedInputs, Teller, print_files, print_list, report};
 use press_forms::{disasm_bytes, page_file, tell_trace};
 use press_sessions::{debug_lines, press_lines};
@@ -20,11 +22,16 @@ use press_sink::NamedOutputs;
 use press_units::NO_MEMORY;
 use press_words::{Input, Output, REFUSED, Refusal, Request, request_of};
 use std::alloc::{AllocError, Global};
-use std::io::{self, Read, Write};
 
 /// Does what the words ask for, the program's name among them. Inputs are opened by their names in `inputs`, and files are made in
 /// `outputs`, none of which is an input. The answer has the status, and hands standard output and the outputs back.
-pub fn run_words<I: NamedInputs, O: NamedOutputs + Drop, S: Read, W: Write + Drop, E: Teller>(
+pub fn run_words<
+    I: NamedInputs,
+    O: NamedOutputs + Drop,
+    S: ReadDevice,
+    W: WriteDevice + Drop,
+    E: Teller,
+>(
     alloc: Global,
     inputs: &I,
     mut outputs: O,
@@ -35,7 +42,8 @@ pub fn run_words<I: NamedInputs, O: NamedOutputs + Drop, S: Read, W: Write + Dro
 ) -> Finished<W, O>
     ensures { Runs (map string_bytes words.now) (I.bytes inputs.now) (I.missing inputs.now)
         result.status
-        (around (E.said err.old) (E.said err.new) (S.remaining input.old) (S.remaining input.new)
+        (around (may_fail S.can_fail I.Input.can_fail W.can_fail O.Output.can_fail)
+        (E.said err.old) (E.said err.new) (S.remaining input.old) (S.remaining input.new)
         (W.contents out) (W.contents result.out) (O.made outputs) (O.made result.outputs)) }
 {
     let Ok(texts) = texts_of(alloc, words) else {
@@ -55,7 +63,7 @@ pub fn run_words<I: NamedInputs, O: NamedOutputs + Drop, S: Read, W: Write + Dro
             },
         },
         Err(refusal) => Finished {
-            status: refuse(&refusal, &mut out, err),
+            status: refuse(alloc, &refusal, &mut out, err),
             out,
             outputs,
         },
@@ -75,15 +83,21 @@ fn texts_of(alloc: Global, words: &[String]) -> Result<Vec<&str>, AllocError>
 }
 
 /// Tells why the words ask for nothing: help on `out`, all else on `err`. The answer is the status: 1 where help cannot be written.
-fn refuse<W: Write, E: Teller>(refusal: &Refusal, out: &mut W, err: &mut E) -> u8
-    ensures { RefusesBy (status_of refusal.now) result (E.said err.old) (E.said err.new)
-        (W.contents out.old) (W.contents out.new) }
+fn refuse<W: WriteDevice, E: Teller>(
+    alloc: Global,
+    refusal: &Refusal,
+    out: &mut W,
+    err: &mut E,
+) -> u8
+    ensures { RefusesBy (status_of refusal.now) result
+        (answering W.can_fail (change (E.said err.old) (E.said err.new))
+        (change (W.contents out.old) (W.contents out.new)))
+        ⊎ RefusesBy 1 result
+        (answering W.can_fail (change (E.said err.old) (E.said err.new))
+        (change (W.contents out.old) (W.contents out.new))) }
 {
     match refusal.status() {
-        0 => match write_help(refusal, out) {
-            Ok(()) => 0,
-            Err(_) => report(&NO_OUTPUT, err),
-        },
+        0 => write_help(alloc, refusal, out, err),
         1 => report(&NO_MEMORY, err),
         _ => {
             err.tell(refusal);
@@ -92,14 +106,31 @@ fn refuse<W: Write, E: Teller>(refusal: &Refusal, out: &mut W, err: &mut E) -> u
     }
 }
 
-/// Writes help whole, and flushes.
-fn write_help<W: Write>(help: &Refusal, out: &mut W) -> io::Result<()> {
-    write!(out, "{help}")?;
-    out.flush()
+/// Writes help whole, and flushes. The answer is the status.
+fn write_help<W: WriteDevice, E: Teller>(
+    alloc: Global,
+    help: &Refusal,
+    out: &mut W,
+    err: &mut E,
+) -> u8
+    ensures { RefusesBy 0 result
+        (answering W.can_fail (change (E.said err.old) (E.said err.new))
+        (change (W.contents out.old) (W.contents out.new)))
+        ⊎ RefusesBy 1 result
+        (answering W.can_fail (change (E.said err.old) (E.said err.new))
+        (change (W.contents out.old) (W.contents out.new))) }
+{
+    let Ok(text) = format!(in alloc; "{help}") else {
+        return report(&NO_MEMORY, err);
+    };
+    match write_flushed(out, text.as_bytes()) {
+        Ok(()) => 0,
+        Err(_) => report(&NO_OUTPUT, err),
+    }
 }
 
 /// Opens the input of a request, and makes of it what is asked for.
-fn perform<I: NamedInputs, O: NamedOutputs + Drop, S: Read, W: Write + Drop, E: Teller>(
+fn perform<I: NamedInputs, O: NamedOutputs + Drop, S: ReadDevice, W: WriteDevice + Drop, E: Teller>(
     alloc: Global,
     inputs: &I,
     outputs: O,
@@ -110,7 +141,8 @@ fn perform<I: NamedInputs, O: NamedOutputs + Drop, S: Read, W: Write + Drop, E: 
 ) -> Finished<W, O>
     ensures { Performs (request_seen request.now).source (request_seen request.now).made (I.bytes
         inputs.now) (I.missing inputs.now) result.status
-        (around (E.said err.old) (E.said err.new) (S.remaining input.old) (S.remaining input.new)
+        (around (may_fail S.can_fail I.Input.can_fail W.can_fail O.Output.can_fail)
+        (E.said err.old) (E.said err.new) (S.remaining input.old) (S.remaining input.new)
         (W.contents out) (W.contents result.out) (O.made outputs) (O.made result.outputs)) }
 {
     let output = &request.output;
@@ -128,7 +160,7 @@ fn perform<I: NamedInputs, O: NamedOutputs + Drop, S: Read, W: Write + Drop, E: 
 }
 
 /// Makes what is asked for of what a reader has.
-fn make<I: NamedInputs, O: NamedOutputs + Drop, R: Read, W: Write + Drop, E: Teller>(
+fn make<I: NamedInputs, O: NamedOutputs + Drop, R: ReadDevice, W: WriteDevice + Drop, E: Teller>(
     alloc: Global,
     inputs: &I,
     mut outputs: O,
@@ -138,7 +170,8 @@ fn make<I: NamedInputs, O: NamedOutputs + Drop, R: Read, W: Write + Drop, E: Tel
     err: &mut E,
 ) -> Finished<W, O>
     ensures { Makes (made_seen output.now) (I.bytes inputs.now) (I.missing inputs.now) result.status
-        (around (E.said err.old) (E.said err.new) (R.remaining reader.old) (R.remaining reader.new)
+        (around (may_fail R.can_fail I.Input.can_fail W.can_fail O.Output.can_fail)
+        (E.said err.old) (E.said err.new) (R.remaining reader.old) (R.remaining reader.new)
         (W.contents out) (W.contents result.out) (O.made outputs) (O.made result.outputs)) }
 {
     match output {
@@ -189,7 +222,7 @@ fn make<I: NamedInputs, O: NamedOutputs + Drop, R: Read, W: Write + Drop, E: Tel
 }
 
 /// Lists the sheets of the stream of these bytes and those that a reader has behind them.
-fn list_behind<R: Read, W: Write, E: Teller>(
+fn list_behind<R: ReadDevice, W: WriteDevice, E: Teller>(
     alloc: Global,
     prefix: &[u8],
     reader: &mut R,
@@ -197,19 +230,22 @@ fn list_behind<R: Read, W: Write, E: Teller>(
     err: &mut E,
 ) -> u8
     ensures { HoldsBehind prefix.now (R.remaining reader.old) (R.remaining reader.new)
-        (λ had left. PrintsListing result
+        (λ had left. PrintsListing (may_fail R.can_fail false W.can_fail false) result
         (change (E.said err.old) (E.said err.new)) (change had left)
         (change (W.contents out.old) (W.contents out.new))) }
 {
     if prefix.is_empty() {
         return print_list(alloc, reader, out, err);
     }
-    let mut listed = prefix.chain(reader);
+    let mut listed = Behind {
+        bytes: prefix,
+        reader,
+    };
     print_list(alloc, &mut listed, out, err)
 }
 
 /// Tells the trace of the stream of these bytes and those that a reader has behind them.
-fn trace_behind<R: Read, W: Write, E: Teller>(
+fn trace_behind<R: ReadDevice, W: WriteDevice, E: Teller>(
     alloc: Global,
     prefix: &[u8],
     reader: &mut R,
@@ -217,20 +253,23 @@ fn trace_behind<R: Read, W: Write, E: Teller>(
     err: &mut E,
 ) -> u8
     ensures { HoldsBehind prefix.now (R.remaining reader.old) (R.remaining reader.new)
-        (λ had left. Tracing result
+        (λ had left. Tracing (may_fail R.can_fail false W.can_fail false) result
         (change (E.said err.old) (E.said err.new)) (change had left)
         (change (W.contents out.old) (W.contents out.new))) }
 {
     if prefix.is_empty() {
         return tell_trace(alloc, reader, out, err);
     }
-    let mut traced = prefix.chain(reader);
+    let mut traced = Behind {
+        bytes: prefix,
+        reader,
+    };
     tell_trace(alloc, &mut traced, out, err)
 }
 
 /// Makes the output of this name, of the page that is open behind so many steps of the stream of these bytes and those that a reader
 /// has behind them.
-fn page_behind<R: Read, O: NamedOutputs, E: Teller>(
+fn page_behind<R: ReadDevice, O: NamedOutputs, E: Teller>(
     alloc: Global,
     prefix: &[u8],
     reader: &mut R,
@@ -240,19 +279,22 @@ fn page_behind<R: Read, O: NamedOutputs, E: Teller>(
     err: &mut E,
 ) -> u8
     ensures { HoldsBehind prefix.now (R.remaining reader.old) (R.remaining reader.new)
-        (λ had left. Paging steps name.now result
+        (λ had left. Paging (may_fail R.can_fail false false O.Output.can_fail) steps name.now result
         (change (E.said err.old) (E.said err.new)) (change had left)
         (change (O.made outputs.old) (O.made outputs.new))) }
 {
     if prefix.is_empty() {
         return page_file(alloc, reader, steps, outputs, name, err);
     }
-    let mut stream = prefix.chain(reader);
+    let mut stream = Behind {
+        bytes: prefix,
+        reader,
+    };
     page_file(alloc, &mut stream, steps, outputs, name, err)
 }
 
 /// Prints the stream of these bytes and those that a reader has behind them to files by a template.
-fn print_behind<O: NamedOutputs + Drop, R: Read, W: Write + Drop, E: Teller>(
+fn print_behind<O: NamedOutputs + Drop, R: ReadDevice, W: WriteDevice + Drop, E: Teller>(
     alloc: Global,
     outputs: O,
     prefix: &[u8],
@@ -263,22 +305,27 @@ fn print_behind<O: NamedOutputs + Drop, R: Read, W: Write + Drop, E: Teller>(
 ) -> Finished<W, O>
     ensures { HoldsBehind prefix.now (R.remaining reader.old) (R.remaining reader.new)
         (λ had left. PrintsFiles template.now result.status
-        (around (E.said err.old) (E.said err.new) had left (W.contents out)
+        (around (may_fail R.can_fail false W.can_fail O.Output.can_fail)
+        (E.said err.old) (E.said err.new) had left (W.contents out)
         (W.contents result.out) (O.made outputs) (O.made result.outputs))
         ⊎ PrintsNoFiles template.now result.status
-        (around (E.said err.old) (E.said err.new) had left (W.contents out)
+        (around (may_fail R.can_fail false W.can_fail O.Output.can_fail)
+        (E.said err.old) (E.said err.new) had left (W.contents out)
         (W.contents result.out) (O.made outputs) (O.made result.outputs))) }
 {
     if prefix.is_empty() {
         return print_files(alloc, outputs, reader, template, out, err);
     }
-    let mut stream = prefix.chain(reader);
+    let mut stream = Behind {
+        bytes: prefix,
+        reader,
+    };
     print_files(alloc, outputs, &mut stream, template, out, err)
 }
 
 /// Has a session with a debugger of the stream of these bytes and those of the input of this name behind them, by the lines that a
 /// reader has.
-fn debug_file<I: NamedInputs, R: Read, W: Write, E: Teller>(
+fn debug_file<I: NamedInputs, R: ReadDevice, W: WriteDevice, E: Teller>(
     alloc: Global,
     inputs: &I,
     prefix: &[u8],
@@ -287,10 +334,11 @@ fn debug_file<I: NamedInputs, R: Read, W: Write, E: Teller>(
     out: &mut W,
     err: &mut E,
 ) -> u8
-    ensures { Debugging result (with_prefix prefix.now (I.bytes inputs.now name.now))
-        (change (E.said err.old) (E.said err.new))
-        (change (R.remaining reader.old) (R.remaining reader.new))
-        (change (W.contents out.old) (W.contents out.new)) }
+    ensures { Debugging (I.missing inputs.now name.now) result
+        (with_prefix prefix.now (I.bytes inputs.now name.now))
+        (around (may_fail R.can_fail I.Input.can_fail W.can_fail false)
+        (E.said err.old) (E.said err.new) (R.remaining reader.old) (R.remaining reader.new)
+        (W.contents out.old) (W.contents out.new) None None) }
 {
     match inputs.open(name) {
         Ok(mut input) => debug_behind(alloc, prefix, &mut input, reader, out, err),
@@ -299,7 +347,7 @@ fn debug_file<I: NamedInputs, R: Read, W: Write, E: Teller>(
 }
 
 /// The same of the stream of these bytes and those that `input` has behind them.
-fn debug_behind<I: Read, R: Read, W: Write, E: Teller>(
+fn debug_behind<I: ReadDevice, R: ReadDevice, W: WriteDevice, E: Teller>(
     alloc: Global,
     prefix: &[u8],
     input: &mut I,
@@ -307,20 +355,23 @@ fn debug_behind<I: Read, R: Read, W: Write, E: Teller>(
     out: &mut W,
     err: &mut E,
 ) -> u8
-    ensures { Debugging result (with_prefix prefix.now (I.remaining input.old))
-        (change (E.said err.old) (E.said err.new))
-        (change (R.remaining reader.old) (R.remaining reader.new))
-        (change (W.contents out.old) (W.contents out.new)) }
+    ensures { Debugging ⊥ result (with_prefix prefix.now (I.remaining input.old))
+        (around (may_fail R.can_fail I.can_fail W.can_fail false)
+        (E.said err.old) (E.said err.new) (R.remaining reader.old) (R.remaining reader.new)
+        (W.contents out.old) (W.contents out.new) None None) }
 {
     if prefix.is_empty() {
         return debug_lines(alloc, input, reader, out, err);
     }
-    let mut stream = prefix.chain(input);
+    let mut stream = Behind {
+        bytes: prefix,
+        reader: input,
+    };
     debug_lines(alloc, &mut stream, reader, out, err)
 }
 
 /// Makes the output of this name of the ticket that a reader has, with the images of the inputs of these names.
-fn write_file<R: Read, I: NamedInputs, O: NamedOutputs, E: Teller>(
+fn write_file<R: ReadDevice, I: NamedInputs, O: NamedOutputs, E: Teller>(
     alloc: Global,
     reader: &mut R,
     inputs: &I,
@@ -330,11 +381,11 @@ fn write_file<R: Read, I: NamedInputs, O: NamedOutputs, E: Teller>(
     err: &mut E,
 ) -> u8
     ensures { Writing name.now result
-        (change (E.said err.old) (E.said err.new))
-        (change (R.remaining reader.old) (R.remaining reader.new))
-        (map (named (I.bytes inputs.now) (I.missing inputs.now))
+        (map (named I.Input.can_fail (I.bytes inputs.now) (I.missing inputs.now))
         (map (λ image. image.now) images.now))
-        (change (O.made outputs.old) (O.made outputs.new)) }
+        (around (may_fail R.can_fail I.Input.can_fail false O.Output.can_fail)
+        (E.said err.old) (E.said err.new) (R.remaining reader.old) (R.remaining reader.new)
+        None None (O.made outputs.old) (O.made outputs.new)) }
 {
     let Ok(words) = names_of(alloc, images) else {
         return report(&NO_MEMORY, err);

@@ -18,12 +18,12 @@ returns-then-is_err-clause-err g c =
     inr (record {
       fits = c.in_ok-check.ensures.ok;
       told = inl refl;
-      made = made_prefix c.close.result _ _ _ _ _ _ _ _ refl c.in-Ok.ensures.made c.in-Ok.ensures.empty (bytes, [], sym (append-nil bytes), c.in_default-write_job.ensures.ok) c.close.ensures;
+      made = made_prefix c.close.result _ _ _ _ _ _ _ _ refl c.in-Ok.ensures.made c.in-Ok.ensures.empty (bytes, [], sym (append-nil bytes), c.in_default-write_job.ensures.ok) c.close.ensures.closes;
     })
 
 pub returns-clause-ok : goal.returns-clause-ok
 returns-clause-ok g c = record {
   fits = c.in_ok-check.ensures.ok;
-  made = made_whole c.close.result _ _ _ _ _ _ _ _ (sym c.if-is_err.ensures.value) refl c.in-Ok.ensures.made c.in-Ok.ensures.empty c.in_default-write_job.ensures.ok c.close.ensures;
+  made = made_whole c.close.result _ _ _ _ _ _ _ _ (sym c.if-is_err.ensures.value) refl c.in-Ok.ensures.made c.in-Ok.ensures.empty c.in_default-write_job.ensures.ok c.close.ensures.closes;
   prints = c.in_default-write_job.ensures.prints c.in_ok-check.ensures.ok;
 }

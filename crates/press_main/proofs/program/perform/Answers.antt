@@ -11,4 +11,5 @@ returns-in-Ok g c = rw c.in-File.is (inl (refl, _, rw c.in-Ok.ensures.bytes at c
 pub returns-in-Err : goal.returns-in-Err
 returns-in-Err g c =
     rw c.in-File.is
-    (inr (opens-nothing c.in-Err.error _ _ _ _ _ _ _ _ _ _ c.in-Err.ensures.missing (record { answers = c.report.ensures.status; told = c.report.ensures.told; unread = refl; unwritten = refl; unmade = refl })))
+    (inr (opens-nothing c.in-Err.error _ _ _ _ _ _ _ _ _ _ _ c.in-Err.ensures.missing
+    (record { answers = c.report.ensures.status; told = c.report.ensures.told; unread = refl; unwritten = refl; unmade = refl })))

@@ -1,15 +1,19 @@
 use Rattle.std.proofs.Common.{◌≡◌, ◌∙◌, Bor, List, ℕ, Some, ap, map, refl, sym}
 use Rattle.std.specs.String.{string_bytes}
+use Rattle.press_files.specs.Causes.{may_fail}
 use Rattle.press_words.specs.View.{request_seen}
 use Rattle.press_words.specs.Words.{arguments}
-use Rattle.press_main.proofs.ProgramLemmas.{begins-nothing, runs-nothing, runs-own}
+use Rattle.press_main.proofs.ProgramLemmas.{begins-nothing, runs-nothing, runs-own, runs-refused}
 use Rattle.press_main.proofs.program.run_words.Goals as goal
 
 pub returns-in_default : goal.returns-in_default
 returns-in_default g c =
     let texts : List (List ℕ) = map string_bytes c.args.words.now in
-    runs-nothing texts (arguments texts) (g.I.NamedInputs.bytes c.args.inputs.now) (g.I.NamedInputs.missing c.args.inputs.now) c.report.result (g.E.Teller.said c.args.err.now) (g.E.Teller.said c.report.new.err)
-    (g.S.Read.remaining c.args.input.now) (g.S.Read.remaining c.args.input.now) (g.W.Write.contents c.args.out) (g.W.Write.contents c.args.out) (g.O.NamedOutputs.made c.args.outputs) (g.O.NamedOutputs.made c.args.outputs)
+    runs-nothing texts (arguments texts) (g.I.NamedInputs.bytes c.args.inputs.now) (g.I.NamedInputs.missing c.args.inputs.now) c.report.result
+    (may_fail g.S.ReadDevice.can_fail g.I.Input.ReadDevice.can_fail g.W.WriteDevice.can_fail g.O.Output.WriteDevice.can_fail)
+    (g.E.Teller.said c.args.err.now) (g.E.Teller.said c.report.new.err)
+    (g.S.ReadDevice.remaining c.args.input.now) (g.S.ReadDevice.remaining c.args.input.now) (g.W.WriteDevice.contents c.args.out)
+    (g.W.WriteDevice.contents c.args.out) (g.O.NamedOutputs.made c.args.outputs) (g.O.NamedOutputs.made c.args.outputs)
     (record { answers = c.report.ensures.status; told = c.report.ensures.told; unread = refl; unwritten = refl; unmade = refl })
 
 pub returns-in-Ok-request_of : goal.returns-in-Ok-request_of
@@ -17,13 +21,29 @@ returns-in-Ok-request_of g c =
     let texts : List (List ℕ) = map string_bytes c.args.words.now in
     let now : Bor (List ℕ) → List ℕ = λ word. word.now in
     let request = request_seen c.in-Ok-request_of.request in
+    let fails = may_fail g.S.ReadDevice.can_fail g.I.Input.ReadDevice.can_fail g.W.WriteDevice.can_fail g.O.Output.WriteDevice.can_fail in
     let said = g.E.Teller.said c.args.err.now in
     let says = g.E.Teller.said c.report-in-Err-spare_inputs.new.err in
-    let had = g.S.Read.remaining c.args.input.now in
-    let old = g.W.Write.contents c.args.out in
+    let had = g.S.ReadDevice.remaining c.args.input.now in
+    let old = g.W.WriteDevice.contents c.args.out in
     let before = g.O.NamedOutputs.made c.args.outputs in
     let after = g.O.NamedOutputs.made c.spare_inputs.new.outputs in
     let wants : arguments texts ≡ Some request = ap arguments (sym (ap (map now) c.deref.ensures.value ∙ c.in-Ok.ensures)) ∙ c.in-Ok-request_of.ensures.ok in
-    runs-own texts request (arguments texts) (g.I.NamedInputs.bytes c.args.inputs.now) (g.I.NamedInputs.missing c.args.inputs.now) c.report-in-Err-spare_inputs.result said says had had old old before after wants
-    (begins-nothing c.in-Err-spare_inputs.error request c.report-in-Err-spare_inputs.result said says had had old old before after c.in-Err-spare_inputs.ensures.own
+    runs-own texts request (arguments texts) (g.I.NamedInputs.bytes c.args.inputs.now) (g.I.NamedInputs.missing c.args.inputs.now)
+    c.report-in-Err-spare_inputs.result fails said says had had old old before after wants
+    (begins-nothing c.in-Err-spare_inputs.error request c.report-in-Err-spare_inputs.result fails said says had had old old before after c.in-Err-spare_inputs.ensures.own
     (record { answers = c.report-in-Err-spare_inputs.ensures.status; told = c.report-in-Err-spare_inputs.ensures.told; unread = refl; unwritten = refl; unmade = c.spare_inputs.ensures.made }))
+
+-- words that are refused
+pub returns : goal.returns
+returns g c =
+    let texts : List (List ℕ) = map string_bytes c.args.words.now in
+    let now : Bor (List ℕ) → List ℕ = λ word. word.now in
+    let seen : map now c.deref.result.now ≡ texts = ap (map now) c.deref.ensures.value ∙ c.in-Ok.ensures in
+    let refused = c.in-Err.ensures in
+    runs-refused texts (arguments texts) (g.I.NamedInputs.bytes c.args.inputs.now) (g.I.NamedInputs.missing c.args.inputs.now) c.refuse.result
+    (may_fail g.S.ReadDevice.can_fail g.I.Input.ReadDevice.can_fail g.W.WriteDevice.can_fail g.O.Output.WriteDevice.can_fail)
+    (g.E.Teller.said c.args.err.now) (g.E.Teller.said c.refuse.new.err) (g.S.ReadDevice.remaining c.args.input.now)
+    (g.W.WriteDevice.contents c.args.out) (g.W.WriteDevice.contents c.refuse.new.out) (g.O.NamedOutputs.made c.args.outputs)
+    c.in-Err.refusal
+    (rw seen at refused.refused) (λ zero_. rw seen at refused.help zero_) c.refuse.ensures

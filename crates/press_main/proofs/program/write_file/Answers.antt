@@ -1,5 +1,6 @@
-use Rattle.std.proofs.Common.{◌≡◌, ◌∙◌, ℕ, List, Bor, Option, map, ap, refl, subst, inl, arith}
-use Rattle.press_files.specs.Change.{change}
+use Rattle.std.proofs.Common.{◌≡◌, ◌∙◌, ℕ, List, Bor, Option, None, false, map, ap, refl, subst, inl, arith}
+use Rattle.press_files.specs.Causes.{may_fail}
+use Rattle.press_files.specs.Change.{around}
 use Rattle.press_sink.specs.Outputs.{MadeOutput}
 use Rattle.press_ticket.specs.declared.fault.TicketError.TheVariants as ticket_fault
 use Rattle.press_files.specs.NamedInputs.{NamedInput, named}
@@ -11,17 +12,22 @@ use Rattle.press_main.proofs.program.write_file.Goals as goal
 pub returns-in_default : goal.returns-in_default
 returns-in_default g c = record {
   done = λ zero. absurd (omega (arith, c.report.ensures.status, zero));
-  stops = λ other. (c.report.ensures.status, fault.Ticket ticket_fault.NoMemory, c.report.ensures.told, inl (record { refused = tt; unwritten = refl }));
+  stops = λ other. (c.report.ensures.status, fault.Ticket ticket_fault.NoMemory, c.report.ensures.told, (inl (record { refused = tt; unwritten = refl }), tt));
 }
 
 pub returns : goal.returns
 returns g c =
-    let input = named (g.I.NamedInputs.bytes c.args.inputs.now) (g.I.NamedInputs.missing c.args.inputs.now) in
-    let had = g.R.Read.remaining c.args.reader.now in
-    let left = g.R.Read.remaining c.job_file.new.ticket in
+    let input = named g.I.Input.ReadDevice.can_fail (g.I.NamedInputs.bytes c.args.inputs.now) (g.I.NamedInputs.missing c.args.inputs.now) in
+    let had = g.R.ReadDevice.remaining c.args.reader.now in
+    let left = g.R.ReadDevice.remaining c.job_file.new.ticket in
     let before : Option (List MadeOutput) = g.O.NamedOutputs.made c.args.outputs.now in
     let after : Option (List MadeOutput) = g.O.NamedOutputs.made c.job_file.new.outputs in
     let now : Bor (List ℕ) → List ℕ = λ name. name.now in
     let same : map (λ (name : Bor (List ℕ)). input name.now) c.deref.result.now ≡ map input (map now c.args.images.now) =
     map-twice now input c.deref.result.now ∙ ap (map input) (ap (map now) c.deref.ensures.value ∙ c.in-Ok.ensures) in
-    subst (λ (inputs : List NamedInput). Writing c.args.name.now c.job_file.result (change (g.E.Teller.said c.args.err.now) (g.E.Teller.said c.job_file.new.err)) (change had left) inputs (change before after)) same c.job_file.ensures
+    let fails = may_fail g.R.ReadDevice.can_fail g.I.Input.ReadDevice.can_fail false g.O.Output.WriteDevice.can_fail in
+    let said = g.E.Teller.said c.args.err.now in
+    let says = g.E.Teller.said c.job_file.new.err in
+    let P : List NamedInput → Type 0 = λ inputs.
+    Writing c.args.name.now c.job_file.result inputs (around fails said says had left None None before after) in
+    subst P same c.job_file.ensures
