@@ -23,8 +23,8 @@ GivesBytes (pieces.Bytes count) = ⊤
 GivesBytes pieces.Interrupted = ⊥
 GivesBytes pieces.Failed = ⊥
 
--- What the reads up to the next piece gave of what a reader had: bytes at the front of a buffer, none only at the end; or a
--- read failed, or there were too many, and nothing was read.
+-- What the reads up to the next piece gave of what a reader had: bytes at the front of a buffer, none only at the end; or a read failed, or
+-- there were too many, and nothing was read.
 abbrev pub GivesNext : Result ℕ ReadFailed → (had left : Option (List ℕ)) → (buffer : List ℕ) → Type 0
 GivesNext (Ok count) had left buffer = (count ≤ length buffer) × Consumes had left (take count buffer) × (count ≡ 0 → IsAtEnd left)
 GivesNext (Err _) had left buffer = Keeps had left
@@ -45,9 +45,13 @@ ended_after ended (pieces.Bytes count) = ended || count == 0
 abbrev pub no_reads : ReadCount
 no_reads = record { reads = 0; failed = false; ended = false }
 
--- Why a reader is not read on: a read of such a device may fail or be interrupted; or as many bytes were read as an input has reads.
-abbrev pub ReadFails : (can_fail : Bool) → (had left : Option (List ℕ)) → Type 0
-ReadFails can_fail had left = (can_fail ≡ true) ⊎ ((read : List ℕ) × Consumes had left read × (most_reads ≤ length read))
+-- Why a reader is not read on, by what it tells: a read failed or was interrupted by now; or as many reads were made as an input has.
+abbrev pub ReadFails : (failed : Bool) (reads : ℕ) → Type 0
+ReadFails failed reads = (failed ≡ true) ⊎ (most_reads ≤ reads)
+
+-- there is a reader of this type that is not read on, whether it was ever opened or not
+abbrev pub SomeFails : {R : Type 0} → (failed : R → Bool) → (reads : R → ℕ) → Type 0
+SomeFails {R} failed reads = (reader : R) × ReadFails (failed reader) (reads reader)
 
 -- A read failed; or the most reads were made, and none of them gave no bytes.
 abbrev pub HasFault : ReadCount → Type 0

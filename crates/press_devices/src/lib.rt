@@ -1,10 +1,10 @@
-//! Devices: what is read from and written to, and whether a call of it may fail (this profile).
+//! Devices: what is read from and written to, whether a call of it failed, and how many reads were made of it (this profile).
 #![tactic(auto)]
 
-mod behind;
 mod reading;
+mod watched;
 mod writing;
 
-pub use behind::Behind;
 pub use reading::{MOST_READS, PIECE, READ_FAULT, ReadCount, ReadDevice, ReadFailed, read_next};
+pub use watched::Watched;
 pub use writing::{WriteDevice, write_flushed, write_pieces, write_whole};

@@ -1,9 +1,10 @@
 //! Reads of an input, and how many there were (this profile).
-ghost use Rattle.std.specs.Prelude.{◌≡◌, ◌≢◌, ◌<◌, ◌≤◌, ◌+◌, ◌⊎◌, ◌||◌, ◌==◌, true, max, length, IfOk, IfErr, OnOk, OnErr, MatchResult};
+ghost use Rattle.std.specs.Prelude.{◌≡◌, ◌≢◌, ◌<◌, ◌≤◌, ◌+◌, ◌⊎◌, ◌||◌, ◌==◌, true, max, min, length, IfOk, IfErr, OnOk, OnErr, MatchResult};
 ghost use Rattle.std.specs.Io.{ReadsAtMost};
 ghost use Rattle.std.specs.Io.KnownBytes.{ReadConsumes};
 ghost use Rattle.std.specs.IoError.{error_kind};
-ghost use Rattle.press_devices.specs.Reading.{GivesPiece, GivesBytes, GivesNext, ended_after, failed_after, most_reads};
+ghost use Rattle.press_devices.specs.Failing.{failed_with};
+ghost use Rattle.press_devices.specs.Reading.{GivesPiece, GivesBytes, GivesNext, ReadFails, ended_after, failed_after, most_reads};
 ghost use Rattle.press_devices.specs.declared.reading.Piece.TheVariants.{Bytes, Failed, Interrupted};
 
 use press_units::ToldFault;
@@ -27,8 +28,11 @@ pub trait ReadDevice {
     /// The bytes that reads will give from here on, where they are known.
     ghost remaining: { Self → Option (List ℕ) };
 
-    /// Whether a read of such a device may fail or be interrupted.
-    ghost can_fail: { Bool };
+    /// Whether a read failed or was interrupted so far; true also where that is not known.
+    ghost failed: { Self → Bool };
+
+    /// How many reads were made so far, the most of one input at most; that many where it is not known.
+    ghost reads: { Self → ℕ };
 
     /// One read: how many bytes it gave at the front of the buffer, none only at the end.
     ///
@@ -38,14 +42,17 @@ pub trait ReadDevice {
     fn read_some(&mut self, buffer: &mut [u8]) -> io::Result<usize>
         ensures bound { ReadsAtMost result buffer.new }
         ensures bytes { ReadConsumes (remaining self.old) (remaining self.new) result buffer.new }
-        ensures cause { OnErr result (can_fail ≡ true) };
+        ensures failed { failed self.new ≡ failed_with (failed self.old) result }
+        ensures reads { reads self.new ≡ min (reads self.old + 1) most_reads };
 }
 
-/// Any reader of std, of which it is not known that its reads do not fail.
+/// Any reader of std, of which it is not known whether its reads failed, and how many were made.
 impl<R: Read> ReadDevice for R {
     ghost remaining = { λ reader. R.Read.remaining reader };
 
-    ghost can_fail = { true };
+    ghost failed = { λ _. true };
+
+    ghost reads = { λ _. most_reads };
 
     fn read_some(&mut self, buffer: &mut [u8]) -> io::Result<usize> {
         self.read(buffer)
@@ -139,7 +146,9 @@ fn read_piece<R: ReadDevice>(reader: &mut R, piece: &mut [u8], count: &mut ReadC
     ensures gives { GivesPiece (R.remaining reader.old) (R.remaining reader.new) piece.new result }
     ensures failed { count.new.failed ≡ failed_after count.old.failed result }
     ensures ended { count.new.ended ≡ ended_after count.old.ended result }
-    ensures cause { (R.can_fail ≡ true) ⊎ GivesBytes result }
+    ensures stays { R.failed reader.old ≡ true → R.failed reader.new ≡ true }
+    ensures told { count.old.reads ≤ R.reads reader.old → count.new.reads ≤ R.reads reader.new }
+    ensures cause { (R.failed reader.new ≡ true) ⊎ GivesBytes result }
 {
     count.reads += 1;
     let given = piece_of(reader.read_some(piece));
@@ -170,8 +179,13 @@ pub fn read_next<R: ReadDevice>(
         (λ length. count.new.ended ≡ (count.old.ended || length == 0))
         (λ _. count.new.ended ≡ count.old.ended) }
     ensures fault { OnErr result ((count.new.failed ≡ true) ⊎ (most_reads ≤ count.new.reads)) }
-    ensures few { (R.can_fail ≡ true) ⊎ (count.new.reads ≤ count.old.reads + 1) }
-    ensures cause { OnErr result ((R.can_fail ≡ true) ⊎ (most_reads ≤ count.old.reads)) }
+    ensures stays { R.failed reader.old ≡ true → R.failed reader.new ≡ true }
+    ensures told { count.old.reads ≤ R.reads reader.old → count.new.reads ≤ R.reads reader.new }
+    ensures few { (R.failed reader.new ≡ true) ⊎ (count.new.reads ≤ count.old.reads + 1) }
+    ensures cause { OnErr result
+        ((R.failed reader.new ≡ true) ⊎ (most_reads ≤ count.old.reads)) }
+    ensures fails { OnErr result (count.old.reads ≤ R.reads reader.old
+        → ReadFails (R.failed reader.new) (R.reads reader.new)) }
 {
     while count.reads < MOST_READS {
         match read_piece(reader, piece, count) {

@@ -3,6 +3,7 @@ ghost use Rattle.std.specs.Prelude.{◌≡◌, ◌<◌, ◌⊎◌, true, length,
 ghost use Rattle.std.specs.Io.{WritesAtMost};
 ghost use Rattle.std.specs.Io.KnownBytes.{Keeps, WriteAppends};
 ghost use Rattle.std.specs.List.{flat_map};
+ghost use Rattle.press_devices.specs.Failing.{failed_with};
 ghost use Rattle.press_devices.specs.Writing.{Writes};
 
 use std::io::{self, ErrorKind, Write};
@@ -17,20 +18,21 @@ pub trait WriteDevice {
     /// The bytes that it holds, where they are known.
     ghost contents: { Self → Option (List ℕ) };
 
-    /// Whether a write or a flush of such a device may fail, be interrupted, or take nothing of some bytes.
-    ghost can_fail: { Bool };
+    /// Whether a write or a flush failed, was interrupted, or took nothing of some bytes so far; true also where that is not known.
+    ghost failed: { Self → Bool };
 
     /// One write: how many bytes it took of the front of these.
     ///
     /// # Errors
     ///
-    /// Where it failed or was interrupted; nothing was written then.
+    /// Where it failed or was interrupted; nothing was written then. So is a write that takes nothing of some bytes, unless a call failed
+    /// before.
     fn write_some(&mut self, bytes: &[u8]) -> io::Result<usize>
         ensures bound { WritesAtMost result bytes.now }
         ensures bytes { WriteAppends (contents self.old) (contents self.new) result bytes.now }
         ensures takes { IfOk result (λ count.
-            0 < length bytes.now → (can_fail ≡ true) ⊎ (0 < count)) }
-        ensures cause { OnErr result (can_fail ≡ true) };
+            0 < length bytes.now → (failed self.new ≡ true) ⊎ (0 < count)) }
+        ensures failed { failed self.new ≡ failed_with (failed self.old) result };
 
     /// Sees to it that what was written does not wait in the program.
     ///
@@ -39,14 +41,14 @@ pub trait WriteDevice {
     /// Where that failed.
     fn flush_all(&mut self) -> io::Result<()>
         ensures bytes { Keeps (contents self.old) (contents self.new) }
-        ensures cause { OnErr result (can_fail ≡ true) };
+        ensures failed { failed self.new ≡ failed_with (failed self.old) result };
 }
 
-/// Any writer of std, of which it is not known that its writes do not fail.
+/// Any writer of std, of which it is not known whether its writes failed.
 impl<W: Write> WriteDevice for W {
     ghost contents = { λ writer. W.Write.contents writer };
 
-    ghost can_fail = { true };
+    ghost failed = { λ _. true };
 
     fn write_some(&mut self, bytes: &[u8]) -> io::Result<usize> {
         self.write(bytes)
@@ -64,7 +66,8 @@ impl<W: Write> WriteDevice for W {
 /// Where a write failed, or took nothing. An interrupted one is made again, up to 4,294,967,295 times.
 pub fn write_whole<W: WriteDevice>(output: &mut W, bytes: &[u8]) -> io::Result<()>
     ensures written { Writes result (W.contents output.old) (W.contents output.new) bytes.now }
-    ensures cause { OnErr result (W.can_fail ≡ true) }
+    ensures stays { W.failed output.old ≡ true → W.failed output.new ≡ true }
+    ensures cause { OnErr result (W.failed output.new ≡ true) }
 {
     let mut rest = bytes;
     let mut interrupted = 0;
@@ -91,7 +94,8 @@ pub fn write_whole<W: WriteDevice>(output: &mut W, bytes: &[u8]) -> io::Result<(
 pub fn write_pieces<W: WriteDevice>(output: &mut W, pieces: &[&[u8]]) -> io::Result<()>
     ensures written { Writes result (W.contents output.old) (W.contents output.new)
         (flat_map (λ piece. piece.now) pieces.now) }
-    ensures cause { OnErr result (W.can_fail ≡ true) }
+    ensures stays { W.failed output.old ≡ true → W.failed output.new ≡ true }
+    ensures cause { OnErr result (W.failed output.new ≡ true) }
 {
     for piece in pieces {
         write_whole(output, piece)?;
@@ -106,7 +110,8 @@ pub fn write_pieces<W: WriteDevice>(output: &mut W, pieces: &[&[u8]]) -> io::Res
 /// Where a write or the flush failed. A prefix of the bytes is written then.
 pub fn write_flushed<W: WriteDevice>(output: &mut W, bytes: &[u8]) -> io::Result<()>
     ensures written { Writes result (W.contents output.old) (W.contents output.new) bytes.now }
-    ensures cause { OnErr result (W.can_fail ≡ true) }
+    ensures stays { W.failed output.old ≡ true → W.failed output.new ≡ true }
+    ensures cause { OnErr result (W.failed output.new ≡ true) }
 {
     write_whole(output, bytes)?;
     output.flush_all()

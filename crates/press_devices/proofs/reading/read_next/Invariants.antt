@@ -11,7 +11,9 @@ invariant-loop-count g l =
       long : length l.piece ≡ length l.initial.piece;
       more : l.initial.count.reads ≤ l.count.reads;
       few : l.count.reads ≤ max l.initial.count.reads most_reads;
-      first : (g.R.ReadDevice.can_fail ≡ true) ⊎ (l.count.reads ≡ l.initial.count.reads);
+      stays : g.R.ReadDevice.failed l.initial.reader ≡ true → g.R.ReadDevice.failed l.reader ≡ true;
+      told : l.initial.count.reads ≤ g.R.ReadDevice.reads l.initial.reader → l.count.reads ≤ g.R.ReadDevice.reads l.reader;
+      first : (g.R.ReadDevice.failed l.reader ≡ true) ⊎ (l.count.reads ≡ l.initial.count.reads);
       ended : l.count.ended ≡ l.initial.count.ended;
     }
 
