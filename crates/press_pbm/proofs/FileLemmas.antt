@@ -131,11 +131,12 @@ blank_stopped blanks.BadSize width height had middle result header is bad =
 blank_stopped blanks.NoMemory width height had middle result header is bad = tt
 
 -- a file has fewer bytes than an input has reads
-pub never_most : {F : Type 0} (width height : ℕ) (page : Page) (start count : ReadCount) → start ≡ no_reads → is_page_size width height ≡ true → page ≡ blank width height →
-    F ⊎ (count.reads ≤ start.reads + 65536) → F ⊎ (most_reads ≤ count.reads + page.height * bytes_per_line page.width) → F
-never_most width height page start count none size white (inl fails) most = fails
-never_most width height page start count none size white (inr few) (inl fails) = fails
-never_most width height page start count none size white (inr few) (inr most) =
+pub never_most : {E F : Type 0} (width height : ℕ) (page : Page) (start count : ReadCount)
+    → start ≡ no_reads → is_page_size width height ≡ true → page ≡ blank width height →
+    (E → F) → E ⊎ (count.reads ≤ start.reads + 65536) → F ⊎ (most_reads ≤ count.reads + page.height * bytes_per_line page.width) → F
+never_most width height page start count none size white stays (inl failed) most = stays failed
+never_most width height page start count none size white stays (inr few) (inl failed) = failed
+never_most width height page start count none size white stays (inr few) (inr most) =
     let wide : page.width ≡ width = ap (λ (p : Page). p.width) white ∙ width-blank width height in
     let high : page.height ≡ height = ap (λ (p : Page). p.height) white ∙ height-blank width height in
     let zero : start.reads ≡ 0 = ap (λ (c : ReadCount). c.reads) none in

@@ -21,15 +21,16 @@ no_byte : (bytes : List ℕ) → length bytes < 1 → bytes ≡ []
 no_byte [] none = refl
 no_byte (byte ∷ bytes) none = absurd (omega arith)
 
--- what holds unless a device may fail
+-- what holds unless a device failed
 pub or_else : {F A B : Type 0} → F ⊎ A → (A → B) → F ⊎ B
 or_else (inl f) then = inl f
 or_else (inr a) then = inr (then a)
 
-pub or_both : {F A B C : Type 0} → F ⊎ A → F ⊎ B → (A → B → C) → F ⊎ C
-or_both (inl f) other then = inl f
-or_both (inr a) (inl f) then = inl f
-or_both (inr a) (inr b) then = inr (then a b)
+-- and a call later, where a device that failed stays so
+pub or_both : {E F A B C : Type 0} → (E → F) → E ⊎ A → F ⊎ B → (A → B → C) → F ⊎ C
+or_both stays (inl e) other then = inl (stays e)
+or_both stays (inr a) (inl f) then = inl f
+or_both stays (inr a) (inr b) then = inr (then a b)
 
 -- what an exit by `?` answers
 pub passed_on : {X : Type 0} (result : Result X ReadPbmError) (error : ReadPbmError) (P : ReadPbmError → Type 0) → IsErrAnd result (λ e. e ≡ error) → P error → IfErr result P

@@ -33,9 +33,11 @@ fn fill<R: ReadDevice>(
     ensures ok { OnOk result (Consumes (R.remaining input.old) (R.remaining input.new) buffer.new) }
     ensures err { IfErr result (λ error.
         StopsShort error (length buffer.new) (R.remaining input.old) (R.remaining input.new)) }
-    ensures few { (R.can_fail ≡ true) ⊎ (count.new.reads ≤ count.old.reads + length buffer.old) }
+    ensures stays { R.failed input.old ≡ true → R.failed input.new ≡ true }
+    ensures few { (R.failed input.new ≡ true)
+        ⊎ (count.new.reads ≤ count.old.reads + length buffer.old) }
     ensures cause { IfErr result (λ error. error ≡ ReadPbmError.ReadFault →
-        (R.can_fail ≡ true) ⊎ (most_reads ≤ count.old.reads + length buffer.old)) }
+        (R.failed input.new ≡ true) ⊎ (most_reads ≤ count.old.reads + length buffer.old)) }
 {
     let mut filled = 0;
     while filled < buffer.len() {
@@ -57,9 +59,10 @@ fn read_header<R: ReadDevice>(
         ReadHeader size (R.remaining input.old) (R.remaining input.new)) }
     ensures err { IfErr result (λ error.
         Refused error (R.remaining input.old) (R.remaining input.new)) }
-    ensures few { (R.can_fail ≡ true) ⊎ (count.new.reads ≤ count.old.reads + 65536) }
+    ensures stays { R.failed input.old ≡ true → R.failed input.new ≡ true }
+    ensures few { (R.failed input.new ≡ true) ⊎ (count.new.reads ≤ count.old.reads + 65536) }
     ensures cause { IfErr result (λ error. error ≡ ReadPbmError.ReadFault →
-        (R.can_fail ≡ true) ⊎ (most_reads ≤ count.old.reads + 65536)) }
+        (R.failed input.new ≡ true) ⊎ (most_reads ≤ count.old.reads + 65536)) }
 {
     let mut place = Place::Start;
     for length in 1..=LONGEST_HEADER {
@@ -93,7 +96,9 @@ fn read_rows<R: ReadDevice>(
     ensures err { IfErr result (λ error.
         RowsStop error (page.old.height * bytes_per_line page.old.width)
         (R.remaining input.old) (R.remaining input.new)) }
-    ensures cause { IfErr result (λ error. error ≡ ReadPbmError.ReadFault → (R.can_fail ≡ true)
+    ensures stays { R.failed input.old ≡ true → R.failed input.new ≡ true }
+    ensures cause { IfErr result (λ error. error ≡ ReadPbmError.ReadFault →
+        (R.failed input.new ≡ true)
         ⊎ (most_reads ≤ count.old.reads + page.old.height * bytes_per_line page.old.width)) }
 {
     let width = page.width() as usize;
@@ -128,8 +133,9 @@ pub fn read_pbm<R: ReadDevice>(alloc: Global, input: &mut R) -> Result<Bitmap, R
         × Consumes (R.remaining input.old) (R.remaining input.new) file) }
     ensures refused { IfErr result (λ error.
         Refused error (R.remaining input.old) (R.remaining input.new)) }
+    ensures stays { R.failed input.old ≡ true → R.failed input.new ≡ true }
     ensures cause { IfErr result (λ error.
-        error ≡ ReadPbmError.ReadFault → R.can_fail ≡ true) }
+        error ≡ ReadPbmError.ReadFault → R.failed input.new ≡ true) }
 {
     let mut count = ReadCount::none();
     let (width, height) = read_header(input, &mut count)?;

@@ -15,7 +15,8 @@ use press_devices::{WriteDevice, write_whole};
 fn write_bytes<W: WriteDevice>(output: &mut W, bytes: &[u8]) -> Result<(), WritePbmError>
     ensures written { Writes result (W.contents output.old) (W.contents output.new) bytes.now }
     ensures bytes { (i : ℕ) → slice_index bytes.now i < 256 }
-    ensures cause { OnErr result (W.can_fail ≡ true) }
+    ensures stays { W.failed output.old ≡ true → W.failed output.new ≡ true }
+    ensures cause { OnErr result (W.failed output.new ≡ true) }
 {
     match write_whole(output, bytes) {
         Ok(()) => Ok(()),
@@ -26,7 +27,8 @@ fn write_bytes<W: WriteDevice>(output: &mut W, bytes: &[u8]) -> Result<(), Write
 fn write_header<W: WriteDevice>(bitmap: &Bitmap, output: &mut W) -> Result<(), WritePbmError>
     ensures written { Writes result (W.contents output.old) (W.contents output.new)
         (header_of bitmap.now) }
-    ensures cause { OnErr result (W.can_fail ≡ true) }
+    ensures stays { W.failed output.old ≡ true → W.failed output.new ≡ true }
+    ensures cause { OnErr result (W.failed output.new ≡ true) }
 {
     let mut number = Buffer::new();
     write_bytes(output, b"P4\n")?;
@@ -40,7 +42,8 @@ fn write_header<W: WriteDevice>(bitmap: &Bitmap, output: &mut W) -> Result<(), W
 fn write_lines<W: WriteDevice>(bitmap: &Bitmap, output: &mut W) -> Result<(), WritePbmError>
     ensures written { Writes result (W.contents output.old) (W.contents output.new)
         (flat_map (line_bytes bitmap.now) (range_with_len 0 bitmap.now.height)) }
-    ensures cause { OnErr result (W.can_fail ≡ true) }
+    ensures stays { W.failed output.old ≡ true → W.failed output.new ≡ true }
+    ensures cause { OnErr result (W.failed output.new ≡ true) }
 {
     for index in 0..bitmap.height().div_ceil(BAND_LINES) {
         write_bytes(output, bitmap.band(index))?;
@@ -61,7 +64,8 @@ pub fn write_pbm<W: WriteDevice>(bitmap: &Bitmap, output: &mut W) -> Result<(), 
         (file_of bitmap.now)) }
     ensures fault { OnErr result (AppendsPrefix (W.contents output.old) (W.contents output.new)
         (file_of bitmap.now)) }
-    ensures cause { OnErr result (W.can_fail ≡ true) }
+    ensures stays { W.failed output.old ≡ true → W.failed output.new ≡ true }
+    ensures cause { OnErr result (W.failed output.new ≡ true) }
 {
     write_header(bitmap, output)?;
     write_lines(bitmap, output)

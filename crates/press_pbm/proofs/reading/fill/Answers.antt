@@ -19,7 +19,7 @@ slice_range-put_mid a k n xs ys within fits =
     ap (take ((a + n) - a)) (drop_at (take a xs) (ys ++ after) a (length-take-le a xs within)) ∙ ap (λ m. take m (ys ++ after)) same ∙ take-append-le n ys after fits
 
 pub loop-filled-init : goal.loop-filled-init
-loop-filled-init g c = record { long = refl; within = omega arith; given = Consumes-nil _; few = inr (omega arith) }
+loop-filled-init g c = record { long = refl; within = omega arith; given = Consumes-nil _; stays = λ was. was; few = inr (omega arith) }
 
 pub returns-in-Ok-eq0-clause-err : goal.returns-in-Ok-eq0-clause-err
 returns-in-Ok-eq0-clause-err g c =
@@ -38,7 +38,7 @@ returns-in-Ok-eq0-clause-err g c =
 pub returns-in-Ok-eq0-clause-few : goal.returns-in-Ok-eq0-clause-few
 returns-in-Ok-eq0-clause-few g c =
     let held = c.loop-filled.invariant in
-    or_both held.few c.read_next.ensures.few (λ before one. omega (arith, held.long))
+    or_both c.read_next.ensures.stays held.few c.read_next.ensures.few (λ before one. omega (arith, held.long))
 
 pub loop-filled-preserved : goal.loop-filled-preserved
 loop-filled-preserved g c =
@@ -57,18 +57,19 @@ loop-filled-preserved g c =
       long = kept ∙ held.long;
       within = omega (arith, kept);
       given = subst (Consumes _ _) whole (Consumes-trans _ _ _ _ _ held.given given);
-      few = or_both held.few c.read_next.ensures.few (λ before one. omega arith);
+      stays = λ was. c.read_next.ensures.stays (held.stays was);
+      few = or_both c.read_next.ensures.stays held.few c.read_next.ensures.few (λ before one. omega arith);
     }
 
 pub returns-in-Err-clause-few : goal.returns-in-Err-clause-few
 returns-in-Err-clause-few g c =
     let held = c.loop-filled.invariant in
-    or_both held.few c.read_next.ensures.few (λ before one. omega (arith, held.long))
+    or_both c.read_next.ensures.stays held.few c.read_next.ensures.few (λ before one. omega (arith, held.long))
 
 pub returns-in-Err-clause-cause : goal.returns-in-Err-clause-cause
 returns-in-Err-clause-cause g c =
     let held = c.loop-filled.invariant in
-    λ fault. or_both held.few c.in-Err.ensures.cause (λ before most. omega (arith, held.long))
+    λ fault. or_both c.read_next.ensures.stays held.few c.in-Err.ensures.cause (λ before most. omega (arith, held.long))
 
 pub returns-clause-ok : goal.returns-clause-ok
 returns-clause-ok g c =

@@ -9,7 +9,8 @@ invariant-loop-filled g l =
       long : length l.buffer ≡ length l.initial.buffer;
       within : l.filled ≤ length l.buffer;
       given : Consumes (g.R.ReadDevice.remaining l.initial.input) (g.R.ReadDevice.remaining l.input) (take l.filled l.buffer);
-      few : (g.R.ReadDevice.can_fail ≡ true) ⊎ (l.count.reads ≤ l.initial.count.reads + l.filled);
+      stays : g.R.ReadDevice.failed l.initial.input ≡ true → g.R.ReadDevice.failed l.input ≡ true;
+      few : (g.R.ReadDevice.failed l.input ≡ true) ⊎ (l.count.reads ≤ l.initial.count.reads + l.filled);
     }
 
 abbrev pub decreases-loop-filled : goal.decreases-loop-filled

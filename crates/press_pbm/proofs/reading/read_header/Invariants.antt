@@ -10,4 +10,5 @@ abbrev pub invariant-loop-length : goal.invariant-loop-length
 invariant-loop-length g l =
     (read : List ℕ) × (length read + 1 ≡ l.length) × (run Start read ≡ Some l.place) × (length read + least_behind l.place ≤ 65536) × (0 < least_behind l.place)
     × Consumes (g.R.ReadDevice.remaining l.initial.input) (g.R.ReadDevice.remaining l.input) read
-    × ((g.R.ReadDevice.can_fail ≡ true) ⊎ (l.count.reads + 1 ≤ l.initial.count.reads + l.length))
+    × (g.R.ReadDevice.failed l.initial.input ≡ true → g.R.ReadDevice.failed l.input ≡ true)
+    × ((g.R.ReadDevice.failed l.input ≡ true) ⊎ (l.count.reads + 1 ≤ l.initial.count.reads + l.length))

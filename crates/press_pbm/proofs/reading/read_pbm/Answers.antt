@@ -30,4 +30,4 @@ returns-in_err-read_rows-clause-cause g c =
     passed_on _ _ _ c.from_residual-in_err-read_rows.ensures.1
     (λ fault.
     never_most c.in_ok-width.width c.in_ok-width.height c.in_ok-page.page c.none-count.result c.read_header.new.count
-    c.none-count.ensures size c.in_ok-page.ensures.white c.read_header.ensures.few (c.in_err-read_rows.ensures.cause fault))
+    c.none-count.ensures size c.in_ok-page.ensures.white c.read_rows.ensures.stays c.read_header.ensures.few (c.in_err-read_rows.ensures.cause fault))

@@ -9,7 +9,7 @@ use Rattle.press_pbm.proofs.writing.write_lines.Goals as goal
 
 pub returns-in_err-write_bytes-clause-written : goal.returns-in_err-write_bytes-clause-written
 returns-in_err-write_bytes-clause-written g c =
-    let (done, split, wrote) = c.loop-index.invariant in
+    let ((done, split, wrote), stays) = c.loop-index.invariant in
     let page = c.args.bitmap.now in
     let below : 64 * c.loop-index.index < page.height = omega arith in
     let lines = ArePageLines-line_bytes page _ (64 * c.loop-index.index) c.band.result.now c.height.ensures.inside c.write_bytes.ensures.bytes c.band.ensures in
@@ -19,11 +19,14 @@ returns-in_err-write_bytes-clause-written g c =
 
 pub loop-index-preserved : goal.loop-index-preserved
 loop-index-preserved g c =
-    let (done, split, wrote) = c.loop-index.invariant in
+    let ((done, split, wrote), stays) = c.loop-index.invariant in
     let page = c.args.bitmap.now in
     let below : 64 * c.loop-index.index < page.height = omega arith in
     let lines = ArePageLines-line_bytes page _ (64 * c.loop-index.index) c.band.result.now c.height.ensures.inside c.write_bytes.ensures.bytes c.band.ensures in (
-      done ++ c.band.result.now,
-      lines_grow (line_bytes page) _ done c.band.result.now c.loop-index.index page.height below lines split,
-      Appends-trans _ _ _ _ _ wrote c.in_ok-write_bytes.ensures.written,
+      (
+        done ++ c.band.result.now,
+        lines_grow (line_bytes page) _ done c.band.result.now c.loop-index.index page.height below lines split,
+        Appends-trans _ _ _ _ _ wrote c.in_ok-write_bytes.ensures.written,
+      ),
+      λ was. c.write_bytes.ensures.stays (stays was),
     )
