@@ -2,4 +2,5 @@
 pub mod FuseLemmas
 pub mod OutputsLemmas
 pub mod SendingLemmas
+pub mod SideNameLemmas
 pub mod TemplateLemmas

@@ -1,5 +1,5 @@
 -- What sinks keep.
-use Rattle.std.specs.Prelude.{ℕ, zero, suc, List, map, Option, Some, None, option_map}
+use Rattle.std.specs.Prelude.{ℕ, zero, suc, Bool, List, map, Option, Some, None, option_map}
 use Rattle.std.specs.String.{string_bytes}
 use Rattle.press_sink.specs.declared.sheet.Delivery.{Delivery}
 use Rattle.press_sink.specs.declared.list_sink.ListSink.{ListSink}
@@ -9,6 +9,7 @@ use Rattle.press_sink.specs.declared.fuse_sink.FuseSink.{FuseSink}
 use Rattle.press_sink.specs.declared.write_replies.WriteReplies.{WriteReplies}
 use Rattle.press_sink.specs.declared.template.Template.{Template}
 use Rattle.press_sink.specs.declared.folder_sink.FolderSink.{FolderSink}
+use Rattle.press_sink.specs.declared.file_outputs.FileOutputs.{FileOutputs}
 use Rattle.press_sink.specs.declared.side.Side.{Side}
 use Rattle.press_sink.specs.declared.list_outputs.ListedOutput.{ListedOutput}
 use Rattle.press_sink.specs.declared.list_outputs.ListOutputs.{ListOutputs}
@@ -101,3 +102,7 @@ outputs_in listed = map output_of listed
 -- the outputs that a list of them keeps
 abbrev pub kept_outputs : ListOutputs → List MadeOutput
 kept_outputs list = outputs_in list.outputs.items
+
+-- whether making, writing or closing a file failed or was interrupted so far
+abbrev pub file_failed : {F : Type 0} → FileOutputs F → Bool
+file_failed files = files.failed

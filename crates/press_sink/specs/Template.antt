@@ -1,6 +1,7 @@
 -- Names of files by a template, in which the number of a side has its place.
-use Rattle.std.specs.Prelude.{◌≡◌, ℕ, ◌+◌, List, ◌++◌, codes, min, is_some, if◌then◌else◌}
+use Rattle.std.specs.Prelude.{◌≡◌, ◌≤◌, ℕ, ◌+◌, List, ◌++◌, codes, map, min, is_some, if◌then◌else◌}
 use Rattle.std.specs.Fmt.{decimal}
+use Rattle.std.specs.Int.Digits.{digits_of}
 use Rattle.press_units.specs.Limits.{greatest_of_64_bits}
 use Rattle.press_sink.specs.PrintedSheet.{PrintedSheet}
 
@@ -25,6 +26,15 @@ IsNoTemplate text = (parts : NameParts) → ¬ (IsTemplate text parts)
 -- The name of the side with this number.
 abbrev pub side_name : NameParts → ℕ → List ℕ
 side_name parts number = parts.front ++ (decimal number ++ parts.back)
+
+-- A number from 1 on, as it is written: its decimal digits, the highest first, however many there are, where `decimal` has 64 at most.
+abbrev pub IsWritten : List ℕ → Type 0
+IsWritten text = (number : ℕ) × (1 ≤ number) × (text ≡ map (λ digit. 48 + digit) (digits_of 10 number))
+
+-- The name is that of a side by a template: with a number from 1 on in the place of the number.
+abbrev pub IsSideName : (template name : List ℕ) → Type 0
+IsSideName template name =
+    (parts : NameParts) × IsTemplate template parts × (number : List ℕ) × IsWritten number × (name ≡ parts.front ++ (number ++ parts.back))
 
 -- The number after so many sides; the greatest number stays.
 abbrev pub number_after : ℕ → ℕ → ℕ

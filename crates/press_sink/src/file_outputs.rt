@@ -1,7 +1,11 @@
 //! The files of a file system as named outputs (this profile).
+ghost use Rattle.std.specs.Prelude.{◌≡◌, ◌||◌, false, IfOk};
+ghost use Rattle.press_devices.specs.Watching.{has_failed};
+ghost use Rattle.press_sink.specs.Kept.{file_failed};
+
 use crate::named_outputs::NamedOutputs;
 use crate::output_file::OutputFile;
-use press_devices::WriteDevice;
+use press_devices::{Watched, WriteDevice};
 use std::alloc::{AllocError, Global};
 use std::fmt::Write as _;
 use std::fs::{self, File, Files, Metadata, OpenFile, OpenOptions};
@@ -56,6 +60,8 @@ pub struct FileOutputs<'a, F> {
     buffer: Vec<u8>,
     /// The files that are not replaced.
     spared: Vec<FileNumber>,
+    /// Whether making, writing or closing a file failed or was interrupted so far.
+    failed: bool,
 }
 
 impl<'a, F: Files> FileOutputs<'a, F> {
@@ -64,7 +70,9 @@ impl<'a, F: Files> FileOutputs<'a, F> {
     /// # Errors
     ///
     /// Where there is no memory for the buffer and for names. Making a file takes none, but for a link's.
-    pub fn new(alloc: Global, files: &'a F) -> Result<Self, AllocError> {
+    pub fn new(alloc: Global, files: &'a F) -> Result<Self, AllocError>
+        ensures { IfOk result (λ outputs. file_failed outputs ≡ false) }
+    {
         Ok(FileOutputs {
             alloc,
             files,
@@ -72,11 +80,14 @@ impl<'a, F: Files> FileOutputs<'a, F> {
             part: String::with_capacity(alloc, LONGEST_NAME + LONGEST_PART)?,
             buffer: Vec::with_capacity(alloc, BUFFER)?,
             spared: Vec::new(alloc),
+            failed: false,
         })
     }
 
     /// Opens the file of this name so that it can be written.
-    fn open(&mut self, name: &str) -> io::Result<F::File> {
+    fn open(&mut self, name: &str) -> io::Result<F::File>
+        ensures { file_failed self.new ≡ file_failed self.old }
+    {
         self.part.clear();
         if name.starts_with("/dev/") || name.starts_with("/proc/") {
             return fs::create(self.files, name);
@@ -107,7 +118,9 @@ impl<'a, F: Files> FileOutputs<'a, F> {
     }
 
     /// Opens a file that takes the place of the one of this name, of which this is told, with the same permissions.
-    fn replace(&mut self, name: &str, found: &Metadata) -> io::Result<F::File> {
+    fn replace(&mut self, name: &str, found: &Metadata) -> io::Result<F::File>
+        ensures { file_failed self.new ≡ file_failed self.old }
+    {
         if self.spared.contains(&FileNumber::of(found)) {
             return Err(io::Error::from(ErrorKind::AlreadyExists));
         }
@@ -124,7 +137,9 @@ impl<'a, F: Files> FileOutputs<'a, F> {
     }
 
     /// Opens a new file in the folder of the name.
-    fn open_part(&mut self) -> io::Result<F::File> {
+    fn open_part(&mut self) -> io::Result<F::File>
+        ensures { file_failed self.new ≡ file_failed self.old }
+    {
         for number in 1..=MOST_PARTS {
             self.name_part(number)?;
             match File::create_new(self.files, self.part.as_str()) {
@@ -140,7 +155,9 @@ impl<'a, F: Files> FileOutputs<'a, F> {
     }
 
     /// Takes the name of the part with this number.
-    fn name_part(&mut self, number: u32) -> Result<(), AllocError> {
+    fn name_part(&mut self, number: u32) -> Result<(), AllocError>
+        ensures { file_failed self.new ≡ file_failed self.old }
+    {
         self.part.clear();
         if let Some((folder, _)) = self.name.as_str().rsplit_once('/') {
             self.part.push_str(folder)?;
@@ -157,6 +174,14 @@ impl<'a, F: Files> FileOutputs<'a, F> {
         fs::rename(self.files, self.part.as_str(), self.name.as_str())
     }
 
+    /// Takes the buffer of a file that was written, and whether that failed.
+    fn take_back(&mut self, output: Watched<OutputFile<F::File>>)
+        ensures { file_failed self.new ≡ (file_failed self.old || has_failed output) }
+    {
+        self.failed |= output.failed();
+        self.buffer = output.into_inner().into_buffer();
+    }
+
     /// Removes a file that is not whole.
     fn remove(&self) {
         if !self.part.is_empty() {
@@ -167,10 +192,13 @@ impl<'a, F: Files> FileOutputs<'a, F> {
 
 impl<F: Files> NamedOutputs for FileOutputs<'_, F> {
     ghost use Rattle.std.specs.Prelude.{None};
+    ghost use Rattle.press_sink.specs.Kept.{file_failed};
 
     ghost made = { λ _. None };
 
-    type Output = OutputFile<F::File>;
+    ghost failed = { file_failed };
+
+    type Output = Watched<OutputFile<F::File>>;
 
     fn spare(&mut self, input: &str) -> Result<(), AllocError> {
         if let Ok(found) = fs::metadata(self.files, input)
@@ -181,26 +209,34 @@ impl<F: Files> NamedOutputs for FileOutputs<'_, F> {
         Ok(())
     }
 
-    fn make(&mut self, name: &str) -> io::Result<OutputFile<F::File>> {
-        let file = self.open(name)?;
-        let buffer = mem::replace(&mut self.buffer, Vec::new(self.alloc));
-        Ok(OutputFile::new(file, buffer))
+    fn make(&mut self, name: &str) -> io::Result<Watched<OutputFile<F::File>>> {
+        match self.open(name) {
+            Ok(file) => {
+                let buffer = mem::replace(&mut self.buffer, Vec::new(self.alloc));
+                Ok(Watched::new(OutputFile::new(file, buffer)))
+            }
+            Err(error) => {
+                self.failed = true;
+                Err(error)
+            }
+        }
     }
 
-    fn close(&mut self, mut output: OutputFile<F::File>) -> io::Result<()> {
+    fn close(&mut self, mut output: Watched<OutputFile<F::File>>) -> io::Result<()> {
         let mut closed = output.flush_all();
-        self.buffer = output.into_buffer();
+        self.take_back(output);
         if closed.is_ok() {
             closed = self.place();
         }
         if closed.is_err() {
+            self.failed = true;
             self.remove();
         }
         closed
     }
 
-    fn abandon(&mut self, output: OutputFile<F::File>) {
-        self.buffer = output.into_buffer();
+    fn abandon(&mut self, output: Watched<OutputFile<F::File>>) {
+        self.take_back(output);
         self.remove();
     }
 }

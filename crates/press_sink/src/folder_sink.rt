@@ -23,7 +23,7 @@ pub struct FolderSink<O: NamedOutputs> {
     /// The number of the next side.
     number: u64,
     faults: u64,
-    pub ghost cause: { faults ≢ 0 → O.Output.can_fail ≡ true },
+    pub ghost cause: { faults ≢ 0 → O.failed outputs ≡ true },
 }
 
 /// Why no folder sink was opened, and where it would have made its outputs.
@@ -96,8 +96,10 @@ impl<O: NamedOutputs + Drop> FolderSink<O> {
         ensures template { name_parts self.new ≡ name_parts self.old }
         ensures number { next_number self.new ≡ next_number self.old }
         ensures faults { file_faults self.new ≡ file_faults self.old }
+        ensures failed { O.failed (outputs_of self.old) ≡ true
+            → O.failed (outputs_of self.new) ≡ true }
         ensures cause { IfErr result (λ error.
-            error ≡ SinkError.SinkFault → O.Output.can_fail ≡ true) }
+            error ≡ SinkError.SinkFault → O.failed (outputs_of self.new) ≡ true) }
     {
         let front = self.side(self.number, &sheet.front)?;
         let Some(page) = &sheet.back else {
@@ -143,8 +145,10 @@ impl<O: NamedOutputs + Drop> SheetSink for FolderSink<O> {
         ensures numbers { OnOk result
             (next_number self.new ≡ number_after (side_count sheet.now) (next_number self.old)) }
         ensures stays { OnErr result (next_number self.new ≡ next_number self.old) }
+        ensures failed { O.failed (outputs_of self.old) ≡ true
+            → O.failed (outputs_of self.new) ≡ true }
         ensures cause { IfErr result (λ error.
-            error ≡ SinkError.SinkFault → O.Output.can_fail ≡ true) }
+            error ≡ SinkError.SinkFault → O.failed (outputs_of self.new) ≡ true) }
     {
         match self.make_sheet(sheet) {
             Ok(()) => self.number = self.number.saturating_add(count_sides(sheet)),

@@ -29,4 +29,5 @@ pub use named_outputs::{NamedOutputs, write_output, write_page};
 pub use output_file::OutputFile;
 pub use sheet::{Delivery, Sheet};
 pub use sink::{ReplySink, SheetSink};
+pub use template::is_side_name;
 pub use write_replies::WriteReplies;

@@ -1,5 +1,6 @@
 //! Outputs that are made by their names, one after another (this profile).
-ghost use Rattle.std.specs.Prelude.{◌≡◌, ◌∷◌, [], true, List, Option, option_map, IfOk, OnOk, OnErr};
+ghost use Rattle.std.specs.Prelude.{◌≡◌, ◌∷◌, ◌||◌, [], true, List, Option, Bool, option_map, IfOk, OnOk, OnErr};
+ghost use Rattle.press_devices.specs.Failing.{failed_with};
 ghost use Rattle.press_pbm.specs.Spelling.{file_of};
 ghost use Rattle.press_sink.specs.Outputs.{MadeOutput, MakesPrefix, Closes, GivesUp, opened, holding, with_outputs};
 
@@ -15,7 +16,10 @@ pub trait NamedOutputs {
     /// What was made, in order, where that is known.
     ghost made: { Self → Option (List MadeOutput) };
 
-    /// An output that is open. Its `can_fail` says whether making, writing or closing one may fail.
+    /// Whether making, writing or closing one failed or was interrupted so far; true also where that is not known.
+    ghost failed: { Self → Bool };
+
+    /// An output that is open.
     type Output: WriteDevice + Drop;
 
     /// Notes an input by its name: an output that would replace it, as far as that can be told, cannot be made.
@@ -24,7 +28,8 @@ pub trait NamedOutputs {
     ///
     /// Where there is no memory to note it.
     fn spare(&mut self, input: &str) -> Result<(), AllocError>
-        ensures { made self.new ≡ made self.old };
+        ensures made { made self.new ≡ made self.old }
+        ensures failed { failed self.new ≡ failed self.old };
 
     /// Makes the output of this name, which holds nothing yet.
     ///
@@ -37,7 +42,7 @@ pub trait NamedOutputs {
         ensures empty { IfOk result (λ output.
             Self.Output.contents output ≡ option_map (λ _. []) (made self.old)) }
         ensures fault { OnErr result (made self.new ≡ made self.old) }
-        ensures cause { OnErr result (Self.Output.can_fail ≡ true) };
+        ensures failed { failed self.new ≡ failed_with (failed self.old) result };
 
     /// Closes the output that was made last. It holds what was written to it.
     ///
@@ -47,12 +52,14 @@ pub trait NamedOutputs {
     fn close(&mut self, output: Self::Output) -> io::Result<()>
         ensures closes { Closes result (Self.Output.contents output)
             (made self.old) (made self.new) }
-        ensures cause { OnErr result (Self.Output.can_fail ≡ true) };
+        ensures failed { failed self.new
+            ≡ failed_with (failed self.old || Self.Output.failed output) result };
 
     /// Gives up the output that was made last, which is not whole. It holds a prefix of what was written to it, or is removed where
     /// nothing tells of it.
     fn abandon(&mut self, output: Self::Output)
-        ensures { GivesUp (Self.Output.contents output) (made self.old) (made self.new) };
+        ensures gives { GivesUp (Self.Output.contents output) (made self.old) (made self.new) }
+        ensures failed { failed self.new ≡ (failed self.old || Self.Output.failed output) };
 }
 
 /// Makes the output of this name, which holds these bytes.
@@ -65,7 +72,8 @@ pub fn write_output<O: NamedOutputs>(outputs: &mut O, name: &str, bytes: &[u8]) 
         ≡ with_outputs (holding name.now bytes.now ∷ []) (O.made outputs.old)) }
     ensures fault { OnErr result (MakesPrefix (holding name.now bytes.now ∷ [])
         (O.made outputs.old) (O.made outputs.new)) }
-    ensures cause { OnErr result (O.Output.can_fail ≡ true) }
+    ensures stays { O.failed outputs.old ≡ true → O.failed outputs.new ≡ true }
+    ensures cause { OnErr result (O.failed outputs.new ≡ true) }
 {
     let mut output = outputs.make(name)?;
     match write_whole(&mut output, bytes) {
@@ -93,7 +101,8 @@ pub fn write_page<O: NamedOutputs>(
         ≡ with_outputs (holding name.now (file_of page.now) ∷ []) (O.made outputs.old)) }
     ensures fault { OnErr result (MakesPrefix (holding name.now (file_of page.now) ∷ [])
         (O.made outputs.old) (O.made outputs.new)) }
-    ensures cause { OnErr result (O.Output.can_fail ≡ true) }
+    ensures stays { O.failed outputs.old ≡ true → O.failed outputs.new ≡ true }
+    ensures cause { OnErr result (O.failed outputs.new ≡ true) }
 {
     let Ok(mut output) = outputs.make(name) else {
         return Err(WritePbmError::WriteFault);

@@ -19,7 +19,8 @@ pub(crate) fn make_side<O: NamedOutputs>(outputs: &mut O, side: &Side<'_>) -> Re
     ensures made { MakesOutputs result (output_of_side side.now ∷ [])
         (O.made outputs.old) (O.made outputs.new) }
     ensures fault { IfErr result (λ error. error ≡ SinkError.SinkFault) }
-    ensures cause { OnErr result (O.Output.can_fail ≡ true) }
+    ensures stays { O.failed outputs.old ≡ true → O.failed outputs.new ≡ true }
+    ensures cause { OnErr result (O.failed outputs.new ≡ true) }
 {
     match write_page(outputs, side.name.as_str(), side.page) {
         Ok(()) => Ok(()),

@@ -1,6 +1,8 @@
 //! Templates of file names, in which the number of a side has its place (this profile).
-ghost use Rattle.std.specs.Prelude.{◌≡◌, IfOk, IfErr, IsErrOf, MatchOption};
-ghost use Rattle.press_sink.specs.Template.{IsTemplate, IsNoTemplate, side_name};
+ghost use Rattle.std.specs.Prelude.{◌≡◌, ◌≢◌, ◌↔◌, ◌++◌, ◌≤◌, ◌<◌, ◌^◌, ℕ, List, IsTrue, IfOk, IfErr, IsErrOf, MatchOption};
+ghost use Rattle.std.specs.List.{All};
+ghost use Rattle.std.specs.Char.{IsAsciiDigit};
+ghost use Rattle.press_sink.specs.Template.{NameParts, IsTemplate, IsNoTemplate, IsSideName, IsWritten, side_name};
 ghost use Rattle.press_sink.specs.Kept.{template_parts};
 ghost use Rattle.std.specs.String.{string_bytes};
 
@@ -61,4 +63,46 @@ fn split(text: &str) -> Option<(&str, &str)>
         return None;
     }
     Some((front, back))
+}
+
+/// Whether this is the name of a side by a template: a number, as it is written from 1 on, in place of its one `%d`.
+pub fn is_side_name(template: &str, name: &str) -> bool
+    ensures test { IsTrue result ↔ IsSideName template.now name.now }
+    ensures sides { (parts : NameParts) (number : ℕ) → IsTemplate template.now parts
+        → 1 ≤ number → number < 2 ^ 64 → name.now ≡ side_name parts number → IsTrue result }
+{
+    let Some((front, back)) = split(template) else {
+        return false;
+    };
+    match between(name, front, back) {
+        Some(number) => is_written(number),
+        None => false,
+    }
+}
+
+/// What stands between a front and a back, if a text has both.
+fn between<'a>(text: &'a str, front: &str, back: &str) -> Option<&'a str>
+    ensures { MatchOption result
+        ((middle : List ℕ) → text.now ≢ front.now ++ (middle ++ back.now))
+        (λ middle. text.now ≡ front.now ++ (middle.now ++ back.now)) }
+{
+    text.strip_prefix(front)?.strip_suffix(back)
+}
+
+/// Whether a text is a number from 1 on, as it is written.
+fn is_written(text: &str) -> bool
+    ensures { IsTrue result ↔ IsWritten text.now }
+{
+    let digits = text.as_bytes();
+    match digits.first() {
+        Some(first) => *first != b'0' && are_digits(digits),
+        None => false,
+    }
+}
+
+/// Whether all bytes are digits.
+fn are_digits(bytes: &[u8]) -> bool
+    ensures { IsTrue result ↔ All IsAsciiDigit bytes.now }
+{
+    bytes.iter().all(|byte| byte.is_ascii_digit())
 }

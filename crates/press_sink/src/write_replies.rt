@@ -11,7 +11,7 @@ use press_devices::{WriteDevice, write_flushed};
 pub struct WriteReplies<W: WriteDevice + Drop> {
     writer: W,
     faults: u64,
-    pub ghost cause: { faults ≢ 0 → W.can_fail ≡ true },
+    pub ghost cause: { faults ≢ 0 → W.failed writer ≡ true },
 }
 
 impl<W: WriteDevice + Drop> WriteReplies<W> {
@@ -52,7 +52,9 @@ impl<W: WriteDevice + Drop> ReplySink for WriteReplies<W> {
         ensures replies { Replies
             (written_log (W.contents (reply_writer self.old)) (write_faults self.old)) bytes.now
             result (written_log (W.contents (reply_writer self.new)) (write_faults self.new)) }
-        ensures cause { OnErr result (W.can_fail ≡ true) }
+        ensures stays { W.failed (reply_writer self.old) ≡ true
+            → W.failed (reply_writer self.new) ≡ true }
+        ensures cause { OnErr result (W.failed (reply_writer self.new) ≡ true) }
     {
         if write_flushed(&mut self.writer, bytes).is_ok() {
             return Ok(());

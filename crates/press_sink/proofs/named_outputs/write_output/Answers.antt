@@ -15,4 +15,4 @@ returns-in-Ok-clause-fault g c =
 
 pub returns-in-Err-clause-fault : goal.returns-in-Err-clause-fault
 returns-in-Err-clause-fault g c =
-    made_given_up _ _ _ _ _ _ _ _ refl c.in_ok-output.ensures.made c.in_ok-output.ensures.empty c.in-Err.ensures.written c.abandon.ensures
+    made_given_up _ _ _ _ _ _ _ _ refl c.in_ok-output.ensures.made c.in_ok-output.ensures.empty c.in-Err.ensures.written c.abandon.ensures.gives

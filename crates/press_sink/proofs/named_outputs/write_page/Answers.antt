@@ -6,7 +6,7 @@ use Rattle.press_sink.proofs.named_outputs.write_page.Goals as goal
 
 pub returns-in-Err-clause-fault : goal.returns-in-Err-clause-fault
 returns-in-Err-clause-fault g c =
-    made_given_up _ _ _ _ _ _ _ _ refl c.in-Ok.ensures.made c.in-Ok.ensures.empty c.in-Err.ensures.fault c.abandon.ensures
+    made_given_up _ _ _ _ _ _ _ _ refl c.in-Ok.ensures.made c.in-Ok.ensures.empty c.in-Err.ensures.fault c.abandon.ensures.gives
 
 pub returns-in-Ok-close-clause-made : goal.returns-in-Ok-close-clause-made
 returns-in-Ok-close-clause-made g c =
