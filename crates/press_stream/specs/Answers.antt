@@ -165,8 +165,7 @@ Finishes old tag (Err error) new before after = Faults old [] error new (under t
 -- What else a call answers, whatever it does.
 -- failed: it is 303 exactly where the job had failed. unchanged: where a call is refused before anything is read or done, the job and
 -- what the sinks tell stay. lost: any error but 305 leaves a job that has failed. sheet_faults, reply_faults: the sinks count the fault
--- that is
--- answered.
+-- that is answered.
 pub record Answered {X : Type 0} (old : JobState) (result : Result X JobError) (new : JobState) (before after : SinkLog) : Type 0 where
   pub failed : IsErrOf result errors.Failed ↔ (old.machine ≡ None)
   pub unchanged : IsEarly result → (new ≡ old) × (after ≡ before)

@@ -43,7 +43,7 @@ impl Model for Job {
 }
 
 impl Job {
-    ghost use Rattle.std.specs.Prelude.{◌≡◌, ◌≢◌, ◌<◌, ◌≤◌, ◌↔◌, ℕ, List, [], length, take, false, None, IfOk, IfErr, OnErr, IfSome, IsTrue, IsSome, IsErrOf, MatchResult, option_map};
+    ghost use Rattle.std.specs.Prelude.{◌≡◌, ◌≢◌, ◌<◌, ◌≤◌, ◌↔◌, ℕ, List, [], length, take, true, false, None, IfOk, IfErr, OnErr, IfSome, IsTrue, IsSome, IsErrOf, MatchResult, option_map};
     ghost use Rattle.press_sink.specs.SinkLog.{logs, HasFaultRoom, under};
     ghost use Rattle.press_sink.specs.Sending.{WentOut};
     ghost use Rattle.press_cmd.specs.Token.{Token};
@@ -379,7 +379,7 @@ impl Job {
             (logs (S.told sheets.old) (P.told replies.old))
             (logs (S.told sheets.new) (P.told replies.new)) }
         ensures cause { IsErrOf result JobError.ReadFault
-            → ReadFails R.can_fail (R.remaining reader.old) (R.remaining reader.new) }
+            → ReadFails (R.failed reader.new) (R.reads reader.new) }
     {
         self.run_counted(reader, &mut ReadCount::none(), tag, sheets, replies)
     }
@@ -411,7 +411,7 @@ impl Job {
         ensures bound { count.new.reads ≤ most_reads }
         ensures fault { IsErrOf result JobError.ReadFault → HasFault count.new }
         ensures cause { IsErrOf result JobError.ReadFault
-            → ReadFails R.can_fail (R.remaining reader.old) (R.remaining reader.new) }
+            → ReadFails (R.failed reader.new) (R.reads reader.new) }
     {
         self.check_going()?;
         self.read_through(reader, count, tag, sheets, replies)
@@ -517,7 +517,7 @@ impl Job {
         ensures bound { count.new.reads ≤ most_reads }
         ensures fault { IsErrOf result JobError.ReadFault → HasFault count.new }
         ensures cause { IsErrOf result JobError.ReadFault
-            → ReadFails R.can_fail (R.remaining reader.old) (R.remaining reader.new) }
+            → ReadFails (R.failed reader.new) (R.reads reader.new) }
     {
         self.drain(tag, sheets, replies)?;
         let mut piece = [0; PIECE];

@@ -49,9 +49,8 @@ pub record HappenAll (world : World) (events : List Event) (last : World) (outpu
   pub responses : outputs.new ≡ outputs.old ++ flat_map (λ happening. line_of happening.answer) happenings
 
 -- By these happenings a new press of so many engines came to this world. Under each number was handed out what its entry says, as it was
--- seen last, with the steps that its turns were answered. Each entry that runs is on an engine of its own, there are as many engines, and
--- the
--- queue is as every queue is.
+-- seen last, with the steps that its turns were answered. Each entry that runs is on an engine of its own, there are as many engines,
+-- and the queue is as every queue is.
 pub record ComesFromNew (engines : ℕ) (happenings : List Transition) (last : World) : Type 0 where
   pub given : (number : ℕ) → GivenUnder (new_world engines) happenings last number
   pub on_engines : RunsOnEngines last.queue last.engines

@@ -1,5 +1,5 @@
 //! A stream by any calls of a job, and by a reader behind them.
-ghost use Rattle.std.specs.Prelude.{◌≡◌, List, Some, None, IsSome, false, IfOk, IfErr, IsErrOf, OnErr, OnOk};
+ghost use Rattle.std.specs.Prelude.{◌≡◌, List, Some, None, IsSome, false, IfOk, IfErr, IsErrOf, OnErr, OnOk, true};
 ghost use Rattle.std.specs.List.{flat_map};
 ghost use Rattle.press_devices.specs.Reading.{ReadFails};
 ghost use Rattle.press_sink.specs.SinkLog.{logs, HasFaultRoom, under};
@@ -80,8 +80,8 @@ pub struct PrintedStream {
 /// after another, and one more universal exit. No step of the job is left then.
 ///
 /// Where it stopped early, the job has failed, and answers 303 from then on: at `SinkFault` (301) and `ReplyFault` (302) a sink had a
-/// fault, at `ReadFault` (304) a read failed, or there were too many, or memory ran out. What went out by then is a prefix of what the whole stream prints, at
-/// 304 all of the commands so far.
+/// fault, at `ReadFault` (304) a read failed, or there were too many, or memory ran out. What went out by then is a prefix of what the
+/// whole stream prints, at 304 all of the commands so far.
 ///
 /// # Errors
 ///
@@ -102,7 +102,7 @@ pub fn print_stream<R: ReadDevice, S: SheetSink, P: ReplySink>(
     ensures over { IfOk result (λ printed. OnOk printed.result (IsOver printed.job)) }
     ensures failed { IfOk result (λ printed. OnErr printed.result (printed.job.machine ≡ None)) }
     ensures cause { IfOk result (λ printed. IsErrOf printed.result JobError.ReadFault
-        → ReadFails R.can_fail (R.remaining reader.old) (R.remaining reader.new)) }
+        → ReadFails (R.failed reader.new) (R.reads reader.new)) }
     ensures nothing { OnErr result ((reader.new ≡ reader.old) × (sheets.new ≡ sheets.old)
         × (replies.new ≡ replies.old)) }
 {
@@ -129,7 +129,7 @@ fn run_calls<R: ReadDevice, S: SheetSink, P: ReplySink>(
     ensures over { OnOk result (IsOver job.new) }
     ensures failed { OnErr result (job.new.machine ≡ None) }
     ensures cause { IsErrOf result JobError.ReadFault
-        → ReadFails R.can_fail (R.remaining reader.old) (R.remaining reader.new) }
+        → ReadFails (R.failed reader.new) (R.reads reader.new) }
 {
     laws::chain();
     for call in calls {

@@ -22,7 +22,7 @@ pub fn trace_lines<W: WriteDevice>(
     ensures traces { OnOk result (Traces bytes.now (W.contents out.old) (W.contents out.new)) }
     ensures stops { IfErr result
         (StopsTracing bytes.now (W.contents out.old) (W.contents out.new)) }
-    ensures cause { IfErr result (λ why. IsOutput why → W.can_fail ≡ true) }
+    ensures cause { IfErr result (λ why. IsOutput why → W.failed out.new ≡ true) }
 {
     let mut tracer = Tracer::open(alloc, bytes)?;
     while let Some(line) = tracer.next_line()? {

@@ -75,7 +75,8 @@ pub(crate) fn push_tail(out: &mut Vec<u8>) -> Result<(), AllocError>
 fn write_bytes<W: WriteDevice>(output: &mut W, bytes: &[u8]) -> Result<(), WriterError>
     ensures written { Writes result (W.contents output.old) (W.contents output.new) bytes.now }
     ensures fault { IfErr result (λ error. error ≡ WriteFault) }
-    ensures cause { IfErr result (λ error. error ≡ WriteFault → W.can_fail ≡ true) }
+    ensures cause { IfErr result (λ error.
+        error ≡ WriteFault → W.failed output.new ≡ true) }
 {
     match write_whole(output, bytes) {
         Ok(()) => Ok(()),
@@ -94,7 +95,8 @@ fn write_pieces<W: WriteDevice>(
     ensures written { Writes result (W.contents output.old) (W.contents output.new)
         (bytes_left writer.old images.now) }
     ensures fault { IfErr result (λ error. (error ≡ WriteFault) ⊎ (error ≡ NoMemory)) }
-    ensures cause { IfErr result (λ error. error ≡ WriteFault → W.can_fail ≡ true) }
+    ensures cause { IfErr result (λ error.
+        error ≡ WriteFault → W.failed output.new ≡ true) }
 {
     let mut held = Vec::new(alloc);
     while writer.piece(images, &mut held)? {
@@ -136,7 +138,8 @@ pub fn write_job<W: WriteDevice>(
         → Appends (W.contents output.old) (W.contents output.new) [] }
     ensures fault { refusal ticket.now images.now ≡ None
         → IfErr result (λ error. (error ≡ WriteFault) ⊎ (error ≡ NoMemory)) }
-    ensures cause { IfErr result (λ error. error ≡ WriteFault → W.can_fail ≡ true) }
+    ensures cause { IfErr result (λ error.
+        error ≡ WriteFault → W.failed output.new ≡ true) }
 {
     let mut writer = JobWriter::open(alloc, ticket, images)?;
     write_pieces(alloc, &mut writer, images, output)

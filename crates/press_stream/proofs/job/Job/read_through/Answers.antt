@@ -4,7 +4,7 @@ use Rattle.std.specs.Io.KnownBytes.{Consumes}
 use Rattle.std.proofs.KnownBytes.{Consumes-trans}
 use Rattle.press_engine.proofs.SendsLemmas.{has_fault_room-then}
 use Rattle.press_stream.proofs.Going.{CarriesOut-then}
-use Rattle.press_stream.proofs.RunLemmas.{RunsReader-drain, RunsReader-finish, RunsReader-feed, reads-more, reads-fail}
+use Rattle.press_stream.proofs.RunLemmas.{RunsReader-drain, RunsReader-finish, RunsReader-feed}
 use Rattle.press_stream.proofs.Carries.{same_fault}
 use Rattle.press_stream.proofs.Faults.{Faults-now, no_read_fault, no_read_fault-fed}
 use Rattle.press_stream.proofs.job.Job.read_through.Goals as goal
@@ -46,7 +46,7 @@ loop-length-preserved g c =
       hungry = fed.2;
       has_fault_room = has_fault_room-then c.args.tag _ _ _ fed.1.went so_far.has_fault_room;
       few = omega (arith, c.read_next.ensures.bound, so_far.few);
-      reads = reads-more _ _ _ c.in-Ok.length so_far.bytes _ gives.0 (omega (arith, c.if-length-eq0.false)) so_far.reads c.read_next.ensures.few;
+      told = c.read_next.ensures.told so_far.told;
       going = search rules;
     }
 
@@ -80,6 +80,4 @@ returns-in_err-feed-clause-cause g c =
 
 -- no piece more was read
 pub returns-in_default-clause-cause : goal.returns-in_default-clause-cause
-returns-in_default-clause-cause g c = λ _.
-    let so_far = c.loop-length.invariant in
-    reads-fail _ _ so_far.bytes _ _ _ so_far.lost (search rules) so_far.reads (search rules)
+returns-in_default-clause-cause g c = λ _. search rules
