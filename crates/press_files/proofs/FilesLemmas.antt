@@ -1,7 +1,7 @@
 -- What is made of sheets that are printed to files.
-use Rattle.std.proofs.Common.{◌≡◌, ◌≢◌, ◌∙◌, ◌+◌, ℕ, Bool, true, false, zero, suc, List, [], ◌∷◌, ◌++◌}
+use Rattle.std.proofs.Common.{◌≡◌, ◌≢◌, ◌∙◌, ◌+◌, ℕ, zero, suc, List, [], ◌∷◌, ◌++◌}
 use Rattle.std.proofs.Common.{Option, Some, None, Err, IfSome, refl, sym, ap, subst, inl, inr, arith}
-use Rattle.press_files.specs.Causes.{MayFail, may_fail}
+use Rattle.press_files.specs.Causes.{Failures, failures}
 use Rattle.press_files.specs.Change.{around, change}
 use Rattle.std.proofs.lemmas.List.{append_assoc, append-nil, map-append}
 use Rattle.std.proofs.lemmas.Option.{same_Some}
@@ -182,7 +182,7 @@ made_of parts sheets faults before after none makes =
         ∙ ap (λ (all : List MadeOutput). with_outputs all before) (append-nil (sheets_outputs parts 1 sheets))
 
 -- the files of a stream that had no fault
-pub makes_files : (template : List ℕ) (parts : NameParts) (status : ℕ) (fails : MayFail) (said says known left old new : Option (List ℕ))
+pub makes_files : (template : List ℕ) (parts : NameParts) (status : ℕ) (fails : Failures) (said says known left old new : Option (List ℕ))
     (before after : Option (List MadeOutput))
     → IsTemplate template parts → PrintsBy parts status (around fails said says known left old new before after) → status ≡ 0
     → IfSome known (λ bytes. MakesFiles template bytes before after)
@@ -216,7 +216,7 @@ makes_files template parts status fails said says (Some bytes) left old new befo
         }
 
 -- why nothing was begun of a text
-pub prints-no-files : (error : TemplateError) (template : List ℕ) (status : ℕ) (fails : MayFail)
+pub prints-no-files : (error : TemplateError) (template : List ℕ) (status : ℕ) (fails : Failures)
     (said says had left old new : Option (List ℕ)) (before after : Option (List MadeOutput))
     → (error ≡ BadTemplate → IsNoTemplate template)
     → DoesNothing (template_number error) status (around fails said says had left old new before after)
@@ -234,18 +234,18 @@ sheet-fault had left error machine before after printed is =
     stopped.printed.went.sheet_faults
 
 -- a stream that was printed to a sink of files, which took nothing before
-pub prints-by : (parts : NameParts) (status : ℕ) (input output outputs other : Bool) (said says had left old new : Option (List ℕ))
+pub prints-by : (parts : NameParts) (status : ℕ) (Input Output Outputs Other : Type 0) (said says had left old new : Option (List ℕ))
     (before after : Option (List MadeOutput)) (first taken : List Delivery) (begun faults : ℕ)
     → first ≡ [] → begun ≡ 0
-    → PrintsTo (may_fail input false output other) status (change said says) (change had left)
+    → PrintsTo (failures Input ⊥ Output Other) status (change said says) (change had left)
     (change (files_told first begun) (files_told taken faults)) (change old new)
-    → ∥ MakesSheets parts (sheets_in taken) faults before after ∥₁ → (faults ≢ 0 → outputs ≡ true)
-    → PrintsBy parts status (around (may_fail input false output outputs) said says had left old new before after)
-prints-by parts status input output outputs other said says had left old new _ _ first taken begun faults none sound prints makes cause =
+    → ∥ MakesSheets parts (sheets_in taken) faults before after ∥₁ → (faults ≢ 0 → Outputs)
+    → PrintsBy parts status (around (failures Input ⊥ Output Outputs) said says had left old new before after)
+prints-by parts status Input Output Outputs Other said says had left old new _ _ first taken begun faults none sound prints makes cause =
     let told : files_told first begun ≡ files_told [] 0 = cc (none, sound) in
     let P : SheetLog → Type 0 =
     λ start.
-    PrintsTo (may_fail input false output other) status (change said says) (change had left) (change start (files_told taken faults))
+    PrintsTo (failures Input ⊥ Output Other) status (change said says) (change had left) (change start (files_told taken faults))
     (change old new) in
     let all : P (files_told [] 0) = subst P told prints in
     record {

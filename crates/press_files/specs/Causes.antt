@@ -1,28 +1,28 @@
--- What makes a call of the program fail: a device that may.
-use Rattle.std.specs.Prelude.{ℕ, List, Option, Bool, false, ⊤}
-use Rattle.press_devices.specs.Reading.{ReadFails}
+-- What makes a call of the program fail: a device that did.
+use Rattle.std.specs.Prelude.{⊤}
 use Rattle.press_files.specs.declared.inputs.InputError.{InputError}
 use Rattle.press_files.specs.declared.inputs.InputError.TheVariants.{ReadFault, NoMemory}
 
--- Which devices may fail: the reader, the inputs that are opened by their names, the writer of answers, and the outputs that are made.
-pub record MayFail : Type 0 where
-  pub input : Bool
-  pub files : Bool
-  pub output : Bool
-  pub outputs : Bool
+-- That a device failed by now: the reader, or an input that was opened by its name and closed, is not read on; the writer of answers, the
+-- outputs that are made, or the one that is written to, failed.
+pub record Failures : Type 1 where
+  pub input : Type 0
+  pub file : Type 0
+  pub output : Type 0
+  pub outputs : Type 0
 
-abbrev pub may_fail : (input files output outputs : Bool) → MayFail
-may_fail input files output outputs = record { input = input; files = files; output = output; outputs = outputs }
+abbrev pub failures : (input file output outputs : Type 0) → Failures
+failures input file output outputs = record { input = input; file = file; output = output; outputs = outputs }
 
 -- the same of a call that reads and writes answers
-abbrev pub writing : MayFail → MayFail
-writing fails = may_fail fails.input false fails.output false
+abbrev pub writing : Failures → Failures
+writing fails = failures fails.input ⊥ fails.output ⊥
 
 -- the same of a call that reads and makes outputs
-abbrev pub making : MayFail → MayFail
-making fails = may_fail fails.input false false fails.outputs
+abbrev pub making : Failures → Failures
+making fails = failures fails.input ⊥ ⊥ fails.outputs
 
--- Why an input was not read to its end: its reads may fail, or there were too many; or memory ran out.
-abbrev pub InputCause : (can_fail : Bool) → (had left : Option (List ℕ)) → InputError → Type 0
-InputCause can_fail had left ReadFault = ReadFails can_fail had left
-InputCause can_fail had left NoMemory = ⊤
+-- Why an input was not read to its end: it is not read on; or memory ran out.
+abbrev pub InputCause : (Fails : Type 0) → InputError → Type 0
+InputCause Fails ReadFault = Fails
+InputCause Fails NoMemory = ⊤

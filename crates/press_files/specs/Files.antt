@@ -1,5 +1,5 @@
 -- Streams that are printed to files.
-use Rattle.std.specs.Prelude.{◌≡◌, ◌⊎◌, ℕ, zero, suc, true, List, [], ◌∷◌, ◌++◌, Option, Some, None, refl}
+use Rattle.std.specs.Prelude.{◌≡◌, ◌⊎◌, ℕ, zero, suc, List, [], ◌∷◌, ◌++◌, Option, Some, None, refl}
 use Rattle.std.specs.Coded.{Coded, code_by, coded×, coded_ℕ}
 use Rattle.press_cmd.specs.Token.{Token}
 use Rattle.press_cmd.specs.Split.{Closed}
@@ -10,7 +10,6 @@ use Rattle.press_sink.specs.Sending.{sheets_of, sheets_in}
 use Rattle.press_sink.specs.Outputs.{MadeOutput, IsPrefix, with_outputs, sheet_outputs}
 use Rattle.press_sink.specs.Template.{NameParts, IsTemplate, IsNoTemplate, number_after, side_count}
 use Rattle.press_engine.specs.declared.machine.Machine.{Machine}
-use Rattle.press_devices.specs.Reading.{ReadFails}
 use Rattle.press_stream.specs.declared.fault.JobError.{JobError}
 use Rattle.press_stream.specs.declared.fault.JobError.TheVariants.{ReadFault, SinkFault, ReplyFault}
 use Rattle.press_stream.specs.Meaning.{meaning_of, with_exit}
@@ -18,7 +17,7 @@ use Rattle.press_stream.specs.Printed.{Printed}
 use Rattle.press_units.specs.Faults.{fault_text}
 use Rattle.press_sink.specs.Faults.{template_number}
 use Rattle.press_sink.specs.declared.fault.TemplateError.TheVariants.{BadTemplate}
-use Rattle.press_files.specs.Causes.{MayFail}
+use Rattle.press_files.specs.Causes.{Failures}
 use Rattle.press_files.specs.Change.{Change, change, Edge}
 use Rattle.press_files.specs.Printing.{status_of_fault, TellsFault}
 use Rattle.press_files.specs.Telling.{Tells, as_line}
@@ -35,10 +34,10 @@ delivery_code =
 abbrev pub replies_written : Option (List ℕ) → ℕ → ReplyLog
 replies_written contents faults = record { replied = contents; faults = faults }
 
--- A stream was printed to a sheet sink under tag 0, and its replies were written: so much of it went out, by the error that
--- there was or was not, and the status is 0 exactly where there was none. Then the writer took all the replies, and nothing
--- else. The error is what was told. 304 comes only where reads may fail or there were too many, and 302 where the writer may fail.
-pub record PrintsTo (fails : MayFail) (status : ℕ) (told read : Change (Option (List ℕ))) (sheets : Change SheetLog) (written : Change (Option (List ℕ))) : Type 0 where
+-- A stream was printed to a sheet sink under tag 0, and its replies were written: so much of it went out, by the error that there was or
+-- was not, and the status is 0 exactly where there was none. Then the writer took all the replies, and nothing else. The error is what was
+-- told. 304 comes only where the reader is not read on, and 302 where the writer failed.
+pub record PrintsTo (fails : Failures) (status : ℕ) (told read : Change (Option (List ℕ))) (sheets : Change SheetLog) (written : Change (Option (List ℕ))) : Type 0 where
   pub error : Option JobError
   pub machine : Option Machine
   pub faults : ℕ
@@ -46,8 +45,8 @@ pub record PrintsTo (fails : MayFail) (status : ℕ) (told read : Change (Option
       (under 0 (logs sheets.before (replies_written written.before 0)) (logs sheets.after (replies_written written.after faults)))
   pub answers : status ≡ status_of_fault error
   pub tells : TellsFault error told.before told.after
-  pub reads : error ≡ Some ReadFault → ReadFails fails.input read.before read.after
-  pub replies : error ≡ Some ReplyFault → fails.output ≡ true
+  pub reads : error ≡ Some ReadFault → fails.input
+  pub replies : error ≡ Some ReplyFault → fails.output
 
 -- The outputs of sheets in their order, the first front of which has this number.
 abbrev pub sheets_outputs : NameParts → ℕ → List PrintedSheet → List MadeOutput
@@ -77,13 +76,13 @@ abbrev pub files_told : List Delivery → ℕ → SheetLog
 files_told deliveries faults = record { delivered = Some deliveries; faults = faults }
 
 -- A stream was printed to files by a template of these parts: what went out of it is what the sink took, and that was made. 301 comes only
--- where outputs may fail.
+-- where outputs failed.
 pub record PrintsBy (parts : NameParts) (status : ℕ) (edge : Edge) : Type 0 where
   pub deliveries : List Delivery
   pub faults : ℕ
   pub prints : PrintsTo edge.fails status edge.told edge.read (change (files_told [] 0) (files_told deliveries faults)) edge.written
   pub makes : ∥ MakesSheets parts (sheets_in deliveries) faults edge.made.before edge.made.after ∥₁
-  pub outputs : prints.error ≡ Some SinkFault → edge.fails.outputs ≡ true
+  pub outputs : prints.error ≡ Some SinkFault → edge.fails.outputs
 
 -- The same by a text, which is a template.
 pub record PrintsFiles (template : List ℕ) (status : ℕ) (edge : Edge) : Type 0 where

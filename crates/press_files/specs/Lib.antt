@@ -10,6 +10,7 @@ pub mod Inputs
 pub mod Listed
 pub mod Listing
 pub mod Measured
+pub mod NamedFiles
 pub mod NamedInputs
 pub mod Numbering
 pub mod Printing

@@ -9,7 +9,6 @@ use Rattle.press_sink.specs.PrintedSheet.{PrintedSheet}
 use Rattle.press_sink.specs.declared.sheet.Delivery.{Delivery}
 use Rattle.press_sink.specs.SinkLog.{SinkLog, logs, under}
 use Rattle.press_sink.specs.Sending.{Output, sheets_of, sheets_in, reply_bytes_of}
-use Rattle.press_devices.specs.Reading.{ReadFails}
 use Rattle.press_devices.specs.Writing.{AppendsPrefix}
 use Rattle.press_stream.specs.declared.fault.JobError.{JobError}
 use Rattle.press_stream.specs.declared.fault.JobError.TheVariants.{ReadFault}
@@ -18,7 +17,7 @@ use Rattle.press_stream.specs.Answers.{fault_of}
 use Rattle.press_stream.specs.Meaning.{meaning_of, with_exit}
 use Rattle.press_stream.specs.Printed.{Printed}
 use Rattle.press_trace.specs.Faults.{output_text}
-use Rattle.press_files.specs.Causes.{MayFail}
+use Rattle.press_files.specs.Causes.{Failures}
 use Rattle.press_files.specs.Change.{Change}
 use Rattle.press_files.specs.Printing.{machine_of, status_of_fault, TellsFault}
 use Rattle.press_files.specs.Telling.{Tells, as_line}
@@ -80,12 +79,12 @@ TellsListing error true said says = TellsFault error said says
 TellsListing error false said says = (between : Option (List ℕ)) × TellsFault error said between × Tells between says (as_line (Some output_text))
 
 -- The same, with its status: 0 exactly where the stream had no fault and its listing was written; and what was told. 304 comes only where
--- reads may fail or there were too many, and the listing is cut only where the writer may fail.
-pub record PrintsListing (fails : MayFail) (status : ℕ) (told read output : Change (Option (List ℕ))) : Type 0 where
+-- the reader is not read on, and the listing is cut only where the writer failed.
+pub record PrintsListing (fails : Failures) (status : ℕ) (told read output : Change (Option (List ℕ))) : Type 0 where
   pub printed : Result JobState JobError
   pub written : Bool
   pub stream : ListsPrinted printed written read.before read.after output.before output.after
   pub answers : status ≡ status_of_listing (fault_of printed) written
   pub tells : TellsListing (fault_of printed) written told.before told.after
-  pub reads : fault_of printed ≡ Some ReadFault → ReadFails fails.input read.before read.after
-  pub writes : written ≡ false → fails.output ≡ true
+  pub reads : fault_of printed ≡ Some ReadFault → fails.input
+  pub writes : written ≡ false → fails.output

@@ -1,6 +1,7 @@
 //! Streams that are printed to files.
-ghost use Rattle.std.specs.Prelude.{◌≡◌, ◌≤◌, ◌<◌, ◌⊎◌, true, false, IfSome};
-ghost use Rattle.press_files.specs.Causes.{may_fail};
+ghost use Rattle.std.specs.Prelude.{◌≡◌, ◌≤◌, ◌<◌, ◌⊎◌, true, IfSome, ⊤};
+ghost use Rattle.press_devices.specs.Reading.{ReadFails};
+ghost use Rattle.press_files.specs.Causes.{failures};
 ghost use Rattle.press_files.specs.Change.{around, change};
 ghost use Rattle.press_sink.specs.Kept.{name_parts, next_number, file_faults, outputs_of};
 ghost use Rattle.press_sink.specs.SinkLog.{most_faults};
@@ -40,11 +41,13 @@ pub fn print_files<O: NamedOutputs + Drop, R: ReadDevice, W: WriteDevice + Drop,
     ensures files { result.status ≡ 0 → IfSome (R.remaining reader.old) (λ bytes.
         MakesFiles template.now bytes (O.made outputs) (O.made result.outputs)) }
     ensures prints { PrintsFiles template.now result.status
-        (around (may_fail R.can_fail false W.can_fail O.Output.can_fail)
+        (around (failures (ReadFails (R.failed reader.new) (R.reads reader.new)) ⊥
+        (W.failed result.out ≡ true) (O.failed result.outputs ≡ true))
         (E.said err.old) (E.said err.new) (R.remaining reader.old) (R.remaining reader.new)
         (W.contents out) (W.contents result.out) (O.made outputs) (O.made result.outputs))
         ⊎ PrintsNoFiles template.now result.status
-        (around (may_fail R.can_fail false W.can_fail O.Output.can_fail)
+        (around (failures (ReadFails (R.failed reader.new) (R.reads reader.new)) ⊥
+        (W.failed result.out ≡ true) (O.failed result.outputs ≡ true))
         (E.said err.old) (E.said err.new) (R.remaining reader.old)
         (R.remaining reader.new) (W.contents out) (W.contents result.out) (O.made outputs)
         (O.made result.outputs)) }
@@ -72,7 +75,8 @@ fn print_by<O: NamedOutputs + Drop, R: ReadDevice, W: WriteDevice + Drop, E: Tel
     requires first { next_number sink ≡ 1 }
     requires faults { file_faults sink ≡ 0 }
     ensures { PrintsBy D.parts result.status
-        (around (may_fail R.can_fail false W.can_fail O.Output.can_fail)
+        (around (failures (ReadFails (R.failed reader.new) (R.reads reader.new)) ⊥
+        (W.failed result.out ≡ true) (O.failed result.outputs ≡ true))
         (E.said err.old) (E.said err.new) (R.remaining reader.old) (R.remaining reader.new)
         (W.contents out) (W.contents result.out) D.begun (O.made result.outputs)) }
 {
@@ -95,7 +99,9 @@ fn print_to<R: ReadDevice, S: SheetSink, W: WriteDevice + Drop, E: Teller>(
     err: &mut E,
 ) -> (u8, W)
     requires { (S.told sheets.old).faults < most_faults }
-    ensures { PrintsTo (may_fail R.can_fail false W.can_fail true) result.0
+    ensures { PrintsTo
+        (failures (ReadFails (R.failed reader.new) (R.reads reader.new))
+        ⊥ (W.failed result.1 ≡ true) ⊤) result.0
         (change (E.said err.old) (E.said err.new))
         (change (R.remaining reader.old) (R.remaining reader.new))
         (change (S.told sheets.old) (S.told sheets.new))

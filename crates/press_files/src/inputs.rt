@@ -1,5 +1,6 @@
 //! Inputs that are read whole.
-ghost use Rattle.std.specs.Prelude.{IfOk, IfErr};
+ghost use Rattle.std.specs.Prelude.{◌≡◌, IfOk, IfErr, true};
+ghost use Rattle.press_devices.specs.Reading.{ReadFails};
 ghost use Rattle.press_files.specs.Causes.{InputCause};
 ghost use Rattle.press_files.specs.Inputs.{ReadWhole};
 
@@ -75,8 +76,8 @@ impl From<AllocError> for InputError {
 pub fn read_all<R: ReadDevice>(alloc: Global, reader: &mut R) -> Result<Vec<u8>, InputError>
     ensures whole { IfOk result (λ all.
         ReadWhole (R.remaining reader.old) (R.remaining reader.new) all.items) }
-    ensures cause { IfErr result (InputCause R.can_fail
-        (R.remaining reader.old) (R.remaining reader.new)) }
+    ensures cause { IfErr result (InputCause
+        (ReadFails (R.failed reader.new) (R.reads reader.new))) }
 {
     let mut count = ReadCount::none();
     let mut piece = [0; PIECE];

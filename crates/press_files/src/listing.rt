@@ -3,7 +3,7 @@ ghost use Rattle.std.specs.Prelude.{◌≡◌, ◌≤◌, ◌++◌, true, false,
 ghost use Rattle.press_files.specs.Change.{change};
 ghost use Rattle.press_devices.specs.Reading.{ReadFails};
 ghost use Rattle.press_devices.specs.Writing.{Writes};
-ghost use Rattle.press_files.specs.Causes.{may_fail};
+ghost use Rattle.press_files.specs.Causes.{failures};
 ghost use Rattle.press_files.specs.Listing.{measured_line, sheet_lines, lines_from, Lists, ListsPrinted, PrintsListing};
 ghost use Rattle.press_files.specs.Listed.{deliveries_of};
 ghost use Rattle.press_files.specs.EntryListing.{entry_mark, entry_measured_line, entry_sheet_lines, entry_lines, entry_listing};
@@ -35,7 +35,9 @@ pub fn print_list<R: ReadDevice, W: WriteDevice, E: Teller>(
     ensures status { result ≤ 1 }
     ensures lists { result ≡ 0 → IfSome (R.remaining reader.old) (λ bytes.
         Lists bytes (W.contents out.old) (W.contents out.new)) }
-    ensures printed { PrintsListing (may_fail R.can_fail false W.can_fail false) result
+    ensures printed { PrintsListing
+        (failures (ReadFails (R.failed reader.new) (R.reads reader.new))
+        ⊥ (W.failed out.new ≡ true) ⊥) result
         (change (E.said err.old) (E.said err.new))
         (change (R.remaining reader.old) (R.remaining reader.new))
         (change (W.contents out.old) (W.contents out.new)) }
@@ -65,8 +67,8 @@ fn list_stream<R: ReadDevice, W: WriteDevice>(
     ensures lists { ListsPrinted result.printed result.written (R.remaining reader.old)
         (R.remaining reader.new) (W.contents out.old) (W.contents out.new) }
     ensures reads { IsErrOf result.printed JobError.ReadFault
-        → ReadFails R.can_fail (R.remaining reader.old) (R.remaining reader.new) }
-    ensures writes { result.written ≡ false → W.can_fail ≡ true }
+        → ReadFails (R.failed reader.new) (R.reads reader.new) }
+    ensures writes { result.written ≡ false → W.failed out.new ≡ true }
 {
     let mut sheets = ListingSink::new(alloc);
     let mut replies = ListReplies::new(alloc);
@@ -79,7 +81,7 @@ fn list_stream<R: ReadDevice, W: WriteDevice>(
 fn list<W: WriteDevice>(out: &mut W, sheets: &[ListedSheet], replies: &[u8]) -> io::Result<()>
     ensures written { Writes result (W.contents out.old) (W.contents out.new)
         (lines_from 1 (sheets_in (deliveries_of sheets.now)) ++ replies.now) }
-    ensures cause { OnErr result (W.can_fail ≡ true) }
+    ensures cause { OnErr result (W.failed out.new ≡ true) }
 {
     list_sheets(out, sheets)?;
     write_flushed(out, replies)
@@ -89,7 +91,7 @@ fn list<W: WriteDevice>(out: &mut W, sheets: &[ListedSheet], replies: &[u8]) -> 
 fn list_sheets<W: WriteDevice>(out: &mut W, sheets: &[ListedSheet]) -> io::Result<()>
     ensures written { Writes result (W.contents out.old) (W.contents out.new)
         (lines_from 1 (sheets_in (deliveries_of sheets.now))) }
-    ensures cause { OnErr result (W.can_fail ≡ true) }
+    ensures cause { OnErr result (W.failed out.new ≡ true) }
 {
     for (index, sheet) in sheets.iter().enumerate() {
         list_sheet(out, index + 1, sheet)?;
@@ -101,7 +103,7 @@ fn list_sheets<W: WriteDevice>(out: &mut W, sheets: &[ListedSheet]) -> io::Resul
 fn list_sheet<W: WriteDevice>(out: &mut W, number: usize, sheet: &ListedSheet) -> io::Result<()>
     ensures written { Writes result (W.contents out.old) (W.contents out.new)
         (sheet_lines number sheet.now.sheet.value) }
-    ensures cause { OnErr result (W.can_fail ≡ true) }
+    ensures cause { OnErr result (W.failed out.new ≡ true) }
 {
     list_side(out, number, "front", &sheet.front)?;
     match &sheet.back {
@@ -120,7 +122,7 @@ fn list_side<W: WriteDevice>(
 ) -> io::Result<()>
     ensures written { Writes result (W.contents out.old) (W.contents out.new)
         (measured_line number side.now measures.now) }
-    ensures cause { OnErr result (W.can_fail ≡ true) }
+    ensures cause { OnErr result (W.failed out.new ≡ true) }
 {
     write_pieces(
         out,
@@ -145,11 +147,11 @@ fn list_side<W: WriteDevice>(
 ///
 /// # Errors
 ///
-/// Where a write failed.
+/// Where a write or the flush failed. A prefix of the listing is written then.
 pub fn list_delivered<W: WriteDevice>(out: &mut W, sheets: &EntrySheets) -> io::Result<()>
     ensures written { Writes result (W.contents out.old) (W.contents out.new)
         (entry_listing (entry_deliveries_of (kept sheets.now))) }
-    ensures cause { OnErr result (W.can_fail ≡ true) }
+    ensures cause { OnErr result (W.failed out.new ≡ true) }
 {
     list_entries(out, sheets.sheets())
 }
@@ -158,7 +160,7 @@ pub fn list_delivered<W: WriteDevice>(out: &mut W, sheets: &EntrySheets) -> io::
 fn list_entries<W: WriteDevice>(out: &mut W, sheets: &[EntrySheet]) -> io::Result<()>
     ensures written { Writes result (W.contents out.old) (W.contents out.new)
         (entry_lines sheets.now) }
-    ensures cause { OnErr result (W.can_fail ≡ true) }
+    ensures cause { OnErr result (W.failed out.new ≡ true) }
 {
     for sheet in sheets {
         list_entry_sheet(out, sheet)?;
@@ -170,7 +172,7 @@ fn list_entries<W: WriteDevice>(out: &mut W, sheets: &[EntrySheet]) -> io::Resul
 fn list_entry_sheet<W: WriteDevice>(out: &mut W, sheet: &EntrySheet) -> io::Result<()>
     ensures written { Writes result (W.contents out.old) (W.contents out.new)
         (entry_sheet_lines sheet.now.sheet.tag sheet.now.number sheet.now.sheet.sheet.value) }
-    ensures cause { OnErr result (W.can_fail ≡ true) }
+    ensures cause { OnErr result (W.failed out.new ≡ true) }
 {
     let entry = sheet.sheet.tag;
     list_entry_side(out, entry, sheet.number, "front", &sheet.sheet.front)?;
@@ -190,7 +192,7 @@ fn list_entry_side<W: WriteDevice>(
 ) -> io::Result<()>
     ensures written { Writes result (W.contents out.old) (W.contents out.new)
         (entry_measured_line entry number side.now measures.now) }
-    ensures cause { OnErr result (W.can_fail ≡ true) }
+    ensures cause { OnErr result (W.failed out.new ≡ true) }
 {
     write_entry(out, entry)?;
     list_side(out, number, side, measures)
@@ -199,7 +201,7 @@ fn list_entry_side<W: WriteDevice>(
 /// Writes the ID of an entry, and a space.
 fn write_entry<W: WriteDevice>(out: &mut W, entry: u64) -> io::Result<()>
     ensures written { Writes result (W.contents out.old) (W.contents out.new) (entry_mark entry) }
-    ensures cause { OnErr result (W.can_fail ≡ true) }
+    ensures cause { OnErr result (W.failed out.new ≡ true) }
 {
     write_pieces(out, &[b"Q", Buffer::new().format(entry).as_bytes(), b" "])
 }

@@ -1,10 +1,12 @@
 //! Inputs that are opened by their names.
-ghost use Rattle.std.specs.Prelude.{◌≡◌, ℕ, List, Option, IfOk, IfErr};
+ghost use Rattle.std.specs.Prelude.{◌≡◌, ◌↔◌, ◌⊎◌, true, ℕ, List, Option, Bool, false, IfOk, IfErr};
 ghost use Rattle.std.specs.Str.{IsUtf8};
+ghost use Rattle.press_devices.specs.Reading.{ReadFails};
+ghost use Rattle.press_files.specs.NamedFiles.{inputs_failed};
 ghost use Rattle.press_files.specs.declared.inputs.InputError.TheVariants.{ReadFault};
 
 use crate::inputs::InputError;
-use press_devices::{PIECE, ReadDevice};
+use press_devices::{PIECE, ReadDevice, Watched};
 use std::alloc::Global;
 use std::fs::{self, Files, OpenFile};
 use std::io::{self, BufReader, Read};
@@ -20,6 +22,9 @@ pub trait NamedInputs {
     /// That the input of this name may be one that cannot be opened.
     ghost missing: { Self → List ℕ → Type 0 };
 
+    /// Whether an input that was closed was not read on; true also where that is not known.
+    ghost failed: { Self → Bool };
+
     type Input: ReadDevice + Drop;
 
     /// Opens the input of this name.
@@ -31,13 +36,33 @@ pub trait NamedInputs {
         ensures bytes { IfOk result (λ input.
             Self.Input.remaining input ≡ bytes self.now name.now) }
         ensures missing { IfErr result (λ error. error ≡ ReadFault → missing self.now name.now) };
+
+    /// Closes an input.
+    fn close(&mut self, input: Self::Input)
+        ensures { (failed self.new ≡ true) ↔ (failed self.old ≡ true)
+            ⊎ ReadFails (Self.Input.failed input) (Self.Input.reads input) };
 }
 
 /// The files of a file system. What a file has is not known.
 #[derive(Drop)]
 pub struct NamedFiles<'a, F> {
-    pub alloc: Global,
-    pub files: &'a F,
+    alloc: Global,
+    files: &'a F,
+    /// Whether a file that was closed was not read on.
+    failed: bool,
+}
+
+impl<'a, F> NamedFiles<'a, F> {
+    /// The files of this file system, of which none was read yet.
+    pub fn new(alloc: Global, files: &'a F) -> Self
+        ensures { inputs_failed result ≡ false }
+    {
+        NamedFiles {
+            alloc,
+            files,
+            failed: false,
+        }
+    }
 }
 
 /// A file of these, of which a piece is read at once. From a pipe or a device no more is read than is asked for, since what stands behind an
@@ -60,17 +85,23 @@ impl<F: Files> NamedInputs for NamedFiles<'_, F> {
 
     ghost missing = { λ _ _. ⊤ };
 
-    type Input = NamedFile<F::File>;
+    ghost failed = { inputs_failed };
 
-    fn open(&self, name: &str) -> Result<NamedFile<F::File>, InputError> {
+    type Input = Watched<NamedFile<F::File>>;
+
+    fn open(&self, name: &str) -> Result<Watched<NamedFile<F::File>>, InputError> {
         let Ok(file) = fs::open(self.files, name) else {
             return Err(InputError::ReadFault);
         };
         let ahead = if is_regular(&file) { PIECE } else { 0 };
         match BufReader::with_capacity(self.alloc, ahead, file) {
-            Ok(file) => Ok(NamedFile { file }),
+            Ok(file) => Ok(Watched::new(NamedFile { file })),
             Err(_) => Err(InputError::NoMemory),
         }
+    }
+
+    fn close(&mut self, input: Watched<NamedFile<F::File>>) {
+        self.failed |= input.is_given_up();
     }
 }
 

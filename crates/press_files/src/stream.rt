@@ -1,5 +1,5 @@
 //! Streams that are printed from a reader to two sinks.
-ghost use Rattle.std.specs.Prelude.{◌≡◌, [], IsErrOf};
+ghost use Rattle.std.specs.Prelude.{◌≡◌, [], IsErrOf, true};
 ghost use Rattle.press_devices.specs.Reading.{ReadFails};
 ghost use Rattle.press_sink.specs.SinkLog.{logs, HasFaultRoom, under};
 ghost use Rattle.press_stream.specs.Answers.{fault_of};
@@ -16,8 +16,8 @@ use std::alloc::Global;
 ///
 /// # Errors
 ///
-/// `ReadFault` (304): a read failed; the commands that were whole by then were carried out. `SinkFault` (301) and
-/// `ReplyFault` (302): a sink had a fault, and nothing came after it.
+/// `ReadFault` (304): a read failed, or there were more than 4,294,967,295; the commands that were whole by then were carried out.
+/// `SinkFault` (301) and `ReplyFault` (302): a sink had a fault, and nothing came after it. `NoMemory`.
 pub fn print_stream<R: ReadDevice, S: SheetSink, P: ReplySink>(
     alloc: Global,
     reader: &mut R,
@@ -31,7 +31,7 @@ pub fn print_stream<R: ReadDevice, S: SheetSink, P: ReplySink>(
         (under tag (logs (S.told sheets.old) (P.told replies.old))
         (logs (S.told sheets.new) (P.told replies.new))) }
     ensures cause { IsErrOf result JobError.ReadFault
-        → ReadFails R.can_fail (R.remaining reader.old) (R.remaining reader.new) }
+        → ReadFails (R.failed reader.new) (R.reads reader.new) }
 {
     press_stream::laws::chain();
     let mut job = Job::open(alloc)?;

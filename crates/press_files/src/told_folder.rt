@@ -36,7 +36,7 @@ pub struct ToldFolder<O: NamedOutputs, D: Folder> {
     of: PhantomData<D>,
     ghost keeps: { ∥ KeepsFolder D.parts D.begun (sheets_in taken) faults (folder (name_parts sink)
         (next_number sink) (file_faults sink) (O.made (outputs_of sink))) ∥₁ },
-    ghost cause: { faults ≢ 0 → O.Output.can_fail ≡ true },
+    ghost cause: { faults ≢ 0 → O.failed (outputs_of sink) ≡ true },
 }
 
 impl<O: NamedOutputs + Drop, D: Folder> ToldFolder<O, D> {
@@ -61,7 +61,7 @@ impl<O: NamedOutputs + Drop, D: Folder> ToldFolder<O, D> {
     pub fn into_outputs(self) -> O
         ensures makes { ∥ MakesSheets D.parts (sheets_in self.taken) self.faults
             D.begun (O.made result) ∥₁ }
-        ensures cause { self.faults ≢ 0 → O.Output.can_fail ≡ true }
+        ensures cause { self.faults ≢ 0 → O.failed result ≡ true }
     {
         let ToldFolder { sink, .. } = self;
         sink.into_outputs()

@@ -1,5 +1,6 @@
-use Rattle.std.proofs.Common.{ap, refl, subst, false, inl, inr, List, Option}
-use Rattle.press_files.specs.Causes.{may_fail}
+use Rattle.std.proofs.Common.{◌≡◌, ap, refl, subst, true, inl, inr, List, Option}
+use Rattle.press_devices.specs.Reading.{ReadFails}
+use Rattle.press_files.specs.Causes.{failures}
 use Rattle.press_files.specs.Change.{around}
 use Rattle.press_sink.specs.Kept.{name_parts}
 use Rattle.press_sink.specs.Outputs.{MadeOutput}
@@ -10,7 +11,9 @@ use Rattle.press_files.proofs.files.print_files.Goals as goal
 pub returns-in-Ok-clause-files : goal.returns-in-Ok-clause-files
 returns-in-Ok-clause-files g c = λ zero.
     let begun = ap g.O.NamedOutputs.made c.in-Ok.ensures.outputs in
-    let fails = may_fail g.R.ReadDevice.can_fail false g.W.WriteDevice.can_fail g.O.Output.WriteDevice.can_fail in
+    let fails =
+    failures (ReadFails (g.R.ReadDevice.failed c.print_by.new.reader) (g.R.ReadDevice.reads c.print_by.new.reader)) ⊥
+    (g.W.WriteDevice.failed c.print_by.result.out ≡ true) (g.O.NamedOutputs.failed c.print_by.result.outputs ≡ true) in
     let P : Option (List MadeOutput) → Type 0 =
     λ before.
     PrintsBy (name_parts c.in-Ok.sink) c.print_by.result.status
@@ -22,7 +25,9 @@ returns-in-Ok-clause-files g c = λ zero.
 pub returns-in-Ok-clause-prints : goal.returns-in-Ok-clause-prints
 returns-in-Ok-clause-prints g c =
     let begun = ap g.O.NamedOutputs.made c.in-Ok.ensures.outputs in
-    let fails = may_fail g.R.ReadDevice.can_fail false g.W.WriteDevice.can_fail g.O.Output.WriteDevice.can_fail in
+    let fails =
+    failures (ReadFails (g.R.ReadDevice.failed c.print_by.new.reader) (g.R.ReadDevice.reads c.print_by.new.reader)) ⊥
+    (g.W.WriteDevice.failed c.print_by.result.out ≡ true) (g.O.NamedOutputs.failed c.print_by.result.outputs ≡ true) in
     let P : Option (List MadeOutput) → Type 0 =
     λ before.
     PrintsBy (name_parts c.in-Ok.sink) c.print_by.result.status
