@@ -1,13 +1,13 @@
 -- Images, one input after another.
 use Rattle.std.proofs.Common.{◌≡◌, ◌∙◌, ◌<◌, ℕ, zero, suc, ◌+◌, List, [], ◌∷◌, ◌++◌, length, map, take, get_or, Option}
-use Rattle.std.proofs.Common.{Result, Ok, Err, MatchResult, IsErrAnd, IfErr, true, refl, ap, sym, subst, inl, inr, arith}
+use Rattle.std.proofs.Common.{Result, Ok, Err, MatchResult, IsErrAnd, IfErr, refl, ap, sym, subst, inl, inr, arith}
 use Rattle.std.proofs.lemmas.List.{take_more, map-append}
 use Rattle.press_bits.specs.Page.{Page}
 use Rattle.press_pbm.specs.File.{Refused}
 use Rattle.press_pbm.specs.declared.fault.ReadPbmError.{ReadPbmError}
 use Rattle.press_pbm.specs.declared.fault.ReadPbmError.TheVariants as image_fault
 use Rattle.press_writer.specs.declared.fault.WriterError.{WriterError}
-use Rattle.press_files.specs.Causes.{MayFail}
+use Rattle.press_files.specs.Causes.{Failures}
 use Rattle.press_files.specs.NamedInputs.{NamedInput}
 use Rattle.press_files.specs.declared.inputs.InputError.{InputError}
 use Rattle.press_files.specs.declared.inputs.InputError.TheVariants as input_fault
@@ -56,14 +56,15 @@ err_is_no_ok : {image : Page} {why : JobFileError} → Err why ≡ Ok image → 
 err_is_no_ok told = cc
 
 -- the fault of a reader of images, told as that of its input
-pub image-refused : (result : Result Page ReadPbmError) (answer : Result Page JobFileError) (input : NamedInput) (left : Option (List ℕ))
+pub image-refused : (Failed : Type 0) (result : Result Page ReadPbmError) (answer : Result Page JobFileError) (input : NamedInput)
+    (left : Option (List ℕ)) → (Failed → input.Failed)
     → MatchResult result (λ image. answer ≡ Ok image) (λ error. IsErrAnd answer (λ why. why ≡ fault.Image error))
-    → IfErr result (λ error. Refused error input.bytes left) → IfErr result (λ error. error ≡ image_fault.ReadFault → input.can_fail ≡ true)
+    → IfErr result (λ error. Refused error input.bytes left) → IfErr result (λ error. error ≡ image_fault.ReadFault → Failed)
     → IfErr answer (λ why. ImageRefused input why)
-image-refused result (Ok image) input left told refused cause = tt
-image-refused (Ok image) (Err why) input left told refused cause = absurd (err_is_no_ok told)
-image-refused (Err error) (Err why) input left told refused cause =
-    subst (λ (fault : JobFileError). ImageRefused input fault) (sym told) (left, refused, cause)
+image-refused Failed result (Ok image) input left fails told refused cause = tt
+image-refused Failed (Ok image) (Err why) input left fails told refused cause = absurd (err_is_no_ok told)
+image-refused Failed (Err error) (Err why) input left fails told refused cause =
+    subst (λ (fault : JobFileError). ImageRefused input fault) (sym told) (left, refused, λ is. fails (cause is))
 
 -- ---- what a device makes of a job
 
@@ -86,7 +87,7 @@ writer-is-no-memory : {error : WriterError} → fault.Writer error ≡ fault.NoM
 writer-is-no-memory is = cc
 
 -- inputs that gave no images
-pub images-cause : (fails : MayFail) (had left : Option (List ℕ)) (inputs : List NamedInput) (why : JobFileError) (ticket : JobTicket)
+pub images-cause : (fails : Failures) (had left : Option (List ℕ)) (inputs : List NamedInput) (why : JobFileError) (ticket : JobTicket)
     → TicketRead had left ticket → ImagesRefused inputs why → JobCause fails had left inputs why
 images-cause fails had left inputs (fault.Input input_fault.ReadFault) ticket read (inl lacks) = inr ((ticket, read), some-missing inputs lacks)
 images-cause fails had left inputs (fault.Input input_fault.ReadFault) ticket read (inr is) = absurd (input-is-no-memory is)

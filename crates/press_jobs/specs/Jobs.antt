@@ -1,5 +1,5 @@
 -- Jobs of tickets, over readers, named inputs and writers.
-use Rattle.std.specs.Prelude.{◌≡◌, ℕ, true, List, [], ◌∷◌, Option, None, Some, Ok, Err, ◌⊎◌, ⊤}
+use Rattle.std.specs.Prelude.{◌≡◌, ℕ, List, [], ◌∷◌, Option, None, Some, Ok, Err, ◌⊎◌, ⊤}
 use Rattle.std.specs.Io.KnownBytes.{Consumes, Appends}
 use Rattle.press_bits.specs.Page.{Page}
 use Rattle.press_pbm.specs.File.{IsFile, Refused}
@@ -108,11 +108,11 @@ TicketRefused had left (fault.Ticket why) = NoTicketRead had left why
 TicketRefused had left (fault.Input why) = ⊤
 TicketRefused had left other = ⊥
 
--- Why an input gave no image, by the fault: what it had begins with no P4 file, or its reads may fail (114); else it may be one that cannot
--- be opened, or memory ran out.
+-- Why an input gave no image, by the fault: what it had begins with no P4 file; or it, or some input of its type, is not read on (114); else
+-- it may be one that cannot be opened, or memory ran out.
 abbrev pub ImageRefused : NamedInput → JobFileError → Type 0
 ImageRefused input (fault.Image why) =
-    (left : Option (List ℕ)) × Refused why input.bytes left × (why ≡ image_fault.ReadFault → input.can_fail ≡ true)
+    (left : Option (List ℕ)) × Refused why input.bytes left × (why ≡ image_fault.ReadFault → input.Failed)
 ImageRefused input (fault.Input input_fault.ReadFault) = input.IsMissing
 ImageRefused input (fault.Input input_fault.NoMemory) = ⊤
 ImageRefused input other = ⊥

@@ -1,7 +1,7 @@
 //! Jobs of tickets, over readers, named inputs and writers.
-ghost use Rattle.std.specs.Prelude.{◌≡◌, true, false, map, IfOk, IfErr, OnOk};
-ghost use Rattle.press_devices.specs.Reading.{ReadFails};
-ghost use Rattle.press_files.specs.Causes.{may_fail};
+ghost use Rattle.std.specs.Prelude.{◌≡◌, true, map, IfOk, IfErr, OnOk};
+ghost use Rattle.press_devices.specs.Reading.{ReadFails, SomeFails};
+ghost use Rattle.press_files.specs.Causes.{failures};
 ghost use Rattle.press_jobs.specs.Causes.{JobCause};
 ghost use Rattle.press_jobs.specs.Jobs.{
   TicketRead,
@@ -84,7 +84,7 @@ pub fn ticket_in<R: ReadDevice>(alloc: Global, reader: &mut R) -> Result<Ticket,
     ensures refused { IfErr result (λ why.
         TicketRefused (R.remaining reader.old) (R.remaining reader.new) why) }
     ensures cause { IfErr result (λ why. why ≡ JobFileError.Input InputError.ReadFault
-        → ReadFails R.can_fail (R.remaining reader.old) (R.remaining reader.new)) }
+        → ReadFails (R.failed reader.new) (R.reads reader.new)) }
 {
     let text = read_all(alloc, reader)?;
     read_ticket(alloc, &text).map_err(JobFileError::Ticket)
@@ -98,7 +98,8 @@ fn image_named<I: NamedInputs>(
 ) -> Result<Bitmap, JobFileError>
     ensures image { IfOk result (λ image. HasImage (I.bytes inputs.now name.now) image) }
     ensures refused { IfErr result (λ why.
-        ImageRefused (named I.Input.can_fail (I.bytes inputs.now) (I.missing inputs.now)
+        ImageRefused (named (SomeFails I.Input.failed I.Input.reads)
+        (I.bytes inputs.now) (I.missing inputs.now)
         name.now) why) }
 {
     let mut input = open_named(inputs, name)?;
@@ -109,19 +110,19 @@ fn image_named<I: NamedInputs>(
 ///
 /// # Errors
 ///
-/// 304 where an input cannot be opened, or its name is no text; 111 to 113 where it has no image; 114 where it cannot be read;
-/// `NoMemory`.
+/// 304 where an input cannot be opened, or its name is no text; 111 to 113 where it has no image; 114 where it cannot be read; `NoMemory`.
 pub fn images_named<I: NamedInputs>(
     alloc: Global,
     inputs: &I,
     names: &[&[u8]],
 ) -> Result<Vec<Bitmap>, JobFileError>
     ensures images { IfOk result (λ images.
-        HaveImages (map (λ name. named I.Input.can_fail (I.bytes inputs.now) (I.missing inputs.now)
+        HaveImages (map (λ name. named (SomeFails I.Input.failed I.Input.reads)
+        (I.bytes inputs.now) (I.missing inputs.now)
         name.now)
         names.now) images.items) }
     ensures refused { IfErr result (λ why.
-        ImagesRefused (map (λ name. named I.Input.can_fail
+        ImagesRefused (map (λ name. named (SomeFails I.Input.failed I.Input.reads)
         (I.bytes inputs.now) (I.missing inputs.now)
         name.now)
         names.now) why) }
@@ -146,7 +147,7 @@ fn write_to<W: WriteDevice>(
     ensures err { IfErr result (λ why.
         WritesNoJob ticket.now images.now (W.contents out.old) (W.contents out.new) why) }
     ensures cause { IfErr result (λ why.
-        why ≡ WriterError.WriteFault → W.can_fail ≡ true) }
+        why ≡ WriterError.WriteFault → W.failed out.new ≡ true) }
 {
     write_job(alloc, ticket, images, out)?;
     out.flush_all().map_err(|_| WriterError::WriteFault)
@@ -161,17 +162,22 @@ fn write_from<T: ReadDevice, I: NamedInputs, W: WriteDevice>(
     out: &mut W,
 ) -> Result<(), JobFileError>
     ensures ok { OnOk result (WritesTheTicket (T.remaining ticket.old) (T.remaining ticket.new)
-        (map (λ name. named I.Input.can_fail (I.bytes inputs.now) (I.missing inputs.now)
+        (map (λ name. named (SomeFails I.Input.failed I.Input.reads)
+        (I.bytes inputs.now) (I.missing inputs.now)
         name.now) names.now)
         (W.contents out.old) (W.contents out.new)) }
     ensures err { IfErr result (λ why.
         StopsWriting (T.remaining ticket.old) (T.remaining ticket.new)
-        (map (λ name. named I.Input.can_fail (I.bytes inputs.now) (I.missing inputs.now)
+        (map (λ name. named (SomeFails I.Input.failed I.Input.reads)
+        (I.bytes inputs.now) (I.missing inputs.now)
         name.now) names.now)
         (W.contents out.old) (W.contents out.new) why) }
-    ensures cause { IfErr result (JobCause (may_fail T.can_fail I.Input.can_fail false W.can_fail)
+    ensures cause { IfErr result (JobCause
+        (failures (ReadFails (T.failed ticket.new) (T.reads ticket.new))
+        ⊥ ⊥ (W.failed out.new ≡ true))
         (T.remaining ticket.old) (T.remaining ticket.new)
-        (map (λ name. named I.Input.can_fail (I.bytes inputs.now) (I.missing inputs.now)
+        (map (λ name. named (SomeFails I.Input.failed I.Input.reads)
+        (I.bytes inputs.now) (I.missing inputs.now)
         name.now) names.now)) }
 {
     let ticket = ticket_in(alloc, ticket)?;
@@ -179,9 +185,8 @@ fn write_from<T: ReadDevice, I: NamedInputs, W: WriteDevice>(
     write_to(alloc, &ticket, &images, out).map_err(JobFileError::Writer)
 }
 
-/// Writes the job of the ticket that a reader has, with the images of the inputs of these names in the order of its pages, to
-/// `out`, and a fault to `err`. Nothing is written to `out` before the images are found to fit. The answer is the status: 0, or
-/// 1 after a fault.
+/// Writes the job of the ticket that a reader has, with the images of the inputs of these names in the order of its pages, to `out`, and a
+/// fault to `err`. Nothing is written to `out` before the images are found to fit. The answer is the status: 0, or 1 after a fault.
 pub fn write_files<T: ReadDevice, I: NamedInputs, W: WriteDevice, E: Teller>(
     alloc: Global,
     ticket: &mut T,
@@ -192,16 +197,21 @@ pub fn write_files<T: ReadDevice, I: NamedInputs, W: WriteDevice, E: Teller>(
 ) -> u8
     ensures { Ended result (E.said err.old) (E.said err.new) told_of_job
         (WritesTheTicket (T.remaining ticket.old) (T.remaining ticket.new)
-        (map (λ name. named I.Input.can_fail (I.bytes inputs.now) (I.missing inputs.now)
+        (map (λ name. named (SomeFails I.Input.failed I.Input.reads)
+        (I.bytes inputs.now) (I.missing inputs.now)
         name.now) names.now)
         (W.contents out.old) (W.contents out.new))
         (λ why. StopsWriting (T.remaining ticket.old) (T.remaining ticket.new)
-        (map (λ name. named I.Input.can_fail (I.bytes inputs.now) (I.missing inputs.now)
+        (map (λ name. named (SomeFails I.Input.failed I.Input.reads)
+        (I.bytes inputs.now) (I.missing inputs.now)
         name.now) names.now)
         (W.contents out.old) (W.contents out.new) why
-        × JobCause (may_fail T.can_fail I.Input.can_fail false W.can_fail)
+        × JobCause
+        (failures (ReadFails (T.failed ticket.new) (T.reads ticket.new))
+        ⊥ ⊥ (W.failed out.new ≡ true))
         (T.remaining ticket.old) (T.remaining ticket.new)
-        (map (λ name. named I.Input.can_fail (I.bytes inputs.now) (I.missing inputs.now)
+        (map (λ name. named (SomeFails I.Input.failed I.Input.reads)
+        (I.bytes inputs.now) (I.missing inputs.now)
         name.now) names.now) why) }
 {
     match write_from(alloc, ticket, inputs, names, out) {

@@ -1,17 +1,22 @@
+use Rattle.std.proofs.Common.{inl}
 use Rattle.press_units.proofs.ExitLemmas.{exit-is}
+use Rattle.press_devices.specs.Reading.{SomeFails}
 use Rattle.press_files.specs.NamedInputs.{named}
 use Rattle.press_jobs.proofs.JobLemmas.{image-refused, unopened}
 use Rattle.press_jobs.proofs.jobs.image_named.Goals as goal
 
 pub returns-in_err-input-clause-refused : goal.returns-in_err-input-clause-refused
 returns-in_err-input-clause-refused g c =
-    rw (exit-is c.from_residual.ensures.1) (unopened (named g.I.Input.ReadDevice.can_fail (g.I.NamedInputs.bytes c.args.inputs.now)
-    (g.I.NamedInputs.missing c.args.inputs.now) c.args.name.now)
+    rw (exit-is c.from_residual.ensures.1)
+    (unopened
+    (named (SomeFails g.I.Input.ReadDevice.failed g.I.Input.ReadDevice.reads) (g.I.NamedInputs.bytes c.args.inputs.now) (g.I.NamedInputs.missing c.args.inputs.now)
+    c.args.name.now)
     c.in_err-input.field-0.0 c.in_err-input.ensures.missing)
 
 pub returns-clause-refused : goal.returns-clause-refused
 returns-clause-refused g c =
-    image-refused c.read_pbm.result c.map_err.result
-    (named g.I.Input.ReadDevice.can_fail (g.I.NamedInputs.bytes c.args.inputs.now) (g.I.NamedInputs.missing c.args.inputs.now)
+    image-refused _ c.read_pbm.result c.map_err.result
+    (named (SomeFails g.I.Input.ReadDevice.failed g.I.Input.ReadDevice.reads) (g.I.NamedInputs.bytes c.args.inputs.now) (g.I.NamedInputs.missing c.args.inputs.now)
     c.args.name.now)
-    _ c.map_err.ensures.cases (rw (c.in_ok-input.ensures.bytes) at c.read_pbm.ensures.refused) c.read_pbm.ensures.cause
+    _ (λ failed. (c.read_pbm.new.input, inl failed)) c.map_err.ensures.cases (rw (c.in_ok-input.ensures.bytes) at c.read_pbm.ensures.refused)
+    c.read_pbm.ensures.cause
