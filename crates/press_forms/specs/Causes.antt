@@ -1,6 +1,6 @@
 -- Why a text, a stream, a trace or a page was not made, as far as a device makes it so.
-use Rattle.std.specs.Prelude.{◌≡◌, ℕ, true, List, Option, ⊤}
-use Rattle.press_files.specs.Causes.{MayFail, InputCause}
+use Rattle.std.specs.Prelude.{⊤}
+use Rattle.press_files.specs.Causes.{Failures, InputCause}
 use Rattle.press_forms.specs.declared.assembly.TextError.{TextError}
 use Rattle.press_forms.specs.declared.assembly.TextError.TheVariants as texts
 use Rattle.press_forms.specs.declared.traced.TracedError.{TracedError}
@@ -9,20 +9,20 @@ use Rattle.press_forms.specs.declared.paging.PagingError.{PagingError}
 use Rattle.press_forms.specs.declared.paging.PagingError.TheVariants as pages
 
 -- of a text or a stream: 304, of its reader; 115, of the output that is made; else of the writer
-abbrev pub TextCause : MayFail → (had left : Option (List ℕ)) → TextError → Type 0
-TextCause fails had left (texts.Input why) = InputCause fails.input had left why
-TextCause fails had left texts.WriteFault = fails.outputs ≡ true
-TextCause fails had left texts.NoOutput = fails.output ≡ true
-TextCause fails had left other = ⊤
+abbrev pub TextCause : Failures → TextError → Type 0
+TextCause fails (texts.Input why) = InputCause fails.input why
+TextCause fails texts.WriteFault = fails.outputs
+TextCause fails texts.NoOutput = fails.output
+TextCause fails other = ⊤
 
 -- of a trace
-abbrev pub TraceCause : MayFail → (had left : Option (List ℕ)) → TracedError → Type 0
-TraceCause fails had left (traces.Input why) = InputCause fails.input had left why
-TraceCause fails had left traces.Output = fails.output ≡ true
-TraceCause fails had left traces.NoMemory = ⊤
+abbrev pub TraceCause : Failures → TracedError → Type 0
+TraceCause fails (traces.Input why) = InputCause fails.input why
+TraceCause fails traces.Output = fails.output
+TraceCause fails traces.NoMemory = ⊤
 
 -- of the page of a step
-abbrev pub PageCause : MayFail → (had left : Option (List ℕ)) → PagingError → Type 0
-PageCause fails had left (pages.Input why) = InputCause fails.input had left why
-PageCause fails had left pages.WriteFault = fails.outputs ≡ true
-PageCause fails had left pages.NoMemory = ⊤
+abbrev pub PageCause : Failures → PagingError → Type 0
+PageCause fails (pages.Input why) = InputCause fails.input why
+PageCause fails pages.WriteFault = fails.outputs
+PageCause fails pages.NoMemory = ⊤

@@ -10,7 +10,7 @@ use Rattle.press_engine.specs.Machine.{StepResult, power_on}
 use Rattle.press_engine.specs.Trace.{last_machine}
 use Rattle.press_stream.specs.Traced.{IsTraceOf}
 use Rattle.press_debug.specs.Steps.{DebuggerState}
-use Rattle.press_files.specs.Causes.{MayFail}
+use Rattle.press_files.specs.Causes.{Failures}
 use Rattle.press_forms.specs.Causes.{PageCause}
 use Rattle.press_files.specs.Change.{Change}
 use Rattle.press_files.specs.Inputs.{ReadWhole}
@@ -65,8 +65,8 @@ abbrev pub TellsEnd : (steps : ℕ) (said says : Option (List ℕ)) → Type 0
 TellsEnd steps said says = (says ≡ said) ⊎ ((taken : ℕ) × (taken < steps) × Appends said says (end_text taken))
 
 -- The page at a step was made an output of this name, and at most the end of the stream was told; or it was not, and why is what was told.
-pub record Paging (fails : MayFail) (steps : ℕ) (name : List ℕ) (status : ℕ) (told read : Change (Option (List ℕ))) (made : Change (Option (List MadeOutput))) : Type 0 where
+pub record Paging (fails : Failures) (steps : ℕ) (name : List ℕ) (status : ℕ) (told read : Change (Option (List ℕ))) (made : Change (Option (List MadeOutput))) : Type 0 where
   pub done : status ≡ 0 → TellsEnd steps told.before told.after × PagedInto steps name read.before read.after made.before made.after
   pub stops : status ≢ 0
       → (status ≡ 1) × (why : PagingError) × Tells told.before told.after (as_line (told_of_page why))
-      × StopsPaging steps name read.before read.after made why × PageCause fails read.before read.after why
+      × StopsPaging steps name read.before read.after made why × PageCause fails why

@@ -3,7 +3,7 @@ use Rattle.std.specs.Prelude.{◌≡◌, ℕ, List, Option}
 use Rattle.press_trace.specs.Traced.{Traces, StopsTracing}
 use Rattle.press_trace.specs.declared.fault.TraceError.{TraceError}
 use Rattle.press_trace.specs.declared.fault.TraceError.TheVariants as traces
-use Rattle.press_files.specs.Causes.{MayFail}
+use Rattle.press_files.specs.Causes.{Failures}
 use Rattle.press_forms.specs.Causes.{TraceCause}
 use Rattle.press_files.specs.Change.{Change}
 use Rattle.press_files.specs.Inputs.{ReadWhole}
@@ -33,8 +33,8 @@ StopsTelling had left old new NoMemory =
     × (why : TraceError) × IsTold why NoMemory × StopsTracing bytes old new why
 
 -- The trace of the stream of a reader was told to its end, or not.
-abbrev pub Tracing : (fails : MayFail) (status : ℕ) (told read written : Change (Option (List ℕ))) → Type 0
+abbrev pub Tracing : (fails : Failures) (status : ℕ) (told read written : Change (Option (List ℕ))) → Type 0
 Tracing fails status told read written =
     Ended status told.before told.after told_of_trace
     (Traced read.before read.after written.before written.after)
-    (λ why. StopsTelling read.before read.after written.before written.after why × TraceCause fails read.before read.after why)
+    (λ why. StopsTelling read.before read.after written.before written.after why × TraceCause fails why)

@@ -1,10 +1,11 @@
 //! Assembly text to bytes, and back.
-ghost use Rattle.std.specs.Prelude.{◌≡◌, false, IfOk, IfErr, OnOk};
+ghost use Rattle.std.specs.Prelude.{◌≡◌, IfOk, IfErr, OnOk, true};
+ghost use Rattle.press_devices.specs.Reading.{ReadFails};
 ghost use Rattle.std.specs.String.{string_bytes};
 ghost use Rattle.press_forms.specs.Assembly.{Assembled, AssembledTo, TextRefused, StopsAssembling, Disassembled, DisassembledTo, StreamUnread, StopsDisassembling};
 ghost use Rattle.press_forms.specs.Faults.{told_of_text};
 ghost use Rattle.press_forms.specs.Causes.{TextCause};
-ghost use Rattle.press_files.specs.Causes.{may_fail};
+ghost use Rattle.press_files.specs.Causes.{failures};
 ghost use Rattle.press_files.specs.Telling.{Ended};
 
 use press_asm::{AssembleError, assemble};
@@ -81,8 +82,8 @@ pub fn assembled<R: ReadDevice>(alloc: Global, reader: &mut R) -> Result<Vec<u8>
         Assembled (R.remaining reader.old) (R.remaining reader.new) bytes.items) }
     ensures err { IfErr result (λ why.
         TextRefused (R.remaining reader.old) (R.remaining reader.new) why) }
-    ensures cause { IfErr result (TextCause (may_fail R.can_fail false false false)
-        (R.remaining reader.old) (R.remaining reader.new)) }
+    ensures cause { IfErr result (TextCause
+        (failures (ReadFails (R.failed reader.new) (R.reads reader.new)) ⊥ ⊥ ⊥)) }
 {
     let text = read_all(alloc, reader)?;
     assemble(alloc, &text).map_err(TextError::Refused)
@@ -99,8 +100,9 @@ fn assemble_to<R: ReadDevice, W: WriteDevice>(
     ensures err { IfErr result (λ why.
         StopsAssembling (R.remaining reader.old) (R.remaining reader.new)
         (W.contents out.old) (W.contents out.new) why) }
-    ensures cause { IfErr result (TextCause (may_fail R.can_fail false false W.can_fail)
-        (R.remaining reader.old) (R.remaining reader.new)) }
+    ensures cause { IfErr result (TextCause
+        (failures (ReadFails (R.failed reader.new) (R.reads reader.new))
+        ⊥ ⊥ (W.failed out.new ≡ true))) }
 {
     let bytes = assembled(alloc, reader)?;
     write_flushed(out, &bytes).map_err(|_| TextError::WriteFault)
@@ -119,8 +121,8 @@ pub fn asm_text<R: ReadDevice, W: WriteDevice, E: Teller>(
         (W.contents out.old) (W.contents out.new))
         (λ why. StopsAssembling (R.remaining reader.old) (R.remaining reader.new)
         (W.contents out.old) (W.contents out.new) why
-        × TextCause (may_fail R.can_fail false false W.can_fail)
-        (R.remaining reader.old) (R.remaining reader.new) why) }
+        × TextCause (failures (ReadFails (R.failed reader.new) (R.reads reader.new))
+        ⊥ ⊥ (W.failed out.new ≡ true)) why) }
 {
     match assemble_to(alloc, reader, out) {
         Ok(()) => 0,
@@ -133,8 +135,8 @@ fn disassembled<R: ReadDevice>(alloc: Global, reader: &mut R) -> Result<String, 
     ensures ok { IfOk result (λ text.
         Disassembled (R.remaining reader.old) (R.remaining reader.new) (string_bytes text)) }
     ensures err { IfErr result StreamUnread }
-    ensures cause { IfErr result (TextCause (may_fail R.can_fail false false false)
-        (R.remaining reader.old) (R.remaining reader.new)) }
+    ensures cause { IfErr result (TextCause
+        (failures (ReadFails (R.failed reader.new) (R.reads reader.new)) ⊥ ⊥ ⊥)) }
 {
     let bytes = read_all(alloc, reader)?;
     Ok(disassemble(alloc, &bytes)?)
@@ -151,8 +153,9 @@ fn disassemble_to<R: ReadDevice, W: WriteDevice>(
     ensures err { IfErr result (λ why.
         StopsDisassembling (R.remaining reader.old) (R.remaining reader.new)
         (W.contents out.old) (W.contents out.new) why) }
-    ensures cause { IfErr result (TextCause (may_fail R.can_fail false W.can_fail false)
-        (R.remaining reader.old) (R.remaining reader.new)) }
+    ensures cause { IfErr result (TextCause
+        (failures (ReadFails (R.failed reader.new) (R.reads reader.new))
+        ⊥ (W.failed out.new ≡ true) ⊥)) }
 {
     let text = disassembled(alloc, reader)?;
     write_flushed(out, text.as_bytes()).map_err(|_| TextError::NoOutput)
@@ -171,8 +174,8 @@ pub fn disasm_bytes<R: ReadDevice, W: WriteDevice, E: Teller>(
         (W.contents out.old) (W.contents out.new))
         (λ why. StopsDisassembling (R.remaining reader.old) (R.remaining reader.new)
         (W.contents out.old) (W.contents out.new) why
-        × TextCause (may_fail R.can_fail false W.can_fail false)
-        (R.remaining reader.old) (R.remaining reader.new) why) }
+        × TextCause (failures (ReadFails (R.failed reader.new) (R.reads reader.new))
+        ⊥ (W.failed out.new ≡ true) ⊥) why) }
 {
     match disassemble_to(alloc, reader, out) {
         Ok(()) => 0,

@@ -1,6 +1,7 @@
 //! The page that is open at a step of a stream, made an output.
-ghost use Rattle.std.specs.Prelude.{◌≡◌, ◌<◌, true, false, IfOk, IfErr, IfSome, OnOk};
-ghost use Rattle.press_files.specs.Causes.{may_fail};
+ghost use Rattle.std.specs.Prelude.{◌≡◌, ◌<◌, true, IfOk, IfErr, IfSome, OnOk};
+ghost use Rattle.press_devices.specs.Reading.{ReadFails};
+ghost use Rattle.press_files.specs.Causes.{failures};
 ghost use Rattle.press_files.specs.Change.{change};
 ghost use Rattle.press_forms.specs.Causes.{PageCause};
 ghost use Rattle.press_engine.specs.Closing.{page_now};
@@ -109,7 +110,10 @@ pub fn page_file<R: ReadDevice, O: NamedOutputs, E: Teller>(
     name: &str,
     err: &mut E,
 ) -> u8
-    ensures { Paging (may_fail R.can_fail false false O.Output.can_fail) steps name.now result
+    ensures { Paging
+        (failures (ReadFails (R.failed reader.new) (R.reads reader.new))
+        ⊥ ⊥ (O.failed outputs.new ≡ true))
+        steps name.now result
         (change (E.said err.old) (E.said err.new))
         (change (R.remaining reader.old) (R.remaining reader.new))
         (change (O.made outputs.old) (O.made outputs.new)) }
@@ -138,8 +142,9 @@ fn make_page<R: ReadDevice, O: NamedOutputs>(
     ensures err { IfErr result (λ why. StopsPaging steps name.now (R.remaining reader.old)
         (R.remaining reader.new)
         (change (O.made outputs.old) (O.made outputs.new)) why) }
-    ensures cause { IfErr result (PageCause (may_fail R.can_fail false false O.Output.can_fail)
-        (R.remaining reader.old) (R.remaining reader.new)) }
+    ensures cause { IfErr result (PageCause
+        (failures (ReadFails (R.failed reader.new) (R.reads reader.new))
+        ⊥ ⊥ (O.failed outputs.new ≡ true))) }
 {
     let bytes = read_all(alloc, reader)?;
     let stepper = behind_steps(alloc, &bytes, steps)?;
@@ -174,7 +179,7 @@ fn write_open_page<O: NamedOutputs>(
         MakesPage (page_now machine.state) name.now result
         (O.made outputs.old) (O.made outputs.new)) }
     ensures cause { IfErr result (λ why.
-        why ≡ PagingError.WriteFault → O.Output.can_fail ≡ true) }
+        why ≡ PagingError.WriteFault → O.failed outputs.new ≡ true) }
 {
     match stepper.page() {
         Some(canvas) => match canvas.upright() {

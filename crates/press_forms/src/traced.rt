@@ -1,7 +1,8 @@
 //! The trace of a stream, told to a writer.
-ghost use Rattle.std.specs.Prelude.{false, IfErr, OnOk};
+ghost use Rattle.std.specs.Prelude.{◌≡◌, IfErr, OnOk, true};
+ghost use Rattle.press_devices.specs.Reading.{ReadFails};
 ghost use Rattle.press_files.specs.Change.{change};
-ghost use Rattle.press_files.specs.Causes.{may_fail};
+ghost use Rattle.press_files.specs.Causes.{failures};
 ghost use Rattle.press_forms.specs.Causes.{TraceCause};
 ghost use Rattle.press_forms.specs.Traced.{StopsTelling, Traced, Tracing};
 
@@ -71,7 +72,9 @@ pub fn tell_trace<R: ReadDevice, W: WriteDevice, E: Teller>(
     out: &mut W,
     err: &mut E,
 ) -> u8
-    ensures { Tracing (may_fail R.can_fail false W.can_fail false) result
+    ensures { Tracing
+        (failures (ReadFails (R.failed reader.new) (R.reads reader.new))
+        ⊥ (W.failed out.new ≡ true) ⊥) result
         (change (E.said err.old) (E.said err.new))
         (change (R.remaining reader.old) (R.remaining reader.new))
         (change (W.contents out.old) (W.contents out.new)) }
@@ -92,8 +95,9 @@ fn trace_to<R: ReadDevice, W: WriteDevice>(
         (W.contents out.old) (W.contents out.new)) }
     ensures err { IfErr result (StopsTelling (R.remaining reader.old) (R.remaining reader.new)
         (W.contents out.old) (W.contents out.new)) }
-    ensures cause { IfErr result (TraceCause (may_fail R.can_fail false W.can_fail false)
-        (R.remaining reader.old) (R.remaining reader.new)) }
+    ensures cause { IfErr result (TraceCause
+        (failures (ReadFails (R.failed reader.new) (R.reads reader.new))
+        ⊥ (W.failed out.new ≡ true) ⊥)) }
 {
     let bytes = read_all(alloc, reader)?;
     trace_lines(alloc, &bytes, out)?;
