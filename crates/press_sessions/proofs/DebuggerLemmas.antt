@@ -1,6 +1,6 @@
 -- The talk of a debugger, and where it stands in the trace of its stream.
 use Rattle.std.proofs.Common.{◌≡◌, ◌∙◌, ℕ, true, List, [], ◌∷◌, Option, sym, ap, subst, inr}
-use Rattle.press_files.specs.Causes.{MayFail, InputCause}
+use Rattle.press_files.specs.Causes.{Failures, InputCause}
 use Rattle.press_files.specs.Change.{change}
 use Rattle.press_debug.specs.declared.breakpoints.Break.{Break}
 use Rattle.press_debug.specs.Breaks.{no_breaks}
@@ -54,10 +54,10 @@ module _ {S : Type 0} (steps : S → DebuggerState) (breaks : S → List (Option
     pub Debugs-all : AnswersAll debugs first had left old new → Debugs stream rest had left old new
     Debugs-all all = (bytes, read, subst (λ (at : Seat). AnswersAll (debugging bytes) at had left old new) same_seat (AnswersAll-seen seen had left old new all))
 
-    pub StopsDebugging-some : (missing : Type 0) (fails : MayFail) (why : DebugError)
-        → AnswersSome (caused debugs (InputCause fails.input had left) (fails.output ≡ true)) first had left (change old new) why
+    pub StopsDebugging-some : (missing : Type 0) (fails : Failures) (why : DebugError)
+        → AnswersSome (caused debugs (InputCause fails.input) fails.output) first had left (change old new) why
         → StopsDebugging missing fails (change stream rest) (change had left) (change old new) why
     StopsDebugging-some missing fails why some =
-        let over = IsSeen-caused (InputCause fails.input had left) (fails.output ≡ true) seen in
-        let P : Seat → Type 0 = λ at. AnswersSome (debugging_over bytes fails (change had left)) at had left (change old new) why in
+        let over = IsSeen-caused (InputCause fails.input) fails.output seen in
+        let P : Seat → Type 0 = λ at. AnswersSome (debugging_over bytes fails) at had left (change old new) why in
         inr (bytes, read, subst P same_seat (AnswersSome-seen over had left old new why some))

@@ -5,4 +5,3 @@ mod LineLemmas
 mod SessionLemmas
 mod TalkLemmas
 mod WordLemmas
-mod ReadsLemmas

@@ -1,6 +1,6 @@
 -- Lines of a session, some after others.
 use Rattle.std.proofs.Common.{◌≡◌, ◌∙◌, ℕ, List, [], ◌∷◌, ◌++◌, codes, true, false, Option, Some, None, option_map, Ok, refl, sym, ap, subst, inl, inr}
-use Rattle.press_files.specs.Causes.{MayFail, InputCause}
+use Rattle.press_files.specs.Causes.{Failures, InputCause}
 use Rattle.press_files.specs.Change.{change}
 use Rattle.press_files.specs.NamedInputs.{NamedInput}
 use Rattle.press_files.specs.declared.inputs.InputError.{InputError}
@@ -186,21 +186,21 @@ module _ {S I : Type 0} (bytes : I → Inputs) (inputs : S → I) (world : S →
               (record { engines = engines; are = are; leads = played.answered.takes.leads });
         }
 
-    stops_playing : (fails : MayFail) (why : SessionError)
+    stops_playing : (fails : Failures) (why : SessionError)
         → StopsPlaying (bytes (inputs first)) fails (stands first) (change had left) (change old new) why
         → Stops engines (bytes (inputs first)) fails (change had left) (change old new) why
     stops_playing fails why stops =
         let P : Standing → Type 0 = λ at. StopsPlaying (bytes (inputs first)) fails at (change had left) (change old new) why in
         rw are (subst P at_start stops)
 
-    pub Stops-some : (fails : MayFail) (why : SessionError)
-        → AnswersSome (caused plays (InputCause fails.input had left) (fails.output ≡ true)) first had left (change old new) why
+    pub Stops-some : (fails : Failures) (why : SessionError)
+        → AnswersSome (caused plays (InputCause fails.input) fails.output) first had left (change old new) why
         → Stops engines (bytes (inputs first)) fails (change had left) (change old new) why
     Stops-some fails why some =
-        let over = IsSeen-caused (InputCause fails.input had left) (fails.output ≡ true) (is_seen first) in
+        let over = IsSeen-caused (InputCause fails.input) fails.output (is_seen first) in
         stops_playing fails why (inl (AnswersSome-seen over had left old new why some))
 
-    pub Stops-listing : (fails : MayFail) (why : SessionError) (all : AnswersAll plays first had left old between) (last : S)
+    pub Stops-listing : (fails : Failures) (why : SessionError) (all : AnswersAll plays first had left old between) (last : S)
         → all.last ≡ last → StopsListing fails.output (delivered last) between new why
         → Stops engines (bytes (inputs first)) fails (change had left) (change old new) why
     Stops-listing fails why all last same stops =
@@ -212,7 +212,7 @@ module _ {S I : Type 0} (bytes : I → Inputs) (inputs : S → I) (world : S →
         }))
 
 -- without a press
-pub stops-beginning : (engines : ℕ) (inputs : Inputs) (fails : MayFail) (bytes old : Option (List ℕ)) (error : BadEngines)
+pub stops-beginning : (engines : ℕ) (inputs : Inputs) (fails : Failures) (bytes old : Option (List ℕ)) (error : BadEngines)
     → are_engines engines ≡ false → Stops engines inputs fails (change bytes bytes) (change old old) (Engines error)
 stops-beginning engines inputs fails bytes old error none = rw none ((error, refl), refl, refl)
 
@@ -222,7 +222,7 @@ IsUnread-missing input input_fault.ReadFault own = inl (own refl)
 IsUnread-missing input input_fault.NoMemory own = tt
 
 -- a file that is not read
-pub IsUnread-cause : (input : NamedInput) (left : Option (List ℕ)) (error : InputError) → InputCause input.can_fail input.bytes left error
+pub IsUnread-cause : (input : NamedInput) (Fails : Type 0) (error : InputError) → (Fails → input.Failed) → InputCause Fails error
     → IsUnread input (fault.Input error)
-IsUnread-cause input left input_fault.ReadFault cause = inr (left, cause)
-IsUnread-cause input left input_fault.NoMemory cause = tt
+IsUnread-cause input Fails input_fault.ReadFault some fails = inr (some fails)
+IsUnread-cause input Fails input_fault.NoMemory some cause = tt

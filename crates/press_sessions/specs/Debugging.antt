@@ -15,8 +15,7 @@ use Rattle.press_debug.specs.Breaks.{Sets, Clears, no_breaks, refusal_number}
 use Rattle.press_debug.specs.Places.{StandsBehind}
 use Rattle.press_debug.specs.Steps.{DebuggerState, at_start}
 use Rattle.press_debug.specs.Stops.{ContinuesTo, StopsInto, StopsOver}
-use Rattle.press_devices.specs.Reading.{ReadFails}
-use Rattle.press_files.specs.Causes.{MayFail, InputCause}
+use Rattle.press_files.specs.Causes.{Failures, InputCause}
 use Rattle.press_files.specs.Change.{Change}
 use Rattle.press_files.specs.declared.inputs.InputError.TheVariants as input_fault
 use Rattle.press_sessions.specs.declared.debugger_lines.DebuggerLine.{DebuggerLine}
@@ -123,24 +122,21 @@ debugging bytes =
 abbrev pub Debugs : (stream rest had left old new : Option (List ℕ)) → Type 0
 Debugs stream rest had left old new = (bytes : List ℕ) × ReadWhole stream rest bytes × AnswersAll (debugging bytes) (opened bytes) had left old new
 
--- Why no debugger was opened. 304: the stream may be one that cannot be opened; or its reads may fail, or there were too many. Else memory
--- ran
--- out.
-abbrev pub IsUnopened : (missing : Type 0) → (can_fail : Bool) → (stream : Change (Option (List ℕ))) → DebugError → Type 0
-IsUnopened missing can_fail stream (Input input_fault.ReadFault) = missing ⊎ ReadFails can_fail stream.before stream.after
-IsUnopened missing can_fail stream (Input input_fault.NoMemory) = ⊤
-IsUnopened missing can_fail stream NoMemory = ⊤
-IsUnopened missing can_fail stream (Output error) = ⊥
+-- Why no debugger was opened. 304: the stream may be one that cannot be opened; or it is not read on. Else memory ran out.
+abbrev pub IsUnopened : (missing Fails : Type 0) → DebugError → Type 0
+IsUnopened missing Fails (Input input_fault.ReadFault) = missing ⊎ Fails
+IsUnopened missing Fails (Input input_fault.NoMemory) = ⊤
+IsUnopened missing Fails NoMemory = ⊤
+IsUnopened missing Fails (Output error) = ⊥
 
--- The same talk over devices of which these may fail: lines are not read where their reads may fail, or there were too many, and answers
--- are
--- not written where the writer may fail.
-abbrev pub debugging_over : (bytes : List ℕ) → MayFail → (read : Change (Option (List ℕ))) → Talking Seat DebugError
-debugging_over bytes fails read = caused (debugging bytes) (InputCause fails.input read.before read.after) (fails.output ≡ true)
+-- The same talk over devices of which these failed: no line is read where their reader is not read on, and an answer is not written where
+-- the writer failed.
+abbrev pub debugging_over : (bytes : List ℕ) → Failures → Talking Seat DebugError
+debugging_over bytes fails = caused (debugging bytes) (InputCause fails.input) fails.output
 
 -- It stopped early, and this is why: no debugger was opened, and no line was read; or one line was not answered, or not read.
-abbrev pub StopsDebugging : (missing : Type 0) → MayFail → (stream read output : Change (Option (List ℕ))) → DebugError → Type 0
+abbrev pub StopsDebugging : (missing : Type 0) → Failures → (stream read output : Change (Option (List ℕ))) → DebugError → Type 0
 StopsDebugging missing fails stream read output why =
-    (IsUnopened missing fails.files stream why × (read.after ≡ read.before) × (output.after ≡ output.before))
+    (IsUnopened missing fails.file why × (read.after ≡ read.before) × (output.after ≡ output.before))
     ⊎ ((bytes : List ℕ) × ReadWhole stream.before stream.after bytes
-    × AnswersSome (debugging_over bytes fails read) (opened bytes) read.before read.after output why)
+    × AnswersSome (debugging_over bytes fails) (opened bytes) read.before read.after output why)

@@ -23,16 +23,6 @@ longest_piece = 16384
 abbrev pub bytes_left : LineReader → ℕ
 bytes_left lines = length (held lines) + longest_piece * reads_left lines
 
--- As many reads were made at most as bytes were read; or a read of such a reader may fail or be interrupted.
-abbrev pub ReadsFew : (can_fail : Bool) → (old new : ℕ) → (had left : Option (List ℕ)) → Type 0
-ReadsFew can_fail old new had left = (can_fail ≡ true) ⊎ ((read : List ℕ) × Consumes had left read × (new ≤ old + length read))
-
--- Why no line was read after so many reads: reads may fail, or there were too many; or memory ran out.
-abbrev pub LineCause : (can_fail : Bool) → (reads : ℕ) → (had left : Option (List ℕ)) → InputError → Type 0
-LineCause can_fail reads had left ReadFault =
-    (can_fail ≡ true) ⊎ ((read : List ℕ) × Consumes had left read × (most_reads ≤ reads + length read))
-LineCause can_fail reads had left NoMemory = ⊤
-
 -- What was held was added to a line: up to a line feed, behind which the rest is held; or all, where none stood there.
 abbrev pub TakesLine : Bool → (held left : List ℕ) → (old new : List ℕ) → Type 0
 TakesLine true held left old new = (prefix : List ℕ) × HasNoFeed prefix × (held ≡ prefix ++ 10 ∷ left) × (new ≡ old ++ prefix)
@@ -45,8 +35,8 @@ Refills (Ok false) held had left = Consumes had left [] × (held ≡ []) × IsAt
 Refills (Err ReadFault) held had left = Consumes had left []
 Refills (Err NoMemory) held had left = (read : List ℕ) × Consumes had left read
 
--- What was held before and what was read are a line with its line feed, and what is held; or a line without one, at the end;
--- or, where a read failed, what no line feed stands in.
+-- What was held before and what was read are a line with its line feed, and what is held; or a line without one, at the end; or, where a
+-- read failed, what no line feed stands in.
 abbrev pub GivesLine : Result Bool InputError → (held left : List ℕ) → (had has : Option (List ℕ)) → (line : List ℕ) → Type 0
 GivesLine (Ok true) held left had has line =
     (read : List ℕ) × Consumes had has read × HasNoFeed line × (held ++ read ≡ line ++ 10 ∷ left)

@@ -3,7 +3,6 @@ use Rattle.std.specs.Prelude.{◌≡◌, ◌⊎◌, ℕ, Bool, true, List, [], �
 use Rattle.std.specs.Fmt.{decimal}
 use Rattle.std.specs.List.{All}
 use Rattle.std.specs.Io.KnownBytes.{Appends}
-use Rattle.press_devices.specs.Reading.{ReadFails}
 use Rattle.press_devices.specs.Writing.{AppendsPrefix}
 use Rattle.press_sink.specs.declared.sheet.Delivery.{Delivery}
 use Rattle.press_core.specs.declared.engines.BadEngines.{BadEngines}
@@ -11,7 +10,7 @@ use Rattle.press_core.specs.Engines.{are_engines}
 use Rattle.press_core.specs.Events.{Event, Message, TurnOn, Operator, Transition, Happens, EventAnswer, Response, Turned, Nothing, IsAnswered, IsExecution}
 use Rattle.press_core.specs.Laws.{GivenUnder}
 use Rattle.press_core.specs.World.{World, new_world}
-use Rattle.press_files.specs.Causes.{MayFail, InputCause}
+use Rattle.press_files.specs.Causes.{Failures, InputCause}
 use Rattle.press_files.specs.Change.{Change}
 use Rattle.press_jobs.specs.declared.jobs.JobFileError.{JobFileError}
 use Rattle.press_jobs.specs.declared.jobs.JobFileError.TheVariants as fault
@@ -114,9 +113,9 @@ pub record TakesLines (inputs : Inputs) (lines : List (List ℕ)) (old new : Sta
   pub happened : All (λ happening. IsAnswered happening.answer) (happenings_in happenings)
   pub answered : answers ≡ answers_to happenings
 
--- Why an input of a name was not read: it may be one that cannot be opened; or its reads may fail, or there were too many.
+-- Why an input of a name was not read: it may be one that cannot be opened; or it is not read on.
 abbrev pub Unreadable : NamedInput → Type 0
-Unreadable input = input.IsMissing ⊎ ((left : Option (List ℕ)) × ReadFails input.can_fail input.bytes left)
+Unreadable input = input.IsMissing ⊎ input.Failed
 
 -- Why a file has no text: it was not read; or memory ran out.
 abbrev pub IsUnread : NamedInput → JobFileError → Type 0
@@ -164,28 +163,27 @@ pub record PlaysToItsEnd (inputs : Inputs) (first : Standing) (bytes left old ne
   pub answered : AnswersAll (playing inputs) first bytes left old between
   pub listed : Appends between new (entry_listing answered.last.delivered)
 
--- What was written of a listing: a prefix of it, where a write failed, as the writer may; else nothing.
-abbrev pub StopsListing : (can_fail : Bool) → (had : List Delivery) → (old new : Option (List ℕ)) → SessionError → Type 0
-StopsListing can_fail had old new (Output error) = AppendsPrefix old new (entry_listing had) × (can_fail ≡ true)
-StopsListing can_fail had old new NoMemory = new ≡ old
-StopsListing can_fail had old new why = ⊥
+-- What was written of a listing: a prefix of it, where the writer failed; else nothing.
+abbrev pub StopsListing : (Failed : Type 0) → (had : List Delivery) → (old new : Option (List ℕ)) → SessionError → Type 0
+StopsListing Failed had old new (Output error) = AppendsPrefix old new (entry_listing had) × Failed
+StopsListing Failed had old new NoMemory = new ≡ old
+StopsListing Failed had old new why = ⊥
 
 -- All lines were carried out, and their answers written; the session stopped at its listing.
-pub record StopsAtTheListing (inputs : Inputs) (can_fail : Bool) (first : Standing) (read output : Change (Option (List ℕ))) (why : SessionError) : Type 0 where
+pub record StopsAtTheListing (inputs : Inputs) (Failed : Type 0) (first : Standing) (read output : Change (Option (List ℕ))) (why : SessionError) : Type 0 where
   pub between : Option (List ℕ)
   pub answered : AnswersAll (playing inputs) first read.before read.after output.before between
-  pub stops : StopsListing can_fail answered.last.delivered between output.after why
+  pub stops : StopsListing Failed answered.last.delivered between output.after why
 
--- The same talk over devices of which these may fail: lines are not read where their reads may fail, or there were too many, and answers
--- are
--- not written where the writer may fail.
-abbrev pub playing_over : Inputs → MayFail → (read : Change (Option (List ℕ))) → Talking Standing SessionError
-playing_over inputs fails read = caused (playing inputs) (InputCause fails.input read.before read.after) (fails.output ≡ true)
+-- The same talk over devices of which these failed: no line is read where their reader is not read on, and an answer is not written where
+-- the writer failed.
+abbrev pub playing_over : Inputs → Failures → Talking Standing SessionError
+playing_over inputs fails = caused (playing inputs) (InputCause fails.input) fails.output
 
 -- It stopped behind the first lines, or at its listing.
-abbrev pub StopsPlaying : Inputs → MayFail → (first : Standing) → (read output : Change (Option (List ℕ))) → SessionError → Type 0
+abbrev pub StopsPlaying : Inputs → Failures → (first : Standing) → (read output : Change (Option (List ℕ))) → SessionError → Type 0
 StopsPlaying inputs fails first read output why =
-    AnswersSome (playing_over inputs fails read) first read.before read.after output why
+    AnswersSome (playing_over inputs fails) first read.before read.after output why
     ⊎ StopsAtTheListing inputs fails.output first read output why
 
 -- what the press of a session delivered
@@ -204,7 +202,7 @@ abbrev pub DoesNotBegin : (bytes left old new : Option (List ℕ)) → SessionEr
 DoesNotBegin bytes left old new why = ((error : BadEngines) × (why ≡ Engines error)) × (left ≡ bytes) × (new ≡ old)
 
 -- It stopped early, and this is why.
-abbrev pub Stops : (engines : ℕ) → Inputs → MayFail → (read output : Change (Option (List ℕ))) → SessionError → Type 0
+abbrev pub Stops : (engines : ℕ) → Inputs → Failures → (read output : Change (Option (List ℕ))) → SessionError → Type 0
 Stops engines inputs fails read output why =
     MatchBool (are_engines engines) (StopsPlaying inputs fails (standing (new_world engines) []) read output why)
     (DoesNotBegin read.before read.after output.before output.after why)

@@ -1,6 +1,7 @@
 //! Sessions with a debugger: what each line is answered.
-ghost use Rattle.std.specs.Prelude.{◌≡◌, ℕ, false, List, IfOk, IfErr, OnOk};
-ghost use Rattle.press_files.specs.Causes.{may_fail};
+ghost use Rattle.std.specs.Prelude.{◌≡◌, ℕ, false, List, IfOk, IfErr, OnOk, true};
+ghost use Rattle.press_devices.specs.Reading.{ReadFails};
+ghost use Rattle.press_files.specs.Causes.{failures};
 ghost use Rattle.press_files.specs.Change.{change};
 ghost use Rattle.std.specs.Fn.{FnReturnsAt};
 ghost use Rattle.std.specs.String.{string_bytes};
@@ -107,7 +108,8 @@ pub fn debug_lines<I: ReadDevice, R: ReadDevice, W: WriteDevice, E: Teller>(
         (Debugs (I.remaining input.old) (I.remaining input.new)
         (R.remaining reader.old) (R.remaining reader.new)
         (W.contents out.old) (W.contents out.new))
-        (StopsDebugging ⊥ (may_fail R.can_fail I.can_fail W.can_fail false)
+        (StopsDebugging ⊥ (failures (ReadFails (R.failed reader.new) (R.reads reader.new))
+        (ReadFails (I.failed input.new) (I.reads input.new)) (W.failed out.new ≡ true) ⊥)
         (change (I.remaining input.old) (I.remaining input.new))
         (change (R.remaining reader.old) (R.remaining reader.new))
         (change (W.contents out.old) (W.contents out.new))) }
@@ -128,7 +130,9 @@ fn debug<I: ReadDevice, R: ReadDevice, W: WriteDevice>(
     ensures ok { OnOk result (Debugs (I.remaining input.old) (I.remaining input.new)
         (R.remaining reader.old) (R.remaining reader.new)
         (W.contents out.old) (W.contents out.new)) }
-    ensures err { IfErr result (StopsDebugging ⊥ (may_fail R.can_fail I.can_fail W.can_fail false)
+    ensures err { IfErr result (StopsDebugging ⊥
+        (failures (ReadFails (R.failed reader.new) (R.reads reader.new))
+        (ReadFails (I.failed input.new) (I.reads input.new)) (W.failed out.new ≡ true) ⊥)
         (change (I.remaining input.old) (I.remaining input.new))
         (change (R.remaining reader.old) (R.remaining reader.new))
         (change (W.contents out.old) (W.contents out.new))) }
@@ -150,8 +154,8 @@ fn opened<I: ReadDevice, F: Fn(&View<'_>) -> bool + Drop>(
         × (debugger.stepper ≡ at_start bytes)) }
     ensures breaks { IfOk result (λ debugger. debugger.breaks ≡ no_breaks) }
     ensures watch { IfOk result (λ debugger. debugger.watch ≡ watch) }
-    ensures err { IfErr result (IsUnopened ⊥ I.can_fail
-        (change (I.remaining input.old) (I.remaining input.new))) }
+    ensures err { IfErr result (IsUnopened ⊥
+        (ReadFails (I.failed input.new) (I.reads input.new))) }
 {
     let bytes = read_all(alloc, input)?;
     Ok(Debugger::open(alloc, &bytes, watch)?)

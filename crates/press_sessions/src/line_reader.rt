@@ -1,5 +1,6 @@
 //! Lines that a reader has, one after another.
-ghost use Rattle.std.specs.Prelude.{◌≡◌, ◌≤◌, length, position};
+ghost use Rattle.std.specs.Prelude.{◌≡◌, ◌≤◌, length, position, true};
+ghost use Rattle.press_devices.specs.Reading.{ReadFails};
 ghost use Rattle.press_asm.specs.Text.{is_feed};
 
 use press_cmd::LINE_FEED;
@@ -19,8 +20,9 @@ pub struct LineReader {
 }
 
 impl LineReader {
-    ghost use Rattle.std.specs.Prelude.{◌≡◌, ◌<◌, true, [], IfOk, IfErr, OnOk};
-    ghost use Rattle.press_sessions.specs.LineReading.{held, reads_left, bytes_left, TakesLine, GivesLine, Refills, ReadsFew, LineCause};
+    ghost use Rattle.std.specs.Prelude.{◌≡◌, ◌<◌, ◌≤◌, true, [], IfOk, IfErr, OnOk};
+    ghost use Rattle.press_files.specs.Causes.{InputCause};
+    ghost use Rattle.press_sessions.specs.LineReading.{held, reads_left, bytes_left, TakesLine, GivesLine, Refills};
 
     /// Nothing was read.
     pub fn new(alloc: Global) -> Self
@@ -49,11 +51,10 @@ impl LineReader {
             (R.remaining reader.old) (R.remaining reader.new) line.new.items }
         ensures fewer { IfOk result (λ ended.
             ended ≡ true → bytes_left self.new < bytes_left self.old) }
-        ensures few { IfOk result (λ ended. ended ≡ true → ReadsFew R.can_fail
-            self.old.count.reads self.new.count.reads
-            (R.remaining reader.old) (R.remaining reader.new)) }
-        ensures cause { IfErr result (LineCause R.can_fail self.old.count.reads
-            (R.remaining reader.old) (R.remaining reader.new)) }
+        ensures told { self.old.count.reads ≤ R.reads reader.old
+            → self.new.count.reads ≤ R.reads reader.new }
+        ensures cause { IfErr result (λ why. self.old.count.reads ≤ R.reads reader.old
+            → InputCause (ReadFails (R.failed reader.new) (R.reads reader.new)) why) }
     {
         line.clear();
         while !self.take_line(line)? {
@@ -99,11 +100,10 @@ impl LineReader {
             (R.remaining reader.old) (R.remaining reader.new) }
         ensures reads { OnOk result (reads_left self.new < reads_left self.old) }
         ensures fewer { OnOk result (bytes_left self.new ≤ bytes_left self.old) }
-        ensures few { IfOk result (λ more. more ≡ true → ReadsFew R.can_fail
-            self.old.count.reads self.new.count.reads
-            (R.remaining reader.old) (R.remaining reader.new)) }
-        ensures cause { IfErr result (LineCause R.can_fail self.old.count.reads
-            (R.remaining reader.old) (R.remaining reader.new)) }
+        ensures told { self.old.count.reads ≤ R.reads reader.old
+            → self.new.count.reads ≤ R.reads reader.new }
+        ensures cause { IfErr result (λ why. self.old.count.reads ≤ R.reads reader.old
+            → InputCause (ReadFails (R.failed reader.new) (R.reads reader.new)) why) }
     {
         let mut piece = [0; PIECE];
         let length = read_next(reader, &mut piece, &mut self.count)?;

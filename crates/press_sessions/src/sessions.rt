@@ -1,6 +1,7 @@
 //! Sessions with a press: lines of events, and what each is answered.
-ghost use Rattle.std.specs.Prelude.{◌≡◌, ◌∷◌, ◌++◌, ℕ, false, List, [], map, is_ok, IfOk, IfErr, OnOk};
-ghost use Rattle.press_files.specs.Causes.{may_fail};
+ghost use Rattle.std.specs.Prelude.{◌≡◌, ◌∷◌, ◌++◌, ℕ, List, [], map, is_ok, IfOk, IfErr, OnOk, true};
+ghost use Rattle.press_devices.specs.Reading.{ReadFails, SomeFails};
+ghost use Rattle.press_files.specs.Causes.{failures};
 ghost use Rattle.press_files.specs.Change.{change};
 ghost use Rattle.std.specs.Io.KnownBytes.{Appends};
 ghost use Rattle.std.specs.String.{string_bytes};
@@ -156,11 +157,14 @@ pub fn press_lines<I: NamedInputs, R: ReadDevice, W: WriteDevice, E: Teller>(
     err: &mut E,
 ) -> u8
     ensures { Ended result (E.said err.old) (E.said err.new) told_of_session
-        (Plays engines (named I.Input.can_fail (I.bytes inputs.now) (I.missing inputs.now))
+        (Plays engines
+        (named (SomeFails I.Input.failed I.Input.reads) (I.bytes inputs.now) (I.missing inputs.now))
         (R.remaining reader.old) (R.remaining reader.new)
         (W.contents out.old) (W.contents out.new))
-        (Stops engines (named I.Input.can_fail (I.bytes inputs.now) (I.missing inputs.now))
-        (may_fail R.can_fail false W.can_fail false)
+        (Stops engines
+        (named (SomeFails I.Input.failed I.Input.reads) (I.bytes inputs.now) (I.missing inputs.now))
+        (failures (ReadFails (R.failed reader.new) (R.reads reader.new))
+        ⊥ (W.failed out.new ≡ true) ⊥)
         (change (R.remaining reader.old) (R.remaining reader.new))
         (change (W.contents out.old) (W.contents out.new))) }
 {
@@ -179,12 +183,13 @@ fn play<I: NamedInputs, R: ReadDevice, W: WriteDevice>(
     out: &mut W,
 ) -> Result<(), SessionError>
     ensures ok { OnOk result (Plays engines
-        (named I.Input.can_fail (I.bytes inputs.now) (I.missing inputs.now))
+        (named (SomeFails I.Input.failed I.Input.reads) (I.bytes inputs.now) (I.missing inputs.now))
         (R.remaining reader.old) (R.remaining reader.new)
         (W.contents out.old) (W.contents out.new)) }
     ensures err { IfErr result (Stops engines
-        (named I.Input.can_fail (I.bytes inputs.now) (I.missing inputs.now))
-        (may_fail R.can_fail false W.can_fail false)
+        (named (SomeFails I.Input.failed I.Input.reads) (I.bytes inputs.now) (I.missing inputs.now))
+        (failures (ReadFails (R.failed reader.new) (R.reads reader.new))
+        ⊥ (W.failed out.new ≡ true) ⊥)
         (change (R.remaining reader.old) (R.remaining reader.new))
         (change (W.contents out.old) (W.contents out.new))) }
 {
@@ -209,14 +214,17 @@ impl<I: NamedInputs> Talk for SessionTalk<'_, I> {
     type Error = SessionError;
 
     ghost answers = { λ old line answer new.
-        TakesLines (named I.Input.can_fail (I.bytes old.inputs.now) (I.missing old.inputs.now))
+        TakesLines
+        (named (SomeFails I.Input.failed I.Input.reads)
+        (I.bytes old.inputs.now) (I.missing old.inputs.now))
         (line ∷ [])
         (standing old.session.press (delivered_by old.session))
         (standing new.session.press (delivered_by new.session)) answer
         × (new.inputs ≡ old.inputs) };
 
     ghost refuses = { λ at line. IsUnanswered
-        (named I.Input.can_fail (I.bytes at.inputs.now) (I.missing at.inputs.now))
+        (named (SomeFails I.Input.failed I.Input.reads)
+        (I.bytes at.inputs.now) (I.missing at.inputs.now))
         line at.session.press };
 
     fn answer(&mut self, line: &[u8]) -> Result<Vec<u8>, SessionError> {
@@ -254,7 +262,8 @@ impl Session {
     fn list<W: WriteDevice>(&self, out: &mut W) -> Result<(), SessionError>
         ensures ok { OnOk result (Appends (W.contents out.old) (W.contents out.new)
             (entry_listing (delivered_by self.now))) }
-        ensures err { IfErr result (StopsListing W.can_fail (delivered_by self.now)
+        ensures err { IfErr result (StopsListing (W.failed out.new ≡ true)
+            (delivered_by self.now)
             (W.contents out.old) (W.contents out.new)) }
     {
         let listing = self.listing()?;
@@ -276,12 +285,15 @@ impl Session {
     /// Carries out a line: its answer.
     fn answer<I: NamedInputs>(&mut self, inputs: &I, line: &[u8]) -> Result<Vec<u8>, SessionError>
         ensures ok { IfOk result (λ answer.
-            TakesLines (named I.Input.can_fail (I.bytes inputs.now) (I.missing inputs.now))
+            TakesLines
+            (named (SomeFails I.Input.failed I.Input.reads)
+            (I.bytes inputs.now) (I.missing inputs.now))
             (line.now ∷ [])
             (standing self.old.press (delivered_by self.old))
             (standing self.new.press (delivered_by self.new)) answer.items) }
         ensures err { IfErr result (IsUnanswered
-            (named I.Input.can_fail (I.bytes inputs.now) (I.missing inputs.now))
+            (named (SomeFails I.Input.failed I.Input.reads)
+            (I.bytes inputs.now) (I.missing inputs.now))
             line.now self.old.press) }
     {
         let words = words_of(self.alloc, line)?;
@@ -298,12 +310,15 @@ impl Session {
         event: LineEvent<'_>,
     ) -> Result<Vec<u8>, SessionError>
         ensures ok { IfOk result (λ answer. TakesAsked
-            (named I.Input.can_fail (I.bytes inputs.now) (I.missing inputs.now))
+            (named (SomeFails I.Input.failed I.Input.reads)
+            (I.bytes inputs.now) (I.missing inputs.now))
             (line_seen event.entry)
             (standing self.old.press (delivered_by self.old))
             (standing self.new.press (delivered_by self.new)) answer.items) }
         ensures err { IfErr result
-            (HasFault (named I.Input.can_fail (I.bytes inputs.now) (I.missing inputs.now))
+            (HasFault
+            (named (SomeFails I.Input.failed I.Input.reads)
+            (I.bytes inputs.now) (I.missing inputs.now))
             (line_seen event.entry) self.old.press) }
     {
         match event {
@@ -321,12 +336,15 @@ impl Session {
         images: &[&[u8]],
     ) -> Result<Vec<u8>, SessionError>
         ensures ok { IfOk result (λ answer.
-            TakesAsked (named I.Input.can_fail (I.bytes inputs.now) (I.missing inputs.now))
+            TakesAsked
+            (named (SomeFails I.Input.failed I.Input.reads)
+            (I.bytes inputs.now) (I.missing inputs.now))
             (MessageLine file.now (map (λ name. name.now) images.now))
             (standing self.old.press (delivered_by self.old))
             (standing self.new.press (delivered_by self.new)) answer.items) }
         ensures err { IfErr result (HasFault
-            (named I.Input.can_fail (I.bytes inputs.now) (I.missing inputs.now))
+            (named (SomeFails I.Input.failed I.Input.reads)
+            (I.bytes inputs.now) (I.missing inputs.now))
             (MessageLine file.now (map (λ name. name.now) images.now)) self.old.press) }
     {
         let mut input = open_named(inputs, file)?;

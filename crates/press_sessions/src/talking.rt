@@ -1,5 +1,6 @@
 //! Talks: lines that a reader has, each of which is answered.
 ghost use Rattle.std.specs.Prelude.{◌≡◌, ℕ, true, List, ⊤, IfErr, OnOk};
+ghost use Rattle.press_devices.specs.Reading.{ReadFails};
 ghost use Rattle.std.specs.Io.KnownBytes.{Appends};
 ghost use Rattle.press_files.specs.Causes.{InputCause};
 ghost use Rattle.press_files.specs.Change.{change};
@@ -36,6 +37,10 @@ pub trait Talk {
 }
 
 /// Answers the lines that a reader has, and writes the answers. A line is answered before more is read.
+///
+/// # Errors
+///
+/// Where lines cannot be read, an answer cannot be written, or a line has none. The lines before are answered then.
 pub fn answer_lines<T: Talk, R: ReadDevice, W: WriteDevice>(
     alloc: Global,
     talk: &mut T,
@@ -49,8 +54,8 @@ pub fn answer_lines<T: Talk, R: ReadDevice, W: WriteDevice>(
         (W.contents out.old) (W.contents out.new)) × (answered.last ≡ talk.new)) }
     ensures err { IfErr result (AnswersSome (caused (line_by_line T.answers T.refuses
         T.Error.From-1.from_gives T.Error.From-2.from_gives)
-        (InputCause R.can_fail (R.remaining reader.old) (R.remaining reader.new))
-        (W.can_fail ≡ true)) talk.old
+        (InputCause (ReadFails (R.failed reader.new) (R.reads reader.new)))
+        (W.failed out.new ≡ true)) talk.old
         (R.remaining reader.old) (R.remaining reader.new)
         (change (W.contents out.old) (W.contents out.new))) }
 {
@@ -77,7 +82,7 @@ fn answer_line<T: Talk, W: WriteDevice>(
         × Appends (W.contents out.old) (W.contents out.new) answer) }
     ensures err { IfErr result (StopsAtLine (caused (line_by_line T.answers T.refuses
         T.Error.From-1.from_gives T.Error.From-2.from_gives)
-        (λ _. ⊤) (W.can_fail ≡ true)) line.now talk.old
+        (λ _. ⊤) (W.failed out.new ≡ true)) line.now talk.old
         (W.contents out.old) (W.contents out.new)) }
 {
     let answer = talk.answer(line)?;

@@ -18,11 +18,10 @@ pub data Source : Type 0 where
 
 -- What is made of an input. A prefix is bytes that stand in front of the stream.
 -- Listed: the listing of a stream. FilesBy: the files of a stream, named by a template. AsText: the assembly text of a stream. TracedOf:
--- the
--- trace of a stream. PageTo: the file of this name, of the page that is open behind so many steps of a stream. DebuggedOf: a debugger's
--- answers to lines, over the stream of this file. Answered: the answers of a press with so many engines to lines of events, and the
--- listing of what it delivered. StreamTo: the file of this name, of an assembly text. JobTo: the file of this name, the job of a ticket
--- with the images of these files.
+-- the trace of a stream. PageTo: the file of this name, of the page that is open behind so many steps of a stream. DebuggedOf: a
+-- debugger's answers to lines, over the stream of this file. Answered: the answers of a press with so many engines to lines of events,
+-- and the listing of what it delivered. StreamTo: the file of this name, of an assembly text. JobTo: the file of this name, the job of a
+-- ticket with the images of these files.
 pub data Made : Type 0 where
   Listed : (prefix : List ℕ) → Made
   FilesBy : (prefix : List ℕ) (template : Text) → Made

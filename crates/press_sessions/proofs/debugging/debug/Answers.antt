@@ -1,6 +1,7 @@
 use Rattle.std.proofs.lemmas.Result.{on_ok_weaker, IfErr-weaker}
-use Rattle.std.proofs.Common.{false}
-use Rattle.press_files.specs.Causes.{may_fail}
+use Rattle.std.proofs.Common.{◌≡◌, true}
+use Rattle.press_devices.specs.Reading.{ReadFails}
+use Rattle.press_files.specs.Causes.{failures}
 use Rattle.press_sessions.proofs.DebuggerLemmas.{Debugs-all, StopsDebugging-some}
 use Rattle.press_sessions.proofs.debugging.debug.Goals as goal
 
@@ -17,5 +18,6 @@ returns-clause-err g c =
     IfErr-weaker c.answer_lines.result _ _
     (StopsDebugging-some (λ session. session.debugger.stepper) (λ session. session.debugger.breaks) _ _ _ _ _ _ _
     stream.0 stream.1 stream.2 c.in_ok-debugger.ensures.breaks _
-    (may_fail g.R.ReadDevice.can_fail g.I.ReadDevice.can_fail g.W.WriteDevice.can_fail false))
+    (failures (ReadFails (g.R.ReadDevice.failed c.answer_lines.new.reader) (g.R.ReadDevice.reads c.answer_lines.new.reader)) (ReadFails (g.I.ReadDevice.failed c.opened.new.input) (g.I.ReadDevice.reads c.opened.new.input))
+    (g.W.WriteDevice.failed c.answer_lines.new.out ≡ true) ⊥))
     c.answer_lines.ensures.err

@@ -1,10 +1,9 @@
-use Rattle.std.proofs.Common.{◌∙◌, Bool, [], Ok, refl, sym, subst}
+use Rattle.std.proofs.Common.{◌∙◌, Bool, [], Ok, refl, sym, subst, arith}
 use Rattle.std.proofs.KnownBytes.{Appends-nil}
 use Rattle.std.proofs.lemmas.Result.{err_from_is_err_and, on_ok_weaker, IfErr-weaker}
 use Rattle.press_units.proofs.ExitLemmas.{exit-is}
 use Rattle.press_sessions.specs.LineReading.{held, GivesLine}
 use Rattle.press_sessions.proofs.LineLemmas.{no-lines, one-line}
-use Rattle.press_sessions.proofs.ReadsLemmas.{ReadsFew-none, ReadsFew-then, LineCause-then, LineCause-cause}
 use Rattle.press_sessions.proofs.TalkLemmas.{AnswersLines-one, IsAnswered-begun, IsAnswered-more, IsAnswered-ends, IsAnswered-unread, IsAnswered-stops, IsAnswered-stops_last}
 use Rattle.press_sessions.proofs.talking.answer_lines.Goals as goal
 
@@ -12,7 +11,7 @@ pub loop-line-init : goal.loop-line-init
 loop-line-init g c = record {
   ready = c.requires;
   answered = IsAnswered-begun g.T.Talk.answers c.args.talk.now _ _ (held c.new-lines.result) c.new-lines.ensures.held;
-  reads = ReadsFew-none _ _ _ _ c.new-lines.ensures.reads;
+  told = omega (arith, c.new-lines.ensures.reads);
 }
 
 pub returns-in_err-next-clause-err : goal.returns-in_err-next-clause-err
@@ -21,7 +20,7 @@ returns-in_err-next-clause-err g c =
     rw p.1
     (IsAnswered-unread g.T.Talk.answers c.args.talk.now _ _ _ (held c.loop-line.lines) c.loop-line.talk _ _ (held c.next.new.self)
     c.next.new.line.items c.loop-line.invariant.answered _ _ _ c.in_err-next.field-0.0 p.0
-    (p.2, LineCause-cause _ _ _ _ (LineCause-then _ _ _ _ _ _ _ c.loop-line.invariant.reads c.in_err-next.ensures.cause))
+    (p.2, c.in_err-next.ensures.cause c.loop-line.invariant.told)
     c.in_err-next.ensures.line)
 
 pub loop-line-preserved : goal.loop-line-preserved
@@ -36,7 +35,7 @@ loop-line-preserved g c =
           IsAnswered-more g.T.Talk.answers c.args.talk.now _ _ _ (held c.loop-line.lines) c.loop-line.talk _ _ (held c.next.new.self)
           c.next.new.line.items c.loop-line.invariant.answered c.answer_line.new.talk (g.W.WriteDevice.contents c.answer_line.new.out)
           (subst P c.if-branch.true c.in_ok-next.ensures.line) (rw c.deref.ensures.value at c.in_ok-answer_line.ensures.ok);
-      reads = ReadsFew-then _ _ _ _ _ _ _ c.loop-line.invariant.reads (c.in_ok-next.ensures.few c.if-branch.true);
+      told = c.next.ensures.told c.loop-line.invariant.told;
     }
 
 pub returns-in_err-answer_line-clause-err : goal.returns-in_err-answer_line-clause-err

@@ -1,4 +1,5 @@
-use Rattle.press_sessions.specs.LineReading.{held, bytes_left, ReadsFew}
+use Rattle.std.proofs.Common.{◌≤◌}
+use Rattle.press_sessions.specs.LineReading.{held, bytes_left}
 use Rattle.press_sessions.proofs.TalkLemmas.{IsAnswered}
 use Rattle.press_sessions.proofs.talking.answer_lines.Given as goal
 
@@ -8,7 +9,7 @@ invariant-loop-line g l = record {
   ready : g.T.Talk.IsReady l.talk;
   answered : IsAnswered g.T.Talk.answers l.fn.talk (g.R.ReadDevice.remaining l.fn.reader) (g.R.ReadDevice.remaining l.reader)
       (g.W.WriteDevice.contents l.fn.out) (held l.lines) l.talk (g.W.WriteDevice.contents l.out);
-  reads : ReadsFew g.R.ReadDevice.can_fail 0 l.lines.count.reads (g.R.ReadDevice.remaining l.fn.reader) (g.R.ReadDevice.remaining l.reader);
+  told : l.lines.count.reads ≤ g.R.ReadDevice.reads l.reader;
 }
 
 abbrev pub decreases-loop-line : goal.decreases-loop-line

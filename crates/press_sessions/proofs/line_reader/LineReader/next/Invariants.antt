@@ -1,5 +1,5 @@
 use Rattle.std.proofs.Common.{◌≤◌}
-use Rattle.press_sessions.specs.LineReading.{held, reads_left, bytes_left, ReadsFew}
+use Rattle.press_sessions.specs.LineReading.{held, reads_left, bytes_left}
 use Rattle.press_sessions.proofs.LineLemmas.{IsGathered}
 use Rattle.press_sessions.proofs.line_reader.LineReader.next.Given as goal
 
@@ -9,8 +9,7 @@ invariant-loop-self g l =
     record {
       line : IsGathered (held l.fn.self) (g.R.ReadDevice.remaining l.fn.reader) (g.R.ReadDevice.remaining l.reader) l.line.items (held l.self);
       few : bytes_left l.self ≤ bytes_left l.fn.self;
-      reads : ReadsFew g.R.ReadDevice.can_fail l.fn.self.count.reads l.self.count.reads
-          (g.R.ReadDevice.remaining l.fn.reader) (g.R.ReadDevice.remaining l.reader);
+      told : l.fn.self.count.reads ≤ g.R.ReadDevice.reads l.fn.reader → l.self.count.reads ≤ g.R.ReadDevice.reads l.reader;
     }
 
 abbrev pub decreases-loop-self : goal.decreases-loop-self

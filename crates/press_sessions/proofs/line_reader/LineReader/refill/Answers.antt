@@ -1,7 +1,6 @@
-use Rattle.std.proofs.Common.{◌≡◌, length, arith, rules}
+use Rattle.std.proofs.Common.{◌≡◌, length, arith}
 use Rattle.press_units.proofs.ExitLemmas.{exit-is}
 use Rattle.press_sessions.proofs.LineLemmas.{no-longer}
-use Rattle.press_sessions.proofs.ReadsLemmas.{ReadsFew-piece, LineCause-fault}
 use Rattle.press_sessions.proofs.line_reader.LineReader.refill.Goals as goal
 
 pub returns-clause-reads : goal.returns-clause-reads
@@ -15,12 +14,6 @@ returns-clause-fewer g c =
     c.clear.ensures.items c.in_ok-extend_from_slice.ensures.items size in
     omega (arith, short, c.in_ok-length.ensures.counted, c.read_next.ensures.bound)
 
--- a piece was read
-pub returns-clause-few : goal.returns-clause-few
-returns-clause-few g c = λ more.
-    ReadsFew-piece _ _ _ c.in_ok-length.length _ _ _ c.in_ok-length.ensures.piece.0 c.in_ok-length.ensures.piece.1 (search rules) c.read_next.ensures.few
-
--- none was
+-- none was read
 pub returns-in_err-length-clause-cause : goal.returns-in_err-length-clause-cause
-returns-in_err-length-clause-cause g c =
-    rw (exit-is c.from_residual.ensures.1) (LineCause-fault _ _ _ _ c.in_err-length.ensures.piece c.in_err-length.ensures.cause)
+returns-in_err-length-clause-cause g c = rw (exit-is c.from_residual.ensures.1) c.in_err-length.ensures.fails

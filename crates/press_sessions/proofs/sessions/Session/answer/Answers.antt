@@ -1,5 +1,6 @@
 use Rattle.std.proofs.Common.{◌≡◌, ◌∙◌, ℕ, List, Bor, map, Some, None, option_map, sym, ap}
 use Rattle.std.proofs.lemmas.Result.{IfOk-weaker}
+use Rattle.press_devices.specs.Reading.{SomeFails}
 use Rattle.press_sessions.specs.EventLines.{event_in, event_of_line, line_seen}
 use Rattle.press_sessions.specs.Sessions.{delivered_by}
 use Rattle.press_files.specs.NamedInputs.{named}
@@ -16,7 +17,7 @@ returns-in-Some-clause-ok g c =
     IfOk-weaker c.happen.result _ _
     (λ answer taken.
     TakesLines-event
-    (named g.I.Input.ReadDevice.can_fail (g.I.NamedInputs.bytes c.args.inputs.now) (g.I.NamedInputs.missing c.args.inputs.now))
+    (named (SomeFails g.I.Input.ReadDevice.failed g.I.Input.ReadDevice.reads) (g.I.NamedInputs.bytes c.args.inputs.now) (g.I.NamedInputs.missing c.args.inputs.now))
     c.args.line.now (line_seen c.in-Some.event) old.press new.press (delivered_by old) (delivered_by new) answer.items is
     taken)
     c.happen.ensures.ok
@@ -28,5 +29,5 @@ returns-clause-ok g c =
     let is : event_of_line c.args.line.now ≡ None =
     ap event_in (sym (ap now c.deref.ensures.value ∙ c.in_ok-words.ensures)) ∙ sym c.event_of.ensures ∙ ap (option_map line_seen) c.in-None.is in
     TakesLines-none
-    (named g.I.Input.ReadDevice.can_fail (g.I.NamedInputs.bytes c.args.inputs.now) (g.I.NamedInputs.missing c.args.inputs.now))
+    (named (SomeFails g.I.Input.ReadDevice.failed g.I.Input.ReadDevice.reads) (g.I.NamedInputs.bytes c.args.inputs.now) (g.I.NamedInputs.missing c.args.inputs.now))
     c.args.line.now old.press (delivered_by old) c.in_ok-line_of-in-None.field-0.items is c.in_ok-line_of-in-None.ensures

@@ -1,6 +1,7 @@
 use Rattle.std.proofs.Common.{◌∙◌, ℕ, List, [], ◌∷◌, ◌++◌, Bor, Some, sym, ap, subst, inl, inr}
 use Rattle.std.proofs.lemmas.List.{append-nil}
 use Rattle.press_units.proofs.ExitLemmas.{exit-is}
+use Rattle.press_devices.specs.Reading.{SomeFails}
 use Rattle.press_core.specs.Events.{Message, Response}
 use Rattle.press_jobs.specs.Jobs.{HaveImages, ImagesRefused}
 use Rattle.press_sessions.specs.Sessions.{delivered_by}
@@ -11,7 +12,7 @@ use Rattle.press_sessions.proofs.sessions.Session.message.Goals as goal
 
 pub returns-in_err-images-clause-err : goal.returns-in_err-images-clause-err
 returns-in_err-images-clause-err g c =
-    let input = named g.I.Input.ReadDevice.can_fail (g.I.NamedInputs.bytes c.args.inputs.now) (g.I.NamedInputs.missing c.args.inputs.now) in
+    let input = named (SomeFails g.I.Input.ReadDevice.failed g.I.Input.ReadDevice.reads) (g.I.NamedInputs.bytes c.args.inputs.now) (g.I.NamedInputs.missing c.args.inputs.now) in
     let now : Bor (List ℕ) → List ℕ = λ name. name.now in
     rw (exit-is c.from_residual-in_err-images.ensures.1)
     (inr (
@@ -22,7 +23,7 @@ returns-in_err-images-clause-err g c =
 
 pub returns-clause-ok : goal.returns-clause-ok
 returns-clause-ok g c =
-    let input = named g.I.Input.ReadDevice.can_fail (g.I.NamedInputs.bytes c.args.inputs.now) (g.I.NamedInputs.missing c.args.inputs.now) in
+    let input = named (SomeFails g.I.Input.ReadDevice.failed g.I.Input.ReadDevice.reads) (g.I.NamedInputs.bytes c.args.inputs.now) (g.I.NamedInputs.missing c.args.inputs.now) in
     let old = c.args.self.now in
     let now : Bor (List ℕ) → List ℕ = λ name. name.now in (
       Message c.in_ok-text.text.items c.in_ok-images.images.items,
@@ -43,13 +44,13 @@ returns-clause-ok g c =
 -- the file cannot be opened
 pub returns-in_err-input-clause-err : goal.returns-in_err-input-clause-err
 returns-in_err-input-clause-err g c =
-    let input = named g.I.Input.ReadDevice.can_fail (g.I.NamedInputs.bytes c.args.inputs.now) (g.I.NamedInputs.missing c.args.inputs.now) in
+    let input = named (SomeFails g.I.Input.ReadDevice.failed g.I.Input.ReadDevice.reads) (g.I.NamedInputs.bytes c.args.inputs.now) (g.I.NamedInputs.missing c.args.inputs.now) in
     rw (exit-is c.from_residual.ensures.1)
     (inl (IsUnread-missing (input c.args.file.now) c.in_err-input.field-0.0 c.in_err-input.ensures.missing))
 
 -- the file was not read
 pub returns-in_err-text-clause-err : goal.returns-in_err-text-clause-err
 returns-in_err-text-clause-err g c =
-    let input = named g.I.Input.ReadDevice.can_fail (g.I.NamedInputs.bytes c.args.inputs.now) (g.I.NamedInputs.missing c.args.inputs.now) in
+    let input = named (SomeFails g.I.Input.ReadDevice.failed g.I.Input.ReadDevice.reads) (g.I.NamedInputs.bytes c.args.inputs.now) (g.I.NamedInputs.missing c.args.inputs.now) in
     rw (exit-is c.from_residual-in_err-text.ensures.1)
-    (inl (IsUnread-cause (input c.args.file.now) _ c.in_err-text.field-0.0 (rw c.in_ok-input.ensures.bytes at c.in_err-text.ensures.cause)))
+    (inl (IsUnread-cause (input c.args.file.now) _ c.in_err-text.field-0.0 (λ fails. (c.read_all.new.reader, fails)) c.in_err-text.ensures.cause))
