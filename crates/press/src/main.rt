@@ -1,6 +1,7 @@
 //! The program, which does what its words ask for.
 #![tactic(auto)]
 
+use press_devices::Watched;
 use press_main::{NamedFiles, run_words};
 use press_sink::{FileOutputs, NamedOutputs};
 use press_units::NO_MEMORY;
@@ -48,23 +49,20 @@ fn words_of(rt: &HostRuntime) -> io::Result<Vec<String>> {
 ///
 /// Where there is no memory for the buffers of standard output and of files. Nothing was read then.
 fn run(rt: &HostRuntime, words: &[String]) -> io::Result<u8> {
-    let out = BufWriter::with_capacity(rt.alloc(), BUFFER, io::writer(rt))?;
+    let out = Watched::new(BufWriter::with_capacity(rt.alloc(), BUFFER, io::writer(rt))?);
     let mut outputs = FileOutputs::new(rt.alloc(), rt)?;
     outputs.spare(STANDARD_INPUT)?;
-    let inputs = NamedFiles {
-        alloc: rt.alloc(),
-        files: rt,
-    };
-    let mut input = rt.stdin();
+    let mut inputs = NamedFiles::new(rt.alloc(), rt);
+    let input = Watched::new(rt.stdin());
     let mut err = rt.stderr();
-    let finished = run_words(
+    let performed = run_words(
         rt.alloc(),
-        &inputs,
+        &mut inputs,
         outputs,
         words,
-        &mut input,
+        input,
         out,
         &mut err,
     );
-    Ok(finished.status)
+    Ok(performed.status)
 }

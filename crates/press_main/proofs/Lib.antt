@@ -1,2 +1,3 @@
 -- Lemmas on what the program does.
+pub mod BehindLemmas
 pub mod ProgramLemmas

@@ -1,9 +1,10 @@
 -- What is done for words, and the inputs of names.
 use Rattle.std.proofs.Common.{Bor, ◌≡◌, ◌⊎◌, ℕ, zero, suc, Bool, List, Option, Some, None, refl, ap, subst, inl, inr}
-use Rattle.press_files.specs.Causes.{MayFail}
+use Rattle.press_files.specs.Causes.{Failures}
 use Rattle.press_files.specs.Change.{Change, Edge, answering, around, change}
 use Rattle.clap.specs.Words.{Text}
 use Rattle.press_sink.specs.Faults.{sink_number}
+use Rattle.press_sink.specs.Template.{IsSideName}
 use Rattle.press_sink.specs.declared.fault.SinkError.{SinkError}
 use Rattle.press_sink.specs.declared.fault.SinkError.TheVariants.{SinkFault, NoMemory}
 use Rattle.press_files.specs.declared.inputs.InputError.{InputError}
@@ -14,43 +15,46 @@ use Rattle.press_words.specs.declared.words.Input.TheVariants as sources
 use Rattle.press_words.specs.declared.words.Output.TheVariants as makes
 use Rattle.press_words.specs.declared.words.Request.{Request}
 use Rattle.press_files.specs.Faults.{input_number}
+use Rattle.press_files.specs.NamedInputs.{NamedInput}
 use Rattle.press_words.specs.View.{AsksHelp, IsForMemory, made_seen, request_seen, source_seen, status_of, status_of_kind}
 use Rattle.press_words.specs.declared.words.Refusal.{Refusal}
 use Rattle.press_words.specs.declared.words.Refusal.TheVariants as refusals
-use Rattle.press_words.specs.Words.{Arguments}
+use Rattle.press_words.specs.Defaults.{with_prefix}
+use Rattle.press_words.specs.Words.{Arguments, Made, Listed, FilesBy, Answered, AsText, DebuggedOf, TracedOf, PageTo, StreamTo, JobTo}
 use Rattle.press_sink.specs.Outputs.{MadeOutput}
 use Rattle.press_files.specs.Files.{DoesNothing}
 use Rattle.press_sessions.specs.Debugging.{IsUnopened}
 use Rattle.press_sessions.specs.declared.debugging.DebugError.{DebugError}
 use Rattle.press_sessions.specs.declared.debugging.DebugError.TheVariants as debugs
-use Rattle.press_main.specs.Program.{Debugging, BeginsNothing, Does, OpensNothing, PrintsAFile, Refuses, RefusesBy}
+use Rattle.press_main.specs.Program.{Debugging, BeginsNothing, Does, Makes, OpensNothing, PrintsAFile, Refuses, RefusesBy}
 
 abbrev Bytes : Type 0
 Bytes = Option (List ℕ)
 
 -- nothing is done for want of memory
-pub runs-nothing : (words : List Text) (asked : Option Arguments) (inputs : Text → Bytes) (missing : Text → Type 0) (status : ℕ)
-    (fails : MayFail) (said says had left old new : Bytes) (before after : Option (List MadeOutput))
+pub runs-nothing : (words : List Text) (asked : Option Arguments) (inputs : Text → NamedInput) (status : ℕ)
+    (fails : Failures) (said says had left old new : Bytes) (before after : Option (List MadeOutput))
     → DoesNothing None status (around fails said says had left old new before after)
-    → Does words asked inputs missing status (around fails said says had left old new before after)
-runs-nothing words None inputs missing status fails said says had left old new before after nothing = (inr (inl (nothing.answers, nothing.unwritten, nothing.told)), nothing.unread, nothing.unmade)
-runs-nothing words (Some asked) inputs missing status fails said says had left old new before after nothing = inr (inr nothing)
+    → Does words asked inputs status (around fails said says had left old new before after)
+runs-nothing words None inputs status fails said says had left old new before after nothing = (inr (inl (nothing.answers, nothing.unwritten, nothing.told)), nothing.unread, nothing.unmade)
+runs-nothing words (Some asked) inputs status fails said says had left old new before after nothing = inr (inr nothing)
 
 -- or since an output would replace the input
-pub runs-own : (words : List Text) (request : Arguments) (wants : Option Arguments) (inputs : Text → Bytes) (missing : Text → Type 0)
-    (status : ℕ) (fails : MayFail) (said says had left old new : Bytes) (before after : Option (List MadeOutput))
+pub runs-own : (words : List Text) (request : Arguments) (wants : Option Arguments) (inputs : Text → NamedInput)
+    (status : ℕ) (fails : Failures) (said says had left old new : Bytes) (before after : Option (List MadeOutput))
     → wants ≡ Some request → BeginsNothing request status (around fails said says had left old new before after)
-    → Does words wants inputs missing status (around fails said says had left old new before after)
-runs-own words request wants inputs missing status fails said says had left old new before after is nothing = rw is (inr nothing)
+    → Does words wants inputs status (around fails said says had left old new before after)
+runs-own words request wants inputs status fails said says had left old new before after is nothing = rw is (inr nothing)
 
--- files of a stream that is a file
+-- files of a stream that is a file with the name of a side
 pub prints-a-file : (request : Request) (name : Bor (List ℕ)) (prefix : Vec ℕ Global) (template : Bor (List ℕ))
-    → request.input ≡ sources.File name → request.output ≡ makes.Files prefix template → PrintsAFile (request_seen request)
-prints-a-file request name prefix template input output =
-    (name.now, prefix.items, template.now, λ i. record { source = source_seen (input i); made = made_seen (output i) })
+    → request.input ≡ sources.File name → request.output ≡ makes.Files prefix template → IsSideName template.now name.now
+    → PrintsAFile (request_seen request)
+prints-a-file request name prefix template input output side =
+    (name.now, prefix.items, template.now, λ i. record { source = source_seen (input i); made = made_seen (output i) }, side)
 
 -- the fault of inputs that are not noted
-pub begins-nothing : (error : SinkError) (asked : Arguments) (status : ℕ) (fails : MayFail) (said says had left old new : Bytes)
+pub begins-nothing : (error : SinkError) (asked : Arguments) (status : ℕ) (fails : Failures) (said says had left old new : Bytes)
     (before after : Option (List MadeOutput))
     → (error ≡ SinkFault → PrintsAFile asked)
     → DoesNothing (sink_number error) status (around fails said says had left old new before after)
@@ -59,7 +63,7 @@ begins-nothing SinkFault asked status fails said says had left old new before af
 begins-nothing NoMemory asked status fails said says had left old new before after own nothing = inr nothing
 
 -- that of an input that is not opened
-pub opens-nothing : (error : InputError) (missing : Type 0) (status : ℕ) (fails : MayFail) (said says had left old new : Bytes)
+pub opens-nothing : (error : InputError) (missing : Type 0) (status : ℕ) (fails : Failures) (said says had left old new : Bytes)
     (before after : Option (List MadeOutput))
     → (error ≡ input_fault.ReadFault → missing)
     → DoesNothing (input_number error) status (around fails said says had left old new before after)
@@ -70,23 +74,27 @@ opens-nothing input_fault.NoMemory missing status fails said says had left old n
 -- ---- sessions with a debugger
 
 -- the fault of a stream that is not opened
-pub unopened : (error : InputError) (missing : Type 0) (can_fail : Bool) (stream : Change (Option (List ℕ))) → (error ≡ input_fault.ReadFault → missing)
-    → IsUnopened missing can_fail stream (debugs.Input error)
-unopened input_fault.ReadFault missing can_fail stream own = inl (own refl)
-unopened input_fault.NoMemory missing can_fail stream own = tt
+pub unopened : (error : InputError) (missing Fails : Type 0) → (error ≡ input_fault.ReadFault → missing)
+    → IsUnopened missing Fails (debugs.Input error)
+unopened input_fault.ReadFault missing Fails own = inl (own refl)
+unopened input_fault.NoMemory missing Fails own = tt
 
--- a stream that was opened
-IsUnopened-opened : (why : DebugError) (missing : Type 0) (can_fail : Bool) (stream : Change (Option (List ℕ)))
-    → IsUnopened ⊥ can_fail stream why → IsUnopened missing can_fail stream why
-IsUnopened-opened (debugs.Input input_fault.ReadFault) missing can_fail stream (inl none) = absurd none
-IsUnopened-opened (debugs.Input input_fault.ReadFault) missing can_fail stream (inr fails) = inr fails
-IsUnopened-opened (debugs.Input input_fault.NoMemory) missing can_fail stream none = tt
-IsUnopened-opened debugs.NoMemory missing can_fail stream none = tt
-IsUnopened-opened (debugs.Output error) missing can_fail stream none = absurd none
+-- a stream that was opened, and then closed
+IsUnopened-closed : (why : DebugError) (few missing Fails file : Type 0) → (few → missing) → (Fails → file) → IsUnopened few Fails why
+    → IsUnopened missing file why
+IsUnopened-closed (debugs.Input input_fault.ReadFault) few missing Fails file more closed (inl none) = inl (more none)
+IsUnopened-closed (debugs.Input input_fault.ReadFault) few missing Fails file more closed (inr fails) = inr (closed fails)
+IsUnopened-closed (debugs.Input input_fault.NoMemory) few missing Fails file more closed none = tt
+IsUnopened-closed debugs.NoMemory few missing Fails file more closed none = tt
+IsUnopened-closed (debugs.Output error) few missing Fails file more closed none = absurd none
 
-pub Debugging-opened : (missing : Type 0) (status : ℕ) (stream : Option (List ℕ)) (edge : Edge) → Debugging ⊥ status stream edge
-    → Debugging missing status stream edge
-Debugging-opened missing status stream edge (rest, ended) = (
+-- the same edge, with this said of the inputs that are closed
+abbrev pub with_file : (file : Type 0) → Edge → Edge
+with_file file edge = record edge { fails = record edge.fails { file = file } }
+
+pub Debugging-closed : (few missing file : Type 0) (status : ℕ) (stream : Option (List ℕ)) (edge : Edge) → (few → missing)
+    → (edge.fails.file → file) → Debugging few status stream edge → Debugging missing status stream (with_file file edge)
+Debugging-closed few missing file status stream edge more closed (rest, ended) = (
   rest,
   record {
     done = ended.done;
@@ -96,16 +104,32 @@ Debugging-opened missing status stream edge (rest, ended) = (
           why,
           told,
           elim stops [
-            | inl first ↦ inl (IsUnopened-opened why missing edge.fails.files (change stream rest) first.0, first.1, first.2)
+            | inl first ↦
+                inl (IsUnopened-closed why few missing edge.fails.file file more closed first.0, first.1, first.2)
             | inr later ↦ inr later
           ],
         );
   },
 )
 
+-- what was made of a file, which is closed then
+pub Makes-closed : (made : Made) (inputs : Text → NamedInput) (file : Type 0) (status : ℕ) (edge : Edge) → (edge.fails.file → file)
+    → Makes made inputs status edge → Makes made inputs status (with_file file edge)
+Makes-closed (Listed prefix) inputs file status edge closed makes = makes
+Makes-closed (FilesBy prefix template) inputs file status edge closed makes = makes
+Makes-closed (Answered engines) inputs file status edge closed makes = makes
+Makes-closed AsText inputs file status edge closed makes = makes
+Makes-closed (DebuggedOf prefix name) inputs file status edge closed (debugs, none) =
+    let stream = with_prefix prefix (inputs name).bytes in
+    (Debugging-closed (inputs name).IsMissing (inputs name).IsMissing file status stream edge (λ missing. missing) closed debugs, none)
+Makes-closed (TracedOf prefix) inputs file status edge closed makes = makes
+Makes-closed (PageTo prefix steps name) inputs file status edge closed makes = makes
+Makes-closed (StreamTo name) inputs file status edge closed makes = makes
+Makes-closed (JobTo name images) inputs file status edge closed makes = makes
+
 -- ---- words that are refused
 
-refuses-by : (words : List Text) (wanted status : ℕ) (fails : MayFail) (said says had left old new : Bytes) (before after : Option (List MadeOutput))
+refuses-by : (words : List Text) (wanted status : ℕ) (fails : Failures) (said says had left old new : Bytes) (before after : Option (List MadeOutput))
     → (wanted ≡ 0 → AsksHelp words) → RefusesBy wanted status (answering fails.output (change said says) (change old new))
     → Refuses words status (around fails said says had left old new before after)
 refuses-by words zero status fails said says had left old new before after help by = inr (inr (help refl, by))
@@ -119,24 +143,24 @@ memory-status refusals.NoName is = absurd is
 memory-status (refusals.NoDefault text) is = absurd is
 
 -- memory ran out, whatever is asked for
-ran-out : (words : List Text) (asked : Option Arguments) (inputs : Text → Bytes) (missing : Text → Type 0) (status : ℕ) (fails : MayFail)
+ran-out : (words : List Text) (asked : Option Arguments) (inputs : Text → NamedInput) (status : ℕ) (fails : Failures)
     (said says known old new : Bytes) (made : Option (List MadeOutput)) → RefusesBy 1 status (answering fails.output (change said says) (change old new))
-    → Does words asked inputs missing status (around fails said says known known old new made made)
-ran-out words asked inputs missing status fails said says known old new made by =
-    runs-nothing words asked inputs missing status fails said says known known old new made made
+    → Does words asked inputs status (around fails said says known known old new made made)
+ran-out words asked inputs status fails said says known old new made by =
+    runs-nothing words asked inputs status fails said says known known old new made made
     (record { answers = by.0; told = by.2; unread = refl; unwritten = by.1; unmade = refl })
 
 -- words that are refused: nothing is read or made
-pub runs-refused : (words : List Text) (asked : Option Arguments) (inputs : Text → Bytes) (missing : Text → Type 0) (status : ℕ) (fails : MayFail)
+pub runs-refused : (words : List Text) (asked : Option Arguments) (inputs : Text → NamedInput) (status : ℕ) (fails : Failures)
     (said says known old new : Bytes) (made : Option (List MadeOutput)) (refusal : Refusal)
     → IsForMemory refusal ⊎ (asked ≡ None) → (status_of refusal ≡ 0 → AsksHelp words)
     → RefusesBy (status_of refusal) status (answering fails.output (change said says) (change old new))
     ⊎ RefusesBy 1 status (answering fails.output (change said says) (change old new))
-    → Does words asked inputs missing status (around fails said says known known old new made made)
-runs-refused words asked inputs missing status fails said says known old new made refusal why help (inr by) =
-    ran-out words asked inputs missing status fails said says known old new made by
-runs-refused words asked inputs missing status fails said says known old new made refusal (inl memory) help (inl by) =
+    → Does words asked inputs status (around fails said says known known old new made made)
+runs-refused words asked inputs status fails said says known old new made refusal why help (inr by) =
+    ran-out words asked inputs status fails said says known old new made by
+runs-refused words asked inputs status fails said says known old new made refusal (inl memory) help (inl by) =
     let P : ℕ → Type 0 = λ wanted. RefusesBy wanted status (answering fails.output (change said says) (change old new)) in
-    ran-out words asked inputs missing status fails said says known old new made (subst P (memory-status refusal memory) by)
-runs-refused words asked inputs missing status fails said says known old new made refusal (inr none) help (inl by) =
+    ran-out words asked inputs status fails said says known old new made (subst P (memory-status refusal memory) by)
+runs-refused words asked inputs status fails said says known old new made refusal (inr none) help (inl by) =
     rw none (refuses-by words (status_of refusal) status fails said says known known old new made made help by, refl, refl)

@@ -1,13 +1,17 @@
 -- What the program does for what its words ask.
-use Rattle.std.specs.Prelude.{◌≡◌, ◌⊎◌, ℕ, zero, suc, true, List, Option, Some, None, map, false}
+use Rattle.std.specs.Prelude.{◌≡◌, ◌⊎◌, ℕ, zero, suc, Bool, true, List, Option, Some, None, map}
+use Rattle.std.specs.Io.KnownBytes.{Appends}
 use Rattle.clap.specs.Words.{Text}
 use Rattle.press_units.specs.Faults.{fault_text}
 use Rattle.press_sink.specs.Faults.{sink_number}
 use Rattle.press_sink.specs.Outputs.{MadeOutput}
+use Rattle.press_sink.specs.Template.{IsSideName}
 use Rattle.press_sink.specs.declared.fault.SinkError.TheVariants.{SinkFault}
 use Rattle.press_devices.specs.Faults.{read_fault}
+use Rattle.press_devices.specs.Reading.{ReadFails}
+use Rattle.press_devices.specs.Writing.{AppendsPrefix}
 use Rattle.press_trace.specs.Faults.{output_text}
-use Rattle.press_files.specs.Causes.{MayFail, making, writing}
+use Rattle.press_files.specs.Causes.{Failures, making, writing}
 use Rattle.press_files.specs.Change.{Change, change, Edge, reading_file, reading_from}
 use Rattle.press_forms.specs.Causes.{TextCause}
 use Rattle.press_forms.specs.Assembly.{AssembledInto, StopsMaking, DisassembledTo, StopsDisassembling}
@@ -20,7 +24,7 @@ use Rattle.press_files.specs.Files.{PrintsFiles, PrintsNoFiles, DoesNothing}
 use Rattle.press_jobs.specs.Causes.{JobCause}
 use Rattle.press_jobs.specs.Jobs.{MakesTheTicket, StopsMakingJob}
 use Rattle.press_files.specs.Listing.{PrintsListing}
-use Rattle.press_files.specs.NamedInputs.{NamedInput, named}
+use Rattle.press_files.specs.NamedInputs.{NamedInput}
 use Rattle.press_forms.specs.Paging.{Paging}
 use Rattle.press_sessions.specs.Sessions.{Plays, Stops}
 use Rattle.press_files.specs.Telling.{Ended, Tells, as_line}
@@ -29,18 +33,18 @@ use Rattle.press_words.specs.View.{AsksHelp}
 use Rattle.press_words.specs.Words.{Source, Standard, FileNamed, Made, Listed, FilesBy, Answered, AsText, DebuggedOf, TracedOf, PageTo, StreamTo, JobTo, Arguments, arguments}
 
 -- A text was assembled into an output of this name, or not.
-abbrev pub Assembling : (fails : MayFail) (name : Text) (status : ℕ) (told read : Change (Option (List ℕ))) (made : Change (Option (List MadeOutput))) → Type 0
+abbrev pub Assembling : (fails : Failures) (name : Text) (status : ℕ) (told read : Change (Option (List ℕ))) (made : Change (Option (List MadeOutput))) → Type 0
 Assembling fails name status told read made =
     Ended status told.before told.after told_of_text
     (AssembledInto name read.before read.after made.before made.after)
-    (λ why. StopsMaking name read.before read.after made.before made.after why × TextCause (making fails) read.before read.after why)
+    (λ why. StopsMaking name read.before read.after made.before made.after why × TextCause (making fails) why)
 
 -- The same of a stream that was disassembled to a writer.
-abbrev pub Disassembling : (fails : MayFail) (status : ℕ) (told read written : Change (Option (List ℕ))) → Type 0
+abbrev pub Disassembling : (fails : Failures) (status : ℕ) (told read written : Change (Option (List ℕ))) → Type 0
 Disassembling fails status told read written =
     Ended status told.before told.after told_of_text
     (DisassembledTo read.before read.after written.before written.after)
-    (λ why. StopsDisassembling read.before read.after written.before written.after why × TextCause (writing fails) read.before read.after why)
+    (λ why. StopsDisassembling read.before read.after written.before written.after why × TextCause (writing fails) why)
 
 -- The same of a ticket, of which an output of this name was made, the job with the images of these inputs.
 abbrev pub Writing : (name : Text) (status : ℕ) (images : List NamedInput) (edge : Edge) → Type 0
@@ -49,7 +53,7 @@ Writing name status images edge =
     let made = edge.made in
     Ended status edge.told.before edge.told.after told_of_job
     (MakesTheTicket name read.before read.after images made.before made.after)
-    (λ why. StopsMakingJob name read.before read.after images made why × JobCause (record edge.fails { output = false }) read.before read.after images why)
+    (λ why. StopsMakingJob name read.before read.after images made why × JobCause (making edge.fails) read.before read.after images why)
 
 -- A session with a press of so many engines was played to its end, or stopped, with the files of its messages among these inputs.
 abbrev pub Playing : (engines status : ℕ) (inputs : Text → NamedInput) (edge : Edge) → Type 0
@@ -68,7 +72,7 @@ Debugging missing status stream edge =
     let written = edge.written in
     (rest : Option (List ℕ)) × Ended status edge.told.before edge.told.after told_of_debugger
     (Debugs stream rest read.before read.after written.before written.after)
-    (StopsDebugging missing (record edge.fails { outputs = false }) (change stream rest) read written)
+    (StopsDebugging missing (record edge.fails { outputs = ⊥ }) (change stream rest) read written)
 
 -- standard output takes nothing
 abbrev pub WritesNothing : Edge → Type 0
@@ -83,53 +87,59 @@ abbrev pub OpensNothing : (missing : Type 0) → (status : ℕ) → Edge → Typ
 OpensNothing missing status edge = (missing × DoesNothing (Some read_fault) status edge) ⊎ DoesNothing None status edge
 
 -- What is asked for was made of what a reader had: its status, what was told, what standard output took, and the outputs that were made.
--- Standard output takes nothing where an output is named, and no output is made where none is; the inputs are what they have by their
--- names, and no output that is made is one of them.
-abbrev pub Makes : Made → (inputs : Text → Option (List ℕ)) → (missing : Text → Type 0) → (status : ℕ) → Edge → Type 0
-Makes (Listed prefix) inputs missing status edge =
+-- Standard output takes nothing where an output is named, and no output is made where none is; the inputs are those of their names, and no
+-- output that is made is one of them.
+abbrev pub Makes : Made → (inputs : Text → NamedInput) → (status : ℕ) → Edge → Type 0
+Makes (Listed prefix) inputs status edge =
     HoldsBehind prefix edge.read.before edge.read.after (λ had left. PrintsListing (writing edge.fails) status edge.told (change had left) edge.written) × MakesNothing edge
-Makes (FilesBy prefix template) inputs missing status edge =
+Makes (FilesBy prefix template) inputs status edge =
     HoldsBehind prefix edge.read.before edge.read.after
     (λ had left. PrintsFiles template status (reading_from had left edge) ⊎ PrintsNoFiles template status (reading_from had left edge))
-Makes (Answered engines) inputs missing status edge = Playing engines status (named edge.fails.files inputs missing) edge × MakesNothing edge
-Makes AsText inputs missing status edge = Disassembling edge.fails status edge.told edge.read edge.written × MakesNothing edge
-Makes (DebuggedOf prefix name) inputs missing status edge =
-    Debugging (missing name) status (with_prefix prefix (inputs name)) edge × MakesNothing edge
-Makes (TracedOf prefix) inputs missing status edge =
+Makes (Answered engines) inputs status edge = Playing engines status inputs edge × MakesNothing edge
+Makes AsText inputs status edge = Disassembling edge.fails status edge.told edge.read edge.written × MakesNothing edge
+Makes (DebuggedOf prefix name) inputs status edge =
+    Debugging (inputs name).IsMissing status (with_prefix prefix (inputs name).bytes) edge × MakesNothing edge
+Makes (TracedOf prefix) inputs status edge =
     HoldsBehind prefix edge.read.before edge.read.after (λ had left. Tracing (writing edge.fails) status edge.told (change had left) edge.written) × MakesNothing edge
-Makes (PageTo prefix steps name) inputs missing status edge =
+Makes (PageTo prefix steps name) inputs status edge =
     HoldsBehind prefix edge.read.before edge.read.after (λ had left. Paging (making edge.fails) steps name status edge.told (change had left) edge.made) × WritesNothing edge
-Makes (StreamTo name) inputs missing status edge = Assembling edge.fails name status edge.told edge.read edge.made × WritesNothing edge
-Makes (JobTo name images) inputs missing status edge =
-    Writing name status (map (named edge.fails.files inputs missing) images) edge × WritesNothing edge
+Makes (StreamTo name) inputs status edge = Assembling edge.fails name status edge.told edge.read edge.made × WritesNothing edge
+Makes (JobTo name images) inputs status edge =
+    Writing name status (map inputs images) edge × WritesNothing edge
 
--- What is asked for was made of the bytes of a file; or it cannot be opened. Standard input stays.
-abbrev pub MakesOfFile : Text → Made → (inputs : Text → Option (List ℕ)) → (missing : Text → Type 0) → (status : ℕ) → Edge → Type 0
-MakesOfFile name made inputs missing status edge =
-    ((edge.read.after ≡ edge.read.before) × (rest : Option (List ℕ)) × Makes made inputs missing status (reading_file (inputs name) rest edge))
-    ⊎ OpensNothing (missing name) status edge
+-- What is asked for was made of the bytes of a file, and where this is not read on, the inputs say so; or it cannot be opened. Standard
+-- input stays.
+abbrev pub MakesOfFile : Text → Made → (inputs : Text → NamedInput) → (status : ℕ) → Edge → Type 0
+MakesOfFile name made inputs status edge =
+    ((edge.read.after ≡ edge.read.before) × (rest : Option (List ℕ)) × (failed : Bool) × (reads : ℕ) × (ReadFails failed reads → edge.fails.file)
+    × Makes made inputs status (reading_file (inputs name).bytes rest failed reads edge))
+    ⊎ OpensNothing (inputs name).IsMissing status edge
 
 -- What is asked for was done, of what standard input had or of a file.
-abbrev pub Performs : Source → Made → (inputs : Text → Option (List ℕ)) → (missing : Text → Type 0) → (status : ℕ) → Edge → Type 0
-Performs Standard made inputs missing status edge = Makes made inputs missing status edge
-Performs (FileNamed name) made inputs missing status edge = MakesOfFile name made inputs missing status edge
+abbrev pub Performs : Source → Made → (inputs : Text → NamedInput) → (status : ℕ) → Edge → Type 0
+Performs Standard made inputs status edge = Makes made inputs status edge
+Performs (FileNamed name) made inputs status edge = MakesOfFile name made inputs status edge
 
--- Files of a stream are asked for, and the stream is itself a file, which one of them would replace.
+-- Files of a stream are asked for, and the stream is itself a file, which has the name of a side by their template.
 abbrev pub PrintsAFile : Arguments → Type 0
-PrintsAFile arguments = (name : Text) × (prefix : List ℕ) × (template : Text) × (arguments ≡ record { source = FileNamed name; made = FilesBy prefix template })
+PrintsAFile arguments =
+    (name : Text) × (prefix : List ℕ) × (template : Text) × (arguments ≡ record { source = FileNamed name; made = FilesBy prefix template })
+    × IsSideName template name
 
 -- Nothing was begun of what is asked for, and why: an output would replace the input, or memory ran out.
 abbrev pub BeginsNothing : Arguments → (status : ℕ) → Edge → Type 0
 BeginsNothing arguments status edge =
     (PrintsAFile arguments × DoesNothing (sink_number SinkFault) status edge) ⊎ DoesNothing None status edge
 
--- What became of a refusal, by the status that is wanted. 0, help: nothing was told, or with status 1 that it cannot be written, as
--- the writer may fail. 1, memory ran out: that was told, and nothing was written. 2, the words are refused: some text was told, and
--- nothing was written. Which text, no clause says.
+-- What became of a refusal, by the status that is wanted. 0, help: some text was written whole, and nothing was told; or a prefix of it,
+-- with status 1, and that it cannot be written was told, as the writer failed. 1, memory ran out: that was told, and nothing was written.
+-- 2, the words are refused: some text was told, and nothing was written. Which texts these are, and whether they are empty, no clause says.
 abbrev pub RefusesBy : (wanted status : ℕ) → Edge → Type 0
 RefusesBy zero status edge =
-    ((status ≡ 0) × (edge.told.after ≡ edge.told.before))
-    ⊎ ((status ≡ 1) × Tells edge.told.before edge.told.after (as_line (Some output_text)) × (edge.fails.output ≡ true))
+    (text : List ℕ)
+    × (((status ≡ 0) × (edge.told.after ≡ edge.told.before) × Appends edge.written.before edge.written.after text)
+    ⊎ ((status ≡ 1) × Tells edge.told.before edge.told.after (as_line (Some output_text)) × edge.fails.output
+    × AppendsPrefix edge.written.before edge.written.after text))
 RefusesBy (suc zero) status edge =
     (status ≡ 1) × WritesNothing edge × Tells edge.told.before edge.told.after (as_line (Some (fault_text None)))
 RefusesBy (suc (suc more)) status edge = (status ≡ 2) × WritesNothing edge × Tells edge.told.before edge.told.after None
@@ -138,13 +148,14 @@ RefusesBy (suc (suc more)) status edge = (status ≡ 2) × WritesNothing edge ×
 abbrev pub Refuses : List Text → (status : ℕ) → Edge → Type 0
 Refuses words status edge = RefusesBy 2 status edge ⊎ RefusesBy 1 status edge ⊎ (AsksHelp words × RefusesBy 0 status edge)
 
--- What was done for words that ask for this, or for nothing, when nothing is read or made.
-abbrev pub Does : List Text → Option Arguments → (inputs : Text → Option (List ℕ)) → (missing : Text → Type 0) → (status : ℕ) → Edge → Type 0
-Does words None inputs missing status edge =
+-- What was done for words that ask for this, or for nothing, when nothing is read or made. No stream that is a file is printed to a side
+-- that has its name.
+abbrev pub Does : List Text → Option Arguments → (inputs : Text → NamedInput) → (status : ℕ) → Edge → Type 0
+Does words None inputs status edge =
     Refuses words status edge × (edge.read.after ≡ edge.read.before) × MakesNothing edge
-Does words (Some arguments) inputs missing status edge =
-    Performs arguments.source arguments.made inputs missing status edge ⊎ BeginsNothing arguments status edge
+Does words (Some arguments) inputs status edge =
+    (¬ (PrintsAFile arguments) × Performs arguments.source arguments.made inputs status edge) ⊎ BeginsNothing arguments status edge
 
 -- What was done for words: what they ask for, or nothing, and why.
-abbrev pub Runs : List Text → (inputs : Text → Option (List ℕ)) → (missing : Text → Type 0) → (status : ℕ) → Edge → Type 0
-Runs words inputs missing status edge = Does words (arguments words) inputs missing status edge
+abbrev pub Runs : List Text → (inputs : Text → NamedInput) → (status : ℕ) → Edge → Type 0
+Runs words inputs status edge = Does words (arguments words) inputs status edge

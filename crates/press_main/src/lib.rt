@@ -3,6 +3,7 @@
 //! writes the job of a ticket, and has a session with a press.
 #![tactic(auto)]
 
+mod behind;
 mod making;
 mod program;
 mod sparing;
@@ -16,4 +17,4 @@ pub use press_forms::{PagingError, TracedError, asm_text, disasm_bytes, page_fil
 pub use press_jobs::write_files;
 pub use press_sessions::{debug_lines, press_lines};
 pub use press_words::{Input, Output, Refusal, Request, request_of};
-pub use program::run_words;
+pub use program::{Performed, run_words};

@@ -1,6 +1,7 @@
 //! Outputs that are made of a text, and of a ticket.
-ghost use Rattle.std.specs.Prelude.{◌≡◌, true, false, map, IfErr, OnOk};
-ghost use Rattle.press_files.specs.Causes.{may_fail};
+ghost use Rattle.std.specs.Prelude.{◌≡◌, true, map, IfErr, OnOk};
+ghost use Rattle.press_devices.specs.Reading.{ReadFails, SomeFails};
+ghost use Rattle.press_files.specs.Causes.{failures};
 ghost use Rattle.press_files.specs.Change.{change};
 ghost use Rattle.press_forms.specs.Causes.{TextCause};
 ghost use Rattle.press_jobs.specs.Causes.{JobCause};
@@ -35,8 +36,8 @@ pub fn asm_file<R: ReadDevice, O: NamedOutputs, E: Teller>(
         (O.made outputs.old) (O.made outputs.new))
         (λ why. StopsMaking name.now (R.remaining reader.old) (R.remaining reader.new)
         (O.made outputs.old) (O.made outputs.new) why
-        × TextCause (may_fail R.can_fail false false O.Output.can_fail)
-        (R.remaining reader.old) (R.remaining reader.new) why) }
+        × TextCause (failures (ReadFails (R.failed reader.new) (R.reads reader.new))
+        ⊥ ⊥ (O.failed outputs.new ≡ true)) why) }
 {
     match make_stream(alloc, reader, outputs, name) {
         Ok(()) => 0,
@@ -55,8 +56,9 @@ fn make_stream<R: ReadDevice, O: NamedOutputs>(
         (R.remaining reader.new) (O.made outputs.old) (O.made outputs.new)) }
     ensures err { IfErr result (λ why. StopsMaking name.now (R.remaining reader.old)
         (R.remaining reader.new) (O.made outputs.old) (O.made outputs.new) why) }
-    ensures cause { IfErr result (TextCause (may_fail R.can_fail false false O.Output.can_fail)
-        (R.remaining reader.old) (R.remaining reader.new)) }
+    ensures cause { IfErr result (TextCause
+        (failures (ReadFails (R.failed reader.new) (R.reads reader.new))
+        ⊥ ⊥ (O.failed outputs.new ≡ true))) }
 {
     let bytes = assembled(alloc, reader)?;
     write_output(outputs, name, &bytes).map_err(|_| TextError::WriteFault)
@@ -76,17 +78,18 @@ pub fn job_file<T: ReadDevice, I: NamedInputs, O: NamedOutputs, E: Teller>(
 ) -> u8
     ensures { Ended result (E.said err.old) (E.said err.new) told_of_job
         (MakesTheTicket name.now (T.remaining ticket.old) (T.remaining ticket.new)
-        (map (λ name. named I.Input.can_fail (I.bytes inputs.now) (I.missing inputs.now)
-        name.now) names.now)
+        (map (λ name. named (SomeFails I.Input.failed I.Input.reads)
+        (I.bytes inputs.now) (I.missing inputs.now) name.now) names.now)
         (O.made outputs.old) (O.made outputs.new))
         (λ why. StopsMakingJob name.now (T.remaining ticket.old) (T.remaining ticket.new)
-        (map (λ name. named I.Input.can_fail (I.bytes inputs.now) (I.missing inputs.now)
-        name.now) names.now)
+        (map (λ name. named (SomeFails I.Input.failed I.Input.reads)
+        (I.bytes inputs.now) (I.missing inputs.now) name.now) names.now)
         (change (O.made outputs.old) (O.made outputs.new)) why
-        × JobCause (may_fail T.can_fail I.Input.can_fail false O.Output.can_fail)
+        × JobCause (failures (ReadFails (T.failed ticket.new) (T.reads ticket.new))
+        ⊥ ⊥ (O.failed outputs.new ≡ true))
         (T.remaining ticket.old) (T.remaining ticket.new)
-        (map (λ name. named I.Input.can_fail (I.bytes inputs.now) (I.missing inputs.now)
-        name.now) names.now) why) }
+        (map (λ name. named (SomeFails I.Input.failed I.Input.reads)
+        (I.bytes inputs.now) (I.missing inputs.now) name.now) names.now) why) }
 {
     match make_ticket(alloc, ticket, inputs, names, outputs, name) {
         Ok(()) => 0,
@@ -105,19 +108,20 @@ fn make_ticket<T: ReadDevice, I: NamedInputs, O: NamedOutputs>(
 ) -> Result<(), JobFileError>
     ensures ok { OnOk result (MakesTheTicket name.now
         (T.remaining ticket.old) (T.remaining ticket.new)
-        (map (λ name. named I.Input.can_fail (I.bytes inputs.now) (I.missing inputs.now)
-        name.now) names.now)
+        (map (λ name. named (SomeFails I.Input.failed I.Input.reads)
+        (I.bytes inputs.now) (I.missing inputs.now) name.now) names.now)
         (O.made outputs.old) (O.made outputs.new)) }
     ensures err { IfErr result (λ why. StopsMakingJob name.now (T.remaining ticket.old)
         (T.remaining ticket.new)
-        (map (λ name. named I.Input.can_fail (I.bytes inputs.now) (I.missing inputs.now)
-        name.now) names.now)
+        (map (λ name. named (SomeFails I.Input.failed I.Input.reads)
+        (I.bytes inputs.now) (I.missing inputs.now) name.now) names.now)
         (change (O.made outputs.old) (O.made outputs.new)) why) }
     ensures cause { IfErr result (JobCause
-        (may_fail T.can_fail I.Input.can_fail false O.Output.can_fail)
+        (failures (ReadFails (T.failed ticket.new) (T.reads ticket.new))
+        ⊥ ⊥ (O.failed outputs.new ≡ true))
         (T.remaining ticket.old) (T.remaining ticket.new)
-        (map (λ name. named I.Input.can_fail (I.bytes inputs.now) (I.missing inputs.now)
-        name.now) names.now)) }
+        (map (λ name. named (SomeFails I.Input.failed I.Input.reads)
+        (I.bytes inputs.now) (I.missing inputs.now) name.now) names.now)) }
 {
     let ticket = ticket_in(alloc, ticket)?;
     let images = images_named(alloc, inputs, names)?;
@@ -140,7 +144,7 @@ fn make_job<O: NamedOutputs>(
     ensures err { IfErr result (λ why. MakesNoJob name.now ticket.now images.now
         (O.made outputs.old) (O.made outputs.new) why) }
     ensures cause { IfErr result (λ error.
-        error ≡ WriterError.WriteFault → O.Output.can_fail ≡ true) }
+        error ≡ WriterError.WriteFault → O.failed outputs.new ≡ true) }
 {
     check(ticket, images)?;
     let Ok(mut output) = outputs.make(name) else {

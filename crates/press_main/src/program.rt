@@ -1,7 +1,9 @@
 //! What the words ask for, done.
-ghost use Rattle.std.specs.Prelude.{◌≡◌, ◌⊎◌, false, None, map, IfOk};
-ghost use Rattle.press_files.specs.Causes.{may_fail};
+ghost use Rattle.std.specs.Prelude.{◌≡◌, ◌⊎◌, None, map, IfOk, true};
+ghost use Rattle.press_devices.specs.Reading.{ReadFails, SomeFails};
+ghost use Rattle.press_files.specs.Causes.{failures};
 ghost use Rattle.press_files.specs.Change.{answering, around, change};
+ghost use Rattle.std.specs.Str.{IsUtf8};
 ghost use Rattle.std.specs.String.{string_bytes};
 ghost use Rattle.press_words.specs.Defaults.{HoldsBehind, with_prefix};
 ghost use Rattle.press_files.specs.Files.{PrintsFiles, PrintsNoFiles};
@@ -12,10 +14,11 @@ ghost use Rattle.press_main.specs.Program.{Debugging, Makes, Performs, RefusesBy
 ghost use Rattle.press_forms.specs.Traced.{Tracing};
 ghost use Rattle.press_words.specs.View.{made_seen, request_seen, status_of};
 
+use crate::behind::Behind;
 use crate::making::{asm_file, job_file};
 use crate::sparing::spare_inputs;
-use press_devices::{Behind, ReadDevice, WriteDevice, write_flushed};
-use press_files::{Finished, NO_OUTPUT, NamedInputs, Teller, print_files, print_list, report};
+use press_devices::{ReadDevice, WriteDevice, write_flushed};
+use press_files::{NO_OUTPUT, NamedInputs, Teller, print_files, print_list, report};
 use press_forms::{disasm_bytes, page_file, tell_trace};
 use press_sessions::{debug_lines, press_lines};
 use press_sink::NamedOutputs;
@@ -23,32 +26,46 @@ use press_units::NO_MEMORY;
 use press_words::{Input, Output, REFUSED, Refusal, Request, request_of};
 use std::alloc::{AllocError, Global};
 
+/// How what was asked for ended: the status, and the reader, standard output and the outputs, which are handed back.
+#[derive(Drop)]
+pub struct Performed<R, W, O> {
+    pub status: u8,
+    pub input: R,
+    pub out: W,
+    pub outputs: O,
+}
+
 /// Does what the words ask for, the program's name among them. Inputs are opened by their names in `inputs`, and files are made in
-/// `outputs`, none of which is an input. The answer has the status, and hands standard output and the outputs back.
+/// `outputs`, none of which is an input. The answer has the status, and hands standard input, standard output and the
+/// outputs back.
 pub fn run_words<
     I: NamedInputs,
     O: NamedOutputs + Drop,
-    S: ReadDevice,
+    S: ReadDevice + Drop,
     W: WriteDevice + Drop,
     E: Teller,
 >(
     alloc: Global,
-    inputs: &I,
+    inputs: &mut I,
     mut outputs: O,
     words: &[String],
-    input: &mut S,
+    input: S,
     mut out: W,
     err: &mut E,
-) -> Finished<W, O>
-    ensures { Runs (map string_bytes words.now) (I.bytes inputs.now) (I.missing inputs.now)
+) -> Performed<S, W, O>
+    ensures { Runs (map string_bytes words.now)
+        (named (SomeFails I.Input.failed I.Input.reads) (I.bytes inputs.old) (I.missing inputs.old))
         result.status
-        (around (may_fail S.can_fail I.Input.can_fail W.can_fail O.Output.can_fail)
-        (E.said err.old) (E.said err.new) (S.remaining input.old) (S.remaining input.new)
+        (around (failures (ReadFails (S.failed result.input) (S.reads result.input))
+        (I.failed inputs.new ≡ true)
+        (W.failed result.out ≡ true) (O.failed result.outputs ≡ true))
+        (E.said err.old) (E.said err.new) (S.remaining input) (S.remaining result.input)
         (W.contents out) (W.contents result.out) (O.made outputs) (O.made result.outputs)) }
 {
     let Ok(texts) = texts_of(alloc, words) else {
-        return Finished {
+        return Performed {
             status: report(&NO_MEMORY, err),
+            input,
             out,
             outputs,
         };
@@ -56,14 +73,16 @@ pub fn run_words<
     match request_of(alloc, &texts) {
         Ok(request) => match spare_inputs(&mut outputs, &request) {
             Ok(()) => perform(alloc, inputs, outputs, &request, input, out, err),
-            Err(error) => Finished {
+            Err(error) => Performed {
                 status: report(&error, err),
+                input,
                 out,
                 outputs,
             },
         },
-        Err(refusal) => Finished {
+        Err(refusal) => Performed {
             status: refuse(alloc, &refusal, &mut out, err),
+            input,
             out,
             outputs,
         },
@@ -90,10 +109,10 @@ fn refuse<W: WriteDevice, E: Teller>(
     err: &mut E,
 ) -> u8
     ensures { RefusesBy (status_of refusal.now) result
-        (answering W.can_fail (change (E.said err.old) (E.said err.new))
+        (answering (W.failed out.new ≡ true) (change (E.said err.old) (E.said err.new))
         (change (W.contents out.old) (W.contents out.new)))
         ⊎ RefusesBy 1 result
-        (answering W.can_fail (change (E.said err.old) (E.said err.new))
+        (answering (W.failed out.new ≡ true) (change (E.said err.old) (E.said err.new))
         (change (W.contents out.old) (W.contents out.new))) }
 {
     match refusal.status() {
@@ -114,10 +133,10 @@ fn write_help<W: WriteDevice, E: Teller>(
     err: &mut E,
 ) -> u8
     ensures { RefusesBy 0 result
-        (answering W.can_fail (change (E.said err.old) (E.said err.new))
+        (answering (W.failed out.new ≡ true) (change (E.said err.old) (E.said err.new))
         (change (W.contents out.old) (W.contents out.new)))
         ⊎ RefusesBy 1 result
-        (answering W.can_fail (change (E.said err.old) (E.said err.new))
+        (answering (W.failed out.new ≡ true) (change (E.said err.old) (E.said err.new))
         (change (W.contents out.old) (W.contents out.new))) }
 {
     let Ok(text) = format!(in alloc; "{help}") else {
@@ -130,28 +149,47 @@ fn write_help<W: WriteDevice, E: Teller>(
 }
 
 /// Opens the input of a request, and makes of it what is asked for.
-fn perform<I: NamedInputs, O: NamedOutputs + Drop, S: ReadDevice, W: WriteDevice + Drop, E: Teller>(
+fn perform<
+    I: NamedInputs,
+    O: NamedOutputs + Drop,
+    S: ReadDevice + Drop,
+    W: WriteDevice + Drop,
+    E: Teller,
+>(
     alloc: Global,
-    inputs: &I,
+    inputs: &mut I,
     outputs: O,
     request: &Request<'_>,
-    input: &mut S,
+    input: S,
     out: W,
     err: &mut E,
-) -> Finished<W, O>
-    ensures { Performs (request_seen request.now).source (request_seen request.now).made (I.bytes
-        inputs.now) (I.missing inputs.now) result.status
-        (around (may_fail S.can_fail I.Input.can_fail W.can_fail O.Output.can_fail)
-        (E.said err.old) (E.said err.new) (S.remaining input.old) (S.remaining input.new)
+) -> Performed<S, W, O>
+    ensures { Performs (request_seen request.now).source (request_seen request.now).made
+        (named (SomeFails I.Input.failed I.Input.reads) (I.bytes inputs.old) (I.missing inputs.old))
+        result.status
+        (around (failures (ReadFails (S.failed result.input) (S.reads result.input))
+        (I.failed inputs.new ≡ true)
+        (W.failed result.out ≡ true) (O.failed result.outputs ≡ true))
+        (E.said err.old) (E.said err.new) (S.remaining input) (S.remaining result.input)
         (W.contents out) (W.contents result.out) (O.made outputs) (O.made result.outputs)) }
 {
     let output = &request.output;
     match request.input {
         Input::Standard => make(alloc, inputs, outputs, input, output, out, err),
         Input::File(name) => match inputs.open(name) {
-            Ok(mut file) => make(alloc, inputs, outputs, &mut file, output, out, err),
-            Err(error) => Finished {
+            Ok(file) => {
+                let made = make(alloc, inputs, outputs, file, output, out, err);
+                inputs.close(made.input);
+                Performed {
+                    status: made.status,
+                    input,
+                    out: made.out,
+                    outputs: made.outputs,
+                }
+            }
+            Err(error) => Performed {
                 status: report(&error, err),
+                input,
                 out,
                 outputs,
             },
@@ -160,61 +198,96 @@ fn perform<I: NamedInputs, O: NamedOutputs + Drop, S: ReadDevice, W: WriteDevice
 }
 
 /// Makes what is asked for of what a reader has.
-fn make<I: NamedInputs, O: NamedOutputs + Drop, R: ReadDevice, W: WriteDevice + Drop, E: Teller>(
+fn make<
+    I: NamedInputs,
+    O: NamedOutputs + Drop,
+    R: ReadDevice + Drop,
+    W: WriteDevice + Drop,
+    E: Teller,
+>(
     alloc: Global,
-    inputs: &I,
+    inputs: &mut I,
     mut outputs: O,
-    reader: &mut R,
+    mut reader: R,
     output: &Output<'_>,
     mut out: W,
     err: &mut E,
-) -> Finished<W, O>
-    ensures { Makes (made_seen output.now) (I.bytes inputs.now) (I.missing inputs.now) result.status
-        (around (may_fail R.can_fail I.Input.can_fail W.can_fail O.Output.can_fail)
-        (E.said err.old) (E.said err.new) (R.remaining reader.old) (R.remaining reader.new)
+) -> Performed<R, W, O>
+    ensures { Makes (made_seen output.now)
+        (named (SomeFails I.Input.failed I.Input.reads) (I.bytes inputs.old) (I.missing inputs.old))
+        result.status
+        (around (failures (ReadFails (R.failed result.input) (R.reads result.input))
+        (I.failed inputs.new ≡ true)
+        (W.failed result.out ≡ true) (O.failed result.outputs ≡ true))
+        (E.said err.old) (E.said err.new) (R.remaining reader) (R.remaining result.input)
         (W.contents out) (W.contents result.out) (O.made outputs) (O.made result.outputs)) }
 {
     match output {
-        Output::Listing(prefix) => Finished {
-            status: list_behind(alloc, prefix, reader, &mut out, err),
-            out,
-            outputs,
-        },
+        Output::Listing(prefix) => {
+            let (status, input) = list_behind(alloc, prefix, reader, &mut out, err);
+            Performed {
+                status,
+                input,
+                out,
+                outputs,
+            }
+        }
         Output::Files(prefix, template) => {
             print_behind(alloc, outputs, prefix, reader, template, out, err)
         }
-        Output::Session(engines) => Finished {
-            status: press_lines(alloc, inputs, *engines, reader, &mut out, err),
+        Output::Session(engines) => Performed {
+            status: press_lines(alloc, inputs, *engines, &mut reader, &mut out, err),
+            input: reader,
             out,
             outputs,
         },
-        Output::Text => Finished {
-            status: disasm_bytes(alloc, reader, &mut out, err),
+        Output::Text => Performed {
+            status: disasm_bytes(alloc, &mut reader, &mut out, err),
+            input: reader,
             out,
             outputs,
         },
-        Output::Debugged(prefix, name) => Finished {
-            status: debug_file(alloc, inputs, prefix, name, reader, &mut out, err),
+        Output::Debugged(prefix, name) => Performed {
+            status: debug_file(alloc, inputs, prefix, name, &mut reader, &mut out, err),
+            input: reader,
             out,
             outputs,
         },
-        Output::Traced(prefix) => Finished {
-            status: trace_behind(alloc, prefix, reader, &mut out, err),
+        Output::Traced(prefix) => {
+            let (status, input) = trace_behind(alloc, prefix, reader, &mut out, err);
+            Performed {
+                status,
+                input,
+                out,
+                outputs,
+            }
+        }
+        Output::Page(prefix, steps, name) => {
+            let (status, input) = page_behind(
+                alloc,
+                prefix,
+                reader,
+                *steps,
+                &mut outputs,
+                name,
+                err,
+            );
+            Performed {
+                status,
+                input,
+                out,
+                outputs,
+            }
+        }
+        Output::Assembled(name) => Performed {
+            status: asm_file(alloc, &mut reader, &mut outputs, name, err),
+            input: reader,
             out,
             outputs,
         },
-        Output::Page(prefix, steps, name) => Finished {
-            status: page_behind(alloc, prefix, reader, *steps, &mut outputs, name, err),
-            out,
-            outputs,
-        },
-        Output::Assembled(name) => Finished {
-            status: asm_file(alloc, reader, &mut outputs, name, err),
-            out,
-            outputs,
-        },
-        Output::Job(name, images) => Finished {
-            status: write_file(alloc, reader, inputs, images, &mut outputs, name, err),
+        Output::Job(name, images) => Performed {
+            status: write_file(alloc, &mut reader, inputs, images, &mut outputs, name, err),
+            input: reader,
             out,
             outputs,
         },
@@ -222,152 +295,189 @@ fn make<I: NamedInputs, O: NamedOutputs + Drop, R: ReadDevice, W: WriteDevice + 
 }
 
 /// Lists the sheets of the stream of these bytes and those that a reader has behind them.
-fn list_behind<R: ReadDevice, W: WriteDevice, E: Teller>(
+fn list_behind<R: ReadDevice + Drop, W: WriteDevice, E: Teller>(
     alloc: Global,
     prefix: &[u8],
-    reader: &mut R,
+    mut reader: R,
     out: &mut W,
     err: &mut E,
-) -> u8
-    ensures { HoldsBehind prefix.now (R.remaining reader.old) (R.remaining reader.new)
-        (λ had left. PrintsListing (may_fail R.can_fail false W.can_fail false) result
+) -> (u8, R)
+    ensures { HoldsBehind prefix.now (R.remaining reader) (R.remaining result.1)
+        (λ had left. PrintsListing
+        (failures (ReadFails (R.failed result.1) (R.reads result.1))
+        ⊥ (W.failed out.new ≡ true) ⊥) result.0
         (change (E.said err.old) (E.said err.new)) (change had left)
         (change (W.contents out.old) (W.contents out.new))) }
 {
     if prefix.is_empty() {
-        return print_list(alloc, reader, out, err);
+        let status = print_list(alloc, &mut reader, out, err);
+        return (status, reader);
     }
     let mut listed = Behind {
         bytes: prefix,
         reader,
     };
-    print_list(alloc, &mut listed, out, err)
+    let status = print_list(alloc, &mut listed, out, err);
+    (status, listed.reader)
 }
 
 /// Tells the trace of the stream of these bytes and those that a reader has behind them.
-fn trace_behind<R: ReadDevice, W: WriteDevice, E: Teller>(
+fn trace_behind<R: ReadDevice + Drop, W: WriteDevice, E: Teller>(
     alloc: Global,
     prefix: &[u8],
-    reader: &mut R,
+    mut reader: R,
     out: &mut W,
     err: &mut E,
-) -> u8
-    ensures { HoldsBehind prefix.now (R.remaining reader.old) (R.remaining reader.new)
-        (λ had left. Tracing (may_fail R.can_fail false W.can_fail false) result
+) -> (u8, R)
+    ensures { HoldsBehind prefix.now (R.remaining reader) (R.remaining result.1)
+        (λ had left. Tracing
+        (failures (ReadFails (R.failed result.1) (R.reads result.1))
+        ⊥ (W.failed out.new ≡ true) ⊥) result.0
         (change (E.said err.old) (E.said err.new)) (change had left)
         (change (W.contents out.old) (W.contents out.new))) }
 {
     if prefix.is_empty() {
-        return tell_trace(alloc, reader, out, err);
+        let status = tell_trace(alloc, &mut reader, out, err);
+        return (status, reader);
     }
     let mut traced = Behind {
         bytes: prefix,
         reader,
     };
-    tell_trace(alloc, &mut traced, out, err)
+    let status = tell_trace(alloc, &mut traced, out, err);
+    (status, traced.reader)
 }
 
 /// Makes the output of this name, of the page that is open behind so many steps of the stream of these bytes and those that a reader
 /// has behind them.
-fn page_behind<R: ReadDevice, O: NamedOutputs, E: Teller>(
+fn page_behind<R: ReadDevice + Drop, O: NamedOutputs, E: Teller>(
     alloc: Global,
     prefix: &[u8],
-    reader: &mut R,
+    mut reader: R,
     steps: u64,
     outputs: &mut O,
     name: &str,
     err: &mut E,
-) -> u8
-    ensures { HoldsBehind prefix.now (R.remaining reader.old) (R.remaining reader.new)
-        (λ had left. Paging (may_fail R.can_fail false false O.Output.can_fail) steps name.now result
+) -> (u8, R)
+    ensures { HoldsBehind prefix.now (R.remaining reader) (R.remaining result.1)
+        (λ had left. Paging
+        (failures (ReadFails (R.failed result.1) (R.reads result.1))
+        ⊥ ⊥ (O.failed outputs.new ≡ true))
+        steps name.now result.0
         (change (E.said err.old) (E.said err.new)) (change had left)
         (change (O.made outputs.old) (O.made outputs.new))) }
 {
     if prefix.is_empty() {
-        return page_file(alloc, reader, steps, outputs, name, err);
+        let status = page_file(alloc, &mut reader, steps, outputs, name, err);
+        return (status, reader);
     }
     let mut stream = Behind {
         bytes: prefix,
         reader,
     };
-    page_file(alloc, &mut stream, steps, outputs, name, err)
+    let status = page_file(alloc, &mut stream, steps, outputs, name, err);
+    (status, stream.reader)
 }
 
 /// Prints the stream of these bytes and those that a reader has behind them to files by a template.
-fn print_behind<O: NamedOutputs + Drop, R: ReadDevice, W: WriteDevice + Drop, E: Teller>(
+fn print_behind<O: NamedOutputs + Drop, R: ReadDevice + Drop, W: WriteDevice + Drop, E: Teller>(
     alloc: Global,
     outputs: O,
     prefix: &[u8],
-    reader: &mut R,
+    mut reader: R,
     template: &str,
     out: W,
     err: &mut E,
-) -> Finished<W, O>
-    ensures { HoldsBehind prefix.now (R.remaining reader.old) (R.remaining reader.new)
+) -> Performed<R, W, O>
+    ensures { HoldsBehind prefix.now (R.remaining reader) (R.remaining result.input)
         (λ had left. PrintsFiles template.now result.status
-        (around (may_fail R.can_fail false W.can_fail O.Output.can_fail)
+        (around (failures (ReadFails (R.failed result.input) (R.reads result.input)) ⊥
+        (W.failed result.out ≡ true) (O.failed result.outputs ≡ true))
         (E.said err.old) (E.said err.new) had left (W.contents out)
         (W.contents result.out) (O.made outputs) (O.made result.outputs))
         ⊎ PrintsNoFiles template.now result.status
-        (around (may_fail R.can_fail false W.can_fail O.Output.can_fail)
+        (around (failures (ReadFails (R.failed result.input) (R.reads result.input)) ⊥
+        (W.failed result.out ≡ true) (O.failed result.outputs ≡ true))
         (E.said err.old) (E.said err.new) had left (W.contents out)
         (W.contents result.out) (O.made outputs) (O.made result.outputs))) }
 {
     if prefix.is_empty() {
-        return print_files(alloc, outputs, reader, template, out, err);
+        let printed = print_files(alloc, outputs, &mut reader, template, out, err);
+        return Performed {
+            status: printed.status,
+            input: reader,
+            out: printed.out,
+            outputs: printed.outputs,
+        };
     }
     let mut stream = Behind {
         bytes: prefix,
         reader,
     };
-    print_files(alloc, outputs, &mut stream, template, out, err)
+    let printed = print_files(alloc, outputs, &mut stream, template, out, err);
+    Performed {
+        status: printed.status,
+        input: stream.reader,
+        out: printed.out,
+        outputs: printed.outputs,
+    }
 }
 
 /// Has a session with a debugger of the stream of these bytes and those of the input of this name behind them, by the lines that a
 /// reader has.
 fn debug_file<I: NamedInputs, R: ReadDevice, W: WriteDevice, E: Teller>(
     alloc: Global,
-    inputs: &I,
+    inputs: &mut I,
     prefix: &[u8],
     name: &str,
     reader: &mut R,
     out: &mut W,
     err: &mut E,
 ) -> u8
-    ensures { Debugging (I.missing inputs.now name.now) result
-        (with_prefix prefix.now (I.bytes inputs.now name.now))
-        (around (may_fail R.can_fail I.Input.can_fail W.can_fail false)
+    ensures { Debugging (IsUtf8 name.now → I.missing inputs.old name.now) result
+        (with_prefix prefix.now (I.bytes inputs.old name.now))
+        (around (failures (ReadFails (R.failed reader.new) (R.reads reader.new))
+        (I.failed inputs.new ≡ true)
+        (W.failed out.new ≡ true) ⊥)
         (E.said err.old) (E.said err.new) (R.remaining reader.old) (R.remaining reader.new)
         (W.contents out.old) (W.contents out.new) None None) }
 {
     match inputs.open(name) {
-        Ok(mut input) => debug_behind(alloc, prefix, &mut input, reader, out, err),
+        Ok(input) => {
+            let (status, input) = debug_behind(alloc, prefix, input, reader, out, err);
+            inputs.close(input);
+            status
+        }
         Err(error) => report(&error, err),
     }
 }
 
 /// The same of the stream of these bytes and those that `input` has behind them.
-fn debug_behind<I: ReadDevice, R: ReadDevice, W: WriteDevice, E: Teller>(
+fn debug_behind<I: ReadDevice + Drop, R: ReadDevice, W: WriteDevice, E: Teller>(
     alloc: Global,
     prefix: &[u8],
-    input: &mut I,
+    mut input: I,
     reader: &mut R,
     out: &mut W,
     err: &mut E,
-) -> u8
-    ensures { Debugging ⊥ result (with_prefix prefix.now (I.remaining input.old))
-        (around (may_fail R.can_fail I.can_fail W.can_fail false)
+) -> (u8, I)
+    ensures { Debugging ⊥ result.0 (with_prefix prefix.now (I.remaining input))
+        (around (failures (ReadFails (R.failed reader.new) (R.reads reader.new))
+        (ReadFails (I.failed result.1) (I.reads result.1))
+        (W.failed out.new ≡ true) ⊥)
         (E.said err.old) (E.said err.new) (R.remaining reader.old) (R.remaining reader.new)
         (W.contents out.old) (W.contents out.new) None None) }
 {
     if prefix.is_empty() {
-        return debug_lines(alloc, input, reader, out, err);
+        let status = debug_lines(alloc, &mut input, reader, out, err);
+        return (status, input);
     }
     let mut stream = Behind {
         bytes: prefix,
         reader: input,
     };
-    debug_lines(alloc, &mut stream, reader, out, err)
+    let status = debug_lines(alloc, &mut stream, reader, out, err);
+    (status, stream.reader)
 }
 
 /// Makes the output of this name of the ticket that a reader has, with the images of the inputs of these names.
@@ -381,9 +491,11 @@ fn write_file<R: ReadDevice, I: NamedInputs, O: NamedOutputs, E: Teller>(
     err: &mut E,
 ) -> u8
     ensures { Writing name.now result
-        (map (named I.Input.can_fail (I.bytes inputs.now) (I.missing inputs.now))
+        (map (named (SomeFails I.Input.failed I.Input.reads)
+        (I.bytes inputs.now) (I.missing inputs.now))
         (map (λ image. image.now) images.now))
-        (around (may_fail R.can_fail I.Input.can_fail false O.Output.can_fail)
+        (around (failures (ReadFails (R.failed reader.new) (R.reads reader.new)) ⊥
+        ⊥ (O.failed outputs.new ≡ true))
         (E.said err.old) (E.said err.new) (R.remaining reader.old) (R.remaining reader.new)
         None None (O.made outputs.old) (O.made outputs.new)) }
 {

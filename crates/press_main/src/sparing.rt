@@ -1,17 +1,17 @@
 //! Inputs that no output replaces.
-ghost use Rattle.std.specs.Prelude.{◌≡◌, IfErr};
+ghost use Rattle.std.specs.Prelude.{◌≡◌, IfErr, OnOk};
 ghost use Rattle.press_sink.specs.declared.fault.SinkError.TheVariants.{NoMemory, SinkFault};
 ghost use Rattle.press_main.specs.Program.{PrintsAFile};
 ghost use Rattle.press_words.specs.View.{request_seen};
 
-use press_sink::{NamedOutputs, SinkError};
+use press_sink::{NamedOutputs, SinkError, is_side_name};
 use press_words::{Input, Output, Request};
 
 /// Notes the inputs of a request that makes files, so that none of these replaces one of them.
 ///
 /// # Errors
 ///
-/// `SinkFault` (301): a side would have the name of the stream's file. `NoMemory`: they cannot be noted.
+/// `SinkFault` (301): the stream's file has the name of a side. `NoMemory`: they cannot be noted.
 pub(crate) fn spare_inputs<O: NamedOutputs>(
     outputs: &mut O,
     request: &Request<'_>,
@@ -19,12 +19,13 @@ pub(crate) fn spare_inputs<O: NamedOutputs>(
     ensures made { O.made outputs.new ≡ O.made outputs.old }
     ensures own { IfErr result (λ error.
         error ≡ SinkFault → PrintsAFile (request_seen request.now)) }
+    ensures spared { OnOk result (¬ (PrintsAFile (request_seen request.now))) }
 {
     let Input::File(name) = request.input else {
         return Ok(());
     };
     match &request.output {
-        Output::Files(_, template) if is_side(template, name) => Err(SinkError::SinkFault),
+        Output::Files(_, template) if is_side_name(template, name) => Err(SinkError::SinkFault),
         Output::Files(_, _) | Output::Assembled(_) | Output::Page(_, _, _) => {
             spare(outputs, &[name])
         }
@@ -47,21 +48,4 @@ fn spare<O: NamedOutputs>(outputs: &mut O, names: &[&str]) -> Result<(), SinkErr
         }
     }
     Ok(())
-}
-
-/// Whether this is the name of a side by a template: a number, as it is written from 1 on, in place of its one `%d`.
-fn is_side(template: &str, name: &str) -> bool {
-    let Some((prefix, back)) = template.split_once("%d") else {
-        return false;
-    };
-    let Some(number) = name
-        .strip_prefix(prefix)
-        .and_then(|rest| rest.strip_suffix(back))
-    else {
-        return false;
-    };
-    !back.contains("%d")
-        && !number.is_empty()
-        && !number.starts_with('0')
-        && number.bytes().all(|byte| byte.is_ascii_digit())
 }

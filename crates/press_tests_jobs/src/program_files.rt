@@ -27,17 +27,21 @@ struct OneImage {
 }
 
 impl NamedInputs for OneImage {
-    ghost use Rattle.std.specs.Prelude.{Some};
+    ghost use Rattle.std.specs.Prelude.{Some, true};
 
     ghost bytes = { λ image _. Some image.file.now };
 
     ghost missing = { λ _ _. ⊥ };
+
+    ghost failed = { λ _. true };
 
     type Input = &'static [u8];
 
     fn open(&self, _name: &str) -> Result<&'static [u8], InputError> {
         Ok(self.file)
     }
+
+    fn close(&mut self, _input: &'static [u8]) {}
 }
 
 /// What an output of this name holds.

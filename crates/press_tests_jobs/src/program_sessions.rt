@@ -7,17 +7,21 @@ use std::test::Fail;
 struct NoInputs;
 
 impl NamedInputs for NoInputs {
-    ghost use Rattle.std.specs.Prelude.{None, ⊤};
+    ghost use Rattle.std.specs.Prelude.{None, true, ⊤};
 
     ghost bytes = { λ _ _. None };
 
     ghost missing = { λ _ _. ⊤ };
+
+    ghost failed = { λ _. true };
 
     type Input = &'static [u8];
 
     fn open(&self, _name: &str) -> Result<&'static [u8], InputError> {
         Err(InputError::ReadFault)
     }
+
+    fn close(&mut self, _input: &'static [u8]) {}
 }
 
 #[test]

@@ -9,7 +9,7 @@ returns-in-Err-clause-err g c =
     inr (record {
       fits = c.in_ok-check.ensures.ok;
       told = c.in-Err.ensures.fault c.in_ok-check.ensures.ok;
-      made = made_given_up _ _ _ _ _ _ _ _ refl c.in-Ok.ensures.made c.in-Ok.ensures.empty c.in-Err.ensures.err c.abandon.ensures;
+      made = made_given_up _ _ _ _ _ _ _ _ refl c.in-Ok.ensures.made c.in-Ok.ensures.empty c.in-Err.ensures.err c.abandon.ensures.gives;
     })
 
 pub returns-then-is_err-clause-err : goal.returns-then-is_err-clause-err

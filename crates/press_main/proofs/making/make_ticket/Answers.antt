@@ -1,11 +1,12 @@
-use Rattle.std.proofs.Common.{false}
+use Rattle.std.proofs.Common.{◌≡◌, true}
 use Rattle.press_units.proofs.ExitLemmas.{exit-is}
-use Rattle.press_files.specs.Causes.{may_fail}
+use Rattle.press_devices.specs.Reading.{ReadFails}
+use Rattle.press_files.specs.Causes.{failures}
 use Rattle.press_jobs.proofs.JobLemmas.{images-cause}
 use Rattle.press_main.proofs.making.make_ticket.Goals as goal
 
 pub returns-in_err-images-clause-cause : goal.returns-in_err-images-clause-cause
 returns-in_err-images-clause-cause g c =
     rw (exit-is c.from_residual-in_err-images.ensures.1)
-    (images-cause (may_fail g.T.ReadDevice.can_fail g.I.Input.ReadDevice.can_fail false g.O.Output.WriteDevice.can_fail) _ _ _
+    (images-cause (failures (ReadFails (g.T.ReadDevice.failed c.ticket_in.new.reader) (g.T.ReadDevice.reads c.ticket_in.new.reader)) ⊥ ⊥ (g.O.NamedOutputs.failed c.args.outputs.now ≡ true)) _ _ _
     c.in_err-images.field-0.0 _ c.in_ok-ticket.ensures.ticket c.in_err-images.ensures.refused)

@@ -6,4 +6,4 @@ pub returns-then-is_empty : goal.returns-then-is_empty
 returns-then-is_empty g c = rw (with_prefix-none _ _ (sym c.is_empty.ensures ∙ c.if-is_empty.true)) (search rules)
 
 pub returns : goal.returns
-returns g c = rw (with_prefix-some _ _ (sym c.is_empty.ensures ∙ c.if-is_empty.false)) (_, c.debug_lines-2.ensures)
+returns g c = rw (with_prefix-some _ _ (sym c.is_empty.ensures ∙ c.if-is_empty.false)) (_, c.debug_lines-status-2.ensures)

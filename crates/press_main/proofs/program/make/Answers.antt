@@ -2,7 +2,7 @@ use Rattle.std.proofs.Common.{refl}
 use Rattle.press_main.proofs.program.make.Goals as goal
 
 pub returns-in-Listing : goal.returns-in-Listing
-returns-in-Listing g c = rw (c.in-Listing.is, ← c.deref.ensures.value) (c.list_behind.ensures, refl)
+returns-in-Listing g c = rw (c.in-Listing.is, ← c.deref.ensures.value) (c.list_behind-status.ensures, refl)
 
 pub returns-in-Files : goal.returns-in-Files
 returns-in-Files g c = rw (c.in-Files.is, ← c.deref-in-Files.ensures.value) c.print_behind.ensures
@@ -17,10 +17,10 @@ pub returns-in-Debugged : goal.returns-in-Debugged
 returns-in-Debugged g c = rw (c.in-Debugged.is, ← c.deref-in-Debugged.ensures.value) (c.debug_file.ensures, refl)
 
 pub returns-in-Traced : goal.returns-in-Traced
-returns-in-Traced g c = rw (c.in-Traced.is, ← c.deref-in-Traced.ensures.value) (c.trace_behind.ensures, refl)
+returns-in-Traced g c = rw (c.in-Traced.is, ← c.deref-in-Traced.ensures.value) (c.trace_behind-status.ensures, refl)
 
 pub returns-in-Page : goal.returns-in-Page
-returns-in-Page g c = rw (c.in-Page.is, ← c.deref-in-Page.ensures.value) (c.page_behind.ensures, refl)
+returns-in-Page g c = rw (c.in-Page.is, ← c.deref-in-Page.ensures.value) (c.page_behind-status.ensures, refl)
 
 pub returns-in-Assembled : goal.returns-in-Assembled
 returns-in-Assembled g c = rw c.in-Assembled.is (c.asm_file.ensures, refl)

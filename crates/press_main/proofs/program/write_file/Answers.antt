@@ -1,8 +1,9 @@
-use Rattle.std.proofs.Common.{◌≡◌, ◌∙◌, ℕ, List, Bor, Option, None, false, map, ap, refl, subst, inl, arith}
-use Rattle.press_files.specs.Causes.{may_fail}
+use Rattle.std.proofs.Common.{◌≡◌, ◌∙◌, ℕ, List, Bor, Option, None, true, map, ap, refl, subst, inl, arith}
+use Rattle.press_files.specs.Causes.{failures}
 use Rattle.press_files.specs.Change.{around}
 use Rattle.press_sink.specs.Outputs.{MadeOutput}
 use Rattle.press_ticket.specs.declared.fault.TicketError.TheVariants as ticket_fault
+use Rattle.press_devices.specs.Reading.{ReadFails, SomeFails}
 use Rattle.press_files.specs.NamedInputs.{NamedInput, named}
 use Rattle.press_main.specs.Program.{Writing}
 use Rattle.press_jobs.specs.declared.jobs.JobFileError.TheVariants as fault
@@ -17,7 +18,7 @@ returns-in_default g c = record {
 
 pub returns : goal.returns
 returns g c =
-    let input = named g.I.Input.ReadDevice.can_fail (g.I.NamedInputs.bytes c.args.inputs.now) (g.I.NamedInputs.missing c.args.inputs.now) in
+    let input = named (SomeFails g.I.Input.ReadDevice.failed g.I.Input.ReadDevice.reads) (g.I.NamedInputs.bytes c.args.inputs.now) (g.I.NamedInputs.missing c.args.inputs.now) in
     let had = g.R.ReadDevice.remaining c.args.reader.now in
     let left = g.R.ReadDevice.remaining c.job_file.new.ticket in
     let before : Option (List MadeOutput) = g.O.NamedOutputs.made c.args.outputs.now in
@@ -25,7 +26,7 @@ returns g c =
     let now : Bor (List ℕ) → List ℕ = λ name. name.now in
     let same : map (λ (name : Bor (List ℕ)). input name.now) c.deref.result.now ≡ map input (map now c.args.images.now) =
     map-twice now input c.deref.result.now ∙ ap (map input) (ap (map now) c.deref.ensures.value ∙ c.in-Ok.ensures) in
-    let fails = may_fail g.R.ReadDevice.can_fail g.I.Input.ReadDevice.can_fail false g.O.Output.WriteDevice.can_fail in
+    let fails = failures (ReadFails (g.R.ReadDevice.failed c.job_file.new.ticket) (g.R.ReadDevice.reads c.job_file.new.ticket)) ⊥ ⊥ (g.O.NamedOutputs.failed c.job_file.new.outputs ≡ true) in
     let said = g.E.Teller.said c.args.err.now in
     let says = g.E.Teller.said c.job_file.new.err in
     let P : List NamedInput → Type 0 = λ inputs.
