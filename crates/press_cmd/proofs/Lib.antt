@@ -14,7 +14,6 @@ pub mod StreamsOf
 pub mod worked
 pub mod ExitTest
 pub mod Appending
-pub mod StoredLemmas
-pub mod CommandLengths
 pub mod Sound
 pub mod ReadParam
+mod RecordLemmas

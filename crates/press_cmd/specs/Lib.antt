@@ -10,3 +10,8 @@ pub mod View
 pub mod Laws
 pub mod Streams
 pub mod Stored
+pub mod StoredLemmas
+pub mod CommandLengths
+pub mod Records
+pub mod RecordsOnce
+pub mod Lending

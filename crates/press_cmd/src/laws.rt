@@ -40,7 +40,7 @@ pub fn comes_from_a_stream(command: &Command)
     let _ = command;
 }
 
-/// The parts of every command have their ranges. So it can be stored, and lent again by [`crate::stored`].
+/// The parts of every command have their ranges. So it can be kept, and lent again ([`crate::Records`], [`crate::Body`]).
 pub fn every_command_is_sound(command: &Command)
     ensures { IsSound (token command.now) }
 {

@@ -12,7 +12,7 @@ use crate::marks::UEL;
 use crate::payload::{Broken, ControlByte, EscapeByte, Param, PjlLine, TextByte};
 
 /// The number of the command's variant.
-pub fn variant_number(command: &Command) -> u8
+pub(crate) fn variant_number(command: &Command) -> u8
     ensures { result ≡ variant_of (token command.now) }
 {
     match command {
@@ -65,10 +65,9 @@ fn broken_count(broken: &Broken) -> usize
     head + broken.bytes.len()
 }
 
-/// The command with this number of its variant and these bytes, which it lends. The bytes have to be those of such a
-/// command: of [`variant_number`] and [`crate::write_command`] they are, and the command is the one that was stored
+/// The command with this number of its variant and these bytes, which it lends: the bytes of a record
 /// ([`crate::laws::stored_reads_back`]).
-pub fn stored(variant: u8, bytes: &[u8]) -> Command<'_>
+pub(crate) fn stored(variant: u8, bytes: &[u8]) -> Command<'_>
     requires bytes { bytes_of (token_from variant bytes.now) ≡ bytes.now }
     requires sound { IsSound (token_from variant bytes.now) }
     ensures { token result ≡ token_from variant bytes.now }

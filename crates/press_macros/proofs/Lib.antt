@@ -1,3 +1,2 @@
--- The lemmas on the records of macros.
-mod RecordLemmas
+-- Worked rows of macros.
 pub mod worked

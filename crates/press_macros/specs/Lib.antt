@@ -1,6 +1,3 @@
--- The store of macros, and what a running body that lent a command is afterwards.
+-- The store of macros, and the definition that is open.
 pub mod Macros
 pub mod Coding
-pub mod Lending
-pub mod Records
-pub mod RecordsOnce

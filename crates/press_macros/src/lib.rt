@@ -3,11 +3,8 @@
 //! Source: PCL 5 Printer Language Technical Reference Manual, Macros.
 #![tactic(auto)]
 
-mod body;
 mod macro_store;
 mod open_definition;
-mod records;
 mod stored_macro;
 
-pub use body::Body;
 pub use macro_store::MacroStore;

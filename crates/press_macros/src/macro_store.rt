@@ -5,10 +5,9 @@ ghost use Rattle.press_cmd.specs.View.{token};
 ghost use Rattle.press_macros.specs.Macros.{no_macros, defining, definition_begun, recorded, definition_ended, abandoned, body_of, without};
 ghost use Rattle.press_macros.specs.Macros.{all_deleted, permanent_macros, macro_made};
 
-use crate::body::Body;
 use crate::open_definition::OpenDefinition;
 use crate::stored_macro::StoredMacro;
-use press_cmd::Command;
+use press_cmd::{Body, Command};
 use press_store::Store;
 use std::alloc::{AllocError, Global};
 use std::marker::Model;

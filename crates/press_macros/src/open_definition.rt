@@ -4,9 +4,8 @@ ghost use Rattle.std.specs.Prelude.{◌≡◌, [], IfOk, IfErr, OnOk, OnErr};
 ghost use Rattle.press_cmd.specs.View.{token};
 ghost use Rattle.press_macros.specs.Macros.{with_command};
 
-use crate::records::Records;
 use crate::stored_macro::StoredMacro;
-use press_cmd::Command;
+use press_cmd::{Command, Records};
 use std::alloc::{AllocError, Global};
 use std::marker::Model;
 

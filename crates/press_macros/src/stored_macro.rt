@@ -2,8 +2,7 @@
 
 ghost use Rattle.std.specs.Prelude.{◌≡◌, IfOk, IfErr};
 
-use crate::body::Body;
-use crate::records::Records;
+use press_cmd::{Body, Records};
 use press_store::Duplicate;
 use std::alloc::AllocError;
 use std::marker::Model;

@@ -1,6 +1,6 @@
 //! A macro that is recorded, and gives its commands again.
-use press_cmd::{Command, Param, TextByte};
-use press_macros::{Body, MacroStore};
+use press_cmd::{Body, Command, Param, TextByte};
+use press_macros::MacroStore;
 use std::process::Abort;
 use std::test::Fail;
 

@@ -2,7 +2,7 @@ use Rattle.std.proofs.Common.{◌≤◌, sym, subst}
 use Rattle.press_cmd.specs.Stored.{longest_command}
 use Rattle.press_cmd.specs.View.{token}
 use Rattle.press_cmd.proofs.Sound.{sound}
-use Rattle.press_cmd.proofs.CommandLengths.{sound-fits}
+use Rattle.press_cmd.specs.CommandLengths.{sound-fits}
 use Rattle.press_cmd.proofs.storing.bytes_count.Goals as goal
 
 pub returns-clause-bound : goal.returns-clause-bound

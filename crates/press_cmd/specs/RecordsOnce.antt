@@ -9,9 +9,9 @@ use Rattle.byteorder.specs.Endian.{big_bytes, big_number}
 use Rattle.byteorder.specs.Numbers.{big_number-reads_back}
 use Rattle.press_cmd.specs.Token.{Token, Escape, Grouped, Ungrouped, Control, Text, Broken, Uel, PjlLine, ForeignByte, bytes_of}
 use Rattle.press_cmd.specs.Stored.{token_from, byte_at_0, IsSound}
-use Rattle.press_cmd.proofs.StoredLemmas.{stored-read}
-use Rattle.press_cmd.proofs.CommandLengths.{sound-fits}
-use Rattle.press_macros.specs.Records.{record_of, encoded, AreRecords}
+use Rattle.press_cmd.specs.StoredLemmas.{stored-read}
+use Rattle.press_cmd.specs.CommandLengths.{sound-fits}
+use Rattle.press_cmd.specs.Records.{record_of, encoded, AreRecords}
 
 -- the count in front of a command is how many bytes it has
 pub count-read : (command : Token) (following : List ℕ) → IsSound command

@@ -1,6 +1,6 @@
 use Rattle.std.proofs.Common.{◌∙◌, rules}
-use Rattle.press_macros.specs.RecordsOnce.{the-commands}
-use Rattle.press_macros.proofs.records.Records.copy.Goals as goal
+use Rattle.press_cmd.specs.RecordsOnce.{the-commands}
+use Rattle.press_cmd.proofs.records.Records.copy.Goals as goal
 
 pub returns : goal.returns
 returns c =

@@ -1,23 +1,24 @@
-//! Recorded commands as bytes: records one after another, each the number of the command's variant, how many bytes the
+//! Commands that are kept as bytes: records one after another, each the number of the command's variant, how many bytes the
 //! command has, in four bytes, the highest first, and these bytes (PCL 5 Printer Language Technical Reference Manual,
 //! Macros; the records are this profile's).
 
 ghost use Rattle.std.specs.Prelude.{◌≡◌, ◌++◌, [], length, take, option_map, slice_get, OnOk, OnErr};
 ghost use Rattle.press_cmd.specs.View.{token};
-ghost use Rattle.press_macros.specs.Records.{header_of, record_of, encoded, AreRecords};
-ghost use Rattle.press_macros.specs.RecordsOnce.{AreRecords-prop};
+ghost use Rattle.press_cmd.specs.Records.{header_of, record_of, encoded, AreRecords};
+ghost use Rattle.press_cmd.specs.RecordsOnce.{AreRecords-prop};
 
+use crate::command::{Command, write_command};
+use crate::storing::{bytes_count, stored, variant_number};
 use byteorder::{BigEndian, ByteOrder};
-use press_cmd::{Command, bytes_count, stored, variant_number, write_command};
 use std::alloc::{AllocError, Global};
 use std::marker::Model;
 
 /// How many bytes stand in front of a command's bytes.
 const HEADER: usize = 5;
 
-/// Recorded commands, in their order. Contracts see the commands.
+/// Commands that are kept, in their order. Contracts see the commands.
 #[derive(Drop)]
-pub(crate) struct Records {
+pub struct Records {
     bytes: Vec<u8>,
     /// The commands of the records.
     ghost records: { AreRecords bytes.items } by { AreRecords-prop _ },
@@ -52,7 +53,7 @@ impl Records {
     }
 
     /// The records from this place on.
-    pub fn from(&self, place: usize) -> &[u8]
+    pub(crate) fn from(&self, place: usize) -> &[u8]
         requires { place ≤ length (encoded self.now) }
         ensures from { result.now ≡ drop place (encoded self.now) }
         ensures few { length (encoded self.now) < 2 ^ 63 }
@@ -61,13 +62,17 @@ impl Records {
     }
 
     /// Each command is sound.
-    pub fn are_sound(&self)
+    pub(crate) fn are_sound(&self)
         ensures { AllByRecursion IsSound self.now }
     {
         let _ = &self.bytes;
     }
 
-    /// Records a command behind the others.
+    /// Keeps a command behind the others.
+    ///
+    /// # Errors
+    ///
+    /// Where memory ran out. Then nothing changed.
     pub fn push(&mut self, command: &Command) -> Result<(), AllocError>
         ensures pushed { OnOk result (self.new ≡ self.old ++ token command.now ∷ []) }
         ensures unchanged { OnErr result (self.new ≡ self.old) }
@@ -75,7 +80,11 @@ impl Records {
         append_record(command, &mut self.bytes)
     }
 
-    /// The same commands.
+    /// The same commands, in memory of their own.
+    ///
+    /// # Errors
+    ///
+    /// Where memory ran out.
     pub fn copy(&self) -> Result<Self, AllocError>
         ensures { IfOk result (λ records. records ≡ self.now) }
     {

@@ -1,11 +1,11 @@
 //! The body of a macro that runs (PCL 5 Printer Language Technical Reference Manual, Macros).
 
 ghost use Rattle.std.specs.Prelude.{◌≤◌, length, drop};
-ghost use Rattle.press_macros.specs.Records.{encoded, AreRecords};
-ghost use Rattle.press_macros.specs.RecordsOnce.{AreRecords-prop};
+ghost use Rattle.press_cmd.specs.Records.{encoded, AreRecords};
+ghost use Rattle.press_cmd.specs.RecordsOnce.{AreRecords-prop};
 
+use crate::command::Command;
 use crate::records::{Records, first_command, first_count};
-use press_cmd::Command;
 use std::alloc::AllocError;
 use std::marker::Model;
 use std::rc::Rc;
@@ -37,10 +37,10 @@ impl Body {
     ghost use Rattle.std.specs.Prelude.{◌≡◌, ◌↔◌, [], IsTrue, IfOk, option_map, slice_get};
     ghost use Rattle.std.specs.Borrow.{sem};
     ghost use Rattle.press_cmd.specs.View.{token};
-    ghost use Rattle.press_macros.specs.Lending.{KeepsBehindFirst};
+    ghost use Rattle.press_cmd.specs.Lending.{KeepsBehindFirst};
 
     /// The body of these commands, from the first on.
-    pub(crate) fn of(commands: Rc<Records>) -> Self
+    pub fn of(commands: Rc<Records>) -> Self
         ensures { result ≡ commands.value }
     {
         commands.are_sound();

@@ -1,8 +1,8 @@
 use Rattle.std.proofs.Common.{◌+◌, ◌∙◌, length, refl, ap, arith}
 use Rattle.std.proofs.lemmas.Slice.{between_to_end}
 use Rattle.byteorder.specs.Endian.{big_number}
-use Rattle.press_macros.proofs.RecordLemmas.{first-record}
-use Rattle.press_macros.proofs.records.first_count.Goals as goal
+use Rattle.press_cmd.proofs.RecordLemmas.{first-record}
+use Rattle.press_cmd.proofs.records.first_count.Goals as goal
 
 pub read_u32-requires : goal.read_u32-requires
 read_u32-requires c =

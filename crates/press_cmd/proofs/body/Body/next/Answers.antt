@@ -1,8 +1,8 @@
 use Rattle.std.proofs.Common.{◌∙◌, sym, length, slice_get, drop, ap, refl, arith, rules}
-use Rattle.press_macros.specs.Records.{encoded}
-use Rattle.press_macros.specs.RecordsOnce.{the-commands}
-use Rattle.press_macros.proofs.RecordLemmas.{behind-first}
-use Rattle.press_macros.proofs.body.Body.next.Goals as goal
+use Rattle.press_cmd.specs.Records.{encoded}
+use Rattle.press_cmd.specs.RecordsOnce.{the-commands}
+use Rattle.press_cmd.proofs.RecordLemmas.{behind-first}
+use Rattle.press_cmd.proofs.body.Body.next.Goals as goal
 
 pub overflow_add-self : goal.overflow_add-self
 overflow_add-self c =

@@ -1,7 +1,7 @@
 use Rattle.std.proofs.Common.{◌∙◌, ap, drop, rules}
-use Rattle.press_macros.specs.Records.{encoded}
-use Rattle.press_macros.specs.RecordsOnce.{the-commands}
-use Rattle.press_macros.proofs.body.Body.copy.Goals as goal
+use Rattle.press_cmd.specs.Records.{encoded}
+use Rattle.press_cmd.specs.RecordsOnce.{the-commands}
+use Rattle.press_cmd.proofs.body.Body.copy.Goals as goal
 
 pub returns : goal.returns
 returns c =

@@ -2,8 +2,8 @@
 use Rattle.std.specs.Prelude.{◌≡◌, drop}
 use Rattle.std.specs.Borrow.{Fml, MutBor}
 use Rattle.std.specs.Io.BufRead.{Rests}
-use Rattle.press_macros.specs.declared.body.Body.{Body}
-use Rattle.press_macros.specs.contracts.body.Body.{the_row}
+use Rattle.press_cmd.specs.declared.body.Body.{Body}
+use Rattle.press_cmd.specs.contracts.body.Body.{the_row}
 
 -- The body ends as the commands behind the first; as nothing where nothing was left.
 abbrev pub KeepsBehindFirst : MutBor Body → Fml

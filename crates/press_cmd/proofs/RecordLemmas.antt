@@ -8,9 +8,9 @@ use Rattle.std.proofs.Math.Seq.{take-append_seam, drop-append_seam}
 use Rattle.byteorder.specs.Endian.{big_number}
 use Rattle.press_cmd.specs.Token.{Token, bytes_of}
 use Rattle.press_cmd.specs.Stored.{variant_of, token_from, IsSound}
-use Rattle.press_cmd.proofs.StoredLemmas.{stored-read}
-use Rattle.press_macros.specs.Records.{record_of, encoded, AreRecords}
-use Rattle.press_macros.specs.RecordsOnce.{count-read}
+use Rattle.press_cmd.specs.StoredLemmas.{stored-read}
+use Rattle.press_cmd.specs.Records.{record_of, encoded, AreRecords}
+use Rattle.press_cmd.specs.RecordsOnce.{count-read}
 
 -- the command that the first record stands for
 abbrev pub first_of : (bytes : List ℕ) (count : ℕ) → Token

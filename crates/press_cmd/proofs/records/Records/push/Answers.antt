@@ -1,9 +1,9 @@
 use Rattle.std.proofs.Common.{◌∙◌, ◌++◌, ◌∷◌, [], ap, rules}
 use Rattle.press_cmd.specs.View.{token}
 use Rattle.press_cmd.proofs.Sound.{sound}
-use Rattle.press_macros.specs.RecordsOnce.{the-commands}
-use Rattle.press_macros.proofs.RecordLemmas.{spelled-more, sound-more, pushed-records, OnOk-map, OnErr-map}
-use Rattle.press_macros.proofs.records.Records.push.Goals as goal
+use Rattle.press_cmd.specs.RecordsOnce.{the-commands}
+use Rattle.press_cmd.proofs.RecordLemmas.{spelled-more, sound-more, pushed-records, OnOk-map, OnErr-map}
+use Rattle.press_cmd.proofs.records.Records.push.Goals as goal
 
 pub invariant_of-self-inside : goal.invariant_of-self-inside
 invariant_of-self-inside c = (

@@ -1,7 +1,7 @@
 use Rattle.std.proofs.Common.{◌≡◌, ◌↔◌, ◌==◌, ◌∙◌, [], IsTrue, length, drop, sym, ap, subst}
-use Rattle.press_macros.specs.Records.{encoded}
-use Rattle.press_macros.proofs.RecordLemmas.{used-up}
-use Rattle.press_macros.proofs.body.Body.is_used_up.Goals as goal
+use Rattle.press_cmd.specs.Records.{encoded}
+use Rattle.press_cmd.proofs.RecordLemmas.{used-up}
+use Rattle.press_cmd.proofs.body.Body.is_used_up.Goals as goal
 
 pub returns : goal.returns
 returns c =

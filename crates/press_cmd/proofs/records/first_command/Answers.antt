@@ -1,6 +1,6 @@
 use Rattle.std.proofs.Common.{◌==◌, ◌∙◌, Some, length, slice_get, sym, ap}
-use Rattle.press_macros.proofs.RecordLemmas.{first-record, used-up}
-use Rattle.press_macros.proofs.records.first_command.Goals as goal
+use Rattle.press_cmd.proofs.RecordLemmas.{first-record, used-up}
+use Rattle.press_cmd.proofs.records.first_command.Goals as goal
 
 pub returns-then-is_empty : goal.returns-then-is_empty
 returns-then-is_empty c records =
