@@ -4,9 +4,9 @@ use Rattle.std.proofs.lemmas.List.{append_assoc, append-nil, map-append}
 use Rattle.std.proofs.KnownBytes.{Appends-nil, Appends-trans}
 use Rattle.std.specs.Io.KnownBytes.{Appends}
 use Rattle.press_sink.specs.PrintedSheet.{PrintedSheet}
-use Rattle.press_sink.specs.SinkLog.{SinkLog}
+use Rattle.press_sink.specs.SinkLog.{SinkLog, SinkUse, HasFaultRoom, under}
 use Rattle.press_sink.specs.Sending.{Output, Deliver, Reply, Ending, Complete, AtSheet, AtReply, ForMemory, Refused, sheets_of}
-use Rattle.press_sink.specs.Sending.{sheets_in, under_tag, reply_bytes_of, GoesOut, sheet_faults_after, reply_faults_after, WentOut}
+use Rattle.press_sink.specs.Sending.{sheets_in, under_tag, reply_bytes_of, GoesOut, sheet_faults_after, reply_faults_after, WentOut, Took, HandsOut}
 
 -- the sheets of outputs, and of others behind them
 pub sheets_of-append : (outputs others : List Output) → sheets_of (outputs ++ others) ≡ sheets_of outputs ++ sheets_of others
@@ -47,37 +47,41 @@ pub told-nothing : {X : Type 0} (told : Option (List X)) → told ≡ option_map
 told-nothing None = refl
 told-nothing (Some all) = ap Some (sym (append-nil all))
 
-pub WentOut-none : (tag : ℕ) (told : SinkLog) → WentOut tag [] Complete told told
-WentOut-none tag told = record {
-  went = [];
-  goes = refl;
+-- the sinks took nothing, and had no fault
+pub Took-none : (tag : ℕ) (ending : Ending) (told : SinkLog) → told.sheets.faults ≡ sheet_faults_after ending told.sheets.faults
+    → told.replies.faults ≡ reply_faults_after ending told.replies.faults → Took tag [] ending told told
+Took-none tag ending told sheets replies = record {
   delivered = told-nothing told.sheets.delivered;
   replied = Appends-nil told.replies.replied;
-  sheet_faults = refl;
-  reply_faults = refl;
+  sheet_faults = sheets;
+  reply_faults = replies;
 }
+
+pub Took-went : (tag : ℕ) (outputs went : List Output) (ending : Ending) (before after : SinkLog) → GoesOut ending went outputs
+    → Took tag went ending before after → WentOut tag outputs ending before after
+Took-went tag outputs went ending before after goes took = record {
+  went = went;
+  goes = goes;
+  delivered = took.delivered;
+  replied = took.replied;
+  sheet_faults = took.sheet_faults;
+  reply_faults = took.reply_faults;
+}
+
+pub WentOut-none : (tag : ℕ) (told : SinkLog) → WentOut tag [] Complete told told
+WentOut-none tag told = Took-went tag [] [] Complete told told refl (Took-none tag Complete told refl refl)
 
 -- memory ran out before the first of the outputs
 pub WentOut-no_memory : (tag : ℕ) (outputs : List Output) (told : SinkLog) → WentOut tag outputs ForMemory told told
-WentOut-no_memory tag outputs told = record {
-  went = [];
-  goes = (outputs, refl);
-  delivered = told-nothing told.sheets.delivered;
-  replied = Appends-nil told.replies.replied;
-  sheet_faults = refl;
-  reply_faults = refl;
-}
+WentOut-no_memory tag outputs told = Took-went tag outputs [] ForMemory told told (outputs, refl) (Took-none tag ForMemory told refl refl)
 
 module _ (tag : ℕ) (outputs : List Output) (before after : SinkLog) (all : WentOut tag outputs Complete before after) where
-  -- the sheets of outputs all of which went out, and their replies
+  -- the sheets of outputs all of which went out
   pub all-delivered : after.sheets.delivered ≡ option_map (λ told. told ++ under_tag tag (sheets_of outputs)) before.sheets.delivered
   all-delivered = all.delivered ∙ ap (λ (went : List Output). option_map (λ told. told ++ under_tag tag (sheets_of went)) before.sheets.delivered) all.goes
 
-  pub all-replied : Appends before.replies.replied after.replies.replied (reply_bytes_of outputs)
-  all-replied = subst (λ (went : List Output). Appends before.replies.replied after.replies.replied (reply_bytes_of went)) all.goes all.replied
-
 -- what goes out behind other outputs
-goes-then : (ending : Ending) (outputs went others : List Output) → GoesOut ending went others → GoesOut ending (outputs ++ went) (outputs ++ others)
+pub goes-then : (ending : Ending) (outputs went others : List Output) → GoesOut ending went others → GoesOut ending (outputs ++ went) (outputs ++ others)
 goes-then Complete outputs went others is = ap (λ more. outputs ++ more) is
 goes-then AtSheet outputs went others (sheet, more, is) = (sheet, more, ap (λ all. outputs ++ all) is ∙ sym (append_assoc outputs went (Deliver sheet ∷ more)))
 goes-then AtReply outputs went others (whole, more, prefix, back, is, goes) = (
@@ -91,28 +95,62 @@ goes-then AtReply outputs went others (whole, more, prefix, back, is, goes) = (
 goes-then ForMemory outputs went others (more, is) = (more, ap (λ all. outputs ++ all) is ∙ sym (append_assoc outputs went more))
 goes-then Refused outputs went others none = none
 
--- all of the outputs went out, and then others so far
-pub WentOut-then : (tag : ℕ) (outputs others : List Output) (ending : Ending) (before between after : SinkLog)
-    → WentOut tag outputs Complete before between → WentOut tag others ending between after
-    → WentOut tag (outputs ++ others) ending before after
-WentOut-then tag outputs others ending before between after first then = record {
-  went = outputs ++ then.went;
-  goes = goes-then ending outputs then.went others then.goes;
+-- the sinks took outputs, and then others
+pub Took-then : (tag : ℕ) (outputs others : List Output) (ending : Ending) (before between after : SinkLog)
+    → Took tag outputs Complete before between → Took tag others ending between after → Took tag (outputs ++ others) ending before after
+Took-then tag outputs others ending before between after first then = record {
   delivered =
       then.delivered
-      ∙ ap (λ told. option_map (λ all. all ++ under_tag tag (sheets_of then.went)) told) (all-delivered tag outputs before between first)
-      ∙ told-twice before.sheets.delivered (under_tag tag (sheets_of outputs)) (under_tag tag (sheets_of then.went))
-      ∙ ap (λ more. option_map (λ all. all ++ more) before.sheets.delivered) (sym (tagged-append tag outputs then.went));
+      ∙ ap (λ told. option_map (λ all. all ++ under_tag tag (sheets_of others)) told) first.delivered
+      ∙ told-twice before.sheets.delivered (under_tag tag (sheets_of outputs)) (under_tag tag (sheets_of others))
+      ∙ ap (λ more. option_map (λ all. all ++ more) before.sheets.delivered) (sym (tagged-append tag outputs others));
   replied =
-      subst (Appends before.replies.replied after.replies.replied) (sym (reply_bytes_of-append outputs then.went))
+      subst (Appends before.replies.replied after.replies.replied) (sym (reply_bytes_of-append outputs others))
       (Appends-trans before.replies.replied between.replies.replied after.replies.replied (reply_bytes_of outputs)
-      (reply_bytes_of then.went) (all-replied tag outputs before between first) then.replied);
+      (reply_bytes_of others) first.replied then.replied);
   sheet_faults = then.sheet_faults ∙ ap (sheet_faults_after ending) first.sheet_faults;
   reply_faults = then.reply_faults ∙ ap (reply_faults_after ending) first.reply_faults;
 }
 
+-- what went out of outputs is what the sinks took
+pub WentOut-took : (tag : ℕ) (outputs : List Output) (ending : Ending) (before after : SinkLog) → (sent : WentOut tag outputs ending before after)
+    → Took tag sent.went ending before after
+WentOut-took tag outputs ending before after sent =
+    record { delivered = sent.delivered; replied = sent.replied; sheet_faults = sent.sheet_faults; reply_faults = sent.reply_faults }
+
+-- all of the outputs went out, and then others so far
+pub WentOut-then : (tag : ℕ) (outputs others : List Output) (ending : Ending) (before between after : SinkLog)
+    → WentOut tag outputs Complete before between → WentOut tag others ending between after
+    → WentOut tag (outputs ++ others) ending before after
+WentOut-then tag outputs others ending before between after first then =
+    let all : Took tag outputs Complete before between =
+    subst (λ (went : List Output). Took tag went Complete before between) first.goes (WentOut-took tag outputs Complete before between first) in
+    Took-went tag (outputs ++ others) (outputs ++ then.went) ending before after (goes-then ending outputs then.went others then.goes)
+    (Took-then tag outputs then.went ending before between after all (WentOut-took tag others ending between after then))
+
+-- sinks that can count a fault can after a call that had none
+pub Took-has_fault_room : (tag : ℕ) (went : List Output) (before after : SinkLog) → Took tag went Complete before after → HasFaultRoom before → HasFaultRoom after
+Took-has_fault_room tag went before after took can =
+    record { sheets = rw took.sheet_faults can.sheets; replies = rw took.reply_faults can.replies }
+
+-- a call all of whose outputs went out, and then another
+pub HandsOut-then : (tag : ℕ) (ending : Ending) (first second both : List Output → Type 0) (before between after : SinkLog)
+    → ((went others : List Output) → first went → second others → both (went ++ others))
+    → HandsOut Complete first (under tag before between) → HandsOut ending second (under tag between after)
+    → HandsOut ending both (under tag before after)
+HandsOut-then tag ending first second both before between after joins one other = record {
+  went = one.went ++ other.went;
+  is = joins one.went other.went one.is other.is;
+  took = Took-then tag one.went other.went ending before between after one.took other.took;
+}
+
+-- the same outputs, of which something else is true
+pub HandsOut-as : (ending : Ending) (one other : List Output → Type 0) (sinks : SinkUse) → ((went : List Output) → one went → other went)
+    → HandsOut ending one sinks → HandsOut ending other sinks
+HandsOut-as ending one other sinks means hands = record { went = hands.went; is = means hands.went hands.is; took = hands.took }
+
 -- what goes out of outputs that do not all go out, whatever comes behind them
-goes-stopped : (ending : Ending) (went outputs others : List Output) → (ending ≡ Complete → ⊥) → GoesOut ending went outputs → GoesOut ending went (outputs ++ others)
+pub goes-stopped : (ending : Ending) (went outputs others : List Output) → (ending ≡ Complete → ⊥) → GoesOut ending went outputs → GoesOut ending went (outputs ++ others)
 goes-stopped Complete went outputs others stops goes = absurd (stops refl)
 goes-stopped AtSheet went outputs others stops (sheet, more, is) =
     (sheet, more ++ others, ap (λ all. all ++ others) is ∙ append_assoc went (Deliver sheet ∷ more) others)

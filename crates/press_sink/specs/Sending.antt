@@ -3,7 +3,7 @@ use Rattle.std.specs.Prelude.{◌≡◌, ◌+◌, ◌++◌, ℕ, List, [], ◌�
 use Rattle.std.specs.Io.KnownBytes.{Appends}
 use Rattle.press_sink.specs.PrintedSheet.{PrintedSheet}
 use Rattle.press_sink.specs.declared.sheet.Delivery.{Delivery}
-use Rattle.press_sink.specs.SinkLog.{SinkLog}
+use Rattle.press_sink.specs.SinkLog.{SinkLog, SinkUse}
 
 -- An output: a sheet to deliver, or the bytes of a reply.
 pub data Output : Type 0 where
@@ -67,3 +67,16 @@ pub record WentOut (tag : ℕ) (outputs : List Output) (ending : Ending) (before
   pub replied : Appends before.replies.replied after.replies.replied (reply_bytes_of went)
   pub sheet_faults : after.sheets.faults ≡ sheet_faults_after ending before.sheets.faults
   pub reply_faults : after.replies.faults ≡ reply_faults_after ending before.replies.faults
+
+-- The sinks took these outputs, all of them and in order, under a tag; and they count the fault of the ending.
+pub record Took (tag : ℕ) (went : List Output) (ending : Ending) (before after : SinkLog) : Type 0 where
+  pub delivered : after.sheets.delivered ≡ option_map (λ all. all ++ under_tag tag (sheets_of went)) before.sheets.delivered
+  pub replied : Appends before.replies.replied after.replies.replied (reply_bytes_of went)
+  pub sheet_faults : after.sheets.faults ≡ sheet_faults_after ending before.sheets.faults
+  pub reply_faults : after.replies.faults ≡ reply_faults_after ending before.replies.faults
+
+-- Some outputs went out of a call, of which this is true: the sinks took them, and nothing else.
+pub record HandsOut (ending : Ending) (Is : (went : List Output) → Type 0) (sinks : SinkUse) : Type 0 where
+  pub went : List Output
+  pub is : Is went
+  pub took : Took sinks.tag went ending sinks.before sinks.after
