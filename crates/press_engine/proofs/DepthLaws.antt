@@ -1,89 +1,28 @@
 -- How many bodies run at a time.
-use Rattle.std.proofs.Common.{◌≡◌, ◌≤◌, ◌+◌, ◌∙◌, ℕ, zero, suc, List, [], ◌∷◌, Option, Some, None, arith, refl, sym, ap, subst}
+use Rattle.std.proofs.Common.{◌≡◌, ◌≤◌, ◌+◌, ◌∙◌, ℕ, List, [], ◌∷◌, false, arith, refl, sym, ap, subst}
 use Rattle.std.proofs.Math.Nat.{min-le_left}
 use Rattle.std.proofs.lemmas.List.Elements.{All-nil, All-cons, All-append, All-head, All-tail}
 use Rattle.std.specs.List.{All}
 use Rattle.press_cmd.specs.Token.{Token}
-use Rattle.press_engine.specs.declared.effect.EjectCause.{EjectCause}
-use Rattle.press_engine.specs.declared.effect.Source.TheVariants as sources
+use Rattle.press_engine.specs.declared.activation.Activation.{Activation}
 use Rattle.press_engine.specs.declared.machine.Machine.{Machine}
-use Rattle.press_engine.specs.Calls.{overlay_body}
-use Rattle.press_engine.specs.Outcome.{Effect, Changes, MayAllocate, GivesReply, Stays, Closes, Starts}
-use Rattle.press_engine.specs.Machine.{StepResult, silent, then_run, with_state, taken, deeper, enter_body, leave_body}
-use Rattle.press_engine.specs.Machine.{overlay_levels, enter_overlay, leave_overlay, finish_without_overlay, macro_levels, source_at}
-use Rattle.press_engine.specs.Table.{effect_on}
-use Rattle.press_engine.specs.Trace.{last_machine, with_end, trace_each, body_items, trace_effect_in_overlay, trace_in_overlay, close_items_with, trace_finished, trace_carry_out, trace_at}
+use Rattle.press_engine.specs.Begun.{Begun, end_of, begun_only}
 use Rattle.press_engine.specs.Laws.{BodiesAreBounded}
+use Rattle.press_engine.specs.Machine.{StepResult, then_run, deeper, macro_levels}
+use Rattle.press_engine.specs.Stack.{items_in, room_where}
+use Rattle.press_engine.specs.Trace.{last_machine, with_end, trace_each, trace_at}
+use Rattle.press_engine.proofs.BegunLemmas.{IsAlone, end-depth}
+use Rattle.press_engine.proofs.CommandItems.{Taking, taking, now, effect_at, StartsIn, command-all}
 use Rattle.press_engine.proofs.TraceLaws.{last_machine-append, with_end-machine}
 
 -- so many bodies or fewer
 abbrev Within : ℕ → StepResult → Type 0
 Within bound item = item.machine.depth ≤ bound
 
--- As many bodies run after the items of a command as before.
-abbrev Keeps : Machine → (before : Machine) → List StepResult → Type 0
-Keeps machine before items = (last_machine before items).depth ≡ machine.depth
-
-body-keeps : (tracing : Token → Machine → List StepResult) (end : Machine → StepResult) (commands : List Token)
-    (inside before machine : Machine)
-    → ((at : Machine) → (end at).machine.depth ≡ machine.depth) → Keeps machine before (body_items tracing end commands inside)
-body-keeps tracing end commands inside before machine ends =
-    let items = trace_each tracing commands inside in
-    ap (λ (at : Machine). at.depth) (with_end-machine end (silent inside) items before) ∙ ends (last_machine inside items)
-
-over-effect-keeps : (tracing : Token → Machine → List StepResult) (before machine : Machine) (effect : Effect) → Keeps machine before (trace_effect_in_overlay tracing machine effect)
-over-effect-keeps tracing before machine (Changes state) = refl
-over-effect-keeps tracing before machine (MayAllocate state) = refl
-over-effect-keeps tracing before machine (GivesReply reply state) = refl
-over-effect-keeps tracing before machine (Stays cause state) = refl
-over-effect-keeps tracing before machine (Closes cause state) = refl
-over-effect-keeps tracing before machine (Starts commands end state) =
-    body-keeps tracing (λ after. silent (leave_body end machine.depth after)) commands (enter_body end state machine) before machine (λ at. refl)
-
-over-keeps : (macro_levels : ℕ) (command : Token) (machine : Machine) → Keeps machine machine (trace_in_overlay macro_levels command machine)
-unfolding trace_in_overlay
-over-keeps zero command machine = refl
-over-keeps (suc macro_levels) command machine =
-    over-effect-keeps (trace_in_overlay macro_levels) machine (taken command machine) (effect_on sources.Overlay command machine.state)
-
-close_items-keeps : (body : Option (List Token)) (cause : EjectCause) (before machine : Machine) → Keeps machine before (close_items_with body cause machine)
-close_items-keeps None cause before machine = refl
-close_items-keeps (Some commands) cause before machine =
-    body-keeps (trace_in_overlay overlay_levels) (λ after. finish_without_overlay (leave_overlay machine after) (Closes cause (leave_overlay machine after).state))
-    commands (enter_overlay machine) before machine (λ at. refl)
-
-finished-keeps : (before machine : Machine) (effect : Effect) → Keeps machine before (trace_finished machine effect)
-finished-keeps before machine (Changes state) = refl
-finished-keeps before machine (MayAllocate state) = refl
-finished-keeps before machine (GivesReply reply state) = refl
-finished-keeps before machine (Stays cause state) = refl
-finished-keeps before machine (Closes cause state) = close_items-keeps (overlay_body state) cause before (with_state state machine)
-finished-keeps before machine (Starts commands end state) = refl
-
-carry_out-keeps : (tracing : Token → Machine → List StepResult) (before machine : Machine) (effect : Effect) → Keeps machine before (trace_carry_out tracing machine effect)
-carry_out-keeps tracing before machine (Changes state) = refl
-carry_out-keeps tracing before machine (MayAllocate state) = refl
-carry_out-keeps tracing before machine (GivesReply reply state) = refl
-carry_out-keeps tracing before machine (Stays cause state) = refl
-carry_out-keeps tracing before machine (Closes cause state) = finished-keeps before machine (Closes cause state)
-carry_out-keeps tracing before machine (Starts commands end state) =
-    body-keeps tracing (λ after. silent (leave_body end machine.depth after)) commands (enter_body end state machine) before machine (λ at. refl)
-
-at-keeps : (macro_levels : ℕ) (command : Token) (machine : Machine) → Keeps machine machine (trace_at macro_levels command machine)
-unfolding trace_at
-at-keeps zero command machine = finished-keeps machine (taken command machine) (effect_on (source_at 0) command machine.state)
-at-keeps (suc more) command machine =
-    carry_out-keeps (trace_at more) machine (taken command machine) (effect_on (source_at (suc more)) command machine.state)
-
-each-keeps : (tracing : Token → Machine → List StepResult)
-    → ((command : Token) (machine : Machine) → Keeps machine machine (tracing command machine))
-    → (commands : List Token) (machine : Machine) → Keeps machine machine (trace_each tracing commands machine)
-unfolding trace_each
-each-keeps tracing keeps [] machine = refl
-each-keeps tracing keeps (command ∷ commands) machine =
-    let middle = last_machine machine (tracing command machine) in
-    ap (λ (at : Machine). at.depth) (last_machine-append (tracing command machine) (trace_each tracing commands middle) machine)
-    ∙ each-keeps tracing keeps commands middle ∙ keeps command machine
+-- As many bodies run after the items as before; and in them no more than a bound, where that leaves room for those that may start.
+record Depths (bound room : ℕ) (machine : Machine) (items : List StepResult) : Type 0 where
+  pub keeps : (last_machine machine items).depth ≡ machine.depth
+  pub within : machine.depth + room ≤ bound → All (Within bound) items
 
 -- an end after which so many bodies run, in the last item
 with_end-within : (bound : ℕ) (end : Machine → StepResult) → ((machine : Machine) → Within bound (end machine))
@@ -95,90 +34,54 @@ with_end-within bound end ends item (next ∷ items) here all =
     All-cons (Within bound) item (with_end end next items) here
     (with_end-within bound end ends next items (All-head (Within bound) next items all) (All-tail (Within bound) next items all))
 
--- The items of commands that each keep the number of bodies.
-module _ (bound depth : ℕ) (tracing : Token → Machine → List StepResult)
-    (keeps : (command : Token) (machine : Machine) → (last_machine machine (tracing command machine)).depth ≡ machine.depth)
-    (within : (command : Token) (machine : Machine) → machine.depth ≤ depth → All (Within bound) (tracing command machine)) where
-  each-within : (commands : List Token) (machine : Machine) → machine.depth ≤ depth → All (Within bound) (trace_each tracing commands machine)
-  unfolding trace_each
-  each-within [] machine small = All-nil (Within bound)
-  each-within (command ∷ commands) machine small =
-      let middle = last_machine machine (tracing command machine) in
-      All-append (Within bound) (tracing command machine) (trace_each tracing commands middle) (within command machine small)
-      (each-within commands middle (subst (λ n. n ≤ depth) (sym (keeps command machine)) small))
+each-depths : (bound room : ℕ) (one : Token → Machine → List StepResult)
+    → ((command : Token) (machine : Machine) → Depths bound room machine (one command machine))
+    → (commands : List Token) (machine : Machine) → Depths bound room machine (trace_each one commands machine)
+unfolding trace_each
+each-depths bound room one all [] machine = record { keeps = refl; within = λ small. All-nil (Within bound) }
+each-depths bound room one all (command ∷ commands) machine =
+    let middle = last_machine machine (one command machine) in
+    let first = all command machine in
+    let others = each-depths bound room one all commands middle in
+    record {
+      keeps = ap (λ (at : Machine). at.depth) (last_machine-append (one command machine) (trace_each one commands middle) machine) ∙ others.keeps ∙ first.keeps;
+      within = λ small.
+          All-append (Within bound) (one command machine) (trace_each one commands middle) (first.within small)
+          (others.within (subst (λ depth. depth + room ≤ bound) (sym first.keeps) small));
+    }
 
-  body-within : (end : Machine → StepResult) → ((machine : Machine) → Within bound (end machine))
-      → (commands : List Token) (inside : Machine) → inside.depth ≤ depth → depth ≤ bound
-      → All (Within bound) (body_items tracing end commands inside)
-  body-within end ends commands inside small under =
-      with_end-within bound end ends (silent inside) (trace_each tracing commands inside) (omega (arith, small, under)) (each-within commands inside small)
+-- of an item alone, and of a body
+abbrev DepthsAt : (bound : ℕ) → Taking → Begun → List StepResult → Type 0
+DepthsAt bound at begin items = Depths bound (room_where at.in_overlay at.levels) at.machine items
 
-one-within : (bound : ℕ) (item : StepResult) → Within bound item → All (Within bound) (item ∷ [])
-one-within bound item here = All-cons (Within bound) item [] here (All-nil (Within bound))
+alone-depths : (bound : ℕ) (at : Taking) (item : StepResult) → IsAlone (now at) (effect_at at) item → DepthsAt bound at (begun_only item) (item ∷ [])
+alone-depths bound at item is = record {
+  keeps = is.depth;
+  within = λ small. All-cons (Within bound) item [] (let same = is.depth in omega (arith, small, same)) (All-nil (Within bound));
+}
 
-deeper-small : (depth : ℕ) → deeper depth ≤ depth + 1
-deeper-small depth = min-le_left (depth + 1) 255
-
--- The items of a command of an overlay.
-over-effect-within : (bound macro_levels : ℕ) (machine : Machine) (effect : Effect)
-    → ((command : Token) (at : Machine) → at.depth ≤ machine.depth + 1 → All (Within bound) (trace_in_overlay macro_levels command at))
-    → machine.depth + 1 ≤ bound → All (Within bound) (trace_effect_in_overlay (trace_in_overlay macro_levels) machine effect)
-over-effect-within bound macro_levels machine (Changes state) within small = one-within bound _ (omega (arith, small))
-over-effect-within bound macro_levels machine (MayAllocate state) within small = one-within bound _ (omega (arith, small))
-over-effect-within bound macro_levels machine (GivesReply reply state) within small = one-within bound _ (omega (arith, small))
-over-effect-within bound macro_levels machine (Stays cause state) within small = one-within bound _ (omega (arith, small))
-over-effect-within bound macro_levels machine (Closes cause state) within small = one-within bound _ (omega (arith, small))
-over-effect-within bound macro_levels machine (Starts commands end state) within small =
-    body-within bound (machine.depth + 1) (trace_in_overlay macro_levels) (over-keeps macro_levels) within
-    (λ after. silent (leave_body end machine.depth after)) (λ after. omega (arith, small)) commands (enter_body end state machine) (deeper-small machine.depth) small
-
-over-within : (bound macro_levels : ℕ) (command : Token) (machine : Machine) → machine.depth + macro_levels ≤ bound → All (Within bound) (trace_in_overlay macro_levels command machine)
-unfolding trace_in_overlay
-over-within bound zero command machine small =
-    one-within bound _ (omega (arith, small))
-over-within bound (suc macro_levels) command machine small =
-    over-effect-within bound macro_levels (taken command machine) (effect_on sources.Overlay command machine.state)
-    (λ command at near. over-within bound macro_levels command at (omega (arith, small, near))) (omega (arith, small))
-
--- The items of a page close, with the overlay's, and of effects outside an overlay.
-close_items-within : (bound : ℕ) (body : Option (List Token)) (cause : EjectCause) (machine : Machine) → machine.depth + 2 ≤ bound → All (Within bound) (close_items_with body cause machine)
-close_items-within bound None cause machine small = one-within bound _ (omega (arith, small))
-close_items-within bound (Some commands) cause machine small =
-    body-within bound (machine.depth + 1) (trace_in_overlay overlay_levels) (over-keeps overlay_levels) (λ command at near. over-within bound overlay_levels command at (omega (arith, small, near)))
-    (λ after. finish_without_overlay (leave_overlay machine after) (Closes cause (leave_overlay machine after).state))
-    (λ after. omega (arith, small)) commands (enter_overlay machine) (deeper-small machine.depth) (omega (arith, small))
-
-finished-within : (bound : ℕ) (machine : Machine) (effect : Effect) → machine.depth + 2 ≤ bound → All (Within bound) (trace_finished machine effect)
-finished-within bound machine (Changes state) small = one-within bound _ (omega (arith, small))
-finished-within bound machine (MayAllocate state) small = one-within bound _ (omega (arith, small))
-finished-within bound machine (GivesReply reply state) small = one-within bound _ (omega (arith, small))
-finished-within bound machine (Stays cause state) small = one-within bound _ (omega (arith, small))
-finished-within bound machine (Closes cause state) small = close_items-within bound (overlay_body state) cause (with_state state machine) small
-finished-within bound machine (Starts commands end state) small = one-within bound _ (omega (arith, small))
-
-carry_out-within : (bound macro_levels : ℕ) (machine : Machine) (effect : Effect)
-    → ((command : Token) (at : Machine) → at.depth ≤ machine.depth + 1 → All (Within bound) (trace_at macro_levels command at))
-    → machine.depth + 2 ≤ bound → All (Within bound) (trace_carry_out (trace_at macro_levels) machine effect)
-carry_out-within bound macro_levels machine (Changes state) within small = finished-within bound machine (Changes state) small
-carry_out-within bound macro_levels machine (MayAllocate state) within small = finished-within bound machine (MayAllocate state) small
-carry_out-within bound macro_levels machine (GivesReply reply state) within small = finished-within bound machine (GivesReply reply state) small
-carry_out-within bound macro_levels machine (Stays cause state) within small = finished-within bound machine (Stays cause state) small
-carry_out-within bound macro_levels machine (Closes cause state) within small = finished-within bound machine (Closes cause state) small
-carry_out-within bound macro_levels machine (Starts commands end state) within small =
-    body-within bound (machine.depth + 1) (trace_at macro_levels) (at-keeps macro_levels) within
-    (λ after. silent (leave_body end machine.depth after)) (λ after. omega (arith, small)) commands (enter_body end state machine) (deeper-small machine.depth) (omega (arith, small))
-
-at-within : (bound macro_levels : ℕ) (command : Token) (machine : Machine) → machine.depth + macro_levels + 2 ≤ bound → All (Within bound) (trace_at macro_levels command machine)
-unfolding trace_at
-at-within bound zero command machine small =
-    finished-within bound (taken command machine) (effect_on (source_at 0) command machine.state) (omega (arith, small))
-at-within bound (suc more) command machine small =
-    carry_out-within bound more (taken command machine) (effect_on (source_at (suc more)) command machine.state)
-    (λ command at near. at-within bound more command at (omega (arith, small, near))) (omega (arith, small))
+body-depths : (bound : ℕ) (at : Taking) (item : StepResult) (activation : Activation) → StartsIn at item activation
+    → ((one : Token) (machine : Machine) → Depths bound (room_where activation.in_overlay activation.macro_levels) machine (items_in activation one machine))
+    → DepthsAt bound at (begun_only item) (with_end (end_of activation) item (trace_each (items_in activation) activation.body item.machine))
+body-depths bound at item activation starts inside =
+    let items = trace_each (items_in activation) activation.body item.machine in
+    let all = each-depths bound (room_where activation.in_overlay activation.macro_levels) (items_in activation) inside activation.body item.machine in
+    let depth = starts.depth in
+    let outside = starts.outside in
+    let less = starts.room in
+    let one : deeper at.machine.depth ≤ at.machine.depth + 1 = min-le_left (at.machine.depth + 1) 255 in
+    record {
+      keeps = ap (λ (machine : Machine). machine.depth) (with_end-machine (end_of activation) item items at.machine)
+          ∙ end-depth activation.end activation.depth (last_machine item.machine items) ∙ outside;
+      within = λ small.
+          with_end-within bound (end_of activation)
+          (λ machine. let ends = end-depth activation.end activation.depth machine in omega (arith, small, ends, outside)) item items
+          (omega (arith, small, depth, one, less)) (all.within (omega (arith, small, depth, one, less)));
+    }
 
 -- Two macros, and an overlay with one more.
 pub at-most-four : (commands : List Token) (machine : Machine) → machine.depth ≡ 0 → BodiesAreBounded commands machine
-at-most-four commands machine none = record {
-  depths = each-within 4 0 (trace_at macro_levels) (at-keeps macro_levels) (λ command at small. at-within 4 macro_levels command at (omega (arith, small))) commands machine (omega (arith, none));
-  none_left = each-keeps (trace_at macro_levels) (at-keeps macro_levels) commands machine ∙ none;
-}
+at-most-four commands machine none =
+    let all = each-depths 4 4 (trace_at macro_levels)
+    (λ command machine. command-all (DepthsAt 4) (alone-depths 4) (body-depths 4) (taking false macro_levels command machine)) commands machine in
+    record { depths = all.within (omega (arith, none)); none_left = all.keeps ∙ none }

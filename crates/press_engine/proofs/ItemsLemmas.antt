@@ -1,10 +1,12 @@
 -- Items that were taken one after another.
-use Rattle.std.proofs.Common.{◌≡◌, ◌≢◌, ◌∙◌, List, [], ◌∷◌, ◌++◌, inl, inr, refl, sym, ap, subst}
+use Rattle.std.proofs.Common.{◌≡◌, ◌≢◌, ◌∙◌, List, [], ◌∷◌, inl, inr, refl, sym, ap, subst}
 use Rattle.press_cmd.specs.Token.{Token}
 use Rattle.press_engine.specs.declared.activation.Activation.{Activation}
 use Rattle.press_engine.specs.declared.machine.Machine.{Machine}
 use Rattle.press_engine.specs.Machine.{StepResult, then_run}
-use Rattle.press_engine.specs.Stack.{continuation, begins, end_of, ended_by, unwind, Gives, step_inner, HasNext, IsReady}
+use Rattle.press_engine.specs.Begun.{end_of}
+use Rattle.press_engine.specs.Stack.{continuation, HasNext, IsReady}
+use Rattle.press_engine.specs.Stepping.{ended_by, unwind, Gives, step_inner}
 use Rattle.press_engine.proofs.StackLaws.{inner-continuation}
 
 ended-ready : (body : List Token) (activations : List Activation) (activation : Activation)
@@ -29,9 +31,3 @@ pub inner-gives : (activation : Activation) (command : Token) (rest : List Token
     → Gives (step_inner activation command rest outer machine) (continuation activations machine)
 inner-gives activation command rest outer activations machine is =
     ap (λ (these : List Activation). continuation these machine) is ∙ inner-continuation activation command rest outer machine
-
-pub step-ready : (activation : Activation) (command : Token) (rest : List Token) (outer still : List Activation) (machine : Machine)
-    → still ≡ (step_inner activation command rest outer machine).activations → IsReady still
-step-ready activation command rest outer still machine is =
-    let begin = begins activation.in_overlay activation.macro_levels command machine in
-    ready-of (begin.started ++ (record activation { body = rest } ∷ outer)) still begin.item is

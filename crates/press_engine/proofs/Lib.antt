@@ -1,9 +1,9 @@
 -- The lemmas on the engine: its steps, macros and items, and what goes out.
-pub mod ChangeLemmas
+pub mod BegunLemmas
+pub mod CommandItems
 pub mod DepthLaws
 pub mod EndsLemmas
 pub mod ItemsLemmas
-pub mod PlaceLemmas
 pub mod Runs
 pub mod SendsLemmas
 pub mod StackLaws
@@ -13,7 +13,7 @@ pub mod TraceLaws
 pub mod ValueLemmas
 pub mod WholeLemmas
 pub mod worked
+mod InnerLemmas
 mod NestingLemmas
-pub mod PageKeptLemmas
 pub mod StepLaws
 pub mod PassingLaws

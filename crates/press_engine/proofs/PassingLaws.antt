@@ -5,13 +5,15 @@ use Rattle.press_cmd.specs.Token.{Token}
 use Rattle.press_cmd.specs.Kinds.{kind_of}
 use Rattle.press_engine.specs.declared.machine.Last.TheVariants as lasts
 use Rattle.press_engine.specs.declared.machine.Machine.{Machine}
-use Rattle.press_engine.specs.declared.state.State.{State}
-use Rattle.press_engine.specs.Counts.{counted}
+use Rattle.press_table.specs.declared.state.State.{State}
+use Rattle.press_table.specs.Counts.{counted}
+use Rattle.press_engine.specs.Begun.{begun_outside}
 use Rattle.press_engine.specs.Machine.{StepResult, silent, taken, macro_levels}
-use Rattle.press_engine.specs.Outcome.{Effect, Changes, MayAllocate}
-use Rattle.press_engine.specs.Passing.{HasNoEffect, passed, PassingIsCounted}
-use Rattle.press_engine.specs.Table.{is_recorded}
-use Rattle.press_engine.specs.Trace.{last_machine, trace_each, trace_carry_out, trace_at, trace, told_by, run_all}
+use Rattle.press_table.specs.Outcome.{Effect, Changes, MayAllocate}
+use Rattle.press_table.specs.Passing.{HasNoEffect}
+use Rattle.press_engine.specs.Passing.{passed, PassingIsCounted}
+use Rattle.press_table.specs.Table.{is_recorded}
+use Rattle.press_engine.specs.Trace.{last_machine, trace_each, begun_items, inside_of, trace_at, trace, told_by, run_all}
 
 not_recorded : (recorded : Bool) (state : State) (other : State) (row : Effect) → (if recorded then MayAllocate other else row) ≡ Changes state → recorded ≡ false
 not_recorded true state other row is = absurd (cc)
@@ -25,7 +27,8 @@ taken-passed command machine none =
 one-passed : (command : Token) (machine : Machine) → HasNoEffect machine.state command → trace_at macro_levels command machine ≡ silent (passed 1 (kind_of command) machine) ∷ []
 unfolding trace_at
 one-passed command machine none =
-    ap (trace_carry_out (trace_at 1) (taken command machine)) none ∙ ap (λ (next : Machine). silent next ∷ []) (taken-passed command machine none)
+    ap (λ (effect : Effect). begun_items (inside_of (trace_at 1)) (begun_outside macro_levels (taken command machine) effect)) none
+    ∙ ap (λ (next : Machine). silent next ∷ []) (taken-passed command machine none)
 
 run-cons : (command : Token) (commands : List Token) (machine next : Machine) → trace_at macro_levels command machine ≡ silent next ∷ [] → run_all (command ∷ commands) machine ≡ run_all commands next
 unfolding trace_each

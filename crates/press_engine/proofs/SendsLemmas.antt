@@ -15,8 +15,8 @@ use Rattle.press_sink.proofs.SendingLemmas.{told-nothing, WentOut-none, WentOut-
 use Rattle.press_engine.specs.declared.fault.EngineError.{EngineError}
 use Rattle.press_engine.specs.declared.fault.EngineError.TheVariants as engine_errors
 use Rattle.press_engine.specs.Engine.{ending_of}
-use Rattle.press_engine.specs.Outputs.{copy_out, next_count, copies_out, outputs_of, all_outputs}
-use Rattle.press_engine.specs.declared.effect.Sent.{Sent}
+use Rattle.press_table.specs.Outputs.{copy_out, next_count, copies_out, outputs_of, all_outputs}
+use Rattle.press_table.specs.declared.effect.Sent.{Sent}
 
 -- outputs do not all go out where an error is answered
 pub stops : (error : EngineError) → ending_of {X = Unit {0}} (Err error) ≡ Complete → ⊥
@@ -163,7 +163,3 @@ WentOut-all tag zero [] told past = WentOut-none tag told
 WentOut-all tag (suc done) [] told past = WentOut-none tag told
 WentOut-all tag zero (one ∷ sent) told past = absurd (omega arith)
 WentOut-all tag (suc done) (one ∷ sent) told past = WentOut-all tag done sent told (omega arith)
-
-pub prefix-none : (outputs others : List Output) → outputs ++ others ≡ [] → outputs ≡ []
-prefix-none [] others none = refl
-prefix-none (output ∷ outputs) others none = cc

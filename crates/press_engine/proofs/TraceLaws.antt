@@ -1,16 +1,14 @@
 -- The trace of commands one after another, and of one that is a single step.
-use Rattle.std.proofs.Common.{◌≡◌, ◌∙◌, List, [], ◌∷◌, ◌++◌, Option, Some, None, refl, sym, ap, subst}
+use Rattle.std.proofs.Common.{◌≡◌, ◌∙◌, List, [], ◌∷◌, ◌++◌, false, refl, sym, ap, subst}
 use Rattle.std.proofs.lemmas.List.{append_assoc, append-nil}
 use Rattle.press_cmd.specs.Token.{Token}
-use Rattle.press_engine.specs.declared.effect.EjectCause.{EjectCause}
-use Rattle.press_engine.specs.declared.effect.Source.TheVariants as sources
+use Rattle.press_table.specs.declared.effect.Source.TheVariants as sources
+use Rattle.press_table.specs.Table.{effect_on}
 use Rattle.press_engine.specs.declared.machine.Machine.{Machine}
-use Rattle.press_engine.specs.Calls.{overlay_body}
-use Rattle.press_engine.specs.Outcome.{Effect, Changes, MayAllocate, GivesReply, Stays, Closes, Starts}
-use Rattle.press_engine.specs.Machine.{StepResult, finish_without_overlay, with_state, taken, macro_levels}
-use Rattle.press_engine.specs.Table.{effect_on}
-use Rattle.press_engine.specs.Trace.{last_machine, joined, with_end, trace_each, close_items_with, trace_carry_out, trace_at, trace, told_by, run, run_all}
 use Rattle.press_engine.specs.Laws.{IsOneStep}
+use Rattle.press_engine.specs.Machine.{StepResult, macro_levels}
+use Rattle.press_engine.specs.Trace.{last_machine, joined, with_end, trace_each, trace_at, trace, told_by, run, run_all}
+use Rattle.press_engine.proofs.CommandItems.{Taking, taking, effect_at, items_from, command-all}
 
 pub last_machine-append : (items others : List StepResult) (machine : Machine) → last_machine machine (items ++ others) ≡ last_machine (last_machine machine items) others
 last_machine-append [] others machine = refl
@@ -48,17 +46,10 @@ trace-append commands others machine = trace_each-append (trace_at macro_levels)
 abbrev IsOneItem : List StepResult → Type 0
 IsOneItem items = (item : StepResult) × (items ≡ item ∷ [])
 
-close_items-one : (body : Option (List Token)) → body ≡ None → (cause : EjectCause) (machine : Machine) → IsOneItem (close_items_with body cause machine)
-close_items-one None none cause machine = (finish_without_overlay machine (Closes cause machine.state), refl)
-close_items-one (Some commands) none cause machine = absurd (cc)
-
-one-item : (tracing : Token → Machine → List StepResult) (machine : Machine) (effect : Effect) → IsOneStep effect → IsOneItem (trace_carry_out tracing machine effect)
-one-item tracing machine (Changes state) step = (finish_without_overlay machine (Changes state), refl)
-one-item tracing machine (MayAllocate state) step = (finish_without_overlay machine (MayAllocate state), refl)
-one-item tracing machine (GivesReply reply state) step = (finish_without_overlay machine (GivesReply reply state), refl)
-one-item tracing machine (Stays cause state) step = (finish_without_overlay machine (Stays cause state), refl)
-one-item tracing machine (Closes cause state) none = close_items-one (overlay_body state) none cause (with_state state machine)
-one-item tracing machine (Starts commands end state) step = absurd step
+one-item : (at : Taking) → IsOneStep (effect_at at) → IsOneItem (items_from at)
+one-item =
+    command-all (λ at begin items. IsOneStep (effect_at at) → IsOneItem items) (λ at item is one. (item, refl))
+    (λ at item activation starts inside one. absurd (starts.effect.more one))
 
 told-one : (items : List StepResult) (item : StepResult) (machine : Machine) → items ≡ item ∷ [] → items ≡ told_by items machine ∷ []
 told-one items item machine is =
@@ -66,7 +57,7 @@ told-one items item machine is =
     subst P (sym is) (λ i. record { machine = item.machine; outputs = sym (append-nil item.outputs) i } ∷ [])
 
 pub trace-one : (command : Token) (machine : Machine) → IsOneStep (effect_on sources.Stream command machine.state) → trace (command ∷ []) machine ≡ run command machine ∷ []
-unfolding trace_each trace_at
+unfolding trace_each
 trace-one command machine step =
-    let one = one-item (trace_at 1) (taken command machine) (effect_on sources.Stream command machine.state) step in
+    let one = one-item (taking false macro_levels command machine) step in
     append-nil (trace_at macro_levels command machine) ∙ told-one (trace_at macro_levels command machine) one.0 machine one.1

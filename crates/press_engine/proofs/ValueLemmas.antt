@@ -1,25 +1,28 @@
 -- A step as a value, and what the sinks took of it.
-use Rattle.std.proofs.Common.{◌≡◌, ◌≢◌, ◌⊎◌, ◌∙◌, ℕ, List, [], ◌∷◌, Option, Some, None, Result, Ok, Err, inl, inr, refl, sym, ap, subst}
+use Rattle.std.proofs.Common.{◌≡◌, ◌≢◌, ◌⊎◌, ◌∙◌, ℕ, List, [], ◌∷◌, Option, Some, None, false, Result, Ok, Err, inl, inr, refl, sym, ap, subst}
 use Rattle.press_cmd.specs.Token.{Token}
 use Rattle.press_cmd.specs.declared.variant.Kind.{Kind}
 use Rattle.press_sink.specs.Sending.{Output, Complete, WentOut}
 use Rattle.press_sink.specs.SinkLog.{SinkLog, under}
 use Rattle.press_sink.proofs.SendingLemmas.{WentOut-no_memory}
-use Rattle.press_engine.specs.declared.effect.StepOutput.{StepOutput}
+use Rattle.press_engine.specs.declared.step_output.StepOutput.{StepOutput}
 use Rattle.press_engine.specs.declared.fault.EngineError.{EngineError}
 use Rattle.press_engine.specs.declared.fault.EngineError.TheVariants as engine_errors
 use Rattle.press_engine.specs.declared.activation.Activation.{Activation}
 use Rattle.press_engine.specs.declared.machine.Machine.{Machine}
-use Rattle.press_engine.specs.declared.effect.Source.TheVariants.{Stream}
-use Rattle.press_engine.specs.Engine.{ending_of, Steps, TakesItem, TakesNext, TakesMemory, NeedsMemory, InnerNeedsMemory, InnerTakesMemory}
+use Rattle.press_table.specs.declared.effect.Source.TheVariants.{Stream}
+use Rattle.press_table.specs.Memory.{TakesMemory}
+use Rattle.press_engine.specs.Engine.{ending_of, Steps, TakesItem, TakesNext, NeedsMemory, InnerNeedsMemory, InnerTakesMemory}
 use Rattle.press_engine.specs.Machine.{StepResult, macro_levels}
-use Rattle.press_engine.specs.Outputs.{all_outputs}
-use Rattle.press_engine.specs.Stack.{continuation, step_outer, step_inner, HasNext}
-use Rattle.press_engine.specs.Table.{effect_on}
+use Rattle.press_table.specs.Outputs.{all_outputs}
+use Rattle.press_engine.specs.Stack.{continuation, HasNext}
+use Rattle.press_engine.specs.Stepping.{step_outer, step_inner}
+use Rattle.press_table.specs.Table.{effect_on}
 use Rattle.press_engine.specs.Trace.{trace_at}
 use Rattle.press_engine.proofs.ItemsLemmas.{inner-gives}
 use Rattle.press_engine.proofs.StackLaws.{outer-continuation}
-use Rattle.press_engine.proofs.StepLemmas.{outer-sends, inner-sends}
+use Rattle.press_engine.proofs.StepLemmas.{step-sends, no-overlay}
+use Rattle.press_engine.proofs.CommandItems.{taking, taking_in}
 
 -- what goes out in the first of the items
 abbrev first_outputs : List StepResult → List Output
@@ -114,14 +117,14 @@ pub wants-outer : (command : Token) (machine : Machine) (item : StepResult) (oth
     → trace_at macro_levels command machine ≡ item ∷ others → item.outputs ≢ [] → TakesMemory (effect_on Stream command machine.state)
 wants-outer command machine item others is some =
     let P : List Output → Type 0 = λ outputs. outputs ≢ [] in
-    outer-sends command machine (subst P (ap first_outputs (sym is ∙ outer-continuation command machine)) some)
+    no-overlay (step-sends (taking false macro_levels command machine) [] (subst P (ap first_outputs (sym is ∙ outer-continuation command machine)) some))
 
 pub wants-inner : (activations : List Activation) (machine : Machine) (item : StepResult) (others : List StepResult) → HasNext activations
     → continuation activations machine ≡ item ∷ others → item.outputs ≢ [] → InnerTakesMemory activations machine
 wants-inner activations machine item others (activation, command, rest, outer, is) owes some =
     let P : List Output → Type 0 = λ outputs. outputs ≢ [] in
     let same = ap first_outputs (sym owes ∙ inner-gives activation command rest outer activations machine is) in
-    (activation, command, rest, outer, is, inner-sends activation command rest outer machine (subst P same some))
+    (activation, command, rest, outer, is, step-sends (taking_in activation command machine) (record activation { body = rest } ∷ outer) (subst P same some))
 
 -- so may a step
 pub needs-outer : (command : Token) (step : StepOutput) (old new : Option Machine) (still : List Activation)

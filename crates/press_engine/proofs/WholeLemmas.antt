@@ -1,5 +1,5 @@
 -- Steps of an engine one after another, until no body runs: a whole command.
-use Rattle.std.proofs.Common.{◌≡◌, ◌≢◌, ◌∙◌, ◌<◌, arith, ℕ, List, [], ◌∷◌, length, Option, Some, None, Bool, true, false, if◌then◌else◌, Result, Ok, Err, MatchResult, inr, refl, sym, ap, subst}
+use Rattle.std.proofs.Common.{◌≡◌, ◌≢◌, ◌∙◌, ◌<◌, arith, ℕ, List, [], ◌∷◌, ◌++◌, length, Option, Some, None, Bool, true, false, if◌then◌else◌, Result, Ok, Err, MatchResult, inr, refl, sym, ap, subst}
 use Rattle.press_cmd.specs.Token.{Token}
 use Rattle.press_cmd.specs.declared.variant.Kind.{Kind}
 use Rattle.press_sink.specs.SinkLog.{SinkLog, HasFaultRoom, under}
@@ -11,11 +11,14 @@ use Rattle.press_engine.specs.declared.machine.Machine.{Machine}
 use Rattle.press_engine.specs.declared.engine.Engine.{Engine}
 use Rattle.press_engine.specs.Engine.{machine_of, bodies, ending_of, Runs, TakesItem, TakesNext, NeedsMemory}
 use Rattle.press_engine.specs.Machine.{StepResult, macro_levels}
-use Rattle.press_engine.specs.Stack.{continuation, begins, unwind, step_outer, HasNext}
+use Rattle.press_engine.specs.Begun.{begins}
+use Rattle.press_engine.specs.Stack.{continuation, HasNext}
+use Rattle.press_engine.specs.Stepping.{unwind}
 use Rattle.press_engine.specs.Trace.{joined, trace_at, told_by}
 use Rattle.press_engine.proofs.SendsLemmas.{WentOut-exit, has_fault_room-then}
 use Rattle.press_engine.proofs.StackLaws.{outer-continuation}
-use Rattle.press_engine.proofs.StackLemmas.{outer-wants}
+use Rattle.press_engine.proofs.StackLemmas.{begins-wants}
+use Rattle.press_engine.proofs.CommandItems.{taking}
 use Rattle.press_engine.proofs.ValueLemmas.{inner-some}
 
 -- a run was carried out, after which an engine has this machine
@@ -130,16 +133,10 @@ pub wants-more : (old : Option Machine) (command : Token) (tag : ℕ) (mid : Opt
 wants-more None command tag mid kind still before after alive takes next = absurd (alive refl)
 wants-more (Some machine) command tag mid kind still before after alive takes next =
     let begin = begins false macro_levels command machine in
-    let rest : continuation still takes.item.machine
-    ≡ continuation (step_outer command machine).activations (step_outer command machine).item.machine =
-    sym takes.left.2 ∙ ap other_items (sym takes.due ∙ outer-continuation command machine) in
-    outer-wants command machine
-    (inr (λ none.
-    inner-some still takes.item.machine next
-    (rest
-    ∙ ap (λ (started : List Activation).
-    continuation (unwind started begin.item).activations (unwind started begin.item).item.machine)
-    none)))
+    let rest = sym takes.left.2 ∙ ap other_items (sym takes.due ∙ outer-continuation command machine) in
+    let none_owed : List Activation → Type 0 = λ started. continuation still takes.item.machine ≡ continuation (unwind (started ++ []) begin.item).activations (unwind (started ++ []) begin.item).item.machine in
+    begins-wants (taking false macro_levels command machine)
+    (inr (λ none. inner-some still takes.item.machine next (subst none_owed none rest)))
 
 -- an engine that has failed runs no body
 none-if : (failed : Bool) (machine : Machine) (activations : List Activation) → (if failed then None else Some machine) ≡ None → (if failed then [] else activations) ≡ []

@@ -1,5 +1,4 @@
 -- Worked rows.
 pub mod Jobs
 pub mod Macros
-pub mod Rectangles
 pub mod Streams

@@ -1,5 +1,5 @@
 -- The engine as callers see it.
-use Rattle.std.specs.Prelude.{◌≡◌, ◌≢◌, ◌⊎◌, pos, false, Option, Some, None, List, [], ◌∷◌, Result, Ok, Err, MatchResult, if◌then◌else◌}
+use Rattle.std.specs.Prelude.{◌≡◌, ◌⊎◌, pos, Option, Some, None, List, [], ◌∷◌, Result, Ok, Err, MatchResult, if◌then◌else◌}
 use Rattle.std.specs.Borrow.{Bor}
 use Rattle.press_cmd.specs.Token.{Token}
 use Rattle.press_cmd.specs.declared.variant.Kind.{Kind}
@@ -8,7 +8,7 @@ use Rattle.press_macros.specs.Macros.{defining}
 use Rattle.press_raster.specs.Graphics.{raster_position}
 use Rattle.press_sink.specs.SinkLog.{SinkUse}
 use Rattle.press_sink.specs.Sending.{Ending, Complete, AtSheet, AtReply, ForMemory, Refused, WentOut}
-use Rattle.press_engine.specs.declared.effect.StepOutput.{StepOutput}
+use Rattle.press_engine.specs.declared.step_output.StepOutput.{StepOutput}
 use Rattle.press_engine.specs.declared.engine.Engine.{Engine}
 use Rattle.press_engine.specs.declared.fault.EngineError.{EngineError}
 use Rattle.press_engine.specs.declared.fault.EngineError.TheVariants as engine_errors
@@ -17,15 +17,15 @@ use Rattle.press_engine.specs.declared.machine.Last.{Last}
 use Rattle.press_engine.specs.declared.machine.Last.TheVariants as lasts
 use Rattle.press_engine.specs.declared.machine.Machine.{Machine}
 use Rattle.press_engine.specs.declared.view.View.{View}
-use Rattle.press_engine.specs.declared.state.State.{State}
-use Rattle.press_engine.specs.Outcome.{Outcome, Effect, Changes, MayAllocate, GivesReply, Stays, Closes, Starts, is_marked}
-use Rattle.press_engine.specs.Closing.{after_close}
-use Rattle.press_engine.specs.Outputs.{all_outputs}
-use Rattle.press_engine.specs.Table.{effect_on}
+use Rattle.press_table.specs.Memory.{TakesMemory}
+use Rattle.press_table.specs.Outcome.{is_marked}
+use Rattle.press_table.specs.Outputs.{all_outputs}
+use Rattle.press_table.specs.Table.{effect_on}
 use Rattle.press_engine.specs.Machine.{StepResult}
 use Rattle.press_engine.specs.Trace.{run}
-use Rattle.press_engine.specs.Stack.{continuation, source_in, EndsOverlay}
-use Rattle.press_engine.specs.declared.effect.Source.TheVariants.{Stream}
+use Rattle.press_engine.specs.Begun.{source_in}
+use Rattle.press_engine.specs.Stack.{continuation, EndsOverlay}
+use Rattle.press_table.specs.declared.effect.Source.TheVariants.{Stream}
 
 -- the engine's machine, and none where an earlier command had a fault
 abbrev pub machine_of : Engine → Option Machine
@@ -74,21 +74,7 @@ abbrev pub TakesNext : Option Machine → (Machine → List StepResult) → Resu
 TakesNext (Some machine) owing result new still sinks = TakesItem (owing machine) result new still sinks
 TakesNext None owing result new still sinks = (new ≡ None) × (sinks.after ≡ sinks.before)
 
--- whether something goes out, or the front that waits changes
-abbrev pub Shows : (before : State) → Outcome → Type 0
-Shows before outcome = (outcome.outputs ≢ []) ⊎ (outcome.state.pending ≢ before.pending)
-
--- Whether an effect may take memory. A plain change takes none. A mark, a pattern, a recorded command, a reply, a page that closes and a
--- body that starts may. Where a page without a mark stays, memory may be taken if something goes out or the front that waits changes.
-abbrev pub TakesMemory : Effect → Type 0
-TakesMemory (Changes state) = ⊥
-TakesMemory (MayAllocate state) = Unit {0}
-TakesMemory (GivesReply reply state) = Unit {0}
-TakesMemory (Stays cause state) = Shows state (after_close false cause state)
-TakesMemory (Closes cause state) = Unit {0}
-TakesMemory (Starts commands end state) = Unit {0}
-
--- the same for the command of an engine with this machine
+-- whether the command of an engine with this machine may take memory
 abbrev pub NeedsMemory : Option Machine → Token → Type 0
 NeedsMemory None command = ⊥
 NeedsMemory (Some machine) command = TakesMemory (effect_on Stream command machine.state)

@@ -3,11 +3,11 @@ use Rattle.std.specs.Prelude.{◌≡◌, ◌≤◌, ℕ, List, [], ◌∷◌, �
 use Rattle.std.specs.List.{All}
 use Rattle.press_cmd.specs.Token.{Token}
 use Rattle.press_engine.specs.declared.machine.Machine.{Machine}
-use Rattle.press_engine.specs.declared.effect.Source.TheVariants.{Stream}
-use Rattle.press_engine.specs.Calls.{overlay_body}
+use Rattle.press_table.specs.declared.effect.Source.TheVariants.{Stream}
+use Rattle.press_table.specs.Calls.{overlay_body}
 use Rattle.press_engine.specs.Machine.{StepResult}
-use Rattle.press_engine.specs.Outcome.{Effect, Changes, MayAllocate, GivesReply, Stays, Closes, Starts}
-use Rattle.press_engine.specs.Table.{effect_on}
+use Rattle.press_table.specs.Outcome.{Effect, Changes, MayAllocate, GivesReply, Stays, Closes, Starts}
+use Rattle.press_table.specs.Table.{effect_on}
 use Rattle.press_engine.specs.Trace.{last_machine, joined, trace, run, run_all}
 
 -- The items stand for a run: they end in its machine, and their outputs joined are its outputs.

@@ -3,18 +3,20 @@ use Rattle.std.specs.Prelude.{ℕ, ◌+◌, ◌==◌, min, if◌then◌else◌, 
 use Rattle.press_cmd.specs.Token.{Token}
 use Rattle.press_cmd.specs.Kinds.{kind_of}
 use Rattle.press_sink.specs.Sending.{Output}
-use Rattle.press_engine.specs.declared.effect.BodyEnd.{BodyEnd}
-use Rattle.press_engine.specs.declared.effect.Source.{Source}
-use Rattle.press_engine.specs.declared.effect.Source.TheVariants as sources
+use Rattle.press_table.specs.declared.effect.BodyEnd.{BodyEnd}
+use Rattle.press_table.specs.declared.effect.Source.{Source}
+use Rattle.press_table.specs.declared.effect.Source.TheVariants as sources
 use Rattle.press_engine.specs.declared.machine.Last.{Last}
 use Rattle.press_engine.specs.declared.machine.Last.TheVariants as lasts
 use Rattle.press_engine.specs.declared.machine.Machine.{Machine}
-use Rattle.press_engine.specs.declared.state.State.{State}
-use Rattle.press_engine.specs.Calls as calls
-use Rattle.press_engine.specs.Closing.{finish_effect}
-use Rattle.press_engine.specs.Outcome.{Effect, Changes, MayAllocate, GivesReply, Stays, Closes, Starts, power_on_state}
-use Rattle.press_engine.specs.Counts.{counted}
-use Rattle.press_engine.specs.Table.{is_recorded}
+use Rattle.press_table.specs.declared.state.State.{State}
+use Rattle.press_cursor.specs.declared.stack.CursorPosition.{CursorPosition}
+use Rattle.press_table.specs.declared.calls.SavedEnvironment.{SavedEnvironment}
+use Rattle.press_table.specs.Calls as calls
+use Rattle.press_table.specs.Closing.{finish_effect}
+use Rattle.press_table.specs.Outcome.{Effect, Changes, MayAllocate, GivesReply, Stays, Closes, Starts, power_on_state}
+use Rattle.press_table.specs.Counts.{counted}
+use Rattle.press_table.specs.Table.{is_recorded}
 
 -- What commands leave, or a step of them: the machine, and the outputs in order.
 pub record StepResult : Type 0 where
@@ -75,9 +77,9 @@ abbrev pub enter_overlay : Machine → Machine
 enter_overlay machine =
     record machine { state = calls.overlaid machine.state; depth = deeper machine.depth }
 
-abbrev pub leave_overlay : (before after : Machine) → Machine
-leave_overlay before after =
-    record after { state = calls.put_back before.state after.state; depth = before.depth }
+abbrev pub leave_overlay : SavedEnvironment → CursorPosition → (depth : ℕ) → Machine → Machine
+leave_overlay kept place depth after =
+    record after { state = calls.put_back kept place after.state; depth = depth }
 
 -- what an effect leaves where no overlay runs and no body starts
 abbrev pub finish_without_overlay : Machine → Effect → StepResult

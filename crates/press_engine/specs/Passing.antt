@@ -1,31 +1,15 @@
 -- Commands of the stream that have no effect, passed over at once.
 use Rattle.std.specs.Prelude.{◌≡◌, ◌∷◌, ◌++◌, ℕ, List, [], length}
 use Rattle.std.specs.List.{AllByRecursion}
-use Rattle.press_cmd.specs.Token.{Token, Control, Text, ForeignByte}
+use Rattle.press_cmd.specs.Token.{Token}
 use Rattle.press_cmd.specs.Kinds.{kind_of}
 use Rattle.press_cmd.specs.declared.variant.Kind.{Kind}
-use Rattle.press_engine.specs.declared.effect.Source.TheVariants.{Stream}
+use Rattle.press_table.specs.Counts.{counted}
+use Rattle.press_table.specs.Passing.{HasNoEffect}
 use Rattle.press_engine.specs.declared.machine.Last.TheVariants as lasts
 use Rattle.press_engine.specs.declared.machine.Machine.{Machine}
-use Rattle.press_engine.specs.declared.state.State.{State}
-use Rattle.press_engine.specs.Counts.{counted}
 use Rattle.press_engine.specs.Machine.{silent}
-use Rattle.press_engine.specs.Outcome.{Changes}
-use Rattle.press_engine.specs.Table.{effect_on}
 use Rattle.press_engine.specs.Trace.{run_all}
-
--- a command of the stream is not recorded, and changes nothing
-abbrev pub HasNoEffect : State → Token → Type 0
-HasNoEffect state command = effect_on Stream command state ≡ Changes state
-
--- text bytes and bytes of another language have none
-pub record SkipsBytes (state : State) : Type 0 where
-  pub text : (byte : ℕ) → HasNoEffect state (Text byte)
-  pub foreign : (byte : ℕ) → HasNoEffect state (ForeignByte byte)
-
--- nor have control bytes
-abbrev pub SkipsControls : State → Type 0
-SkipsControls state = (byte : ℕ) → HasNoEffect state (Control byte)
 
 -- so many steps more, the last of which took a command of this kind
 abbrev pub passed : (count : ℕ) → Kind → Machine → Machine

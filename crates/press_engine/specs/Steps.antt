@@ -2,7 +2,7 @@
 use Rattle.std.specs.Prelude.{◌≡◌, List, [], ◌∷◌, ⊤}
 use Rattle.press_cmd.specs.Token.{Token}
 use Rattle.press_engine.specs.declared.machine.Machine.{Machine}
-use Rattle.press_engine.specs.Counts.{counted}
+use Rattle.press_table.specs.Counts.{counted}
 use Rattle.press_engine.specs.Machine.{StepResult}
 use Rattle.press_engine.specs.Trace.{trace}
 

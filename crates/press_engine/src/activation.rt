@@ -1,9 +1,8 @@
 //! A body that runs, as a value (PCL 5 Printer Language Technical Reference Manual, Macros).
 
-use crate::calls::SavedEnvironment;
-use crate::effect::{BodyEnd, EjectCause};
+use press_cmd::Body;
 use press_cursor::CursorPosition;
-use press_macros::Body;
+use press_table::{BodyEnd, EjectCause, SavedEnvironment};
 use std::alloc::AllocError;
 
 /// What comes when a running body is used up.

@@ -1,8 +1,8 @@
 //! The bodies that run, between two steps (PCL 5 Printer Language Technical Reference Manual, Macros).
 
 use crate::activation::Activation;
-use crate::effect::StepOutput;
 use crate::machine::{Last, Machine};
+use crate::step_output::StepOutput;
 use press_cmd::{Command, Kind, kind};
 use std::alloc::{AllocError, Global};
 use std::marker::Model;
@@ -50,12 +50,13 @@ impl Bodies {
     ghost use Rattle.std.specs.Prelude.{◌≡◌, ◌≢◌, ◌≤◌, ◌↔◌, [], length, IfOk, IsTrue, IsErr, MatchResult};
     ghost use Rattle.press_cmd.specs.View.{token};
     ghost use Rattle.press_cmd.specs.Kinds.{kind_of};
-    ghost use Rattle.press_engine.specs.declared.effect.Source.TheVariants.{Stream};
-    ghost use Rattle.press_engine.specs.Engine.{StepsTo, TakesMemory, InnerTakesMemory};
+    ghost use Rattle.press_table.specs.declared.effect.Source.TheVariants.{Stream};
+    ghost use Rattle.press_table.specs.Memory.{TakesMemory};
+    ghost use Rattle.press_engine.specs.Engine.{StepsTo, InnerTakesMemory};
     ghost use Rattle.press_engine.specs.Laws.{most_bodies};
     ghost use Rattle.press_engine.specs.Machine.{macro_levels};
     ghost use Rattle.press_engine.specs.Stack.{HasNext, IsReady, continuation};
-    ghost use Rattle.press_engine.specs.Table.{effect_on};
+    ghost use Rattle.press_table.specs.Table.{effect_on};
     ghost use Rattle.press_engine.specs.Trace.{trace_at};
 
     /// No body runs.

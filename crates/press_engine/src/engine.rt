@@ -1,14 +1,15 @@
 //! The command table at work, over sinks of sheets and replies.
 
 use crate::bodies::Bodies;
-use crate::effect::{Sent, StepOutput};
 use crate::fault::EngineError;
 use crate::machine::Machine;
 use crate::sender::send_all;
+use crate::step_output::StepOutput;
 use crate::view::View;
 use press_canvas::Canvas;
 use press_cmd::{Command, Kind};
 use press_sink::{ReplySink, SheetSink};
+use press_table::Sent;
 use press_units::Pos;
 use std::alloc::{AllocError, Global};
 
@@ -37,8 +38,9 @@ impl Engine {
     ghost use Rattle.press_engine.specs.Laws.{most_bodies};
     ghost use Rattle.press_engine.specs.Stack.{HasNext, IsReady, continuation};
     ghost use Rattle.press_engine.specs.Trace.{trace_at};
-    ghost use Rattle.press_engine.specs.Outputs.{all_outputs};
-    ghost use Rattle.press_engine.specs.Passing.{SkipsBytes, SkipsControls, passed};
+    ghost use Rattle.press_table.specs.Outputs.{all_outputs};
+    ghost use Rattle.press_table.specs.Passing.{SkipsBytes, SkipsControls};
+    ghost use Rattle.press_engine.specs.Passing.{passed};
     ghost use Rattle.press_engine.specs.Engine.{machine_of, bodies, HasFailed, ending_of, Steps, Runs, TakesNext, NeedsMemory, InnerNeedsMemory, view_of};
 
     /// An engine after power on.

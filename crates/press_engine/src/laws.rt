@@ -3,7 +3,7 @@
 ghost use Rattle.press_engine.specs.Laws.{TraceTellsTheRun, TraceGoesOn, OneStepIsTheRun, AtMostFourBodies};
 ghost use Rattle.press_engine.specs.PageKept.{OthersKeepThePage};
 ghost use Rattle.press_engine.specs.Passing.{PassingIsCounted};
-ghost use Rattle.press_engine.specs.Stack.{InnerStepIsOwed, OuterStepIsOwed};
+ghost use Rattle.press_engine.specs.Stepping.{InnerStepIsOwed, OuterStepIsOwed};
 ghost use Rattle.press_engine.specs.Steps.{EachItemIsOneStep};
 
 /// The last item of the trace has the machine that the commands leave, and the outputs of all items joined are theirs.

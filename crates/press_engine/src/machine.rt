@@ -1,9 +1,11 @@
 //! The machine round the state: a command that is taken, and bodies that start and end (PCL 5 Printer Language Technical
 //! Reference Manual, Macros).
 
-use crate::effect::{BodyEnd, Effect, Source};
-use crate::state::State;
+ghost use Rattle.std.specs.Prelude.{◌≡◌};
+ghost use Rattle.press_engine.specs.Machine.{source_at};
+
 use press_cmd::{Command, Kind, kind};
+use press_table::{BodyEnd, Effect, Source, State};
 use std::alloc::{AllocError, Global};
 
 /// How many macros may run at a time outside an overlay.
@@ -34,29 +36,24 @@ pub struct Machine {
     pub last: Last,
 }
 
-impl Source {
-    ghost use Rattle.std.specs.Prelude.{◌≡◌};
-    ghost use Rattle.press_engine.specs.Machine.{source_at};
-
-    /// Where commands come from outside an overlay, where so many macros may start.
-    pub fn at(macro_levels: u8) -> Self
-        ensures { result ≡ source_at macro_levels }
-    {
-        if macro_levels == MACRO_LEVELS {
-            Source::Stream
-        } else {
-            Source::Macro
-        }
+/// Where commands come from outside an overlay, where so many macros may start.
+pub fn source_at(macro_levels: u8) -> Source
+    ensures { result ≡ source_at macro_levels }
+{
+    if macro_levels == MACRO_LEVELS {
+        Source::Stream
+    } else {
+        Source::Macro
     }
 }
 
 impl Machine {
     ghost use Rattle.std.specs.Prelude.{◌≡◌, IfOk, IsErr};
     ghost use Rattle.press_cmd.specs.View.{token};
-    ghost use Rattle.press_engine.specs.Effects.{effect_of};
-    ghost use Rattle.press_engine.specs.Engine.{TakesMemory};
+    ghost use Rattle.press_table.specs.Effects.{effect_of};
+    ghost use Rattle.press_table.specs.Memory.{TakesMemory};
     ghost use Rattle.press_engine.specs.Machine.{power_on, with_state, taken, enter_body, leave_body};
-    ghost use Rattle.press_engine.specs.Table.{effect_on};
+    ghost use Rattle.press_table.specs.Table.{effect_on};
 
     /// The machine after power on.
     pub fn power_on(alloc: Global) -> Self

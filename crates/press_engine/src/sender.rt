@@ -5,12 +5,12 @@ ghost use Rattle.press_pjl.specs.Replies.{page_reply};
 ghost use Rattle.press_sink.specs.SinkLog.{logs, HasFaultRoom, Delivers, TookLast, most_faults};
 ghost use Rattle.press_sink.specs.Sending.{Deliver, Reply, WentOut};
 ghost use Rattle.press_engine.specs.Engine.{ending_of};
-ghost use Rattle.press_engine.specs.Outputs.{outputs_of, all_outputs, finished_of, copy_out, next_count};
+ghost use Rattle.press_table.specs.Outputs.{outputs_of, all_outputs, finished_of, copy_out, next_count};
 
-use crate::effect::{FinishedSheet, Sent};
 use crate::fault::EngineError;
 use press_pjl::write_reply;
 use press_sink::{ReplyError, ReplySink, Sheet, SheetSink, SinkError};
+use press_table::{FinishedSheet, Sent};
 use std::alloc::Global;
 
 /// Hands a part of what goes out to the sinks, in order.
@@ -28,11 +28,7 @@ fn send<S: SheetSink, R: ReplySink>(
     ensures memory { IsErrOf result EngineError.NoMemory → outputs_of sent.now ≢ [] }
 {
     match sent {
-        Sent::Nothing => Ok(()),
-        Sent::Sheets { closed, alone } => {
-            send_finished(closed, alloc, tag, sheets, replies)?;
-            send_finished(alone, alloc, tag, sheets, replies)
-        }
+        Sent::Sheet(finished) => send_copies(finished, alloc, tag, sheets, replies),
         Sent::Reply(bytes) => reply(bytes.as_slice(), tag, sheets, replies),
     }
 }
@@ -55,26 +51,6 @@ pub fn send_all<S: SheetSink, R: ReplySink>(
         send(part, alloc, tag, sheets, replies)?;
     }
     Ok(())
-}
-
-/// Delivers the copies of a finished sheet, where there is one.
-fn send_finished<S: SheetSink, R: ReplySink>(
-    finished: &Option<FinishedSheet>,
-    alloc: Global,
-    tag: u64,
-    sheets: &mut S,
-    replies: &mut R,
-) -> Result<(), EngineError>
-    requires { HasFaultRoom (logs (S.told sheets.old) (R.told replies.old)) }
-    ensures sends { WentOut tag (finished_of finished.now) (ending_of result)
-        (logs (S.told sheets.old) (R.told replies.old))
-        (logs (S.told sheets.new) (R.told replies.new)) }
-    ensures memory { IsErrOf result EngineError.NoMemory → finished_of finished.now ≢ [] }
-{
-    match finished {
-        None => Ok(()),
-        Some(finished) => send_copies(finished, alloc, tag, sheets, replies),
-    }
 }
 
 /// The count of sheets since the job began, with one more.

@@ -1,53 +1,25 @@
 //! Table steps, as values: each takes one command, of the stream or of the innermost body that runs, and answers what goes out
 //! (PCL 5 Printer Language Technical Reference Manual, Macros). No sink is known here.
 
-ghost use Rattle.std.specs.Prelude.{◌≡◌, ◌≢◌, [], ◌++◌, reverse, option_to_list, OnOk, IfErr, IsErr, IsSome};
-ghost use Rattle.press_engine.specs.Outputs.{outputs_of, all_outputs};
+ghost use Rattle.std.specs.Prelude.{◌≡◌, reverse};
+ghost use Rattle.press_engine.specs.Begun.{source_in};
 ghost use Rattle.press_engine.specs.Stepping.{is_top_used_up};
 
 use crate::activation::{Activation, ActivationEnd};
-use crate::calls::SavedEnvironment;
-use crate::effect::{BodyStart, Effect, EjectCause, Sent, Source};
-use crate::machine::{MACRO_LEVELS, Machine, OVERLAY_LEVELS};
-use press_cmd::Command;
+use crate::machine::{MACRO_LEVELS, Machine, OVERLAY_LEVELS, source_at};
+use press_cmd::{Body, Command};
 use press_cursor::CursorPosition;
-use press_macros::Body;
+use press_table::{BodyStart, Effect, EjectCause, SavedEnvironment, Sent, Source};
 use std::alloc::{AllocError, Global};
 
-/// What a step began: what goes out, and the body that it started.
-#[derive(Drop)]
-pub struct Begun {
-    pub sent: Sent,
-    pub started: Option<Activation>,
-}
-
-impl Begun {
-    ghost use Rattle.std.specs.Prelude.{◌≡◌, None};
-
-    /// No body is started.
-    fn only(sent: Sent) -> Self
-        ensures { result ≡ record { sent = sent; started = None } }
-    {
-        Begun {
-            sent,
-            started: None,
-        }
-    }
-}
-
-impl Source {
-    ghost use Rattle.std.specs.Prelude.{◌≡◌};
-    ghost use Rattle.press_engine.specs.Stack.{source_in};
-
-    /// Where the commands of a body come from.
-    fn within(in_overlay: bool, macro_levels: u8) -> Self
-        ensures { result ≡ source_in in_overlay macro_levels }
-    {
-        if in_overlay {
-            Source::Overlay
-        } else {
-            Source::at(macro_levels)
-        }
+/// Where the commands of a body come from.
+fn source_in(in_overlay: bool, macro_levels: u8) -> Source
+    ensures { result ≡ source_in in_overlay macro_levels }
+{
+    if in_overlay {
+        Source::Overlay
+    } else {
+        source_at(macro_levels)
     }
 }
 
@@ -61,48 +33,23 @@ fn is_top_used_up(activations: &[Activation]) -> bool
     }
 }
 
-/// The body that a step started, if it started one, is the innermost.
-fn push_started(
-    activations: &mut Vec<Activation>,
-    started: Option<Activation>,
-) -> Result<(), AllocError>
-    ensures ok { OnOk result (reverse activations.new.items
-        ≡ option_to_list started ++ reverse activations.old.items) }
-    ensures some { IsErr result → IsSome started }
-{
-    if let Some(activation) = started {
-        activations.push(activation)?;
-    }
-    Ok(())
-}
-
-/// Puts what goes out behind what goes out before it. Where that is nothing, no memory is taken.
-fn push_sent(out: &mut Vec<Sent>, sent: Sent) -> Result<(), AllocError>
-    ensures kept { OnOk result (all_outputs out.new.items
-        ≡ all_outputs out.old.items ++ outputs_of sent) }
-    ensures memory { IsErr result → outputs_of sent ≢ [] }
-{
-    if !sent.is_nothing() {
-        out.push(sent)?;
-    }
-    Ok(())
-}
-
 impl Machine {
-    ghost use Rattle.std.specs.Prelude.{◌≡◌, ◌≢◌, ◌⊎◌, [], ◌∷◌, ◌++◌, List, option_to_list, IfOk, OnOk, IsErr};
+    ghost use Rattle.std.specs.Prelude.{◌≡◌, ◌≢◌, ◌⊎◌, suc, [], ◌∷◌, List, reverse, IfOk, OnOk, IsErr};
     ghost use Rattle.press_cmd.specs.Token.{Token};
-    ghost use Rattle.press_engine.specs.Calls.{overlay_body, end_of};
-    ghost use Rattle.press_engine.specs.Effects.{effect_of};
-    ghost use Rattle.press_engine.specs.Engine.{TakesMemory, InnerTakesMemory};
-    ghost use Rattle.press_engine.specs.Machine.{silent, then_run, with_state, taken};
+    ghost use Rattle.press_table.specs.Calls.{overlay_body, end_of};
+    ghost use Rattle.press_table.specs.Effects.{effect_of};
+    ghost use Rattle.press_table.specs.Memory.{TakesMemory};
+    ghost use Rattle.press_engine.specs.Engine.{InnerTakesMemory};
+    ghost use Rattle.press_engine.specs.Machine.{silent, then_run, leave_overlay};
     ghost use Rattle.press_engine.specs.declared.activation.Activation.{Activation};
     ghost use Rattle.press_cmd.specs.View.{token};
-    ghost use Rattle.press_engine.specs.Stack.{HasNext, IsOverlayEnd, EndsOverlay, step_outer, step_inner, source_in};
-    ghost use Rattle.press_engine.specs.Stack.{begun, begun_body, begun_only, begun_close_with, end_by, unwind, leave_overlay_with};
-    ghost use Rattle.press_engine.specs.Outputs.{outputs_of, all_outputs};
-    ghost use Rattle.press_engine.specs.declared.effect.Source.TheVariants.{Stream};
-    ghost use Rattle.press_engine.specs.Stepping.{begun_of, first_effect, TakesFirst, finished, GoesOn, run_of, stepped_of};
-    ghost use Rattle.press_engine.specs.Table.{effect_on};
+    ghost use Rattle.press_engine.specs.Begun.{begun, begun_body, begun_only, begun_close, end_by};
+    ghost use Rattle.press_engine.specs.Stack.{HasNext, IsOverlayEnd, EndsOverlay};
+    ghost use Rattle.press_table.specs.Outputs.{all_outputs};
+    ghost use Rattle.press_table.specs.declared.effect.Source.TheVariants.{Stream};
+    ghost use Rattle.press_engine.specs.Stepping.{begun_over, first_effect, TakesFirst, finished, GoesOn, run_of};
+    ghost use Rattle.press_engine.specs.Stepping.{stepped_of, unwind, step_outer, step_inner};
+    ghost use Rattle.press_table.specs.Table.{effect_on};
 
     /// Takes the first command that is left of a body.
     fn take_first(
@@ -119,7 +66,7 @@ impl Machine {
             → activation.old.body ≡ command ∷ rest
             → TakesMemory (first_effect activation.old command self.old.state) }
     {
-        let source = Source::within(activation.in_overlay, activation.macro_levels);
+        let source = source_in(activation.in_overlay, activation.macro_levels);
         match activation.body.next() {
             Some(command) => self.take(alloc, source, &command),
             None => unreachable!(),
@@ -135,8 +82,8 @@ impl Machine {
         start: BodyStart,
     ) -> Activation
         ensures { record { item = silent self.new; started = result ∷ [] }
-            ≡ begun_body in_overlay macro_levels body (end_of start self.old.state) self.old.state
-            self.old }
+            ≡ begun_body in_overlay (suc macro_levels) body (end_of start self.old.state)
+            self.old.state self.old }
     {
         let depth = self.depth;
         let end = self.state.end_of(start);
@@ -151,75 +98,72 @@ impl Machine {
     }
 
     /// A page closes, or the overlay starts before it.
-    fn begin_close(&mut self, alloc: Global, cause: EjectCause) -> Result<Begun, AllocError>
-        ensures { IfOk result (λ it. begun_of self.new it
-            ≡ begun_close_with (overlay_body self.old.state) cause self.old) }
+    fn begin_close(
+        &mut self,
+        alloc: Global,
+        cause: EjectCause,
+        activations: &mut Vec<Activation>,
+        out: &mut Vec<Sent>,
+    ) -> Result<(), AllocError>
+        ensures { OnOk result (stepped_of self.new out.new.items (reverse activations.new.items)
+            ≡ begun_over (begun_close (overlay_body self.old.state) cause self.old)
+            out.old.items (reverse activations.old.items)) }
     {
         let Some(body) = self.state.overlay_body()? else {
-            let sent = self.state.finish_effect(alloc, Effect::Closes(cause))?;
-            return Ok(Begun::only(sent));
+            return self.state.finish_effect(alloc, Effect::Closes(cause), out);
         };
         let depth = self.depth;
         let kept = self.state.kept();
         let position = self.state.cursor.position();
         self.state.start_overlay();
         self.depth = depth.saturating_add(1);
-        Ok(Begun {
-            sent: Sent::Nothing,
-            started: Some(Activation {
-                body,
-                in_overlay: true,
-                macro_levels: OVERLAY_LEVELS,
-                depth,
-                end: ActivationEnd::Close {
-                    cause,
-                    kept,
-                    position,
-                },
-            }),
-        })
+        activations.push(Activation {
+            body,
+            in_overlay: true,
+            macro_levels: OVERLAY_LEVELS,
+            depth,
+            end: ActivationEnd::Close {
+                cause,
+                kept,
+                position,
+            },
+        })?;
+        Ok(())
     }
 
-    /// What an effect begins.
+    /// What an effect begins: the body that it starts is the innermost, and what goes out comes behind what went out before.
     fn begin(
         &mut self,
         alloc: Global,
         in_overlay: bool,
         macro_levels: u8,
         effect: Effect,
-    ) -> Result<Begun, AllocError>
-        ensures begins { IfOk result (λ it. begun_of self.new it
-            ≡ begun in_overlay macro_levels self.old (effect_of self.old.state effect)) }
+        activations: &mut Vec<Activation>,
+        out: &mut Vec<Sent>,
+    ) -> Result<(), AllocError>
+        ensures begins { OnOk result (stepped_of self.new out.new.items
+            (reverse activations.new.items)
+            ≡ begun_over (begun in_overlay macro_levels self.old (effect_of self.old.state effect))
+            out.old.items (reverse activations.old.items)) }
         ensures memory { IsErr result → TakesMemory (effect_of self.old.state effect) }
     {
         match effect {
             Effect::Starts(body, start) => {
-                if macro_levels == 0 {
-                    return Ok(Begun::only(Sent::Nothing));
+                if macro_levels > 0 {
+                    let started = self.begin_body(in_overlay, macro_levels - 1, body, start);
+                    activations.push(started)?;
                 }
-                Ok(Begun {
-                    sent: Sent::Nothing,
-                    started: Some(self.begin_body(in_overlay, macro_levels - 1, body, start)),
-                })
+                Ok(())
             }
-            Effect::Closes(cause) => {
-                if in_overlay {
-                    return Ok(Begun::only(Sent::Nothing));
-                }
-                self.begin_close(alloc, cause)
-            }
-            other => {
-                if in_overlay {
-                    return Ok(Begun::only(Sent::Nothing));
-                }
-                Ok(Begun::only(self.state.finish_effect(alloc, other)?))
-            }
+            _ if in_overlay => Ok(()),
+            Effect::Closes(cause) => self.begin_close(alloc, cause, activations, out),
+            other => self.state.finish_effect(alloc, other, out),
         }
     }
 
     /// An overlay is used up.
     fn end_overlay(&mut self, kept: SavedEnvironment, position: CursorPosition, depth: u8)
-        ensures { self.new ≡ leave_overlay_with kept position depth self.old }
+        ensures { self.new ≡ leave_overlay kept position depth self.old }
     {
         self.state.end_overlay(kept, position);
         self.depth = depth;
@@ -248,8 +192,7 @@ impl Machine {
                 position,
             } => {
                 self.end_overlay(kept, position, depth);
-                let sent = self.state.finish_effect(alloc, Effect::Closes(cause))?;
-                push_sent(out, sent)
+                self.state.finish_effect(alloc, Effect::Closes(cause), out)
             }
         }
     }
@@ -275,26 +218,6 @@ impl Machine {
         Ok(())
     }
 
-    /// The rest of a step: its body starts, and the bodies that are used up end.
-    fn finish_step(
-        &mut self,
-        alloc: Global,
-        it: Begun,
-        activations: &mut Vec<Activation>,
-    ) -> Result<Vec<Sent>, AllocError>
-        ensures steps { IfOk result (λ out.
-            stepped_of self.new out.items (reverse activations.new.items)
-            ≡ finished (begun_of self.old it) (reverse activations.old.items)) }
-        ensures memory { IsErr result → (outputs_of it.sent ≢ [])
-            ⊎ (option_to_list it.started ≢ []) ⊎ EndsOverlay (reverse activations.old.items) }
-    {
-        let mut out = Vec::new(alloc);
-        push_sent(&mut out, it.sent)?;
-        push_started(activations, it.started)?;
-        self.end_bodies(alloc, activations, &mut out)?;
-        Ok(out)
-    }
-
     /// The rest of a step in which not all is done. It stands apart from the others, which need no room for what it begins.
     #[inline(never)]
     fn go_on(
@@ -313,8 +236,17 @@ impl Machine {
             ⊎ GoesOn (begun in_overlay macro_levels self.old (effect_of self.old.state effect))
             (reverse activations.old.items) }
     {
-        let it = self.begin(alloc, in_overlay, macro_levels, effect)?;
-        self.finish_step(alloc, it, activations)
+        let mut out = Vec::new(alloc);
+        self.begin(
+            alloc,
+            in_overlay,
+            macro_levels,
+            effect,
+            activations,
+            &mut out,
+        )?;
+        self.end_bodies(alloc, activations, &mut out)?;
+        Ok(out)
     }
 
     /// The rest of a step in which all is done: the bodies that are used up end.
@@ -350,7 +282,7 @@ impl Machine {
         ensures memory { IsErr result
             → TakesMemory (effect_on Stream (token command.entry) self.old.state) }
     {
-        let effect = self.take(alloc, Source::within(false, MACRO_LEVELS), &command)?;
+        let effect = self.take(alloc, source_in(false, MACRO_LEVELS), &command)?;
         if effect.is_done() {
             return Ok(Vec::new(alloc));
         }

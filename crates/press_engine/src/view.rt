@@ -1,11 +1,11 @@
 //! What can be seen of the engine.
 
-use crate::drawing::Drawing;
 use crate::machine::Last;
 use press_cursor::CursorPosition;
 use press_page::PageEnv;
 use press_pjl::PjlEnv;
 use press_raster::RasterPosition;
+use press_table::Drawing;
 use press_units::Pos;
 
 /// What can be seen of an engine. Positions are in 1/7200 inch.

@@ -18,23 +18,24 @@ use Rattle.press_macros.specs.Macros.{Macros, abandoned, body_of}
 use Rattle.press_page.specs.declared.media.Orientation.TheVariants.{Portrait}
 use Rattle.press_pattern.specs.Solid.{solid_black}
 use Rattle.press_sink.specs.Sending.{Output, Deliver}
-use Rattle.press_engine.specs.declared.effect.BodyEnd.TheVariants as ends
-use Rattle.press_engine.specs.declared.effect.EjectCause.{EjectCause}
-use Rattle.press_engine.specs.declared.effect.EjectCause.TheVariants as causes
-use Rattle.press_engine.specs.declared.effect.PageChange.TheVariants as page_changes
-use Rattle.press_engine.specs.declared.effect.Source.TheVariants as sources
+use Rattle.press_table.specs.declared.effect.BodyEnd.TheVariants as ends
+use Rattle.press_table.specs.declared.effect.EjectCause.{EjectCause}
+use Rattle.press_table.specs.declared.effect.EjectCause.TheVariants as causes
+use Rattle.press_table.specs.declared.effect.PageChange.TheVariants as page_changes
+use Rattle.press_table.specs.declared.effect.Source.TheVariants as sources
 use Rattle.press_engine.specs.declared.machine.Last.{Last}
 use Rattle.press_engine.specs.declared.machine.Last.TheVariants as lasts
 use Rattle.press_engine.specs.declared.machine.Machine.{Machine}
-use Rattle.press_engine.specs.declared.operation.Operation.TheVariants.{FormFeed, Reset}
-use Rattle.press_engine.specs.declared.state.State.{State}
-use Rattle.press_engine.specs.Calls.{kept_of, overlay_body}
-use Rattle.press_engine.specs.Macros.{start_body, record_command}
-use Rattle.press_engine.specs.Outcome.{Effect, Changes, MayAllocate, Stays, Closes, Starts, is_marked, with_macros}
-use Rattle.press_engine.specs.Machine.{StepResult, silent, with_state, taken, enter_body, leave_body, power_on, source_at}
-use Rattle.press_engine.specs.Motion.{to_left_margin}
-use Rattle.press_engine.specs.Table.{effect_on, is_recorded, is_skipped, table_row, row_unless_skipped}
-use Rattle.press_engine.specs.Trace.{last_machine, joined, with_end, body_items, close_items_with, trace_finished, trace_carry_out, trace, trace_each, trace_at, trace_in_overlay, run_all}
+use Rattle.press_table.specs.declared.operation.Operation.TheVariants.{FormFeed, Reset}
+use Rattle.press_table.specs.declared.state.State.{State}
+use Rattle.press_table.specs.Calls.{kept_of, overlay_body}
+use Rattle.press_table.specs.Macros.{start_body, record_command}
+use Rattle.press_table.specs.Outcome.{Effect, Changes, MayAllocate, Stays, Closes, Starts, is_marked, with_macros}
+use Rattle.press_engine.specs.Begun.{begun_outside, begun_close}
+use Rattle.press_engine.specs.Machine.{StepResult, silent, with_state, taken, enter_body, leave_body, power_on, source_at, overlay_levels}
+use Rattle.press_table.specs.Motion.{to_left_margin}
+use Rattle.press_table.specs.Table.{effect_on, is_recorded, is_skipped, table_row, row_unless_skipped}
+use Rattle.press_engine.specs.Trace.{last_machine, joined, with_end, begun_items, inside_of, trace, trace_each, trace_at, trace_in_overlay, run_all}
 use Rattle.press_engine.proofs.TraceLaws.{trace_each-append}
 
 -- ESC, a parameterized character, a group character, a field and a termination character
@@ -64,6 +65,10 @@ one_macro id commands = record { stored = stored maps.empty id commands; definit
 macro_is_found : (commands : List Token) → body_of (one_macro 1 commands) 1 ≡ Some commands
 macro_is_found commands = found-stored maps.empty 1 commands
 
+-- the items of an effect outside an overlay, where so many macros may start inside of what it starts
+abbrev outside_items : (more : ℕ) → Machine → Effect → List StepResult
+outside_items more machine effect = begun_items (inside_of (trace_at more)) (begun_outside (suc more) machine effect)
+
 -- A call of a macro that is found gives the items of its body.
 abbrev call_end : (before : Machine) → Machine → StepResult
 call_end before after = silent (leave_body (ends.Call (kept_of before.state)) before.depth after)
@@ -77,9 +82,9 @@ call_effect commands before = Starts commands (ends.Call (kept_of before.state))
 call_items :
     (macro_levels : ℕ) (commands : List Token) (before : Machine)
     → effect_on (source_at (suc macro_levels)) call before.state ≡ call_effect commands before
-    → trace_at (suc macro_levels) call before ≡ body_items (trace_at macro_levels) (call_end before) commands (inside_call before)
+    → trace_at (suc macro_levels) call before ≡ outside_items macro_levels (taken call before) (call_effect commands before)
 unfolding trace_at
-call_items macro_levels commands before starts = ap (trace_carry_out (trace_at macro_levels) (taken call before)) starts
+call_items macro_levels commands before starts = ap (outside_items macro_levels (taken call before)) starts
 
 -- ESC*p0x0Y, ESC&f1y0X, ESC*c1a1b0P, ESC*p+2X, ESC&f3X, ESC&f1X, ESC&f3X: a macro that paints a dot, moves two units and
 -- calls itself, is called; a third one does not run
@@ -118,7 +123,7 @@ third_starts = ap (λ found. start_body found (ends.Call (kept_of third.state)) 
 
 third_item : trace_at 0 call third ≡ silent (taken call third) ∷ []
 unfolding trace_at
-third_item = ap (trace_finished (taken call third)) third_starts
+third_item = ap (λ effect. begun_items (λ body. trace_in_overlay overlay_levels) (begun_outside 0 (taken call third) effect)) third_starts
 
 -- The items of commands: those of the first, and then those of the others; and those of a body that ends in a call, by those of
 -- the call.
@@ -145,7 +150,7 @@ after_prefix macro_levels prefix before = last_machine (inside_call before) (tra
 call_after :
     (macro_levels : ℕ) (prefix : List Token) (before : Machine) (inner : List StepResult)
     → trace_at macro_levels call (after_prefix macro_levels prefix before) ≡ inner
-    → body_items (trace_at macro_levels) (call_end before) (prefix ++ (call ∷ [])) (inside_call before) ≡ body_with macro_levels prefix before inner
+    → outside_items macro_levels (taken call before) (call_effect (prefix ++ (call ∷ [])) before) ≡ body_with macro_levels prefix before inner
 call_after macro_levels prefix before inner same =
     ap (λ items. with_end (call_end before) (silent (inside_call before)) items)
     (trace_each-append (trace_at macro_levels) prefix (call ∷ []) (inside_call before)
@@ -279,11 +284,11 @@ close_with_overlay :
     (command : Token) (commands : List Token) (cause : EjectCause) (before : Machine) (state : State)
     → effect_on (source_at 2) command before.state ≡ Closes cause state
     → overlay_body state ≡ Some commands
-    → trace_at 2 command before ≡ close_items_with (Some commands) cause (with_state state (taken command before))
+    → trace_at 2 command before ≡ begun_items (inside_of (trace_at 1)) (begun_close (Some commands) cause (with_state state (taken command before)))
 unfolding trace_at
 close_with_overlay command commands cause before state closes found =
-    ap (trace_carry_out (trace_at 1) (taken command before)) closes
-    ∙ ap (λ body. close_items_with body cause (with_state state (taken command before))) found
+    ap (outside_items 1 (taken command before)) closes
+    ∙ ap (λ body. begun_items (inside_of (trace_at 1)) (begun_close body cause (with_state state (taken command before)))) found
 
 second_macro_is_found : (commands : List Token) → body_of (one_macro 2 commands) 2 ≡ Some commands
 second_macro_is_found commands = found-stored maps.empty 2 commands
@@ -300,7 +305,7 @@ with_overlay = last_machine power_on (trace overlaid power_on)
 
 -- a form feed, with the overlay's items, and what it leaves
 abbrev pub fed_items : (before : Machine) → List StepResult
-fed_items before = close_items_with (Some four_dots) causes.Feed (with_state before.state (taken form_feed before))
+fed_items before = begun_items (inside_of (trace_at 1)) (begun_close (Some four_dots) causes.Feed (with_state before.state (taken form_feed before)))
 
 abbrev fed : Machine → Machine
 fed before = last_machine before (fed_items before)
@@ -320,7 +325,7 @@ feed_closes state carried_out has_effect stays =
 
 first_feed_closes : effect_on (source_at 2) form_feed with_overlay.state ≡ Closes causes.Feed with_overlay.state
 unfolding trace_each trace_at
-first_feed_closes = refl
+first_feed_closes = feed_closes with_overlay.state refl refl refl
 
 first_overlay : overlay_body with_overlay.state ≡ Some four_dots
 unfolding trace_each trace_at
@@ -464,7 +469,7 @@ unfolding trace_each trace_at
 overlay_under_the_exit = second_macro_is_found four_dots
 
 abbrev exit_items : List StepResult
-exit_items = close_items_with (Some four_dots) exit_closes (with_state dropped (taken Uel in_definition))
+exit_items = begun_items (inside_of (trace_at 1)) (begun_close (Some four_dots) exit_closes (with_state dropped (taken Uel in_definition)))
 
 exit_gives : trace_at 2 Uel in_definition ≡ exit_items
 exit_gives =

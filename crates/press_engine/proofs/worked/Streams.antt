@@ -18,7 +18,7 @@ use Rattle.press_sink.specs.Sending.{Output, Deliver}
 use Rattle.press_engine.specs.declared.machine.Last.TheVariants as lasts
 use Rattle.press_page.specs.declared.media.Orientation.{Orientation}
 use Rattle.press_page.specs.declared.media.Orientation.TheVariants.{Portrait, Landscape}
-use Rattle.press_engine.specs.Outcome.{power_on_state}
+use Rattle.press_table.specs.Outcome.{power_on_state}
 use Rattle.press_engine.specs.Machine.{StepResult, power_on}
 use Rattle.press_engine.specs.Trace.{run_all, trace_each, trace_at}
 

@@ -3,9 +3,9 @@ use Rattle.press_units.proofs.ExitLemmas.{exit-is, exit-was}
 use Rattle.press_sink.specs.Sending.{Output, WentOut}
 use Rattle.press_sink.proofs.SendingLemmas.{WentOut-then}
 use Rattle.press_sink.specs.SinkLog.{logs}
-use Rattle.press_engine.specs.declared.effect.Sent.{Sent}
+use Rattle.press_table.specs.declared.effect.Sent.{Sent}
 use Rattle.press_engine.specs.Engine.{ending_of}
-use Rattle.press_engine.specs.Outputs.{outputs_of, all_outputs}
+use Rattle.press_table.specs.Outputs.{outputs_of, all_outputs}
 use Rattle.press_engine.proofs.SendsLemmas.{WentOut-exit, has_fault_room-then, all_outputs-some, WentOut-all}
 use Rattle.press_engine.proofs.sender.send_all.Goals as goal
 

@@ -2,7 +2,7 @@ use Rattle.std.proofs.Common.{drop, Result}
 use Rattle.press_sink.specs.SinkLog.{SinkLog, logs, HasFaultRoom}
 use Rattle.press_sink.specs.Sending.{WentOut}
 use Rattle.press_engine.specs.Engine.{ending_of}
-use Rattle.press_engine.specs.Outputs.{all_outputs}
+use Rattle.press_table.specs.Outputs.{all_outputs}
 use Rattle.press_engine.specs.declared.fault.EngineError.{EngineError}
 use Rattle.press_engine.proofs.sender.send_all.Given as goal
 

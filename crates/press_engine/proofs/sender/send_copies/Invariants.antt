@@ -2,7 +2,7 @@ use Rattle.std.proofs.Common.{◌-◌, ◌<◌, Result}
 use Rattle.press_sink.specs.SinkLog.{SinkLog, logs, HasFaultRoom, TookLast}
 use Rattle.press_sink.specs.Sending.{WentOut}
 use Rattle.press_engine.specs.Engine.{ending_of}
-use Rattle.press_engine.specs.Outputs.{copies_out}
+use Rattle.press_table.specs.Outputs.{copies_out}
 use Rattle.press_engine.specs.declared.fault.EngineError.{EngineError}
 use Rattle.press_engine.proofs.sender.send_copies.Given as goal
 

@@ -5,7 +5,7 @@ use Rattle.press_sink.specs.SinkLog.{logs}
 use Rattle.press_sink.specs.Sending.{Deliver, Reply, WentOut}
 use Rattle.press_sink.proofs.SendingLemmas.{WentOut-then}
 use Rattle.press_engine.specs.Engine.{ending_of}
-use Rattle.press_engine.specs.Outputs.{copy_out, status_out}
+use Rattle.press_table.specs.Outputs.{copy_out, status_out}
 use Rattle.press_engine.proofs.SendsLemmas.{WentOut-exit}
 use Rattle.press_engine.proofs.sender.send_copy.Goals as goal
 

@@ -1,9 +1,11 @@
-use Rattle.std.proofs.Common.{◌≢◌, ◌∙◌, List, [], sym, ap, subst, reverse}
+use Rattle.std.proofs.Common.{◌≢◌, ◌∙◌, List, [], ◌∷◌, arith, sym, ap, subst, reverse}
 use Rattle.press_engine.specs.declared.activation.Activation.{Activation}
 use Rattle.press_engine.specs.Engine.{StepsTo}
-use Rattle.press_engine.specs.Stack.{Stepped, step_inner, continuation}
+use Rattle.press_engine.specs.Stack.{continuation, IsNested}
+use Rattle.press_engine.specs.Stepping.{Stepped, step_inner}
 use Rattle.press_engine.proofs.ItemsLemmas.{ready-some, inner-gives}
-use Rattle.press_engine.proofs.StepLemmas.{inner-last, taken-last, steps-to, sound-inner}
+use Rattle.press_engine.proofs.StepLemmas.{step-last, taken-last, steps-to, step-sound}
+use Rattle.press_engine.proofs.CommandItems.{taking_in}
 use Rattle.press_engine.proofs.bodies.Bodies.step_inner.Goals as goal
 
 pub kind-requires : goal.kind-requires
@@ -12,7 +14,7 @@ kind-requires c =
     let some : activations ≢ [] = λ none. c.requires.running (sym c.self.view_is ∙ none) in
     let (activation, command, rest, outer, is) = ready-some activations c.self.invariant.ready some in
     let steps = c.in-Ok.ensures.steps activation command rest outer is in
-    taken-last command c.args.machine.now c.step_inner.new.self.last (ap (λ (stepped : Stepped). stepped.item.machine.last) steps ∙ inner-last activation command rest outer c.args.machine.now)
+    taken-last command c.args.machine.now c.step_inner.new.self.last (ap (λ (stepped : Stepped). stepped.item.machine.last) steps ∙ step-last (taking_in activation command c.args.machine.now) (record activation { body = rest } ∷ outer))
 
 pub invariant_of-self : goal.invariant_of-self
 invariant_of-self c =
@@ -20,8 +22,9 @@ invariant_of-self c =
     let some : activations ≢ [] = λ none. c.requires.running (sym c.self.view_is ∙ none) in
     let (activation, command, rest, outer, is) = ready-some activations c.self.invariant.ready some in
     let steps = c.in-Ok.ensures.steps activation command rest outer is in
-    sound-inner activation command rest outer activations (reverse c.step_inner.new.activations.items) c.args.machine.now is
-    c.self.invariant.nested (ap (λ (stepped : Stepped). stepped.activations) steps)
+    let nested = subst IsNested is c.self.invariant.nested in
+    step-sound (taking_in activation command c.args.machine.now) (record activation { body = rest } ∷ outer)
+    (reverse c.step_inner.new.activations.items) nested (omega arith) (ap (λ (stepped : Stepped). stepped.activations) steps)
 
 pub returns-in-Ok-clause-steps : goal.returns-in-Ok-clause-steps
 returns-in-Ok-clause-steps c =

@@ -2,11 +2,11 @@ use Rattle.std.proofs.Common.{◌≢◌, ◌∙◌, List, [], Ok, Err, sym, ap, 
 use Rattle.press_units.proofs.ExitLemmas.{exit-is, exit-was}
 use Rattle.press_sink.specs.SinkLog.{logs, under}
 use Rattle.press_sink.specs.Sending.{Complete, WentOut}
-use Rattle.press_engine.specs.declared.effect.Sent.{Sent}
+use Rattle.press_table.specs.declared.effect.Sent.{Sent}
 use Rattle.press_engine.specs.declared.engine.Engine.{Engine}
 use Rattle.press_engine.specs.Engine.{machine_of, bodies, ending_of, TakesNext}
 use Rattle.press_engine.specs.Stack.{continuation}
-use Rattle.press_engine.specs.Outputs.{all_outputs}
+use Rattle.press_table.specs.Outputs.{all_outputs}
 use Rattle.press_engine.proofs.ValueLemmas.{takes-ok, takes-stopped, takes-none, inner-some, needs-inner}
 use Rattle.press_engine.proofs.engine.Engine.step_inner.Goals as goal
 

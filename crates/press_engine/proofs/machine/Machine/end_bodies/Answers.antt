@@ -1,6 +1,6 @@
 use Rattle.std.proofs.Common.{◌≡◌, ◌∙◌, true, false, inl, inr, sym, ap, reverse, ◌∷◌, []}
 use Rattle.std.proofs.lemmas.List.{reverse-append}
-use Rattle.press_engine.specs.Stack.{unwind}
+use Rattle.press_engine.specs.Stepping.{unwind}
 use Rattle.press_engine.specs.Stepping.{is_top_used_up, run_of}
 use Rattle.press_engine.proofs.EndsLemmas.{unwind-next, unwind-none, first-used}
 use Rattle.press_engine.proofs.StepLemmas.{ends-overlay, is_err-of}

@@ -1,5 +1,6 @@
 use Rattle.std.proofs.Common.{◌≡◌, length, reverse}
-use Rattle.press_engine.specs.Stack.{unwind, EndsOverlay}
+use Rattle.press_engine.specs.Stack.{EndsOverlay}
+use Rattle.press_engine.specs.Stepping.{unwind}
 use Rattle.press_engine.specs.Stepping.{run_of}
 use Rattle.press_engine.proofs.machine.Machine.end_bodies.Given as goal
 

@@ -1,7 +1,7 @@
 use Rattle.std.proofs.Common.{◌≡◌, ◌∙◌, false, sym, ap, reverse}
 use Rattle.press_engine.specs.Machine.{silent}
-use Rattle.press_engine.specs.Outputs.{all_outputs}
-use Rattle.press_engine.specs.Stack.{unwind}
+use Rattle.press_table.specs.Outputs.{all_outputs}
+use Rattle.press_engine.specs.Stepping.{unwind}
 use Rattle.press_engine.specs.Stepping.{is_top_used_up, stepped_of}
 use Rattle.press_engine.proofs.EndsLemmas.{unwind-none}
 use Rattle.press_engine.proofs.machine.Machine.end_step.Goals as goal

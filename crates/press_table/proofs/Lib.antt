@@ -1,0 +1,5 @@
+-- The lemmas on the command table: pages, changes of the page, and rows that keep it.
+pub mod ChangeLemmas
+pub mod PageKeptLemmas
+pub mod PlaceLemmas
+pub mod worked

@@ -1,0 +1,159 @@
+-- Rows that leave the open page as it is.
+use Rattle.std.proofs.Common.{◌≡◌, ℕ, ◌&&◌, List, Bool, true, false, cond, Option, Some, None, refl}
+use Rattle.std.proofs.lemmas.Bool.{true≢false}
+use Rattle.std.specs.Prelude.{ℤ, pos, is_some}
+use Rattle.std.specs.Ordering.{int_eq}
+use Rattle.press_cmd.specs.Token.{Token, data_of}
+use Rattle.press_cursor.specs.Cursor.{is_left_of, is_right_of, at_least, at_most, pushed, popped}
+use Rattle.press_cursor.specs.Stack.{has_room, newest}
+use Rattle.press_page.specs.Environment.{asked_left, asked_right, set_left_margin, set_right_margin}
+use Rattle.press_table.specs.Motion.{change_left_margin, change_right_margin, push_or_pop}
+use Rattle.press_cmd.specs.Kinds.{kind_of}
+use Rattle.press_pattern.specs.declared.pattern.PatternKind.{PatternKind}
+use Rattle.press_table.specs.declared.effect.Source.{Source}
+use Rattle.press_table.specs.declared.operation.Operation.{Operation}
+use Rattle.press_table.specs.declared.operation.Operation.TheVariants as operations
+use Rattle.press_table.specs.declared.pattern_control.PatternControl.{PatternControl}
+use Rattle.press_table.specs.declared.state.State.{State}
+use Rattle.press_table.specs.Outcome.{Effect, Changes, MayAllocate, bounds, ended_raster_if, with_environment}
+use Rattle.press_table.specs.Macros.{with_macro_id}
+use Rattle.press_table.specs.Operation.{operation_of}
+use Rattle.press_table.specs.Patterns.{define_pattern, pattern_control_with, select_kind}
+use Rattle.press_pattern.specs.UserData.{has_header}
+use Rattle.press_pattern.specs.UserData.{has_rows}
+use Rattle.press_pattern.specs.Store.{with_definition}
+use Rattle.press_table.specs.Raster.{start_at, offset_by}
+use Rattle.press_table.specs.Table.{value_of, whole_part_of, table_row, effect_on, is_recorded, is_skipped}
+use Rattle.press_table.specs.PageKept.{PageStays, may_change_page}
+
+either : (b : Bool) (before s t : State) → s.page ≡ before.page → t.page ≡ before.page → (cond b s t).page ≡ before.page
+either true before s t first second = first
+either false before s t first second = second
+
+effect_either : (b : Bool) (before : State) (e f : Effect) → PageStays before e → PageStays before f → PageStays before (cond b e f)
+effect_either true before e f first second = first
+effect_either false before e f first second = second
+
+control_page : (control : Option PatternControl) (state : State) → (pattern_control_with control state).page ≡ state.page
+control_page None state = refl
+control_page (Some control) state = refl
+
+kind_page : (kind : Option PatternKind) (state : State) → (select_kind kind state).page ≡ state.page
+kind_page None state = refl
+kind_page (Some kind) state = either _ state _ _ refl refl
+
+start_page : (left : Option ℕ) (state : State) → (start_at left state).page ≡ state.page
+start_page None state = refl
+start_page (Some left) state = refl
+
+offset_page : (rows : Option ℕ) (state : State) → (offset_by rows state).page ≡ state.page
+offset_page None state = refl
+offset_page (Some rows) state = refl
+
+offset_rows : (on : Bool) (rows : Option ℕ) (state : State) → (cond on (offset_by rows state) state).page ≡ state.page
+offset_rows on rows state = either on state (offset_by rows state) state (offset_page rows state) refl
+
+start_rows : (on : Bool) (left : Option ℕ) (state : State) → (cond on state (start_at left state)).page ≡ state.page
+start_rows on left state = either on state state (start_at left state) refl (start_page left state)
+
+macro_page : (id : Option ℕ) (state : State) → (with_macro_id id state).page ≡ state.page
+macro_page None state = refl
+macro_page (Some id) state = refl
+
+ended_page : (ends : Bool) (before s : State) → s.page ≡ before.page → (ended_raster_if ends s).page ≡ before.page
+ended_page true before s same = same
+ended_page false before s same = same
+
+margin_page : (asked ends : Bool) (moved after state : State) → moved.page ≡ state.page → after.page ≡ state.page → (cond asked (ended_raster_if ends moved) after).page ≡ state.page
+margin_page asked ends moved after state first second = either asked state (ended_raster_if ends moved) after (ended_page ends state moved first) second
+
+stack_page : (zero one room some : Bool) (pushed popped state : State) → pushed.page ≡ state.page → popped.page ≡ state.page →
+    (cond zero (ended_raster_if room pushed) (cond one (ended_raster_if some popped) state)).page ≡ state.page
+stack_page zero one room some pushed popped state first second =
+    either zero state (ended_raster_if room pushed) (cond one (ended_raster_if some popped) state) (ended_page room state pushed first)
+    (either one state (ended_raster_if some popped) state (ended_page some state popped second) refl)
+
+left_margin : (value : ℤ) (state : State) → (change_left_margin value state).page ≡ state.page
+left_margin value state =
+    let after : State = with_environment (set_left_margin value) state in
+    margin_page (is_some (asked_left value state.environment)) (is_left_of after.environment.margins.left after.cursor)
+    (record after { cursor = at_least after.environment.margins.left after.cursor }) after state refl refl
+
+right_margin : (value : ℤ) (state : State) → (change_right_margin value state).page ≡ state.page
+right_margin value state =
+    let after : State = with_environment (set_right_margin value) state in
+    margin_page (is_some (asked_right value state.environment)) (is_right_of after.environment.margins.right after.cursor)
+    (record after { cursor = at_most after.environment.margins.right after.cursor }) after state refl refl
+
+stack_moves : (number : ℤ) (state : State) → (push_or_pop number state).page ≡ state.page
+stack_moves number state =
+    stack_page (int_eq number (pos 0)) (int_eq number (pos 1)) (has_room state.cursor.stack) (is_some (newest state.cursor.stack))
+    (record state { cursor = pushed state.cursor }) (record state { cursor = popped (bounds state) state.cursor }) state refl refl
+
+defined : (bytes : List ℕ) (state : State) → PageStays state (define_pattern bytes state)
+defined bytes state =
+    effect_either (has_header bytes && has_rows bytes) state
+    (MayAllocate (record state { patterns = with_definition state.patterns state.drawing.pattern_id bytes })) (Changes state) refl refl
+
+row_stays : (source : Source) (operation : Operation) (command : Token) (state : State) → may_change_page operation ≡ false → PageStays state (table_row source operation command state)
+row_stays source operations.Nothing command state keeps = refl
+row_stays source operations.CarriageReturn command state keeps = absurd (true≢false keeps)
+row_stays source operations.LineFeed command state keeps = absurd (true≢false keeps)
+row_stays source operations.FormFeed command state keeps = absurd (true≢false keeps)
+row_stays source operations.HalfLineFeed command state keeps = absurd (true≢false keeps)
+row_stays source operations.ClearMargins command state keeps = refl
+row_stays source operations.Reset command state keeps = absurd (true≢false keeps)
+row_stays source operations.EnterHpGl command state keeps = refl
+row_stays source operations.LeaveHpGl command state keeps = refl
+row_stays source operations.UnitOfMeasure command state keeps = refl
+row_stays source operations.MoveColumns command state keeps = refl
+row_stays source operations.MoveRows command state keeps = refl
+row_stays source operations.MoveHorizontally command state keeps = refl
+row_stays source operations.MoveVertically command state keeps = refl
+row_stays source operations.SelectPageSide command state keeps = absurd (true≢false keeps)
+row_stays source operations.LeftMargin command state keeps = left_margin (value_of command) state
+row_stays source operations.RightMargin command state keeps = right_margin (value_of command) state
+row_stays source operations.PushOrPop command state keeps = stack_moves (whole_part_of command) state
+row_stays source operations.LineTermination command state keeps = refl
+row_stays source operations.HorizontalMotion command state keeps = refl
+row_stays source operations.SelectPageSize command state keeps = absurd (true≢false keeps)
+row_stays source operations.VerticalMotion command state keeps = refl
+row_stays source operations.LineSpacing command state keeps = refl
+row_stays source operations.TopMargin command state keeps = either _ state _ _ refl refl
+row_stays source operations.TextLength command state keeps = refl
+row_stays source operations.EjectPage command state keeps = absurd (true≢false keeps)
+row_stays source operations.PerforationSkip command state keeps = either _ state _ _ refl refl
+row_stays source operations.SelectOrientation command state keeps = absurd (true≢false keeps)
+row_stays source operations.SelectDuplex command state keeps = absurd (true≢false keeps)
+row_stays source operations.Copies command state keeps = refl
+row_stays source operations.RectangleWidth command state keeps = refl
+row_stays source operations.RectangleHeight command state keeps = refl
+row_stays source operations.PatternId command state keeps = refl
+row_stays source operations.RectangleWidthInDecipoints command state keeps = refl
+row_stays source operations.Fill command state keeps = absurd (true≢false keeps)
+row_stays source operations.ControlPatterns command state keeps = control_page _ state
+row_stays source operations.RectangleHeightInDecipoints command state keeps = refl
+row_stays source operations.DefinePattern command state keeps = defined (data_of command) state
+row_stays source operations.SourceTransparency command state keeps = refl
+row_stays source operations.PatternTransparency command state keeps = refl
+row_stays source operations.SelectPattern command state keeps = kind_page _ state
+row_stays source operations.RasterResolution command state keeps = either _ state _ _ refl refl
+row_stays source operations.StartRaster command state keeps = start_rows _ _ state
+row_stays source operations.EndRaster command state keeps = refl
+row_stays source operations.EndRasterAndMethod command state keeps = refl
+row_stays source operations.SourceWidth command state keeps = either _ state _ _ refl refl
+row_stays source operations.SourceHeight command state keeps = either _ state _ _ refl refl
+row_stays source operations.SetMethod command state keeps = refl
+row_stays source operations.TransferRow command state keeps = absurd (true≢false keeps)
+row_stays source operations.OffsetRaster command state keeps = offset_rows _ _ state
+row_stays source operations.MoveX command state keeps = refl
+row_stays source operations.MoveY command state keeps = refl
+row_stays source operations.MacroId command state keeps = macro_page _ state
+row_stays source operations.ControlMacro command state keeps = absurd (true≢false keeps)
+row_stays source operations.JobLanguage command state keeps = absurd (true≢false keeps)
+
+pub row_keeps_the_page : (source : Source) (command : Token) (state : State) → may_change_page (operation_of (kind_of command)) ≡ false → PageStays state (effect_on source command state)
+row_keeps_the_page source command state keeps =
+    effect_either (is_recorded command state) state _ _ refl
+    (effect_either (is_skipped source (operation_of (kind_of command)) state) state _ _ refl
+    (row_stays source (operation_of (kind_of command)) command state keeps))

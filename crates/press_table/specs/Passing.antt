@@ -1,0 +1,20 @@
+-- Commands of the stream that have no effect.
+use Rattle.std.specs.Prelude.{◌≡◌, ℕ}
+use Rattle.press_cmd.specs.Token.{Token, Control, Text, ForeignByte}
+use Rattle.press_table.specs.declared.effect.Source.TheVariants.{Stream}
+use Rattle.press_table.specs.declared.state.State.{State}
+use Rattle.press_table.specs.Outcome.{Changes}
+use Rattle.press_table.specs.Table.{effect_on}
+
+-- a command of the stream is not recorded, and changes nothing
+abbrev pub HasNoEffect : State → Token → Type 0
+HasNoEffect state command = effect_on Stream command state ≡ Changes state
+
+-- text bytes and bytes of another language have none
+pub record SkipsBytes (state : State) : Type 0 where
+  pub text : (byte : ℕ) → HasNoEffect state (Text byte)
+  pub foreign : (byte : ℕ) → HasNoEffect state (ForeignByte byte)
+
+-- nor have control bytes
+abbrev pub SkipsControls : State → Type 0
+SkipsControls state = (byte : ℕ) → HasNoEffect state (Control byte)
