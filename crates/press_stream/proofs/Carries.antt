@@ -3,25 +3,25 @@ use Rattle.std.proofs.Common.{◌≡◌, ◌≢◌, ◌∙◌, ℕ, List, [], �
 use Rattle.press_cmd.specs.Token.{Token, Uel}
 use Rattle.press_cmd.specs.declared.variant.Kind.{Kind}
 use Rattle.press_scan.specs.ScannerState.{ScannerState, buffer_size}
-use Rattle.press_sink.specs.SinkLog.{SinkLog}
-use Rattle.press_sink.specs.Sending.{Ending, Complete, AtSheet, AtReply, ForMemory, WentOut}
-use Rattle.press_sink.proofs.SendingLemmas.{WentOut-no_memory}
-use Rattle.press_engine.specs.declared.effect.Sent.{Sent}
-use Rattle.press_engine.specs.declared.effect.StepOutput.{StepOutput}
+use Rattle.press_sink.specs.SinkLog.{SinkLog, under}
+use Rattle.press_sink.specs.Sending.{Output, Ending, Complete, AtSheet, AtReply, ForMemory, Refused, GoesOut, WentOut, HandsOut}
+use Rattle.press_sink.proofs.SendingLemmas.{Took-none, WentOut-took}
+use Rattle.press_table.specs.declared.effect.Sent.{Sent}
+use Rattle.press_engine.specs.declared.step_output.StepOutput.{StepOutput}
 use Rattle.press_engine.specs.declared.fault.EngineError.{EngineError}
 use Rattle.press_engine.specs.declared.fault.EngineError.TheVariants as engine_errors
 use Rattle.press_engine.specs.declared.activation.Activation.{Activation}
 use Rattle.press_engine.specs.declared.machine.Machine.{Machine}
 use Rattle.press_engine.specs.Engine.{bodies, ending_of, Steps, NeedsMemory, InnerNeedsMemory}
 use Rattle.press_engine.specs.Machine.{StepResult, macro_levels}
-use Rattle.press_engine.specs.Outputs.{all_outputs}
+use Rattle.press_table.specs.Outputs.{all_outputs}
 use Rattle.press_engine.specs.Stack.{continuation, HasNext}
 use Rattle.press_engine.specs.Trace.{trace_at}
 use Rattle.press_engine.proofs.ValueLemmas.{some-items, outer-some, inner-some, wants-outer, wants-inner}
 use Rattle.press_stream.specs.declared.fault.JobError.{JobError}
 use Rattle.press_stream.specs.declared.fault.JobError.TheVariants as errors
 use Rattle.press_stream.specs.declared.step.Step.TheVariants as answers
-use Rattle.press_stream.specs.Answers.{job_error, ending_by, IsDue, TakesOf, Takes, FaultsBy, StopsAtDue, TakesStep, WantsMemory}
+use Rattle.press_stream.specs.Answers.{job_error, ending_by, IsDue, TakesOf, Takes, StopsAtDue, TakesStep, WantsMemory}
 use Rattle.press_stream.specs.Meaning.{left}
 use Rattle.press_stream.specs.State.{JobState}
 use Rattle.press_stream.specs.Steps.{TakesGiven, TakesNothing, Does, DoesStep, CarriesOne, CarriesNext}
@@ -112,17 +112,20 @@ ending-same engine_errors.Failed = refl
 -- a step all of whose outputs went out
 pub Takes-sent : (old between new : JobState) (step : StepOutput) (sent : List Sent) (tag : ℕ) (before after : SinkLog)
     → DoesStep old step between → new ≡ between → sent ≡ step.sent.items → WentOut tag (all_outputs sent) Complete before after
-    → Takes old tag (Ok (answers.Ran step.kind)) new before after
+    → HandsOut Complete (Takes old (Ok (answers.Ran step.kind)) new) (under tag before after)
 Takes-sent old between new step sent tag before after (machine, did) same is hands =
-    let P : List Sent → Type 0 = λ these. WentOut tag (all_outputs these) Complete before after in
     let item : StepResult = record { machine = machine; outputs = all_outputs step.sent.items } in
     let Q : JobState → Type 0 = λ job. Does old item step.kind job in
-    (item, subst Q (sym same) did, subst P is hands)
+    record {
+      went = hands.went;
+      is = (item, subst Q (sym same) did, hands.goes ∙ ap all_outputs is);
+      took = WentOut-took tag (all_outputs sent) Complete before after hands;
+    }
 
 -- the outputs of a step's item went out so far
-stops-at : (old new : JobState) (item : StepResult) (kind : Kind) (tag : ℕ) (ending : Ending) (before after : SinkLog)
-    → Does old item kind new → WentOut tag item.outputs ending before after → StopsAtDue old tag ending before after
-stops-at old new item kind tag ending before after did went = record {
+stops-at : (old new : JobState) (item : StepResult) (kind : Kind) (ending : Ending) (went : List Output)
+    → Does old item kind new → GoesOut ending went item.outputs → StopsAtDue old ending went
+stops-at old new item kind ending went did goes = record {
   given = did.given;
   takes = taken-of old new did.given did.takes;
   from = did.from;
@@ -130,27 +133,31 @@ stops-at old new item kind tag ending before after did went = record {
   item = item;
   others = continuation new.bodies item.machine;
   are = did.are;
-  went = went;
+  goes = goes;
 }
 
-faults-by : (old between new : JobState) (item : StepResult) (kind : Kind) (tag : ℕ) (error : JobError) (before after : SinkLog)
-    → Does old item kind between → new.machine ≡ None → WentOut tag item.outputs (ending_by (Some error)) before after
-    → FaultsBy (λ ending. StopsAtDue old tag ending before after) old error new before after
-faults-by old between new item kind tag errors.SinkFault before after did gone went = (gone, stops-at old between item kind tag AtSheet before after did went)
-faults-by old between new item kind tag errors.ReplyFault before after did gone went = (gone, stops-at old between item kind tag AtReply before after did went)
-faults-by old between new item kind tag errors.NoMemory before after did gone went = (gone, stops-at old between item kind tag ForMemory before after did went)
-faults-by old between new item kind tag errors.Failed before after did gone went = absurd went.goes
-faults-by old between new item kind tag errors.ReadFault before after did gone went = absurd went.goes
-faults-by old between new item kind tag errors.AfterEnd before after did gone went = absurd went.goes
+faults-by : (old between new : JobState) (item : StepResult) (kind : Kind) (error : JobError) (went : List Output)
+    → Does old item kind between → new.machine ≡ None → GoesOut (ending_by (Some error)) went item.outputs
+    → Takes old (Err error) new went
+faults-by old between new item kind errors.SinkFault went did gone goes = (gone, stops-at old between item kind AtSheet went did goes)
+faults-by old between new item kind errors.ReplyFault went did gone goes = (gone, stops-at old between item kind AtReply went did goes)
+faults-by old between new item kind errors.NoMemory went did gone goes = (gone, stops-at old between item kind ForMemory went did goes)
+faults-by old between new item kind errors.Failed went did gone goes = absurd goes
+faults-by old between new item kind errors.ReadFault went did gone goes = absurd goes
+faults-by old between new item kind errors.AfterEnd went did gone goes = absurd goes
 
 -- a step whose outputs were not all taken
 pub Faults-sent : (old between new : JobState) (step : StepOutput) (sent : List Sent) (tag : ℕ) (error : JobError) (before after : SinkLog)
     → DoesStep old step between → sent ≡ step.sent.items → new.machine ≡ None
     → WentOut tag (all_outputs sent) (ending_by (Some error)) before after
-    → FaultsBy (λ ending. StopsAtDue old tag ending before after) old error new before after
-Faults-sent old between new step sent tag error before after (machine, did) is gone went =
-    let P : List Sent → Type 0 = λ these. WentOut tag (all_outputs these) (ending_by (Some error)) before after in
-    faults-by old between new (record { machine = machine; outputs = all_outputs step.sent.items }) step.kind tag error before after did gone (subst P is went)
+    → HandsOut (ending_by (Some error)) (Takes old (Err error) new) (under tag before after)
+Faults-sent old between new step sent tag error before after (machine, did) is gone sends =
+    let P : List Sent → Type 0 = λ these. GoesOut (ending_by (Some error)) sends.went (all_outputs these) in
+    record {
+      went = sends.went;
+      is = faults-by old between new (record { machine = machine; outputs = all_outputs step.sent.items }) step.kind error sends.went did gone (subst P is sends.goes);
+      took = WentOut-took tag (all_outputs sent) (ending_by (Some error)) before after sends;
+    }
 
 -- where something goes out in a step, what comes next may take memory
 needs-command : (old new : JobState) (item : StepResult) (kind : Kind) → (did : Does old item kind new) → item.outputs ≢ []
@@ -177,34 +184,35 @@ wants-sent old new step sent (machine, did) is some =
 
 -- ---- where memory ran out in a step
 
-stopped-before : (given : List Token) (job : JobState) (machine : Machine) (tag : ℕ) (told : SinkLog) → TakesOf job given
-    → job.machine ≡ Some machine → left given job.bodies machine ≢ [] → StopsAtDue job tag ForMemory told told
-stopped-before given job machine tag told takes is some =
+stopped-before : (given : List Token) (job : JobState) (machine : Machine) → TakesOf job given
+    → job.machine ≡ Some machine → left given job.bodies machine ≢ [] → StopsAtDue job ForMemory []
+stopped-before given job machine takes is some =
     let (item, others, are) = some-items (left given job.bodies machine) some in
-    record { given = given; takes = takes; from = machine; starts = is; item = item; others = others; are = are; went = WentOut-no_memory tag item.outputs told }
+    record { given = given; takes = takes; from = machine; starts = is; item = item; others = others; are = are; goes = (item.outputs, refl) }
 
 -- nothing of what comes next went out
-stops-inside : (job : JobState) (machine : Option Machine) (tag : ℕ) (told : SinkLog) → job.machine ≡ machine → InnerNeedsMemory machine job.bodies → StopsAtDue job tag ForMemory told told
-stops-inside job None tag told is needs = absurd needs
-stops-inside job (Some machine) tag told is (activation, command, rest, outer, all, _) =
+stops-inside : (job : JobState) (machine : Option Machine) → job.machine ≡ machine → InnerNeedsMemory machine job.bodies → StopsAtDue job ForMemory []
+stops-inside job None is needs = absurd needs
+stops-inside job (Some machine) is (activation, command, rest, outer, all, _) =
     let next : HasNext job.bodies = (activation, command, rest, outer, all) in
     let some : left [] job.bodies machine ≢ [] = λ none. inner-some job.bodies machine next (sym (left-none job.bodies machine) ∙ none) in
-    stopped-before [] job machine tag told (inl (next_runs job.bodies next, refl)) is some
+    stopped-before [] job machine (inl (next_runs job.bodies next, refl)) is some
 
-stops-at_command : (job : JobState) (command : Token) (machine : Option Machine) (tag : ℕ) (told : SinkLog) → IsDue job command
-    → job.machine ≡ machine → NeedsMemory machine command → StopsAtDue job tag ForMemory told told
-stops-at_command job command None tag told due is needs = absurd needs
-stops-at_command job command (Some machine) tag told due is needs =
+stops-at_command : (job : JobState) (command : Token) (machine : Option Machine) → IsDue job command
+    → job.machine ≡ machine → NeedsMemory machine command → StopsAtDue job ForMemory []
+stops-at_command job command None due is needs = absurd needs
+stops-at_command job command (Some machine) due is needs =
     let some : left (command ∷ []) job.bodies machine ≢ [] = λ none. outer-some command machine (sym (command_is_left job.bodies command machine due.0) ∙ none) in
-    stopped-before (command ∷ []) job machine tag told (inr (command, due, refl)) is some
+    stopped-before (command ∷ []) job machine (inr (command, due, refl)) is some
 
-stops-for_memory : (job : JobState) (tag : ℕ) (told : SinkLog) → WantsMemory job → StopsAtDue job tag ForMemory told told
-stops-for_memory job tag told (inl needs) = stops-inside job job.machine tag told refl needs
-stops-for_memory job tag told (inr (command, due, needs)) = stops-at_command job command job.machine tag told due refl needs
+stops-for_memory : (job : JobState) → WantsMemory job → StopsAtDue job ForMemory []
+stops-for_memory job (inl needs) = stops-inside job job.machine refl needs
+stops-for_memory job (inr (command, due, needs)) = stops-at_command job command job.machine due refl needs
 
-pub Faults-taken : (old new : JobState) (tag : ℕ) (error : JobError) (told : SinkLog) → TakesStep old (Err error) new → FaultsBy (λ ending. StopsAtDue old tag ending told told) old error new told told
-Faults-taken old new tag errors.NoMemory told takes = (takes.1, stops-for_memory old tag told takes.0)
-Faults-taken old new tag errors.Failed told takes = (takes.0, takes.1, refl)
+pub Faults-taken : (old new : JobState) (tag : ℕ) (error : JobError) (told : SinkLog) → TakesStep old (Err error) new
+    → HandsOut (ending_by (Some error)) (Takes old (Err error) new) (under tag told told)
+Faults-taken old new tag errors.NoMemory told takes = record { went = []; is = (takes.1, stops-for_memory old takes.0); took = Took-none tag ForMemory told refl refl }
+Faults-taken old new tag errors.Failed told takes = record { went = []; is = (takes.0, takes.1, refl); took = Took-none tag Refused told refl refl }
 Faults-taken old new tag errors.SinkFault told takes = absurd takes
 Faults-taken old new tag errors.ReplyFault told takes = absurd takes
 Faults-taken old new tag errors.ReadFault told takes = absurd takes

@@ -1,5 +1,5 @@
 -- How a job goes on.
-use Rattle.std.proofs.Common.{◌≡◌, ◌≢◌, ◌∙◌, ◌≤◌, ◌+◌, inl, inr, arith, length, ℕ, List, [], ◌∷◌, ◌++◌, Bool, true, false, Option, Some, None, IsSome, MatchBool, refl, sym, ap, subst}
+use Rattle.std.proofs.Common.{◌≡◌, ◌≢◌, ◌∙◌, ◌≤◌, ◌+◌, inl, inr, arith, length, ℕ, List, [], ◌∷◌, ◌++◌, Bool, true, false, Option, Some, None, IsSome, is_some, MatchBool, refl, sym, ap, subst}
 use Rattle.std.proofs.lemmas.Bool.{false≢true, true≢false}
 use Rattle.std.proofs.lemmas.List.{append_assoc, append-nil}
 use Rattle.press_cmd.specs.ParserState.{ParserState}
@@ -9,9 +9,8 @@ use Rattle.press_cmd.proofs.Splits.{some_split, steps-more, steps-then}
 use Rattle.press_cmd.specs.declared.variant.Kind.{Kind}
 use Rattle.press_scan.specs.Gives.{Passes, IsDone}
 use Rattle.press_scan.specs.ScannerState.{ScannerState}
-use Rattle.press_sink.specs.SinkLog.{SinkLog, under}
-use Rattle.press_sink.specs.Sending.{Output, Ending, Complete, ForMemory, WentOut}
-use Rattle.press_sink.proofs.SendingLemmas.{WentOut-none, WentOut-no_memory, WentOut-then, WentOut-stopped}
+use Rattle.press_sink.specs.Sending.{Output, Ending, Complete, ForMemory, GoesOut}
+use Rattle.press_sink.proofs.SendingLemmas.{goes-then, goes-stopped}
 use Rattle.press_engine.specs.declared.activation.Activation.{Activation}
 use Rattle.press_engine.specs.declared.machine.Machine.{Machine}
 use Rattle.press_engine.specs.Machine.{StepResult}
@@ -19,7 +18,7 @@ use Rattle.press_engine.specs.Stack.{continuation, HasNext}
 use Rattle.press_engine.specs.Trace.{last_machine, joined, trace}
 use Rattle.press_stream.specs.State.{JobState, with_piece, input_ended, most_commands}
 use Rattle.press_stream.specs.Steps.{TakesGiven, Does}
-use Rattle.press_stream.specs.Meaning.{with_exit, left, Owes, CarriesOut, Stops}
+use Rattle.press_stream.specs.Meaning.{with_exit, left, Owes, CarriesOut, CarriesOn, Stops}
 use Rattle.press_stream.specs.Answers.{TakesOf, StopsAtDue}
 use Rattle.press_engine.proofs.TraceLaws.{joined-append}
 use Rattle.press_stream.proofs.Items.{joined-one, left-none, left-append, left-then, last-append}
@@ -63,30 +62,28 @@ closed-then from bytes commands closed mode rest steps ends = (
 -- ---- from one call to the next
 
 -- no command changes nothing
-stays : (old new : JobState) (bytes : List ℕ) (tag : ℕ) (told : SinkLog) → IsSome old.machine → new.machine ≡ old.machine → new.bodies ≡ old.bodies
+stays : (old new : JobState) (bytes : List ℕ) → IsSome old.machine → new.machine ≡ old.machine → new.bodies ≡ old.bodies
     → (new.held.ended ≡ false → (old.held.ended ≡ false) × Steps old.held.mode (old.held.bytes ++ bytes) [] new.held.mode new.held.bytes)
     → ((more : List ℕ) (commands : List Token) → Owes new more commands → Owes old (bytes ++ more) commands)
-    → CarriesOut old bytes [] new (under tag told told)
-stays old new bytes tag told running same still so_far to_end =
+    → CarriesOut old bytes [] [] new
+stays old new bytes running same still so_far to_end =
     let some = some_of old.machine running in
     record {
-      items = [];
       so_far = so_far;
       to_end = to_end;
       from = some.0;
       starts = some.1;
       ends = same ∙ some.1;
       are = left-none old.bodies some.0 ∙ ap (λ (bodies : List Activation). continuation bodies some.0) (sym still);
-      went = WentOut-none tag told;
     }
 
-pub CarriesOut-none : (job : JobState) (tag : ℕ) (told : SinkLog) → IsSome job.machine → CarriesOut job [] [] job (under tag told told)
-CarriesOut-none job tag told running =
-    stays job job [] tag told running refl refl (λ going. (going, (refl, append-nil job.held.bytes))) (λ more commands owes. owes)
+pub CarriesOut-none : (job : JobState) → IsSome job.machine → CarriesOut job [] [] [] job
+CarriesOut-none job running =
+    stays job job [] running refl refl (λ going. (going, (refl, append-nil job.held.bytes))) (λ more commands owes. owes)
 
-pub CarriesOut-push : (job : JobState) (piece : List ℕ) (tag : ℕ) (told : SinkLog) → IsSome job.machine → job.held.ended ≡ false → CarriesOut job piece [] (with_piece piece job) (under tag told told)
-CarriesOut-push job piece tag told running going =
-    stays job (with_piece piece job) piece tag told running refl refl (λ _. (going, (refl, refl)))
+pub CarriesOut-push : (job : JobState) (piece : List ℕ) → IsSome job.machine → job.held.ended ≡ false → CarriesOut job piece [] [] (with_piece piece job)
+CarriesOut-push job piece running going =
+    stays job (with_piece piece job) piece running refl refl (λ _. (going, (refl, refl)))
     (λ more commands owes. (λ ended. absurd (true≢false (sym ended ∙ going)), continuation job.exited more commands owes.1)) where
       continuation : (exited : Bool) (more : List ℕ) (commands : List Token)
           → MatchBool exited (commands ≡ [])
@@ -98,27 +95,22 @@ CarriesOut-push job piece tag told running going =
           let P : List ℕ → Type 0 = λ all. ClosedFrom job.held.mode all some.0 in
           (some.0, subst P (append_assoc job.held.bytes piece more) some.1, some.2)
 
-pub CarriesOut-ends : (job : JobState) (tag : ℕ) (told : SinkLog) → IsSome job.machine → CarriesOut job [] [] (input_ended job) (under tag told told)
-CarriesOut-ends job tag told running =
-    stays job (input_ended job) [] tag told running refl refl (λ going. absurd (true≢false going)) (λ more commands owes. (λ _. owes.0 refl, owes.1))
+pub CarriesOut-ends : (job : JobState) → IsSome job.machine → CarriesOut job [] [] [] (input_ended job)
+CarriesOut-ends job running =
+    stays job (input_ended job) [] running refl refl (λ going. absurd (true≢false going)) (λ more commands owes. (λ _. owes.0 refl, owes.1))
 
-pub CarriesOut-then : (old between new : JobState) (bytes more : List ℕ) (given others : List Token) (tag : ℕ)
-    (before middle after : SinkLog)
-    → CarriesOut old bytes given between (under tag before middle) → CarriesOut between more others new (under tag middle after)
-    → CarriesOut old (bytes ++ more) (given ++ others) new (under tag before after)
-CarriesOut-then old between new bytes more given others tag before middle after first second =
-    let items = first.items in
-    let rest = second.items in
+pub CarriesOut-then : (old between new : JobState) (bytes more : List ℕ) (given others : List Token) (items rest : List StepResult)
+    → CarriesOut old bytes given items between → CarriesOut between more others rest new
+    → CarriesOut old (bytes ++ more) (given ++ others) (items ++ rest) new
+CarriesOut-then old between new bytes more given others items rest first second =
     let from = first.from in
     let at = last_machine from items in
     let same : second.from ≡ at = same_some between.machine second.from at second.starts first.ends in
     let last = last-append items rest from in
-    let O : List Output → Type 0 = λ outputs. WentOut tag outputs Complete before after in
     let second_are : left others between.bodies at ≡ rest ++ continuation new.bodies (last_machine at rest) =
     subst (λ (machine : Machine). left others between.bodies machine ≡ rest ++ continuation new.bodies (last_machine machine rest))
     same second.are in
     record {
-      items = items ++ rest;
       so_far = λ going.
           let last = second.so_far going in
           let start = first.so_far last.0 in
@@ -141,16 +133,39 @@ CarriesOut-then old between new bytes more given others tag before middle after 
           ∙ ap (λ (left : List StepResult). items ++ left) second_are
           ∙ sym (append_assoc items rest (continuation new.bodies (last_machine at rest)))
           ∙ ap (λ (machine : Machine). (items ++ rest) ++ continuation new.bodies machine) (sym last);
-      went = subst O (sym (joined-append items rest)) (WentOut-then tag (joined items) (joined rest) Complete before middle after first.went second.went);
     }
 
--- the items of both, one after the other
-pub CarriesOut-items : (old between new : JobState) (bytes more : List ℕ) (given others : List Token) (tag : ℕ) (before middle after : SinkLog)
-    → (first : CarriesOut old bytes given between (under tag before middle)) (second : CarriesOut between more others new (under tag middle after))
-    → (all : CarriesOut old (bytes ++ more) (given ++ others) new (under tag before after)) × (all.items ≡ first.items ++ second.items)
-unfolding CarriesOut-then
-CarriesOut-items old between new bytes more given others tag before middle after first second =
-    (CarriesOut-then old between new bytes more given others tag before middle after first second, refl)
+-- ---- the outputs of what was carried out
+
+-- nothing was carried out
+pub CarriesOn-none : (job : JobState) → IsSome job.machine → CarriesOn job [] job []
+CarriesOn-none job running = ([], [], CarriesOut-none job running, refl)
+
+pub CarriesOn-push : (job : JobState) (piece : List ℕ) → IsSome job.machine → job.held.ended ≡ false → CarriesOn job piece (with_piece piece job) []
+CarriesOn-push job piece running going = ([], [], CarriesOut-push job piece running going, refl)
+
+pub CarriesOn-ends : (job : JobState) → IsSome job.machine → CarriesOn job [] (input_ended job) []
+CarriesOn-ends job running = ([], [], CarriesOut-ends job running, refl)
+
+-- commands, and then others
+pub CarriesOn-then : (old between new : JobState) (bytes more : List ℕ) (went others : List Output) → CarriesOn old bytes between went
+    → CarriesOn between more new others → CarriesOn old (bytes ++ more) new (went ++ others)
+CarriesOn-then old between new bytes more went others (given, items, first, is) (commands, rest, second, are) = (
+  given ++ commands,
+  items ++ rest,
+  CarriesOut-then old between new bytes more given commands items rest first second,
+  (λ i. is i ++ are i) ∙ sym (joined-append items rest),
+)
+
+-- the others of no more bytes
+pub CarriesOn-after : (old between new : JobState) (bytes : List ℕ) (went others : List Output) → CarriesOn old bytes between went
+    → CarriesOn between [] new others → CarriesOn old bytes new (went ++ others)
+CarriesOn-after old between new bytes went others first second =
+    subst (λ (all : List ℕ). CarriesOn old all new (went ++ others)) (append-nil bytes) (CarriesOn-then old between new bytes [] went others first second)
+
+-- a job that went on runs
+pub CarriesOn-to : (old new : JobState) (bytes : List ℕ) (went : List Output) → CarriesOn old bytes new went → IsSome new.machine
+CarriesOn-to old new bytes went goes = ap is_some goes.2.ends
 
 -- the next command of what a scanner holds
 passes_owed : (held next : ScannerState) (command : Token) (more : List ℕ) (closed : List Token) → Passes held command next
@@ -244,28 +259,23 @@ taken-of old new given (inl (next, none, _, _)) = inl (next_runs old.bodies next
 taken-of old new given (inr (inl (command, is, idle, going, _, passes))) = inr (command, (idle, going, inl (new.held, passes)), is)
 taken-of old new given (inr (inr (is, idle, going, _, _, ended, done))) = inr (Uel, (idle, going, inr (ended, done, refl)), is)
 
--- A step that did an item, all of whose outputs went out.
-pub CarriesOut-one : (old new : JobState) (item : StepResult) (kind : Kind) (tag : ℕ) (before after : SinkLog)
-    → (did : Does old item kind new) → WentOut tag item.outputs Complete before after
-    → CarriesOut old [] did.given new (under tag before after)
-CarriesOut-one old new item kind tag before after did went =
-    let P : List Output → Type 0 = λ outputs. WentOut tag outputs Complete before after in
-    record {
-      items = item ∷ [];
-      so_far = taken-so_far old new did.given did.takes;
-      to_end = taken-to_end old new did.given did.takes;
-      from = did.from;
-      starts = did.starts;
-      ends = did.ends;
-      are = did.are;
-      went = subst P (sym (joined-one item)) went;
-    }
+-- A step that did an item.
+pub CarriesOut-one : (old new : JobState) (item : StepResult) (kind : Kind) → (did : Does old item kind new) → CarriesOut old [] did.given (item ∷ []) new
+CarriesOut-one old new item kind did = record {
+  so_far = taken-so_far old new did.given did.takes;
+  to_end = taken-to_end old new did.given did.takes;
+  from = did.from;
+  starts = did.starts;
+  ends = did.ends;
+  are = did.are;
+}
 
-pub CarriesOut-took : (old new : JobState) (item : StepResult) (kind : Kind) (tag : ℕ) (before after : SinkLog) → Does old item kind new → WentOut tag item.outputs Complete before after
-    → (given : List Token) × TakesOf old given × (goes : CarriesOut old [] given new (under tag before after)) × (goes.items ≡ item ∷ [])
-unfolding CarriesOut-one
-CarriesOut-took old new item kind tag before after did went =
-    (did.given, taken-of old new did.given did.takes, CarriesOut-one old new item kind tag before after did went, refl)
+pub CarriesOut-took : (old new : JobState) (item : StepResult) (kind : Kind) → Does old item kind new
+    → (given : List Token) × TakesOf old given × CarriesOut old [] given (item ∷ []) new
+CarriesOut-took old new item kind did = (did.given, taken-of old new did.given did.takes, CarriesOut-one old new item kind did)
+
+pub CarriesOn-one : (old new : JobState) (item : StepResult) (kind : Kind) (went : List Output) → Does old item kind new → went ≡ item.outputs → CarriesOn old [] new went
+CarriesOn-one old new item kind went did is = (did.given, item ∷ [], CarriesOut-one old new item kind did, is ∙ sym (joined-one item))
 
 -- Whatever a step takes of the stream, something is owed behind it.
 taken_owed : (job : JobState) (given : List Token) (more : List ℕ) → (job.held.ended ≡ true → more ≡ []) → TakesOf job given → (others : List Token) × Owes job more (given ++ others)
@@ -285,14 +295,13 @@ taken_owed job given more none_after (inr (command, (_, going, inr (ended, done,
     ([], subst P (sym is) (subst Q (sym exit) (subst R (sym (none_after ended)) (exit_owed job going ended done))))
 
 -- a step that stopped, and what was left behind it
-pub Stops-due : (job : JobState) (bytes : List ℕ) (tag : ℕ) (ending : Ending) (before after : SinkLog) → (ending ≡ Complete → ⊥)
-    → (job.held.ended ≡ true → bytes ≡ []) → StopsAtDue job tag ending before after → Stops job bytes tag ending before after
-Stops-due job bytes tag ending before after stops none_after stopped =
+pub Stops-due : (job : JobState) (bytes : List ℕ) (ending : Ending) (went : List Output) → (ending ≡ Complete → ⊥)
+    → (job.held.ended ≡ true → bytes ≡ []) → StopsAtDue job ending went → Stops job bytes ending went
+Stops-due job bytes ending went stops none_after stopped =
     let (others, owes) = taken_owed job stopped.given bytes none_after stopped.takes in
     let all = left stopped.given job.bodies stopped.from in
     let behind = trace others (last_machine stopped.from all) in
     let more = stopped.others ++ behind in
-    let P : List Output → Type 0 = λ outputs. WentOut tag outputs ending before after in
     let is : left (stopped.given ++ others) job.bodies stopped.from ≡ stopped.item ∷ more =
     left-append stopped.given others job.bodies stopped.from ∙ ap (λ (front : List StepResult). front ++ behind) stopped.are in
     record {
@@ -300,33 +309,33 @@ Stops-due job bytes tag ending before after stops none_after stopped =
       owes = owes;
       from = stopped.from;
       starts = stopped.starts;
-      went = subst P (sym (ap joined is)) (WentOut-stopped tag stopped.item.outputs (joined more) ending before after stops stopped.went);
+      goes = subst (GoesOut ending went) (sym (ap joined is)) (goes-stopped ending went stopped.item.outputs (joined more) stops stopped.goes);
     }
 
 -- a job that stopped after it had gone on
-pub Stops-then : (old between : JobState) (bytes more : List ℕ) (given : List Token) (tag : ℕ) (ending : Ending)
-    (before middle after : SinkLog)
-    → CarriesOut old bytes given between (under tag before middle) → Stops between more tag ending middle after
-    → Stops old (bytes ++ more) tag ending before after
-Stops-then old between bytes more given tag ending before middle after goes stops =
-    let items = goes.items in
+pub Stops-then : (old between : JobState) (bytes more : List ℕ) (ending : Ending) (went others : List Output)
+    → CarriesOn old bytes between went → Stops between more ending others → Stops old (bytes ++ more) ending (went ++ others)
+Stops-then old between bytes more ending went others (given, items, goes, is) stops =
     let at = last_machine goes.from items in
     let same : stops.from ≡ at = same_some between.machine stops.from at stops.starts goes.ends in
-    let rest = left stops.commands between.bodies at in
-    let P : List Output → Type 0 = λ outputs. WentOut tag outputs ending before after in
-    let Q : Machine → Type 0 = λ machine. WentOut tag (joined (left stops.commands between.bodies machine)) ending middle after in
-    let is = left-then given stops.commands old.bodies between.bodies goes.from items goes.are in
+    let rest = joined (left stops.commands between.bodies at) in
+    let behind : GoesOut ending others rest = subst (λ (machine : Machine). GoesOut ending others (joined (left stops.commands between.bodies machine))) same stops.goes in
+    let owed = joined (left (given ++ stops.commands) old.bodies goes.from) in
+    let all : owed ≡ joined items ++ rest =
+    ap joined (left-then given stops.commands old.bodies between.bodies goes.from items goes.are)
+    ∙ joined-append items (left stops.commands between.bodies at) in
     record {
       commands = given ++ stops.commands;
       owes = goes.to_end more stops.commands stops.owes;
       from = goes.from;
       starts = goes.starts;
-      went = subst P (sym (ap joined is ∙ joined-append items rest)) (WentOut-then tag (joined items) (joined rest) ending before middle after goes.went (subst Q same stops.went));
+      goes = subst (λ (front : List Output). GoesOut ending (front ++ others) owed) (sym is)
+          (subst (GoesOut ending (joined items ++ others)) (sym all) (goes-then ending (joined items) others rest behind));
     }
 
 -- memory ran out before anything went out
-pub Stops-memory : (job : JobState) (bytes : List ℕ) (tag : ℕ) (told : SinkLog) → IsSome job.machine → (job.held.ended ≡ true → bytes ≡ []) → Stops job bytes tag ForMemory told told
-Stops-memory job bytes tag told running none_after =
+pub Stops-memory : (job : JobState) (bytes : List ℕ) → IsSome job.machine → (job.held.ended ≡ true → bytes ≡ []) → Stops job bytes ForMemory []
+Stops-memory job bytes running none_after =
     let (commands, owes) = Owes-some job bytes none_after in
     let some = some_of job.machine running in
-    record { commands = commands; owes = owes; from = some.0; starts = some.1; went = WentOut-no_memory tag (joined (left commands job.bodies some.0)) told }
+    record { commands = commands; owes = owes; from = some.0; starts = some.1; goes = (joined (left commands job.bodies some.0), refl) }

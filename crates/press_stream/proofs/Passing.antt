@@ -7,13 +7,12 @@ use Rattle.press_cmd.specs.Split.{Steps}
 use Rattle.press_scan.specs.declared.passing.Passed.{Passed}
 use Rattle.press_scan.specs.Passing.{PassesEach, IsOneByte, PassesOver}
 use Rattle.press_scan.specs.ScannerState.{ScannerState}
-use Rattle.press_sink.specs.Sending.{Output, Complete, WentOut}
-use Rattle.press_sink.proofs.SendingLemmas.{WentOut-none}
 use Rattle.press_engine.specs.declared.activation.Activation.{Activation}
 use Rattle.press_engine.specs.declared.machine.Machine.{Machine}
-use Rattle.press_engine.specs.declared.state.State.{State}
+use Rattle.press_table.specs.declared.state.State.{State}
 use Rattle.press_engine.specs.Machine.{StepResult}
-use Rattle.press_engine.specs.Passing.{HasNoEffect, SkipsBytes, SkipsControls, passed}
+use Rattle.press_table.specs.Passing.{HasNoEffect, SkipsBytes, SkipsControls}
+use Rattle.press_engine.specs.Passing.{passed}
 use Rattle.press_engine.specs.Stack.{continuation}
 use Rattle.press_engine.specs.Trace.{last_machine, trace, run_all}
 use Rattle.press_engine.proofs.PassingLaws.{passing_is_counted}
@@ -21,7 +20,7 @@ use Rattle.press_stream.specs.Answers.{PassesOn}
 use Rattle.press_stream.specs.Meaning.{left, Owes}
 use Rattle.press_stream.specs.State.{JobState}
 use Rattle.press_stream.specs.Steps.{CarriesIdle}
-use Rattle.press_stream.proofs.Going.{CarriesOut-none, passes-to_end}
+use Rattle.press_stream.proofs.Going.{CarriesOn-none, passes-to_end}
 
 -- ---- what a scanner passes over
 
@@ -96,23 +95,25 @@ passes_on old new going still idle none carries =
     let items = trace given from in
     let stays = each-stays given old.held new.held carries.each in
     record {
-      given = given;
-      goes = λ tag told. record {
-        items = items;
-        so_far = λ now.
-            let before : old.held.ended ≡ false = sym stays.ended ∙ now in
-            let P : List ℕ → Type 0 = λ all. Steps old.held.mode all given new.held.mode new.held.bytes in
-            (before, subst P (sym (append-nil old.held.bytes)) (each-steps given old.held new.held before carries.each));
-        to_end = each-owes given old new going still carries.each;
-        from = from;
-        starts = carries.starts;
-        ends = carries.ends;
-        are =
-            ap (λ (bodies : List Activation). left given bodies from) idle
-            ∙ sym (append-nil items)
-            ∙ ap (λ (bodies : List Activation). items ++ continuation bodies (last_machine from items)) (sym none);
-        went = subst (λ (outputs : List Output). WentOut tag outputs Complete told told) (sym carries.nothing) (WentOut-none tag told);
-      };
+      goes = (
+        given,
+        items,
+        record {
+          so_far = λ now.
+              let before : old.held.ended ≡ false = sym stays.ended ∙ now in
+              let P : List ℕ → Type 0 = λ all. Steps old.held.mode all given new.held.mode new.held.bytes in
+              (before, subst P (sym (append-nil old.held.bytes)) (each-steps given old.held new.held before carries.each));
+          to_end = each-owes given old new going still carries.each;
+          from = from;
+          starts = carries.starts;
+          ends = carries.ends;
+          are =
+              ap (λ (bodies : List Activation). left given bodies from) idle
+              ∙ sym (append-nil items)
+              ∙ ap (λ (bodies : List Activation). items ++ continuation bodies (last_machine from items)) (sym none);
+        },
+        sym carries.nothing,
+      );
       idle = none;
       fewer = rw (going, still) (omega (arith, stays.fewer));
       ended = stays.ended;
@@ -120,4 +121,4 @@ passes_on old new going still idle none carries =
 
 -- in a job that runs no more nothing is taken
 pub PassesOn-none : (job : JobState) → IsSome job.machine → job.bodies ≡ [] → PassesOn job job
-PassesOn-none job running idle = record { given = []; goes = λ tag told. CarriesOut-none job tag told running; idle = idle; fewer = omega arith; ended = refl }
+PassesOn-none job running idle = record { goes = CarriesOn-none job running; idle = idle; fewer = omega arith; ended = refl }

@@ -3,8 +3,8 @@ use Rattle.std.specs.Prelude.{◌≡◌, ◌≢◌, ◌≤◌, ℕ, List, [], �
 use Rattle.std.specs.Io.KnownBytes.{Consumes, IsAtEnd}
 use Rattle.press_cmd.specs.Token.{Token, Uel}
 use Rattle.press_scan.specs.Gives.{IsDone, IsNext}
-use Rattle.press_sink.specs.SinkLog.{SinkLog, SinkUse, under}
-use Rattle.press_sink.specs.Sending.{Ending, Complete, AtSheet, AtReply, ForMemory, Refused, sheet_faults_after, reply_faults_after, WentOut}
+use Rattle.press_sink.specs.SinkLog.{SinkLog}
+use Rattle.press_sink.specs.Sending.{Output, Ending, Complete, AtSheet, AtReply, ForMemory, Refused, GoesOut, sheet_faults_after, reply_faults_after}
 use Rattle.press_engine.specs.Engine.{NeedsMemory, InnerNeedsMemory}
 use Rattle.press_engine.specs.Machine.{StepResult}
 use Rattle.press_engine.specs.declared.machine.Machine.{Machine}
@@ -18,7 +18,7 @@ use Rattle.press_stream.specs.declared.step.JobStep.{JobStep}
 use Rattle.press_stream.specs.declared.step.JobStep.TheVariants as steps
 use Rattle.press_stream.specs.State.{JobState, NeedsInput, IsOver, IsAfterEnd, with_piece, most_commands}
 use Rattle.press_stream.specs.Steps.{Does, DoesStep}
-use Rattle.press_stream.specs.Meaning.{left, CarriesOut, Stops}
+use Rattle.press_stream.specs.Meaning.{left, CarriesOut, CarriesOn, Stops}
 
 -- an engine's error as a job's
 abbrev pub job_error : EngineError → JobError
@@ -32,7 +32,8 @@ abbrev pub fault_of : {X : Type 0} → Result X JobError → Option JobError
 fault_of (Ok _) = None
 fault_of (Err error) = Some error
 
--- how what goes out ends, by the error that was answered
+-- How what goes out ends, by the error that was answered. A failed read counts no fault of a sink, so it ends as a refusal does, also
+-- where outputs went out before it.
 abbrev pub ending_by : Option JobError → Ending
 ending_by None = Complete
 ending_by (Some errors.SinkFault) = AtSheet
@@ -40,21 +41,20 @@ ending_by (Some errors.ReplyFault) = AtReply
 ending_by (Some errors.NoMemory) = ForMemory
 ending_by (Some _) = Refused
 
--- A job stopped at a fault, and has failed for good: so much went out as the fault's ending says. A job that had failed
+-- A job stopped at a fault, and has failed for good: what went out is as the fault's ending says. A job that had failed
 -- before lets nothing out.
-abbrev pub FaultsBy : (Ending → Type 0) → JobState → JobError → JobState → SinkLog → SinkLog → Type 0
-FaultsBy stops old errors.Failed new before after = (old.machine ≡ None) × (new ≡ old) × (after ≡ before)
-FaultsBy stops old error new before after = (new.machine ≡ None) × stops (ending_by (Some error))
+abbrev pub FaultsBy : (Ending → List Output → Type 0) → JobState → JobError → JobState → List Output → Type 0
+FaultsBy stops old errors.Failed new went = (old.machine ≡ None) × (new ≡ old) × (went ≡ [])
+FaultsBy stops old error new went = (new.machine ≡ None) × stops (ending_by (Some error)) went
 
--- The same of a job with these bytes behind what it held: it is so much of what it owed.
-abbrev pub Faults : JobState → List ℕ → JobError → JobState → SinkUse → Type 0
-Faults old bytes error new sinks =
-    FaultsBy (λ ending. Stops old bytes sinks.tag ending sinks.before sinks.after) old error new sinks.before sinks.after
+-- The same of a job with these bytes behind what it held: what went out is so much of what it owed.
+abbrev pub Faults : JobState → List ℕ → JobError → JobState → List Output → Type 0
+Faults old bytes error new went = FaultsBy (λ ending these. Stops old bytes ending these) old error new went
 
 -- The same, whatever bytes may come behind these: none do after the end of input.
-abbrev pub FaultsBefore : JobState → List ℕ → JobError → JobState → SinkUse → Type 0
-FaultsBefore old bytes error new sinks =
-    (more : List ℕ) → (old.held.ended ≡ true → bytes ++ more ≡ []) → Faults old (bytes ++ more) error new sinks
+abbrev pub FaultsBefore : JobState → List ℕ → JobError → JobState → List Output → Type 0
+FaultsBefore old bytes error new went =
+    (more : List ℕ) → (old.held.ended ≡ true → bytes ++ more ≡ []) → Faults old (bytes ++ more) error new went
 
 -- A piece was pushed: it stands behind what was held; or memory ran out, and the job has failed for good; or it was refused,
 -- and nothing changed.
@@ -95,8 +95,8 @@ abbrev pub TakesOf : JobState → List Token → Type 0
 TakesOf job given =
     ((job.bodies ≢ []) × (given ≡ [])) ⊎ ((command : Token) × IsDue job command × (given ≡ command ∷ []))
 
--- The item that comes next was begun, and of its outputs so much went out as the ending says.
-pub record StopsAtDue (job : JobState) (tag : ℕ) (ending : Ending) (before after : SinkLog) : Type 0 where
+-- The item that comes next was begun, and of its outputs these went out, as far as the ending says.
+pub record StopsAtDue (job : JobState) (ending : Ending) (went : List Output) : Type 0 where
   pub given : List Token
   pub takes : TakesOf job given
   pub from : Machine
@@ -104,16 +104,22 @@ pub record StopsAtDue (job : JobState) (tag : ℕ) (ending : Ending) (before aft
   pub item : StepResult
   pub others : List StepResult
   pub are : left given job.bodies from ≡ item ∷ others
-  pub went : WentOut tag item.outputs ending before after
+  pub goes : GoesOut ending went item.outputs
 
 -- A table step was taken, and all that goes out in its item went out; or the bytes so far are used up, or no step is left, and nothing
--- changed; or the job stopped at a fault, and so much went out of the item that comes next.
-abbrev pub Takes : JobState → ℕ → Result Step JobError → JobState → SinkLog → SinkLog → Type 0
-Takes old tag (Ok (answers.Ran kind)) new before after =
-    (item : StepResult) × Does old item kind new × WentOut tag item.outputs Complete before after
-Takes old tag (Ok answers.Hungry) new before after = NeedsInput old × (new ≡ old) × (after ≡ before)
-Takes old tag (Ok answers.Ended) new before after = IsOver old × (new ≡ old) × (after ≡ before)
-Takes old tag (Err error) new before after = FaultsBy (λ ending. StopsAtDue old tag ending before after) old error new before after
+-- changed; or the job stopped at a fault, and what went out is so much of the item that comes next.
+abbrev pub Takes : JobState → Result Step JobError → JobState → List Output → Type 0
+Takes old (Ok (answers.Ran kind)) new went = (item : StepResult) × Does old item kind new × (went ≡ item.outputs)
+Takes old (Ok answers.Hungry) new went = NeedsInput old × (new ≡ old) × (went ≡ [])
+Takes old (Ok answers.Ended) new went = IsOver old × (new ≡ old) × (went ≡ [])
+Takes old (Err error) new went = FaultsBy (λ ending these. StopsAtDue old ending these) old error new went
+
+-- no step was taken, and there was no fault
+abbrev pub IsStill : Result Step JobError → Type 0
+IsStill (Ok (answers.Ran kind)) = ⊥
+IsStill (Ok answers.Hungry) = ⊤
+IsStill (Ok answers.Ended) = ⊤
+IsStill (Err error) = ⊥
 
 -- the job is hungry, or no step is left
 abbrev pub IsIdle : JobState → Type 0
@@ -138,29 +144,32 @@ TakesStep old (Err errors.ReadFault) new = ⊥
 TakesStep old (Err errors.AfterEnd) new = ⊥
 
 -- The job goes on, by commands that it takes, to where what comes next may take memory.
-abbrev pub ComesToWant : JobState → ℕ → SinkLog → Type 0
-ComesToWant job tag told =
-    (given : List Token) × (last : JobState) × (between : SinkLog) × CarriesOut job [] given last (under tag told between) × WantsMemory last
+abbrev pub ComesToWant : JobState → Type 0
+ComesToWant job = (given : List Token) × (items : List StepResult) × (last : JobState) × CarriesOut job [] given items last × WantsMemory last
 
 -- A job in which no body runs took commands of its stream, and nothing goes out in any of them.
 pub record PassesOn (old new : JobState) : Type 0 where
-  pub given : List Token
-  pub goes : (tag : ℕ) (told : SinkLog) → CarriesOut old [] given new (under tag told told)
+  pub goes : CarriesOn old [] new []
   pub idle : new.bodies ≡ []
   pub fewer : most_commands new ≤ most_commands old
   pub ended : new.held.ended ≡ old.held.ended
 
+-- A job that was handed these bytes carried commands out; or it stopped at a fault, whatever bytes may come.
+abbrev pub CarriesOrStops : JobState → List ℕ → Result (Unit {0}) JobError → JobState → List Output → Type 0
+CarriesOrStops old bytes (Ok _) new went = CarriesOn old bytes new went
+CarriesOrStops old bytes (Err error) new went = FaultsBefore old bytes error new went
+
 -- A piece was handed to a job, which carried out the commands so far; or it was refused after the end of input, and nothing
 -- changed.
-abbrev pub Feeds : JobState → List ℕ → Result (Unit {0}) JobError → JobState → SinkUse → Type 0
-Feeds old piece (Ok _) new sinks = (given : List Token) × CarriesOut old piece given new sinks × NeedsInput new
-Feeds old piece (Err errors.AfterEnd) new sinks = IsAfterEnd old × (new ≡ old) × (sinks.after ≡ sinks.before)
-Feeds old piece (Err error) new sinks = FaultsBefore old piece error new sinks
+abbrev pub Feeds : JobState → List ℕ → Result (Unit {0}) JobError → JobState → List Output → Type 0
+Feeds old piece (Ok _) new went = CarriesOn old piece new went × NeedsInput new
+Feeds old piece (Err errors.AfterEnd) new went = IsAfterEnd old × (new ≡ old) × (went ≡ [])
+Feeds old piece (Err error) new went = FaultsBefore old piece error new went
 
 -- The end of input was given to a job, which carried out all that it owed.
-abbrev pub Finishes : JobState → ℕ → Result (Unit {0}) JobError → JobState → SinkLog → SinkLog → Type 0
-Finishes old tag (Ok _) new before after = (given : List Token) × CarriesOut old [] given new (under tag before after) × IsOver new
-Finishes old tag (Err error) new before after = Faults old [] error new (under tag before after)
+abbrev pub Finishes : JobState → Result (Unit {0}) JobError → JobState → List Output → Type 0
+Finishes old (Ok _) new went = CarriesOn old [] new went × IsOver new
+Finishes old (Err error) new went = Faults old [] error new went
 
 -- What else a call answers, whatever it does.
 -- failed: it is 303 exactly where the job had failed. unchanged: where a call is refused before anything is read or done, the job and
@@ -181,15 +190,14 @@ pub record Reads (had left : Option (List ℕ)) (error : Option JobError) (bytes
 
 -- How far the bytes that were read were carried out. Ok: all of them, to the end of input. ReadFault: their commands so far, and the job
 -- has failed. AfterEnd: nothing, since the end of input had been given. Any other fault: as far as it says.
-abbrev pub RunsThrough : JobState → List ℕ → Result (Unit {0}) JobError → JobState → SinkUse → Type 0
-RunsThrough old bytes (Ok _) new sinks = (given : List Token) × CarriesOut old bytes given new sinks × IsOver new
-RunsThrough old bytes (Err errors.ReadFault) new sinks =
-    (new.machine ≡ None) × (given : List Token) × (last : JobState) × CarriesOut old bytes given last sinks × NeedsInput last
-RunsThrough old bytes (Err errors.AfterEnd) new sinks = IsAfterEnd old × (bytes ≡ []) × (new ≡ old) × (sinks.after ≡ sinks.before)
-RunsThrough old bytes (Err error) new sinks = Faults old bytes error new sinks
+abbrev pub RunsThrough : JobState → List ℕ → Result (Unit {0}) JobError → JobState → List Output → Type 0
+RunsThrough old bytes (Ok _) new went = CarriesOn old bytes new went × IsOver new
+RunsThrough old bytes (Err errors.ReadFault) new went = (new.machine ≡ None) × (last : JobState) × CarriesOn old bytes last went × NeedsInput last
+RunsThrough old bytes (Err errors.AfterEnd) new went = IsAfterEnd old × (bytes ≡ []) × (new ≡ old) × (went ≡ [])
+RunsThrough old bytes (Err error) new went = Faults old bytes error new went
 
 -- A job ran a stream that a reader had.
-pub record RunsReader (old : JobState) (had left : Option (List ℕ)) (result : Result (Unit {0}) JobError) (new : JobState) (sinks : SinkUse) : Type 0 where
+pub record RunsReader (old : JobState) (had left : Option (List ℕ)) (result : Result (Unit {0}) JobError) (new : JobState) (went : List Output) : Type 0 where
   pub bytes : List ℕ
   pub read : Reads had left (fault_of result) bytes
-  pub through : RunsThrough old bytes result new sinks
+  pub through : RunsThrough old bytes result new went

@@ -5,12 +5,12 @@ use Rattle.press_cmd.specs.declared.variant.Kind.{Kind}
 use Rattle.press_scan.specs.Gives.{Passes, IsDone}
 use Rattle.press_scan.specs.Passing.{PassesEach}
 use Rattle.press_scan.specs.ScannerState.{ScannerState}
-use Rattle.press_engine.specs.declared.effect.StepOutput.{StepOutput}
+use Rattle.press_engine.specs.declared.step_output.StepOutput.{StepOutput}
 use Rattle.press_engine.specs.declared.activation.Activation.{Activation}
 use Rattle.press_engine.specs.declared.machine.Machine.{Machine}
 use Rattle.press_engine.specs.Engine.{IsOfKind, NeedsMemory, Steps}
 use Rattle.press_engine.specs.Machine.{StepResult, macro_levels}
-use Rattle.press_engine.specs.Outputs.{all_outputs}
+use Rattle.press_table.specs.Outputs.{all_outputs}
 use Rattle.press_engine.specs.Stack.{continuation, HasNext}
 use Rattle.press_engine.specs.Trace.{trace_at, run_all}
 use Rattle.press_stream.specs.declared.fault.JobError.{JobError}

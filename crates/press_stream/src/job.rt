@@ -43,18 +43,16 @@ impl Model for Job {
 }
 
 impl Job {
-    ghost use Rattle.std.specs.Prelude.{◌≡◌, ◌≢◌, ◌<◌, ◌≤◌, ◌↔◌, ℕ, List, [], length, take, true, false, None, IfOk, IfErr, OnErr, IfSome, IsTrue, IsSome, IsErrOf, MatchResult, option_map};
+    ghost use Rattle.std.specs.Prelude.{◌≡◌, ◌≢◌, ◌<◌, ◌≤◌, ◌↔◌, ℕ, List, [], length, take, true, false, None, IfOk, IfErr, OnErr, OnOk, IfSome, IsTrue, IsSome, IsErrOf, MatchResult, option_map};
     ghost use Rattle.press_sink.specs.SinkLog.{logs, HasFaultRoom, under};
-    ghost use Rattle.press_sink.specs.Sending.{WentOut};
-    ghost use Rattle.press_cmd.specs.Token.{Token};
+    ghost use Rattle.press_sink.specs.Sending.{HandsOut, WentOut};
     ghost use Rattle.press_engine.specs.Engine.{view_of};
     ghost use Rattle.press_engine.specs.Machine.{StepResult};
-    ghost use Rattle.press_engine.specs.Outputs.{all_outputs};
+    ghost use Rattle.press_table.specs.Outputs.{all_outputs};
     ghost use Rattle.press_engine.specs.Stack.{IsReady};
     ghost use Rattle.press_stream.specs.Left.{LeftWith};
     ghost use Rattle.press_stream.specs.State.{opened, with_piece, input_ended, most_commands, NeedsInput, IsOver, IsAfterEnd};
-    ghost use Rattle.press_stream.specs.Meaning.{CarriesOut};
-    ghost use Rattle.press_stream.specs.Answers.{fault_of, ending_by, Pushes, IsGoing, IsEarly, TakesStep, Takes, WantsMemory, FaultsBefore, PassesOn, IsIdle, ComesToWant, Feeds, Finishes, RunsReader, Answered};
+    ghost use Rattle.press_stream.specs.Answers.{fault_of, ending_by, Pushes, IsGoing, IsEarly, IsStill, TakesStep, Takes, WantsMemory, CarriesOrStops, PassesOn, IsIdle, ComesToWant, Feeds, Finishes, RunsReader, Answered};
     ghost use Rattle.press_devices.specs.Reading.{most_reads, no_reads, HasFault, ReadFails};
 
     /// A job at the beginning of a stream, with an engine after power on.
@@ -198,9 +196,12 @@ impl Job {
         replies: &mut P,
     ) -> Result<Step, JobError>
         requires { HasFaultRoom (logs (S.told sheets.old) (P.told replies.old)) }
-        ensures takes { Takes self.old tag result self.new
-            (logs (S.told sheets.old) (P.told replies.old))
-            (logs (S.told sheets.new) (P.told replies.new)) }
+        ensures takes { HandsOut (ending_by (fault_of result)) (Takes self.old result self.new)
+            (under tag (logs (S.told sheets.old) (P.told replies.old))
+            (logs (S.told sheets.new) (P.told replies.new))) }
+        ensures still { IsStill result
+            → logs (S.told sheets.new) (P.told replies.new)
+            ≡ logs (S.told sheets.old) (P.told replies.old) }
         ensures memory { IsErrOf result JobError.NoMemory → WantsMemory self.old }
         ensures answered { Answered self.old result self.new
             (logs (S.told sheets.old) (P.told replies.old))
@@ -277,7 +278,8 @@ impl Job {
         replies: &mut P,
     ) -> Result<(), JobError>
         requires { HasFaultRoom (logs (S.told sheets.old) (P.told replies.old)) }
-        ensures feeds { Feeds self.old piece.now result self.new
+        ensures feeds { HandsOut (ending_by (fault_of result))
+            (Feeds self.old piece.now result self.new)
             (under tag (logs (S.told sheets.old) (P.told replies.old))
             (logs (S.told sheets.new) (P.told replies.new))) }
         ensures refused { IsAfterEnd self.old → IsErrOf result JobError.AfterEnd }
@@ -310,9 +312,11 @@ impl Job {
     ) -> Result<(), JobError>
         requires hungry { NeedsInput self.old }
         requires has_fault_room { HasFaultRoom (logs (S.told sheets.old) (P.told replies.old)) }
-        ensures { Feeds self.old piece.now result self.new
+        ensures goes { HandsOut (ending_by (fault_of result))
+            (CarriesOrStops self.old piece.now result self.new)
             (under tag (logs (S.told sheets.old) (P.told replies.old))
             (logs (S.told sheets.new) (P.told replies.new))) }
+        ensures fed { OnOk result (NeedsInput self.new) }
     {
         let mut rest = piece;
         while !rest.is_empty() {
@@ -335,12 +339,11 @@ impl Job {
         replies: &mut P,
     ) -> Result<(), JobError>
         requires { HasFaultRoom (logs (S.told sheets.old) (P.told replies.old)) }
-        ensures finishes { Finishes self.old tag result self.new
-            (logs (S.told sheets.old) (P.told replies.old))
-            (logs (S.told sheets.new) (P.told replies.new)) }
-        ensures memory { IsErrOf result JobError.NoMemory
-            → ComesToWant (input_ended self.old) tag
-            (logs (S.told sheets.old) (P.told replies.old)) }
+        ensures finishes { HandsOut (ending_by (fault_of result))
+            (Finishes self.old result self.new)
+            (under tag (logs (S.told sheets.old) (P.told replies.old))
+            (logs (S.told sheets.new) (P.told replies.new))) }
+        ensures memory { IsErrOf result JobError.NoMemory → ComesToWant (input_ended self.old) }
         ensures answered { Answered self.old result self.new
             (logs (S.told sheets.old) (P.told replies.old))
             (logs (S.told sheets.new) (P.told replies.new)) }
@@ -369,8 +372,8 @@ impl Job {
         replies: &mut P,
     ) -> Result<(), JobError>
         requires { HasFaultRoom (logs (S.told sheets.old) (P.told replies.old)) }
-        ensures runs { RunsReader self.old (R.remaining reader.old) (R.remaining reader.new) result
-            self.new
+        ensures runs { HandsOut (ending_by (fault_of result))
+            (RunsReader self.old (R.remaining reader.old) (R.remaining reader.new) result self.new)
             (under tag (logs (S.told sheets.old) (P.told replies.old))
             (logs (S.told sheets.new) (P.told replies.new))) }
         ensures unread { IsEarly result → reader.new ≡ reader.old }
@@ -399,8 +402,8 @@ impl Job {
     ) -> Result<(), JobError>
         requires none { count.old ≡ no_reads }
         requires has_fault_room { HasFaultRoom (logs (S.told sheets.old) (P.told replies.old)) }
-        ensures runs { RunsReader self.old (R.remaining reader.old) (R.remaining reader.new) result
-            self.new
+        ensures runs { HandsOut (ending_by (fault_of result))
+            (RunsReader self.old (R.remaining reader.old) (R.remaining reader.new) result self.new)
             (under tag (logs (S.told sheets.old) (P.told replies.old))
             (logs (S.told sheets.new) (P.told replies.new))) }
         ensures unread { IsEarly result → reader.new ≡ reader.old }
@@ -438,17 +441,14 @@ impl Job {
     ) -> Result<(), JobError>
         requires running { IsSome self.old.machine }
         requires has_fault_room { HasFaultRoom (logs (S.told sheets.old) (P.told replies.old)) }
-        ensures runs_out { MatchResult result
-            (λ _. CarriesOut self.old [] [] self.new
+        ensures runs_out { HandsOut (ending_by (fault_of result))
+            (CarriesOrStops self.old [] result self.new)
             (under tag (logs (S.told sheets.old) (P.told replies.old))
-            (logs (S.told sheets.new) (P.told replies.new)))
-            × (self.new.bodies ≡ []) × (most_commands self.new ≤ most_commands self.old)
-            × (self.new.held.ended ≡ self.old.held.ended))
-            (λ error. FaultsBefore self.old [] error self.new
-            (under tag (logs (S.told sheets.old) (P.told replies.old))
-            (logs (S.told sheets.new) (P.told replies.new)))) }
-        ensures memory { IsErrOf result JobError.NoMemory
-            → ComesToWant self.old tag (logs (S.told sheets.old) (P.told replies.old)) }
+            (logs (S.told sheets.new) (P.told replies.new))) }
+        ensures idle { OnOk result ((self.new.bodies ≡ [])
+            × (most_commands self.new ≤ most_commands self.old)
+            × (self.new.held.ended ≡ self.old.held.ended)) }
+        ensures memory { IsErrOf result JobError.NoMemory → ComesToWant self.old }
     {
         while !self.is_idle() {
             self.step(tag, sheets, replies)?;
@@ -477,16 +477,12 @@ impl Job {
     ) -> Result<(), JobError>
         requires running { IsSome self.old.machine }
         requires has_fault_room { HasFaultRoom (logs (S.told sheets.old) (P.told replies.old)) }
-        ensures drains { MatchResult result
-            (λ _. (given : List Token) × CarriesOut self.old [] given self.new
+        ensures drains { HandsOut (ending_by (fault_of result))
+            (CarriesOrStops self.old [] result self.new)
             (under tag (logs (S.told sheets.old) (P.told replies.old))
-            (logs (S.told sheets.new) (P.told replies.new)))
-            × IsIdle self.new × (self.new.held.ended ≡ self.old.held.ended))
-            (λ error. FaultsBefore self.old [] error self.new
-            (under tag (logs (S.told sheets.old) (P.told replies.old))
-            (logs (S.told sheets.new) (P.told replies.new)))) }
-        ensures memory { IsErrOf result JobError.NoMemory
-            → ComesToWant self.old tag (logs (S.told sheets.old) (P.told replies.old)) }
+            (logs (S.told sheets.new) (P.told replies.new))) }
+        ensures idle { OnOk result (IsIdle self.new × (self.new.held.ended ≡ self.old.held.ended)) }
+        ensures memory { IsErrOf result JobError.NoMemory → ComesToWant self.old }
     {
         self.run_out(tag, sheets, replies)?;
         self.pass();
@@ -510,8 +506,8 @@ impl Job {
         requires going { self.old.held.ended ≡ false }
         requires none { count.old ≡ no_reads }
         requires has_fault_room { HasFaultRoom (logs (S.told sheets.old) (P.told replies.old)) }
-        ensures runs { RunsReader self.old (R.remaining reader.old) (R.remaining reader.new) result
-            self.new
+        ensures runs { HandsOut (ending_by (fault_of result))
+            (RunsReader self.old (R.remaining reader.old) (R.remaining reader.new) result self.new)
             (under tag (logs (S.told sheets.old) (P.told replies.old))
             (logs (S.told sheets.new) (P.told replies.new))) }
         ensures bound { count.new.reads ≤ most_reads }

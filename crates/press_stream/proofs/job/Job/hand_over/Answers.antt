@@ -2,7 +2,7 @@ use Rattle.std.proofs.Common.{◌∙◌, Some, sym, ap, subst}
 use Rattle.press_sink.specs.SinkLog.{logs}
 use Rattle.press_sink.specs.Sending.{Ending, WentOut}
 use Rattle.press_engine.specs.declared.engine.Engine.{Engine}
-use Rattle.press_engine.specs.Outputs.{all_outputs}
+use Rattle.press_table.specs.Outputs.{all_outputs}
 use Rattle.press_stream.specs.declared.fault.JobError.{JobError}
 use Rattle.press_stream.specs.Answers.{ending_by}
 use Rattle.press_stream.specs.State.{job_state, Fits}

@@ -1,7 +1,8 @@
 use Rattle.std.proofs.Common.{◌≡◌, ◌≤◌, [], length}
 use Rattle.press_sink.specs.SinkLog.{logs, HasFaultRoom, under}
+use Rattle.press_sink.specs.Sending.{Complete, HandsOut}
 use Rattle.press_stream.specs.State.{most_commands}
-use Rattle.press_stream.specs.Meaning.{CarriesOut}
+use Rattle.press_stream.specs.Meaning.{CarriesOn}
 use Rattle.press_stream.proofs.RunningOut.{still_owed}
 use Rattle.press_stream.proofs.job.Job.run_out.Given as goal
 
@@ -9,7 +10,7 @@ use Rattle.press_stream.proofs.job.Job.run_out.Given as goal
 abbrev pub invariant-loop-self : goal.invariant-loop-self
 invariant-loop-self g l =
     record {
-      goes : CarriesOut l.initial.self [] [] l.self
+      goes : HandsOut Complete (CarriesOn l.initial.self [] l.self)
           (under l.tag (logs (g.S.SheetSink.told l.initial.sheets) (g.P.ReplySink.told l.initial.replies))
           (logs (g.S.SheetSink.told l.sheets) (g.P.ReplySink.told l.replies)));
       fewer : most_commands l.self ≤ most_commands l.initial.self;
