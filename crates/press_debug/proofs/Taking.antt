@@ -5,14 +5,14 @@ use Rattle.std.proofs.lemmas.Bool.{false≢true, true≢false}
 use Rattle.std.proofs.lemmas.List.{append_assoc}
 use Rattle.press_cmd.specs.Token.{Token}
 use Rattle.press_cmd.specs.declared.variant.Kind.{Kind}
-use Rattle.press_engine.specs.declared.effect.StepOutput.{StepOutput}
+use Rattle.press_engine.specs.declared.step_output.StepOutput.{StepOutput}
 use Rattle.press_engine.specs.declared.machine.Last.{Last}
 use Rattle.press_engine.specs.declared.machine.Last.TheVariants as lasts
 use Rattle.press_engine.specs.declared.machine.Machine.{Machine}
 use Rattle.press_engine.specs.Engine.{IsOfKind}
 use Rattle.press_engine.specs.Machine.{StepResult}
 use Rattle.press_engine.specs.Trace.{last_machine}
-use Rattle.press_engine.specs.Outputs.{all_outputs}
+use Rattle.press_table.specs.Outputs.{all_outputs}
 use Rattle.press_stream.specs.declared.step.JobStep.{JobStep}
 use Rattle.press_stream.specs.declared.step.JobStep.TheVariants as steps
 use Rattle.press_stream.specs.Answers.{TakesStep}

@@ -12,17 +12,18 @@ use Rattle.press_sink.specs.PrintedSheet.{PrintedSheet}
 use Rattle.press_sink.specs.declared.fault.SinkError.{SinkError}
 use Rattle.press_sink.specs.declared.fault.SinkError.TheVariants.{SinkFault}
 use Rattle.press_sink.specs.declared.sheet.Delivery.{Delivery}
-use Rattle.press_sink.specs.Sending.{sheets_of, sheets_in, under_tag}
+use Rattle.press_sink.specs.Sending.{Output, HandsOut, sheets_of, sheets_in, under_tag, sheet_faults_after}
 use Rattle.press_sink.specs.Outputs.{MadeOutput, MakesPrefix, MakesOutputs, IsPrefix, with_outputs, sheet_outputs}
 use Rattle.press_sink.specs.Template.{NameParts, IsTemplate, IsNoTemplate, number_after, side_count}
 use Rattle.press_sink.specs.Faults.{template_number}
 use Rattle.press_sink.specs.declared.fault.TemplateError.{TemplateError}
 use Rattle.press_sink.specs.declared.fault.TemplateError.TheVariants as template_fault
 use Rattle.press_sink.specs.declared.fault.TemplateError.TheVariants.{BadTemplate}
-use Rattle.press_sink.proofs.SendingLemmas.{all-delivered, sheets_in-tagged, told-twice}
+use Rattle.press_sink.proofs.SendingLemmas.{sheets_in-tagged, told-twice}
 use Rattle.press_engine.specs.declared.machine.Machine.{Machine}
 use Rattle.press_stream.specs.declared.fault.JobError.{JobError}
 use Rattle.press_stream.specs.declared.fault.JobError.TheVariants as errors
+use Rattle.press_stream.specs.Answers.{ending_by}
 use Rattle.press_stream.specs.Meaning.{meaning_of, with_exit}
 use Rattle.press_sink.specs.SinkLog.{SheetLog, SinkLog, logs, under}
 use Rattle.press_stream.specs.Printed.{Printed}
@@ -195,15 +196,16 @@ makes_files template parts status fails said says (Some bytes) left old new befo
     of_error None is =
         let P : Option JobError → Type 0 =
         λ error.
-        Printed [] (Some bytes) left error prints.prints.machine
+        HandsOut (ending_by error) (Printed [] (Some bytes) left error prints.prints.machine)
         (under 0 (logs (files_told [] 0) (replies_written old 0))
         (logs (files_told prints.deliveries prints.faults) (replies_written new prints.prints.faults))) in
-        let printed : P None = subst P is prints.prints.printed in
+        let hands : P None = subst P is prints.prints.printed in
+        let printed = hands.is in
         let commands = printed.printed.commands in
         let sheets = sheets_of (meaning_of (with_exit commands)).outputs in
         let told : prints.deliveries ≡ under_tag 0 sheets =
-        same_Some prints.deliveries (under_tag 0 sheets)
-        (all-delivered 0 (meaning_of (with_exit commands)).outputs _ _ printed.printed.went) in
+        same_Some prints.deliveries (under_tag 0 (sheets_of hands.went)) hands.took.delivered
+        ∙ ap (λ (went : List Output). under_tag 0 (sheets_of went)) printed.printed.goes in
         let all_sheets : sheets_in prints.deliveries ≡ sheets = ap sheets_in told ∙ sheets_in-tagged 0 sheets in
         record {
           parts = parts;
@@ -211,7 +213,7 @@ makes_files template parts status fails said says (Some bytes) left old new befo
           commands = commands;
           closed = subst (λ all. Closed all commands) (read_all bytes left printed.bytes printed.read) printed.printed.closed;
           made =
-              made_of parts (sheets_in prints.deliveries) prints.faults before after printed.printed.went.sheet_faults prints.makes
+              made_of parts (sheets_in prints.deliveries) prints.faults before after hands.took.sheet_faults prints.makes
               ∙ ap (λ (all : List PrintedSheet). with_outputs (sheets_outputs parts 1 all) before) all_sheets;
         }
 
@@ -226,12 +228,10 @@ prints-no-files template_fault.NoMemory template status fails said says had left
 
 -- where a stream ended at a sheet, its sink had one fault more
 sheet-fault : (had left : Option (List ℕ)) (error : Option JobError) (machine : Option Machine) (before after : SinkLog)
-    → Printed [] had left error machine (under 0 before after) → error ≡ Some errors.SinkFault
+    → HandsOut (ending_by error) (Printed [] had left error machine) (under 0 before after) → error ≡ Some errors.SinkFault
     → after.sheets.faults ≡ before.sheets.faults + 1
-sheet-fault had left error machine before after printed is =
-    let P : Option JobError → Type 0 = λ one. Printed [] had left one machine (under 0 before after) in
-    let stopped : P (Some errors.SinkFault) = subst P is printed in
-    stopped.printed.went.sheet_faults
+sheet-fault had left error machine before after hands is =
+    hands.took.sheet_faults ∙ ap (λ (one : Option JobError). sheet_faults_after (ending_by one) before.sheets.faults) is
 
 -- a stream that was printed to a sink of files, which took nothing before
 pub prints-by : (parts : NameParts) (status : ℕ) (Input Output Outputs Other : Type 0) (said says had left old new : Option (List ℕ))

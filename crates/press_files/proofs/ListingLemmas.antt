@@ -10,12 +10,12 @@ use Rattle.press_cmd.specs.Split.{Closed}
 use Rattle.press_sink.specs.PrintedSheet.{PrintedSheet}
 use Rattle.press_sink.specs.declared.sheet.Delivery.{Delivery}
 use Rattle.press_sink.specs.SinkLog.{SinkLog, under}
-use Rattle.press_sink.specs.Sending.{sheets_of, sheets_in, under_tag, reply_bytes_of}
-use Rattle.press_sink.proofs.SendingLemmas.{all-delivered, all-replied, sheets_in-tagged}
+use Rattle.press_sink.specs.Sending.{Output, HandsOut, sheets_of, sheets_in, under_tag, reply_bytes_of}
+use Rattle.press_sink.proofs.SendingLemmas.{sheets_in-tagged}
 use Rattle.press_stream.specs.declared.fault.JobError.{JobError}
 use Rattle.press_stream.specs.State.{JobState}
 use Rattle.press_stream.specs.Meaning.{meaning_of, with_exit}
-use Rattle.press_stream.specs.Answers.{Reads, fault_of}
+use Rattle.press_stream.specs.Answers.{Reads, fault_of, ending_by}
 use Rattle.press_stream.specs.Printed.{Printed}
 use Rattle.press_files.specs.declared.listing_sink.ListedSheet.{ListedSheet}
 use Rattle.press_files.specs.declared.measures.Measures.{Measures}
@@ -68,20 +68,20 @@ lists-printed printed false known left old new stream zero = absurd cc
 lists-printed (Err error) true known left old new stream zero = absurd cc
 lists-printed (Ok job) true None left old new stream zero = tt
 lists-printed (Ok job) true (Some bytes) left old new stream zero =
-    let commands = stream.prints.printed.commands in
-    let went = stream.prints.printed.went in
+    let printed = stream.prints.is.printed in
+    let took = stream.prints.took in
+    let commands = printed.commands in
     let outputs = (meaning_of (with_exit commands)).outputs in
     let sheets = sheets_of outputs in
     let told : stream.deliveries ≡ under_tag 0 sheets =
-    same_Some stream.deliveries (under_tag 0 sheets)
-    (all-delivered 0 outputs (took [] []) (took stream.deliveries stream.replies) went) in
+    same_Some stream.deliveries (under_tag 0 (sheets_of stream.prints.went)) took.delivered
+    ∙ ap (λ (went : List Output). under_tag 0 (sheets_of went)) printed.goes in
     let all_sheets : sheets_in stream.deliveries ≡ sheets = ap sheets_in told ∙ sheets_in-tagged 0 sheets in
-    let all_replies : stream.replies ≡ reply_bytes_of outputs =
-    all-replied 0 outputs (took [] []) (took stream.deliveries stream.replies) went in
+    let all_replies : stream.replies ≡ reply_bytes_of outputs = took.replied ∙ ap reply_bytes_of printed.goes in
     let R : List ℕ → Type 0 = λ lines. Appends old new lines in
     let S : List ℕ → Type 0 = λ all. Closed all commands in (
       commands,
-      subst S (read_all bytes left stream.prints.bytes stream.prints.read) stream.prints.printed.closed,
+      subst S (read_all bytes left stream.prints.is.bytes stream.prints.is.read) printed.closed,
       subst R (ap (λ (all : List PrintedSheet). lines_from 1 all ++ stream.replies) all_sheets
           ∙ ap (λ (all : List ℕ). lines_from 1 sheets ++ all) all_replies)
           (stream.lists refl),
@@ -102,11 +102,13 @@ wrote-prefix (Err error) old new bytes wrote fault = wrote
 pub lists-stream : {X E : Type 0} (printed : Result JobState JobError) (wrote : Result X E) (written : Bool)
     (had left old new : Option (List ℕ)) (first last deliveries : List Delivery) (nothing all replies : List ℕ)
     → first ≡ [] → nothing ≡ [] → last ≡ deliveries → all ≡ replies
-    → Printed [] had left (fault_of printed) (machine_of printed) (under 0 (took first nothing) (took last all)) → written ≡ is_ok wrote
+    → HandsOut (ending_by (fault_of printed)) (Printed [] had left (fault_of printed) (machine_of printed))
+    (under 0 (took first nothing) (took last all)) → written ≡ is_ok wrote
     → Writes wrote old new (lines_from 1 (sheets_in deliveries) ++ replies) → ListsPrinted printed written had left old new
 lists-stream printed wrote written had left old new first last deliveries nothing all replies p q r s prints is writes =
     let P : SinkLog → SinkLog → Type 0 =
-    λ before after. Printed [] had left (fault_of printed) (machine_of printed) (under 0 before after) in
+    λ before after.
+    HandsOut (ending_by (fault_of printed)) (Printed [] had left (fault_of printed) (machine_of printed)) (under 0 before after) in
     let begun : took first nothing ≡ took [] [] = cc (p, q) in
     let ended : took last all ≡ took deliveries replies = cc (r, s) in
     record {

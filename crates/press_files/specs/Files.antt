@@ -6,12 +6,13 @@ use Rattle.press_cmd.specs.Split.{Closed}
 use Rattle.press_sink.specs.PrintedSheet.{PrintedSheet, printed_sheet_code}
 use Rattle.press_sink.specs.declared.sheet.Delivery.{Delivery}
 use Rattle.press_sink.specs.SinkLog.{SheetLog, ReplyLog, logs, under}
-use Rattle.press_sink.specs.Sending.{sheets_of, sheets_in}
+use Rattle.press_sink.specs.Sending.{HandsOut, sheets_of, sheets_in}
 use Rattle.press_sink.specs.Outputs.{MadeOutput, IsPrefix, with_outputs, sheet_outputs}
 use Rattle.press_sink.specs.Template.{NameParts, IsTemplate, IsNoTemplate, number_after, side_count}
 use Rattle.press_engine.specs.declared.machine.Machine.{Machine}
 use Rattle.press_stream.specs.declared.fault.JobError.{JobError}
 use Rattle.press_stream.specs.declared.fault.JobError.TheVariants.{ReadFault, SinkFault, ReplyFault}
+use Rattle.press_stream.specs.Answers.{ending_by}
 use Rattle.press_stream.specs.Meaning.{meaning_of, with_exit}
 use Rattle.press_stream.specs.Printed.{Printed}
 use Rattle.press_units.specs.Faults.{fault_text}
@@ -41,7 +42,7 @@ pub record PrintsTo (fails : Failures) (status : ℕ) (told read : Change (Optio
   pub error : Option JobError
   pub machine : Option Machine
   pub faults : ℕ
-  pub printed : Printed [] read.before read.after error machine
+  pub printed : HandsOut (ending_by error) (Printed [] read.before read.after error machine)
       (under 0 (logs sheets.before (replies_written written.before 0)) (logs sheets.after (replies_written written.after faults)))
   pub answers : status ≡ status_of_fault error
   pub tells : TellsFault error told.before told.after

@@ -8,12 +8,12 @@ use Rattle.press_cmd.specs.Split.{Closed}
 use Rattle.press_sink.specs.PrintedSheet.{PrintedSheet}
 use Rattle.press_sink.specs.declared.sheet.Delivery.{Delivery}
 use Rattle.press_sink.specs.SinkLog.{SinkLog, logs, under}
-use Rattle.press_sink.specs.Sending.{Output, sheets_of, sheets_in, reply_bytes_of}
+use Rattle.press_sink.specs.Sending.{Output, HandsOut, sheets_of, sheets_in, reply_bytes_of}
 use Rattle.press_devices.specs.Writing.{AppendsPrefix}
 use Rattle.press_stream.specs.declared.fault.JobError.{JobError}
 use Rattle.press_stream.specs.declared.fault.JobError.TheVariants.{ReadFault}
 use Rattle.press_stream.specs.State.{JobState}
-use Rattle.press_stream.specs.Answers.{fault_of}
+use Rattle.press_stream.specs.Answers.{fault_of, ending_by}
 use Rattle.press_stream.specs.Meaning.{meaning_of, with_exit}
 use Rattle.press_stream.specs.Printed.{Printed}
 use Rattle.press_trace.specs.Faults.{output_text}
@@ -64,7 +64,8 @@ took deliveries replies = logs (record { delivered = Some deliveries; faults = 0
 pub record ListsPrinted (printed : Result JobState JobError) (written : Bool) (had left old new : Option (List ℕ)) : Type 0 where
   pub deliveries : List Delivery
   pub replies : List ℕ
-  pub prints : Printed [] had left (fault_of printed) (machine_of printed) (under 0 (took [] []) (took deliveries replies))
+  pub prints : HandsOut (ending_by (fault_of printed)) (Printed [] had left (fault_of printed) (machine_of printed))
+      (under 0 (took [] []) (took deliveries replies))
   pub lists : written ≡ true → Appends old new (lines_from 1 (sheets_in deliveries) ++ replies)
   pub cut : written ≡ false → AppendsPrefix old new (lines_from 1 (sheets_in deliveries) ++ replies)
 

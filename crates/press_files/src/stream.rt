@@ -2,7 +2,8 @@
 ghost use Rattle.std.specs.Prelude.{◌≡◌, [], IsErrOf, true};
 ghost use Rattle.press_devices.specs.Reading.{ReadFails};
 ghost use Rattle.press_sink.specs.SinkLog.{logs, HasFaultRoom, under};
-ghost use Rattle.press_stream.specs.Answers.{fault_of};
+ghost use Rattle.press_sink.specs.Sending.{HandsOut};
+ghost use Rattle.press_stream.specs.Answers.{fault_of, ending_by};
 ghost use Rattle.press_stream.specs.Printed.{Printed};
 ghost use Rattle.press_files.specs.Printing.{machine_of, status_of_fault, TellsFault};
 
@@ -26,8 +27,9 @@ pub fn print_stream<R: ReadDevice, S: SheetSink, P: ReplySink>(
     replies: &mut P,
 ) -> Result<Job, JobError>
     requires { HasFaultRoom (logs (S.told sheets.old) (P.told replies.old)) }
-    ensures printed { Printed [] (R.remaining reader.old) (R.remaining reader.new) (fault_of result)
-        (machine_of result)
+    ensures printed { HandsOut (ending_by (fault_of result))
+        (Printed [] (R.remaining reader.old) (R.remaining reader.new) (fault_of result)
+        (machine_of result))
         (under tag (logs (S.told sheets.old) (P.told replies.old))
         (logs (S.told sheets.new) (P.told replies.new))) }
     ensures cause { IsErrOf result JobError.ReadFault

@@ -7,7 +7,7 @@ use Rattle.std.proofs.Math.Seq.{take-append_seam}
 use Rattle.press_pbm.specs.Spelling.{file_of}
 use Rattle.press_sink.specs.Outputs.{MadeOutput, holding, with_outputs}
 use Rattle.press_engine.specs.declared.machine.Machine.{Machine}
-use Rattle.press_engine.specs.Closing.{page_now}
+use Rattle.press_table.specs.Closing.{page_now}
 use Rattle.press_engine.specs.Machine.{StepResult, power_on}
 use Rattle.press_engine.specs.Trace.{last_machine}
 use Rattle.press_stream.specs.State.{IsOver}

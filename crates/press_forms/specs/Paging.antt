@@ -5,7 +5,7 @@ use Rattle.std.specs.Io.KnownBytes.{Appends}
 use Rattle.press_bits.specs.Page.{Page}
 use Rattle.press_pbm.specs.Spelling.{file_of}
 use Rattle.press_sink.specs.Outputs.{MadeOutput, MakesPrefix, holding, with_outputs}
-use Rattle.press_engine.specs.Closing.{page_now}
+use Rattle.press_table.specs.Closing.{page_now}
 use Rattle.press_engine.specs.Machine.{StepResult, power_on}
 use Rattle.press_engine.specs.Trace.{last_machine}
 use Rattle.press_stream.specs.Traced.{IsTraceOf}

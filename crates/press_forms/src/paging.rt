@@ -4,8 +4,8 @@ ghost use Rattle.press_devices.specs.Reading.{ReadFails};
 ghost use Rattle.press_files.specs.Causes.{failures};
 ghost use Rattle.press_files.specs.Change.{change};
 ghost use Rattle.press_forms.specs.Causes.{PageCause};
-ghost use Rattle.press_engine.specs.Closing.{page_now};
-ghost use Rattle.press_engine.specs.Place.{blank_page};
+ghost use Rattle.press_table.specs.Closing.{page_now};
+ghost use Rattle.press_table.specs.Place.{blank_page};
 ghost use Rattle.press_forms.specs.Paging.{MakesPage, PagedInto, Paging, StandsAt, StopsPaging};
 ghost use Rattle.press_forms.specs.declared.paging.PagingError.{PagingError};
 
@@ -195,7 +195,7 @@ fn write_open_page<O: NamedOutputs>(
 }
 
 /// The blank physical page of the media.
-#[tactic(auto, using(press_engine::proofs::PlaceLemmas::media_fits))]
+#[tactic(auto, using(press_table::proofs::PlaceLemmas::media_fits))]
 fn blank_page(alloc: Global, page_setup: PageSetup) -> Result<Bitmap, AllocError>
     ensures { IfOk result (λ page. page ≡ blank_page page_setup) }
 {

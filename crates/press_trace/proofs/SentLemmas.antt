@@ -5,8 +5,8 @@ use Rattle.press_units.specs.Limits.{greatest_of_64_bits}
 use Rattle.press_sink.specs.Sending.{Output, sheets_of}
 use Rattle.press_sink.specs.PrintedSheet.{PrintedSheet}
 use Rattle.press_sink.proofs.SendingLemmas.{sheets_of-append}
-use Rattle.press_engine.specs.declared.effect.Sent.{Sent}
-use Rattle.press_engine.specs.Outputs.{copies_out, copy_out, next_count, all_outputs, outputs_of}
+use Rattle.press_table.specs.declared.effect.Sent.{Sent}
+use Rattle.press_table.specs.Outputs.{copies_out, copy_out, next_count, all_outputs, outputs_of}
 
 sheets-append : (outputs others : List Output) → length (sheets_of (outputs ++ others)) ≡ length (sheets_of outputs) + length (sheets_of others)
 sheets-append outputs others = ap length (sheets_of-append outputs others) ∙ length-append (sheets_of outputs) (sheets_of others)
@@ -21,9 +21,6 @@ count_copies sheet (suc copies) count =
     let one = one-copy sheet (next_count count) in
     let others = count_copies sheet copies (next_count count) in
     omega (arith, one, others, sheets-append (copy_out sheet (next_count count)) (copies_out sheet copies (next_count count)))
-
-pub count_both : (outputs others : List Output) (one other : ℕ) → one ≡ length (sheets_of outputs) → other ≡ length (sheets_of others) → one + other ≡ length (sheets_of (outputs ++ others))
-count_both outputs others one other is are = omega (arith, is, are, sheets-append outputs others)
 
 -- a part more
 pub count_more : (part : Sent) (rest : List Sent) (count part_count new all : ℕ) → part_count ≡ length (sheets_of (outputs_of part)) → new ≡ min (count + part_count) greatest_of_64_bits

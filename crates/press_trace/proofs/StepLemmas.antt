@@ -8,16 +8,17 @@ use Rattle.press_cmd.specs.Token.{Token, Uel}
 use Rattle.press_cmd.specs.declared.variant.Kind.{Kind}
 use Rattle.press_scan.specs.ScannerState.{ScannerState}
 use Rattle.press_sink.specs.Sending.{Output}
-use Rattle.press_engine.specs.declared.effect.StepOutput.{StepOutput}
+use Rattle.press_engine.specs.declared.step_output.StepOutput.{StepOutput}
 use Rattle.press_engine.specs.declared.machine.Last.{Last}
 use Rattle.press_engine.specs.declared.machine.Last.TheVariants as lasts
 use Rattle.press_engine.specs.declared.machine.Machine.{Machine}
 use Rattle.press_engine.specs.declared.view.View.{View}
 use Rattle.press_engine.specs.Engine.{IsOfKind}
 use Rattle.press_engine.specs.Machine.{StepResult, last_of, macro_levels}
-use Rattle.press_engine.specs.PageKept.{TakesFirst, OthersKeepThePage, kind_may_change_page}
+use Rattle.press_table.specs.PageKept.{kind_may_change_page}
+use Rattle.press_engine.specs.PageKept.{TakesFirst, OthersKeepThePage}
 use Rattle.press_engine.specs.Stack.{HasNext, continuation}
-use Rattle.press_engine.specs.Table.{is_recorded}
+use Rattle.press_table.specs.Table.{is_recorded}
 use Rattle.press_engine.specs.Trace.{trace_at}
 use Rattle.press_stream.specs.Meaning.{left}
 use Rattle.press_stream.specs.State.{JobState}

@@ -4,11 +4,11 @@ use Rattle.press_cmd.specs.Token.{Token}
 use Rattle.press_cmd.specs.declared.variant.Kind.{Kind}
 use Rattle.press_scan.specs.ScannerState.{ScannerState}
 use Rattle.press_bits.specs.Page.{Page}
-use Rattle.press_engine.specs.declared.effect.StepOutput.{StepOutput}
+use Rattle.press_engine.specs.declared.step_output.StepOutput.{StepOutput}
 use Rattle.press_engine.specs.declared.machine.Machine.{Machine}
 use Rattle.press_engine.specs.Machine.{StepResult}
 use Rattle.press_engine.specs.Engine.{view_of}
-use Rattle.press_engine.specs.Outputs.{all_outputs}
+use Rattle.press_table.specs.Outputs.{all_outputs}
 use Rattle.press_stream.specs.State.{IsOver, opened, with_piece, input_ended}
 use Rattle.press_stream.specs.Steps.{Does}
 use Rattle.press_trace.specs.declared.place.Place.{Place}

@@ -3,9 +3,9 @@
 ghost use Rattle.std.specs.Prelude.{◌≡◌, IfOk, OnOk, length, min};
 ghost use Rattle.press_units.specs.Limits.{greatest_of_64_bits};
 ghost use Rattle.press_sink.specs.Sending.{sheets_of, reply_bytes_of};
-ghost use Rattle.press_engine.specs.Outputs.{all_outputs, finished_of, outputs_of};
+ghost use Rattle.press_table.specs.Outputs.{all_outputs, outputs_of};
 
-use press_engine::{FinishedSheet, Sent};
+use press_engine::Sent;
 use press_sink::{ListReplies, Sheet, SheetSink, SinkError};
 use press_stream::Job;
 use std::alloc::{AllocError, Global};
@@ -28,26 +28,14 @@ impl SheetSink for NoSheets {
     }
 }
 
-/// How many copies of a finished sheet go out.
-#[tactic(auto, using(crate::proofs::SentLemmas::count_copies))]
-fn copies_of(finished: &Option<FinishedSheet>) -> u16
-    ensures { result ≡ length (sheets_of (finished_of finished.now)) }
-{
-    match finished {
-        Some(finished) => finished.copies,
-        None => 0,
-    }
-}
-
 /// How many sheets of this part go out.
-#[tactic(auto, using(crate::proofs::SentLemmas::count_both))]
+#[tactic(auto, using(crate::proofs::SentLemmas::count_copies))]
 fn sheets_of(sent: &Sent) -> u64
     ensures { result ≡ length (sheets_of (outputs_of sent.now)) }
 {
     match sent {
-        Sent::Sheets { closed, alone } => u64::from(copies_of(closed))
-            + u64::from(copies_of(alone)),
-        Sent::Nothing | Sent::Reply(_) => 0,
+        Sent::Sheet(finished) => u64::from(finished.copies),
+        Sent::Reply(_) => 0,
     }
 }
 

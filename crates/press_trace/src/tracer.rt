@@ -1,7 +1,7 @@
 //! A stream that is carried out step by step, and told line by line.
 
 ghost use Rattle.std.specs.Prelude.{◌≡◌, ◌≤◌, ◌||◌, not, length, IfOk, OnOk};
-ghost use Rattle.press_engine.specs.PageKept.{kind_may_change_page};
+ghost use Rattle.press_table.specs.PageKept.{kind_may_change_page};
 
 use crate::line::seen_line;
 use crate::page::{PageTold, told_page};

@@ -1,6 +1,6 @@
 use Rattle.std.proofs.Common.{rules, ◌≡◌, ◌∙◌, ◌≤◌, ◌+◌, ◌∷◌, suc, drop, ap, sym, drop-cons, add-one}
 use Rattle.press_units.specs.Limits.{greatest_of_64_bits}
-use Rattle.press_engine.specs.declared.effect.Sent.{Sent}
+use Rattle.press_table.specs.declared.effect.Sent.{Sent}
 use Rattle.press_trace.proofs.SentLemmas.{count_more}
 use Rattle.press_trace.proofs.sent.sheets_in.Goals as goal
 

@@ -1,7 +1,7 @@
 use Rattle.std.proofs.Common.{◌≡◌, ◌∙◌, IsSome, length, refl, sym, ap, subst, arith}
 use Rattle.press_engine.specs.declared.machine.Machine.{Machine}
 use Rattle.press_engine.specs.Machine.{StepResult}
-use Rattle.press_engine.specs.Outputs.{all_outputs}
+use Rattle.press_table.specs.Outputs.{all_outputs}
 use Rattle.press_engine.proofs.StepLaws.{others_keep_the_page}
 use Rattle.press_stream.proofs.Going.{same_some}
 use Rattle.press_trace.specs.declared.tracer.Tracer.{Tracer}
