@@ -34,12 +34,10 @@ use Rattle.press_writer.specs.Plan.{IsPlan, IsSmall}
 use Rattle.press_writer.specs.Sequences.{command}
 use Rattle.press_writer.specs.Sheets.{in_order, set_of}
 use Rattle.press_writer.specs.Wanted.{image_of, printed_sheet, wanted}
-use Rattle.press_writer.proofs.Between.{Fits}
 use Rattle.press_writer.proofs.EachLemmas.{Each, each-from_All}
-use Rattle.press_writer.proofs.FitLemmas.{print_runs-are}
+use Rattle.press_writer.proofs.FitLemmas.{Fits, IsRun, print_runs-are}
 use Rattle.press_writer.proofs.ListLemmas.{length-pieces, same_piece}
 use Rattle.press_writer.proofs.PlanLemmas.{length-by_sets, length-by_sheets, sheets-few}
-use Rattle.press_writer.proofs.SheetLemmas.{IsRun}
 use Rattle.press_writer.proofs.SplitLemmas.{job-closed, room-small}
 
 -- ---- an image

@@ -3,11 +3,11 @@
 use Prim.Native.Char.{code}
 use Rattle.std.specs.Prelude.{ℕ, ◌<◌, ⊤, IfSome, ◌/◌, ◌%◌, ◌&&◌, ◌==◌, nat_lt, Bool, true, false, if◌then◌else◌, List, [], ◌∷◌}
 use Rattle.std.specs.Prelude.{◌++◌, length, map, replicate, Option, Some, None, codes, decimal}
-use Rattle.std.specs.List.{flat_map}
+use Rattle.std.specs.List.{flat_map, list_any}
 use Rattle.press_units.specs.Position.{dots_per_inch}
 use Rattle.press_units.specs.declared.position.Resolution.{Resolution}
 use Rattle.press_bits.specs.Page.{Page}
-use Rattle.press_cmd.specs.Token.{Token, Escape, Control, Uel, PjlLine}
+use Rattle.press_cmd.specs.Token.{Token, Escape, Control, Grouped, Uel, PjlLine}
 use Rattle.press_page.specs.PageSetup.{size_number, orientation_number, duplex_number, duplex_mode}
 use Rattle.press_page.specs.Settings.{most_copies}
 use Rattle.press_page.specs.declared.media.PageSetup.{PageSetup}
@@ -121,3 +121,20 @@ job ticket images = flat_map (part_commands ticket images) (parts ticket)
 
 abbrev pub job_bytes : JobTicket → List Page → List ℕ
 job_bytes ticket images = written (job ticket images)
+
+-- the parameterized characters and group characters of a job's sequences: ESC&l, ESC&a, ESC*p, ESC*t, ESC*r and ESC*b
+abbrev pub job_groups : List (ℕ × ℕ)
+job_groups =
+    (code "&", code "l") ∷ (code "&", code "a") ∷ (code "*", code "p") ∷ (code "*", code "t") ∷ (code "*", code "r")
+    ∷ (code "*", code "b") ∷ []
+
+-- Whether a command is one of those that jobs are made of: the universal exit, PJL lines, the printer reset, the form feed,
+-- and sequences of these groups.
+abbrev pub is_job_command : Token → Bool
+is_job_command Uel = true
+is_job_command (PjlLine line) = true
+is_job_command (Escape byte) = byte == code "E"
+is_job_command (Control byte) = byte == code "\u{c}"
+is_job_command (Grouped character group field end payload) =
+    list_any (λ letters. character == letters.0 && group == letters.1) job_groups
+is_job_command other = false

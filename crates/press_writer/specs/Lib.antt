@@ -7,7 +7,6 @@ pub mod Wanted
 pub mod Sequences
 pub mod Picture
 pub mod Job
-pub mod Printing
 pub mod Laws
 pub mod Plan
 pub mod Left

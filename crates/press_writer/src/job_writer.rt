@@ -1,14 +1,14 @@
 //! A job that is written piece by piece.
 
-ghost use Rattle.std.specs.Prelude.{◌≡◌, ◌≤◌, ◌<◌, List, None, Some, Err, IfOk, IfErr, IfSome, OnOk, OnErr, length};
+ghost use Rattle.std.specs.Prelude.{◌≡◌, ◌≤◌, ◌<◌, All, List, None, Some, Err, IfOk, IfErr, IfSome, OnOk, OnErr, length};
 ghost use Rattle.press_cmd.specs.Split.{Closed};
 ghost use Rattle.press_cmd.specs.Token.{Token};
+ghost use Rattle.press_ticket.specs.Pages.{page_order};
 ghost use Rattle.press_writer.specs.declared.fault.WriterError.TheVariants.{NoMemory};
-ghost use Rattle.press_writer.specs.Fitting.{refusal};
+ghost use Rattle.press_writer.specs.Fitting.{IsImage, refusal};
 ghost use Rattle.press_writer.specs.Inside.{AppendsSome};
 ghost use Rattle.press_writer.specs.Job.{FitsPart, commands_of_part, job_bytes, page};
 ghost use Rattle.press_writer.specs.Left.{whole_job, rest_of_begun, bytes_left, most_job_commands, HasImages, GivesPiece};
-ghost use Rattle.press_writer.specs.Printing.{PrintsTheTicket};
 ghost use Rattle.press_writer.specs.Wanted.{image_of};
 
 use crate::checking::check;
@@ -141,8 +141,8 @@ impl JobWriter {
             → Closed (job_bytes ticket.now images.now) commands
             → length commands ≤ most_job_commands) }
         ensures refused { IfSome (refusal ticket.now images.now) (λ error. result ≡ Err error) }
-        ensures prints { refusal ticket.now images.now ≡ None
-            → PrintsTheTicket ticket.now images.now (job_bytes ticket.now images.now) }
+        ensures are_images { refusal ticket.now images.now ≡ None
+            → All (λ page. IsImage (image_of images.now page)) (page_order ticket.now.run_list) }
         ensures fault { refusal ticket.now images.now ≡ None
             → IfErr result (λ error. error ≡ NoMemory) }
     {

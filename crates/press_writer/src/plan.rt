@@ -13,9 +13,9 @@ use std::alloc::{AllocError, Global};
 
 /// A sheet that is sent once, and printed in so many copies.
 #[derive(Clone, Copy)]
-pub(crate) struct PrintRun {
-    pub(crate) sheet: SheetPages,
-    pub(crate) copies: u16,
+pub struct PrintRun {
+    pub sheet: SheetPages,
+    pub copies: u16,
 }
 
 /// The sheets of a set, how many sets are printed, and whether one set comes after another.

@@ -1,15 +1,16 @@
 //! The bytes of a whole job.
 
-ghost use Rattle.std.specs.Prelude.{◌≡◌, ◌++◌, ◌⊎◌, true, [], None, Err, length, OnOk, OnErr, IfSome, IsSome, IfErr};
+ghost use Rattle.std.specs.Prelude.{◌≡◌, ◌++◌, ◌⊎◌, All, true, [], None, Err, length, OnOk, OnErr, IfSome, IsSome, IfErr};
 ghost use Rattle.std.specs.Io.KnownBytes.{Appends};
 ghost use Rattle.press_cmd.specs.Token.{bytes_of};
 ghost use Rattle.press_devices.specs.Writing.{AppendsPrefix, Writes};
+ghost use Rattle.press_ticket.specs.Pages.{page_order};
 ghost use Rattle.press_writer.specs.declared.fault.WriterError.TheVariants.{WriteFault, NoMemory};
-ghost use Rattle.press_writer.specs.Fitting.{refusal};
+ghost use Rattle.press_writer.specs.Fitting.{IsImage, refusal};
 ghost use Rattle.press_writer.specs.Job.{set_resolution, head_of, tail, job_bytes};
 ghost use Rattle.press_writer.specs.Left.{HasImages, bytes_left};
-ghost use Rattle.press_writer.specs.Printing.{PrintsTheTicket};
 ghost use Rattle.press_writer.specs.Sequences.{written};
+ghost use Rattle.press_writer.specs.Wanted.{image_of};
 
 use crate::commands::push_commands;
 use crate::fault::WriterError;
@@ -110,9 +111,6 @@ fn write_pieces<W: WriteDevice>(
 
 /// Writes the job of a ticket with these images: the commands by which its sets are printed, in order.
 ///
-/// A press that is powered on and reads the job to its end delivers the sheets that the ticket wants, in its order and as often
-/// as it says, and nothing else.
-///
 /// # Errors
 ///
 /// - those of [`check`](crate::check); nothing was written then
@@ -131,8 +129,8 @@ pub fn write_job<W: WriteDevice>(
         (job_bytes ticket.now images.now)) }
     ensures err { OnErr result (AppendsPrefix (W.contents output.old) (W.contents output.new)
         (job_bytes ticket.now images.now)) }
-    ensures prints { refusal ticket.now images.now ≡ None
-        → PrintsTheTicket ticket.now images.now (job_bytes ticket.now images.now) }
+    ensures are_images { refusal ticket.now images.now ≡ None
+        → All (λ page. IsImage (image_of images.now page)) (page_order ticket.now.run_list) }
     ensures refused { IfSome (refusal ticket.now images.now) (λ error. result ≡ Err error) }
     ensures nothing { IsSome (refusal ticket.now images.now)
         → Appends (W.contents output.old) (W.contents output.new) [] }

@@ -6,7 +6,6 @@ use Rattle.press_writer.specs.Fitting.{IsImage}
 use Rattle.press_writer.specs.Wanted.{image_of}
 use Rattle.press_writer.proofs.EachLemmas.{each-from_All, plan-fits, plan-parts}
 use Rattle.press_writer.proofs.FewLemmas.{commands-few}
-use Rattle.press_writer.proofs.TicketLemmas.{jobs-print}
 use Rattle.press_writer.proofs.job_writer.JobWriter.open.Goals as goal
 
 pub returns-clause-bytes : goal.returns-clause-bytes
@@ -27,9 +26,3 @@ returns-clause-few c =
     let images = c.args.images.now in
     commands-few ticket images c.in_ok-plan.plan c.in_ok-check.ensures.ok (each-from_All (λ page. IsImage (image_of images page)) (page_order ticket.run_list) c.in_ok-check.ensures.images)
     c.in_ok-plan.ensures.plan c.in_ok-plan.ensures.small
-
-pub returns-in_err-plan-clause-prints : goal.returns-in_err-plan-clause-prints
-returns-in_err-plan-clause-prints c = λ none. jobs-print c.args.ticket.now c.args.images.now none c.in_ok-check.ensures.images
-
-pub returns-clause-prints : goal.returns-clause-prints
-returns-clause-prints c = λ none. jobs-print c.args.ticket.now c.args.images.now none c.in_ok-check.ensures.images

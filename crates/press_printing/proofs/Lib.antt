@@ -1,0 +1,21 @@
+-- Lemmas on what the jobs of tickets print.
+pub mod Between
+pub mod NumberLemmas
+pub mod CommandLemmas
+pub mod LeavesLemmas
+pub mod LineDots
+pub mod SideLemmas
+pub mod CornerLemmas
+pub mod AtRow
+pub mod DecodedRow
+pub mod TransferLemmas
+pub mod MethodLemmas
+pub mod OffsetLemmas
+pub mod StartLemmas
+pub mod RasterRows
+pub mod PaintLemmas
+pub mod ClosingLemmas
+pub mod HeadLemmas
+pub mod SheetLemmas
+pub mod PrintingLemmas
+pub mod TicketLemmas
