@@ -9,9 +9,9 @@ use Rattle.press_cmd.specs.Split.{Closed, closing}
 use Rattle.press_cmd.specs.Token.{Token, Uel}
 use Rattle.press_cmd.specs.declared.variant.Kind.{Kind}
 use Rattle.press_cmd.proofs.Splits.{closed_once, some_split}
-use Rattle.press_engine.specs.declared.effect.StepOutput.{StepOutput}
+use Rattle.press_engine.specs.declared.step_output.StepOutput.{StepOutput}
 use Rattle.press_engine.specs.declared.machine.Machine.{Machine}
-use Rattle.press_engine.specs.Outputs.{all_outputs}
+use Rattle.press_table.specs.Outputs.{all_outputs}
 use Rattle.press_engine.specs.Machine.{StepResult, power_on}
 use Rattle.press_engine.specs.Trace.{joined, last_machine, trace}
 use Rattle.press_sink.specs.Sending.{sheets_of}
@@ -25,7 +25,7 @@ use Rattle.press_stream.specs.State.{JobState, IsOver, opened, with_piece, input
 use Rattle.press_stream.specs.Steps.{Does, DoesStep}
 use Rattle.press_writer.specs.Job.{job_bytes}
 use Rattle.press_writer.specs.Left.{JobLeft, HasImages, bytes_left, most_job_commands}
-use Rattle.press_writer.specs.Printing.{PrintsTheTicket}
+use Rattle.press_printing.specs.Printing.{PrintsTheTicket}
 use Rattle.press_core.specs.declared.work.RunningJob.{RunningJob}
 use Rattle.press_core.specs.Jobs.{IsAt, JobGoesOn, end_to_come, still_to_come}
 use Rattle.press_core.specs.Turns.{IsJobOf, sheets_from}

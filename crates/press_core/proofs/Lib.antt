@@ -1,27 +1,19 @@
--- The lemmas on the press: its queue, its works and engines, and runs of events.
-mod AbortLemmas
-mod AccountLemmas
-mod AnswerLemmas
-mod ChangeLemmas
-mod CountLemmas
-mod DeviceLemmas
-mod EngineLemmas
-mod EntryLemmas
-mod EventLemmas
-mod FloatLemmas
-mod FoundLemmas
-mod HandedLemmas
-mod HandingLemmas
-mod JobLemmas
-mod MessageChanges
-mod RunLemmas
-mod RunsLemmas
-mod PressLemmas
-mod SoundLemmas
-mod StandLemmas
-mod Standings
-mod StepsLemmas
-mod TurnChanges
-mod TurnLemmas
-mod WorkLemmas
+-- The lemmas on the press: its queue, its works and engines.
+pub mod AbortLemmas
+pub mod AnswerLemmas
+pub mod DeviceLemmas
+pub mod EngineLemmas
+pub mod EntryLemmas
+pub mod EventLemmas
+pub mod FloatLemmas
+pub mod FoundLemmas
+pub mod HandingLemmas
+pub mod JobLemmas
+pub mod RunsLemmas
+pub mod PressLemmas
+pub mod SoundLemmas
+pub mod StandLemmas
+pub mod StepsLemmas
+pub mod TurnLemmas
+pub mod WorkLemmas
 pub mod worked

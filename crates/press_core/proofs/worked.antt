@@ -1,4 +1,3 @@
 -- Worked rows.
 pub mod Engines
-pub mod History
 pub mod Messages

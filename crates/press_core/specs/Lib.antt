@@ -15,5 +15,3 @@ pub mod Events
 pub mod Jobs
 pub mod Inside
 pub mod Handing
-pub mod History
-pub mod Laws

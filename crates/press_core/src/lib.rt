@@ -8,7 +8,6 @@ mod fault;
 mod flag;
 mod handing;
 mod heading;
-pub mod laws;
 mod listings;
 mod message_type;
 mod operator;
@@ -23,6 +22,9 @@ mod works;
 
 pub use device::{Device, DeviceStatus};
 pub use engines::BadEngines;
+pub use fault::Refused;
+pub use flag::FlagCommand;
+pub use message_type::MessageType;
 pub use operator::OperatorCommand;
 pub use press::Press;
 pub use turn::{Turn, TurnError};

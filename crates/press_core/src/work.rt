@@ -2,7 +2,7 @@
 
 ghost use Rattle.std.specs.Prelude.{◌≡◌, ◌≤◌, ◌<◌, List, length, None, Some, IfOk, OnOk, OnErr, IsSome, nat_eq, false, true};
 ghost use Rattle.press_engine.specs.Machine.{StepResult};
-ghost use Rattle.press_engine.specs.Outputs.{all_outputs};
+ghost use Rattle.press_table.specs.Outputs.{all_outputs};
 ghost use Rattle.press_sink.specs.Sending.{sheets_of};
 ghost use Rattle.press_sink.specs.SinkLog.{most_faults};
 ghost use Rattle.press_writer.specs.Fitting.{refusal};
@@ -16,6 +16,7 @@ use crate::handing::hand_over;
 use crate::turn::TurnError;
 use press_bits::Bitmap;
 use press_engine::Sent;
+use press_printing::open_job;
 use press_sink::SheetSink;
 use press_stream::laws::what_is_left;
 use press_stream::{Job, JobStep};
@@ -74,7 +75,7 @@ impl RunningJob {
     {
         what_is_left();
         let job = Job::open(alloc)?;
-        match JobWriter::open(alloc, ticket, images) {
+        match open_job(alloc, ticket, images) {
             Ok(writer) => Ok(RunningJob {
                 job,
                 writer,

@@ -2,7 +2,7 @@ use Rattle.std.proofs.Common.{◌≡◌, ◌<◌, ◌∙◌, List, Some, IfSome,
 use Rattle.press_bits.specs.Page.{Page}
 use Rattle.press_engine.specs.Machine.{StepResult}
 use Rattle.press_core.specs.Inside.{work_of}
-use Rattle.press_engine.specs.Outputs.{all_outputs}
+use Rattle.press_table.specs.Outputs.{all_outputs}
 use Rattle.press_sink.specs.Sending.{sheets_of}
 use Rattle.press_core.specs.Jobs.{Advances, IsAt, JobGoesOn}
 use Rattle.press_core.specs.Turns.{IsJobOf, progress_in_job}

@@ -8,7 +8,7 @@ use Rattle.press_sink.specs.Sending.{Deliver, sheets_of}
 use Rattle.press_sink.specs.PrintedSheet.{PrintedSheet}
 use Rattle.press_stream.specs.Meaning.{meaning_of, with_exit}
 use Rattle.press_writer.specs.Wanted.{wanted}
-use Rattle.press_core.proofs.laws.jobs_hand_out_the_wanted_sheets.Goals as goal
+use Rattle.press_history.proofs.laws.jobs_hand_out_the_wanted_sheets.Goals as goal
 
 delivered_sheets : (sheets : List PrintedSheet) → sheets_of (map Deliver sheets) ≡ sheets
 delivered_sheets [] = refl

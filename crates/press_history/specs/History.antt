@@ -15,7 +15,8 @@ use Rattle.press_sink.specs.PrintedSheet.{PrintedSheet}
 use Rattle.press_ticket.specs.Ticket.{JobTicket}
 use Rattle.press_writer.specs.Wanted.{wanted}
 use Rattle.press_core.specs.Engines.{is_number}
-use Rattle.press_core.specs.Events.{Event, Message, TurnOn, EventAnswer, Turned, Transition, IsRun}
+use Rattle.press_core.specs.Events.{Event, Message, TurnOn, EventAnswer, Turned}
+use Rattle.press_history.specs.Runs.{Transition, IsRun}
 use Rattle.press_core.specs.Rows.{ticket_in}
 use Rattle.press_core.specs.Turns.{IsJobOf, at_turn, is_fault, sheets_from}
 use Rattle.press_core.specs.Work.{Work}

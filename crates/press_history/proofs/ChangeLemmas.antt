@@ -27,8 +27,9 @@ use Rattle.press_core.specs.Work.{IsPrintable, Work, new_work, without_job}
 use Rattle.press_core.specs.World.{works_listed, works_without_job}
 use Rattle.press_core.proofs.EntryLemmas.{added_lookup, inserted_lookup, kept_lookup, moved_lookup, removed_lookup, set_lookup}
 use Rattle.press_core.proofs.SoundLemmas.{IsLegal, kept_work, legal_of}
-use Rattle.press_core.proofs.Standings.{Change, Stays, Enters, Moves, Aborts, Leaves, IsIdle, IsOpen, IsProper, IsWhole, Listed}
-use Rattle.press_core.proofs.Standings.{MayStand, Unknown, aborted_entry, listed_is, listed_of, standing, standing_of, unknown_of}
+use Rattle.press_core.proofs.AbortLemmas.{aborted_entry}
+use Rattle.press_history.proofs.Standings.{Change, Stays, Enters, Moves, Aborts, Leaves, IsIdle, IsOpen, IsProper, IsWhole, Listed}
+use Rattle.press_history.proofs.Standings.{MayStand, Unknown, listed_is, listed_of, standing, standing_of, unknown_of}
 
 pub idle : IsIdle [] 0
 idle = record { no_sheets = refl; no_steps = refl }

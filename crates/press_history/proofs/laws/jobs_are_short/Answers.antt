@@ -1,6 +1,6 @@
 -- Each command of a job is one step, and there are few.
 use Rattle.press_core.proofs.JobLemmas.{items-few}
-use Rattle.press_core.proofs.laws.jobs_are_short.Goals as goal
+use Rattle.press_history.proofs.laws.jobs_are_short.Goals as goal
 
 pub returns : goal.returns
 returns c = record {

@@ -15,20 +15,22 @@ use Rattle.press_sink.specs.declared.sheet.Delivery.{Delivery}
 use Rattle.press_sink.specs.PrintedSheet.{PrintedSheet}
 use Rattle.press_ticket.specs.Ticket.{JobTicket}
 use Rattle.press_core.specs.Engines.{RunsOnEngines, are_engines}
-use Rattle.press_core.specs.Events.{Event, EventAnswer, Transition, Happens, IsRun, IsExecution, Message, Nothing, Operator, Response, TurnOn, Turned}
-use Rattle.press_core.specs.History.{Seen, TakesInAll, both_seen, entering, handed_under, sheets_under, is_fault_of, last_seen, met_fault, seen_after, steps_answered, steps_in, submitted_by}
-use Rattle.press_core.specs.Laws.{EntriesAreBounded, EntriesDoNotInterfere, GivenUnder, JobsAreShort, JobsHandOutTheWantedSheets, SheetsAreGiven, StaysGone}
+use Rattle.press_core.specs.Events.{Event, EventAnswer, Happens, Message, Nothing, Operator, Response, TurnOn, Turned}
+use Rattle.press_history.specs.Runs.{Transition, IsRun, IsExecution}
+use Rattle.press_history.specs.History.{Seen, TakesInAll, both_seen, entering, handed_under, sheets_under, is_fault_of, last_seen, met_fault, seen_after, steps_answered, steps_in, submitted_by}
+use Rattle.press_history.specs.Laws.{EntriesAreBounded, EntriesDoNotInterfere, GivenUnder, JobsAreShort, JobsHandOutTheWantedSheets, SheetsAreGiven, StaysGone}
 use Rattle.press_core.specs.Turns.{IsJobOf, sheets_from}
 use Rattle.press_core.specs.Work.{new_work}
 use Rattle.press_core.specs.World.{World, is_listed, new_world}
-use Rattle.press_core.proofs.AccountLemmas.{Account, EnteredBy, IsKnown, account-listed, account-never, account-work, account-next, account-seen, found_now, given_as, is_given, seen_now-is}
-use Rattle.press_core.proofs.CountLemmas.{run-many}
-use Rattle.press_core.proofs.EngineLemmas.{on_engines-new, running-bound}
-use Rattle.press_core.proofs.HandedLemmas.{handed-append}
+use Rattle.press_history.proofs.AccountLemmas.{Account, EnteredBy, IsKnown, account-listed, account-never, account-work, account-next, account-seen, found_now, given_as, is_given, seen_now-is}
+use Rattle.press_history.proofs.CountLemmas.{run-many}
+use Rattle.press_core.proofs.EngineLemmas.{on_engines-new}
+use Rattle.press_history.proofs.BoundLemmas.{running-bound}
+use Rattle.press_history.proofs.HandedLemmas.{handed-append}
 use Rattle.press_core.proofs.JobLemmas.{IsJobOf-one, IsJobOf-some}
-use Rattle.press_core.proofs.MessageChanges.{Becomes, message-becomes}
-use Rattle.press_core.proofs.Standings.{Change, Stays, Gone, IsProper, IsWholeWorld, gone-kept, gone_absent, gone_of, proper-kept, standing, standing_of}
-use Rattle.press_core.proofs.TurnChanges.{operator-becomes, turn-becomes}
+use Rattle.press_history.proofs.MessageChanges.{Becomes, message-becomes}
+use Rattle.press_history.proofs.Standings.{Change, Stays, Gone, IsProper, IsWholeWorld, gone-kept, gone_absent, gone_of, proper-kept, standing, standing_of}
+use Rattle.press_history.proofs.TurnChanges.{operator-becomes, turn-becomes}
 
 -- ---- every event is such
 

@@ -3,7 +3,7 @@ use Rattle.std.proofs.Common.{◌≡◌, ◌++◌, ◌==◌, ℕ, cond, Bool, tr
 use Rattle.press_sink.specs.declared.sheet.Delivery.{Delivery}
 use Rattle.press_sink.specs.Sending.{sheets_in, under_tag}
 use Rattle.press_sink.specs.PrintedSheet.{PrintedSheet}
-use Rattle.press_core.specs.History.{sheets_under}
+use Rattle.press_history.specs.History.{sheets_under}
 
 pub handed-append : (n : ℕ) (one other : List Delivery) → sheets_under n (one ++ other) ≡ sheets_under n one ++ sheets_under n other
 handed-append n [] other = refl

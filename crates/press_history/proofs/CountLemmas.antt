@@ -14,7 +14,8 @@ use Rattle.press_core.specs.declared.operator.OperatorCommand.TheVariants as ope
 use Rattle.press_core.specs.declared.turn.Turn.{Turn}
 use Rattle.press_core.specs.declared.turn.TurnError.{TurnError}
 use Rattle.press_core.specs.declared.turn.TurnError.TheVariants.{NoEngine}
-use Rattle.press_core.specs.Events.{Event, EventAnswer, Transition, Happens, IsRun, IsExecution, Message, Nothing, Operator, Response, TurnOn, Turned, operated}
+use Rattle.press_core.specs.Events.{Event, EventAnswer, Happens, Message, Nothing, Operator, Response, TurnOn, Turned, operated}
+use Rattle.press_history.specs.Runs.{Transition, IsRun, IsExecution}
 use Rattle.press_core.specs.Messages.{Heading, Headed, heading_of, message_in}
 use Rattle.press_core.specs.Parameters.{and_then}
 use Rattle.press_core.specs.Response.{Additions, adding}
@@ -22,7 +23,7 @@ use Rattle.press_core.specs.Rows as table
 use Rattle.press_core.specs.Turns.{EntrySteps, TakesTurn, TakesTurnOn, TurnAt, at_turn, completed, is_idle, progress_in_job, steps_of, with_turn}
 use Rattle.press_core.specs.Work.{at_progress, with_delivered}
 use Rattle.press_core.specs.World.{World, given_up, has_engine, new_world, off_engine, with_work, without_gone}
-use Rattle.press_core.proofs.AbortLemmas.{length-aborted_running}
+use Rattle.press_history.proofs.AbortedQueues.{length-aborted_running}
 use Rattle.press_core.proofs.EngineLemmas.{length-left_by, length-none, length-slice_set}
 
 -- as many engines as another world

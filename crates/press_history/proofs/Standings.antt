@@ -18,6 +18,7 @@ use Rattle.press_core.specs.Engines.{RunsOnEngines}
 use Rattle.press_core.specs.Turns.{IsJobOf, progress_in_job, sheets_from}
 use Rattle.press_core.specs.Work.{IsPrintable, Work, at_progress, new_work, with_delivered, without_job}
 use Rattle.press_core.specs.World.{World}
+use Rattle.press_core.proofs.AbortLemmas.{aborted_entry}
 
 -- ---- how a number stands
 
@@ -81,9 +82,6 @@ completed_entry entry = record entry { status = statuses.Completed; begun = true
 
 abbrev pub failed_entry : Entry → Entry
 failed_entry entry = record entry { status = statuses.Aborted; begun = true }
-
-abbrev pub aborted_entry : Entry → Entry
-aborted_entry entry = record entry { status = statuses.Aborted }
 
 -- steps of a work's job, and their sheets
 pub record StepsOf (work : Work) (items : List StepResult) (steps : ℕ) (sheets : List PrintedSheet) : Type 0 where

@@ -22,12 +22,12 @@ use Rattle.press_core.specs.Parameters.{and_then}
 use Rattle.press_core.specs.Rows as table
 use Rattle.press_core.specs.Work.{IsPrintable, new_work}
 use Rattle.press_core.specs.World.{World, with_queue}
-use Rattle.press_core.proofs.ChangeLemmas.{QueueChanges, abort-changes, enters-changes, flush-changes, hold-changes, idle}
-use Rattle.press_core.proofs.ChangeLemmas.{remove-changes, resume-changes, set_position-changes, set_priority-changes, suspend-changes}
+use Rattle.press_history.proofs.ChangeLemmas.{QueueChanges, abort-changes, enters-changes, flush-changes, hold-changes, idle}
+use Rattle.press_history.proofs.ChangeLemmas.{remove-changes, resume-changes, set_position-changes, set_priority-changes, suspend-changes}
 use Rattle.press_core.proofs.EngineLemmas.{RunsAsBefore, on_engines-kept, on_engines-left}
 use Rattle.press_core.proofs.RunsLemmas.{abort-but, flush-runs, hold-runs, remove-runs, resume-runs, set_position-runs, set_priority-runs, submitted-runs, suspend-but}
 use Rattle.press_core.proofs.SoundLemmas.{submitted_is}
-use Rattle.press_core.proofs.Standings.{Change, Stays, IsWholeWorld, standing, unknown_of}
+use Rattle.press_history.proofs.Standings.{Change, Stays, IsWholeWorld, standing, unknown_of}
 
 -- The queue is still one, its entries that run are on engines, and this happens to each number, where nothing is handed out.
 pub record Becomes (submits : Option (JobTicket × List Page)) (old new : World) : Type 0 where

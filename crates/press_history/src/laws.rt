@@ -1,8 +1,9 @@
 //! The laws of a press: of its jobs, and of every run of events. Each is the contract of a function that does nothing but call those
 //! whose laws it takes.
 
-ghost use Rattle.press_core.specs.Laws.{JobsAreShort, JobsHandOutTheWantedSheets, SheetsAreGiven, EntriesDoNotInterfere, EntriesAreBounded};
+ghost use Rattle.press_history.specs.Laws.{JobsAreShort, JobsHandOutTheWantedSheets, SheetsAreGiven, EntriesDoNotInterfere, EntriesAreBounded};
 
+use press_printing::laws::jobs_print_their_tickets;
 use press_queue::laws::each_row_keeps_the_queue;
 use press_writer::laws as jobs;
 
@@ -11,7 +12,7 @@ use press_writer::laws as jobs;
 pub fn jobs_hand_out_the_wanted_sheets()
     ensures { JobsHandOutTheWantedSheets }
 {
-    jobs::jobs_print_their_tickets();
+    jobs_print_their_tickets();
 }
 
 /// The job of a ticket that is printed with its images has at most 4,000,000,000,001 steps, and it wants at most 9,989,001 sheets. So a
@@ -19,7 +20,7 @@ pub fn jobs_hand_out_the_wanted_sheets()
 pub fn jobs_are_short()
     ensures { JobsAreShort }
 {
-    jobs::jobs_print_their_tickets();
+    jobs_print_their_tickets();
     jobs::jobs_are_short();
 }
 

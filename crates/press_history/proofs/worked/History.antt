@@ -9,8 +9,9 @@ use Rattle.press_queue.specs.Status.{new_entry}
 use Rattle.press_sink.specs.PrintedSheet.{PrintedSheet}
 use Rattle.press_core.specs.declared.operator.OperatorCommand.TheVariants.{AbortRunning, Continue, Pause}
 use Rattle.press_core.specs.declared.turn.TurnError.TheVariants.{NoEngine, SinkFault}
-use Rattle.press_core.specs.Events.{Event, EventAnswer, Transition, IsRun, Message, Nothing, Operator, Response, TurnOn, Turned}
-use Rattle.press_core.specs.History.{entering, handed_under, last_seen, met_fault, steps_in}
+use Rattle.press_core.specs.Events.{Event, EventAnswer, Message, Nothing, Operator, Response, TurnOn, Turned}
+use Rattle.press_history.specs.Runs.{Transition, IsRun}
+use Rattle.press_history.specs.History.{entering, handed_under, last_seen, met_fault, steps_in}
 use Rattle.press_core.specs.Work.{Work}
 use Rattle.press_core.specs.World.{World, new_world, with_pause}
 

@@ -7,7 +7,7 @@ use Rattle.std.specs.Option.{option_or}
 use Rattle.std.proofs.lemmas.Option.{same_Some}
 use Rattle.press_units.specs.Limits.{greatest_of_64_bits}
 use Rattle.press_bits.specs.Page.{Page}
-use Rattle.press_engine.specs.Counts.{counted}
+use Rattle.press_table.specs.Counts.{counted}
 use Rattle.press_engine.specs.Machine.{StepResult}
 use Rattle.press_queue.specs.declared.entry.Entry.{Entry}
 use Rattle.press_queue.specs.declared.status.Status.{Status}
@@ -16,16 +16,17 @@ use Rattle.press_queue.specs.Rows as rows
 use Rattle.press_queue.specs.Status.{has_ended, new_entry}
 use Rattle.press_sink.specs.PrintedSheet.{PrintedSheet}
 use Rattle.press_ticket.specs.Ticket.{JobTicket}
-use Rattle.press_core.specs.Events.{Transition}
-use Rattle.press_core.specs.History.{AreFirst, AreGiven, IsPrefix, Seen, both_seen, submitted_by, wanted_of}
-use Rattle.press_core.specs.Laws.{JobsAreShort, JobsHandOutTheWantedSheets}
+use Rattle.press_history.specs.Runs.{Transition}
+use Rattle.press_history.specs.History.{AreFirst, AreGiven, IsPrefix, Seen, both_seen, submitted_by, wanted_of}
+use Rattle.press_history.specs.Laws.{JobsAreShort, JobsHandOutTheWantedSheets}
 use Rattle.press_core.specs.Turns.{IsJobOf, progress_in_job, sheets_from}
 use Rattle.press_core.specs.Work.{IsPrintable, Work, at_progress, counting, new_work, with_delivered, without_job}
 use Rattle.press_core.proofs.HandingLemmas.{counting-append}
 use Rattle.press_core.proofs.JobLemmas.{IsJobOf-one, IsJobOf-some}
-use Rattle.press_core.proofs.Standings.{Change, Stays, Enters, Moves, Steps, Completes, Fails, Aborts, Leaves, PrefixOf}
-use Rattle.press_core.proofs.Standings.{Gone, IsIdle, IsOpen, IsProper, Listed, MayStand, EntryHistory, StepsOf, Torn}
-use Rattle.press_core.proofs.Standings.{Unknown, standing_of, aborted_entry, completed_entry, failed_entry}
+use Rattle.press_core.proofs.AbortLemmas.{aborted_entry}
+use Rattle.press_history.proofs.Standings.{Change, Stays, Enters, Moves, Steps, Completes, Fails, Aborts, Leaves, PrefixOf}
+use Rattle.press_history.proofs.Standings.{Gone, IsIdle, IsOpen, IsProper, Listed, MayStand, EntryHistory, StepsOf, Torn}
+use Rattle.press_history.proofs.Standings.{Unknown, standing_of, completed_entry, failed_entry}
 use Rattle.press_core.proofs.StepsLemmas.{sheets_from-more}
 
 -- ---- the sheets of the first steps

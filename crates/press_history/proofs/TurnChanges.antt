@@ -28,20 +28,21 @@ use Rattle.press_core.specs.declared.turn.TurnError.{TurnError}
 use Rattle.press_core.specs.declared.turn.TurnError.TheVariants.{NoEngine}
 use Rattle.press_core.specs.Engines.{RunsOnEngines, is_number, left_by}
 use Rattle.press_core.specs.Events.{Event, TurnOn, EventAnswer, Turned, operated, running_aborted}
-use Rattle.press_core.specs.History.{sheets_under, is_fault_of, steps_answered}
+use Rattle.press_history.specs.History.{sheets_under, is_fault_of, steps_answered}
 use Rattle.press_core.specs.Turns.{EntrySteps, IsJobOf, StepsTo, TakesTurn, TakesTurnOn, TurnAt, at_turn, at_turn_with, completed, is_idle, progress_in_job, steps_from, with_turn}
 use Rattle.press_core.specs.Work.{Work, at_progress, with_delivered, without_job}
 use Rattle.press_core.specs.World.{World, has_engine, on_engine, with_work}
-use Rattle.press_core.proofs.AbortLemmas.{keyed-lookup, on_engines-free, queue-aborted, where_so}
-use Rattle.press_core.proofs.ChangeLemmas.{idle, one-changes, set-entry, set-work}
+use Rattle.press_history.proofs.AbortedQueues.{keyed-lookup, on_engines-free, queue-aborted}
+use Rattle.press_history.proofs.ChangeLemmas.{idle, one-changes, set-entry, set-work}
 use Rattle.press_core.proofs.EngineLemmas.{on_engines-left, on_engines-taken, runs-on_engine, set-same}
-use Rattle.press_core.proofs.HandedLemmas.{handed-other, handed-own}
-use Rattle.press_core.proofs.MessageChanges.{Becomes}
+use Rattle.press_history.proofs.HandedLemmas.{handed-other, handed-own}
+use Rattle.press_history.proofs.MessageChanges.{Becomes}
 use Rattle.press_core.proofs.RunsLemmas.{begun-but, finish-but}
 use Rattle.press_core.proofs.SoundLemmas.{runs_as}
-use Rattle.press_core.proofs.Standings.{Change, Stays, Steps, Completes, Fails, Aborts, PrefixOf, IsIdle, IsOpen}
-use Rattle.press_core.proofs.Standings.{IsProper, IsWhole, IsWholeWorld, Listed, StepsOf, aborted_entry}
-use Rattle.press_core.proofs.Standings.{completed_entry, failed_entry, listed_is, listed_of, standing, standing_of}
+use Rattle.press_core.proofs.AbortLemmas.{aborted_entry, where_so}
+use Rattle.press_history.proofs.Standings.{Change, Stays, Steps, Completes, Fails, Aborts, PrefixOf, IsIdle, IsOpen}
+use Rattle.press_history.proofs.Standings.{IsProper, IsWhole, IsWholeWorld, Listed, StepsOf}
+use Rattle.press_history.proofs.Standings.{completed_entry, failed_entry, listed_is, listed_of, standing, standing_of}
 use Rattle.press_core.proofs.TurnLemmas.{IsBegun, Waited, begun_is, begun_still, ended_is}
 
 -- ---- the entry that runs, or begins

@@ -12,8 +12,8 @@ use Rattle.press_writer.specs.Laws.{most_sheets}
 use Rattle.press_writer.specs.Left.{most_job_commands}
 use Rattle.press_writer.specs.Wanted.{image_of, wanted}
 use Rattle.press_core.specs.Engines.{RunsOnEngines}
-use Rattle.press_core.specs.Events.{Transition, IsRun, IsExecution}
-use Rattle.press_core.specs.History.{AreGiven, Seen, TakesInAll, entered_with, handed_under, last_seen, met_fault, seen_in, steps_in}
+use Rattle.press_history.specs.Runs.{Transition, IsRun, IsExecution}
+use Rattle.press_history.specs.History.{AreGiven, Seen, TakesInAll, entered_with, handed_under, last_seen, met_fault, seen_in, steps_in}
 use Rattle.press_core.specs.Turns.{IsJobOf, sheets_from}
 use Rattle.press_core.specs.Work.{Work, IsPrintable, new_work}
 use Rattle.press_core.specs.World.{World, is_listed, new_world}

@@ -1,0 +1,12 @@
+-- The lemmas on runs of events.
+mod AbortedQueues
+mod AccountLemmas
+mod BoundLemmas
+mod ChangeLemmas
+mod CountLemmas
+mod HandedLemmas
+mod MessageChanges
+mod RunLemmas
+mod Standings
+mod TurnChanges
+mod worked
