@@ -15,8 +15,9 @@ use Rattle.press_core.specs.declared.turn.Turn.{Turn}
 use Rattle.press_core.specs.declared.turn.TurnError.{TurnError}
 use Rattle.press_core.specs.declared.turn.TurnError.TheVariants.{NoMemory}
 use Rattle.press_core.specs.Engines.{are_engines}
-use Rattle.press_core.specs.Events.{Event, Message, TurnOn, Operator, EventAnswer, Response, Turned, Nothing, Transition, Happens, IsAnswered, IsRun, IsExecution, response_to}
-use Rattle.press_core.specs.Laws.{EntriesAreBounded, SheetsAreGiven}
+use Rattle.press_core.specs.Events.{Event, Message, TurnOn, Operator, EventAnswer, Response, Turned, Nothing, Happens, response_to}
+use Rattle.press_history.specs.Runs.{Transition, IsAnswered, IsRun, IsExecution}
+use Rattle.press_history.specs.Laws.{EntriesAreBounded, SheetsAreGiven}
 use Rattle.press_core.specs.Turns.{FaultsAfter, WereHandedOut}
 use Rattle.press_core.specs.World.{World, new_world}
 use Rattle.press_theorem.specs.Events.{ComesFromNew, FaultLeaves, HappenAll, HappenUpTo, line_of, handing}

@@ -1,12 +1,13 @@
 -- A ticket's job, printed.
 use Rattle.std.proofs.Common.{◌≡◌, ◌∙◌, ℕ, List, [], map, Option, Some, Result, Ok, Err, MatchResult, IsErrAnd, IfOk, sym, ap, subst}
 use Rattle.std.proofs.lemmas.Option.{same_Some}
+use Rattle.std.specs.Io.KnownBytes.{Appends}
 use Rattle.press_bits.specs.Page.{Page}
 use Rattle.press_sink.specs.declared.sheet.Delivery.{Delivery}
 use Rattle.press_engine.specs.declared.machine.Machine.{Machine}
-use Rattle.press_sink.specs.Sending.{Output, Deliver, Complete, sheets_of, reply_bytes_of, under_tag}
-use Rattle.press_sink.specs.SinkLog.{SinkLog, logs}
-use Rattle.press_sink.proofs.SendingLemmas.{all-delivered, all-replied, sheets_of-delivered, reply_bytes_of-delivered}
+use Rattle.press_sink.specs.Sending.{Output, Deliver, Complete, HandsOut, sheets_of, reply_bytes_of, under_tag}
+use Rattle.press_sink.specs.SinkLog.{SinkLog, logs, under}
+use Rattle.press_sink.proofs.SendingLemmas.{Took-went, all-delivered, sheets_of-delivered, reply_bytes_of-delivered}
 use Rattle.press_stream.specs.Meaning.{meaning_of, with_exit}
 use Rattle.press_stream.specs.Printed.{Prints}
 use Rattle.press_ticket.specs.Ticket.{JobTicket}
@@ -22,15 +23,17 @@ told_by sheets replies = logs (record { delivered = Some sheets; faults = 0 }) (
 
 -- a stream that was printed to lists, which had nothing before
 pub delivers-of : (bytes : List ℕ) (tag : ℕ) (machine : Option Machine) (sheets : List Delivery) (replies : List ℕ)
-    → Prints bytes tag Complete machine (told_by [] []) (told_by sheets replies) → Delivers bytes tag sheets replies
-delivers-of bytes tag machine sheets replies prints = record {
-  commands = prints.commands;
-  closed = prints.closed;
-  sheets_are =
-      same_Some sheets (under_tag tag (sheets_of (meaning_of (with_exit prints.commands)).outputs))
-      (all-delivered tag (meaning_of (with_exit prints.commands)).outputs (told_by [] []) (told_by sheets replies) prints.went);
-  replies_are = all-replied tag (meaning_of (with_exit prints.commands)).outputs (told_by [] []) (told_by sheets replies) prints.went;
-}
+    → HandsOut Complete (Prints bytes Complete machine) (under tag (told_by [] []) (told_by sheets replies)) → Delivers bytes tag sheets replies
+delivers-of bytes tag machine sheets replies prints =
+    let printed = prints.is in
+    let outputs = (meaning_of (with_exit printed.commands)).outputs in
+    let sent = Took-went tag outputs prints.went Complete (told_by [] []) (told_by sheets replies) printed.goes prints.took in
+    record {
+      commands = printed.commands;
+      closed = printed.closed;
+      sheets_are = same_Some sheets (under_tag tag (sheets_of outputs)) (all-delivered tag outputs (told_by [] []) (told_by sheets replies) sent);
+      replies_are = subst (λ (went : List Output). Appends (Some []) (Some replies) (reply_bytes_of went)) printed.goes prints.took.replied;
+    }
 
 -- the outputs of the job of a ticket
 job_outputs : (ticket : JobTicket) (images : List Page) (writer : JobLeft) (tag : ℕ) (sheets : List Delivery) (replies : List ℕ)

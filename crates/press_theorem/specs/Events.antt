@@ -8,8 +8,9 @@ use Rattle.press_core.specs.declared.turn.Turn.{Turn}
 use Rattle.press_core.specs.declared.turn.TurnError.{TurnError}
 use Rattle.press_core.specs.declared.turn.TurnError.TheVariants.{NoMemory}
 use Rattle.press_core.specs.Engines.{RunsOnEngines}
-use Rattle.press_core.specs.Events.{Event, Message, TurnOn, Operator, EventAnswer, Response, Turned, Nothing, Transition, IsAnswered, IsExecution}
-use Rattle.press_core.specs.Laws.{GivenUnder}
+use Rattle.press_core.specs.Events.{Event, Message, TurnOn, Operator, EventAnswer, Response, Turned, Nothing}
+use Rattle.press_history.specs.Runs.{Transition, IsAnswered, IsExecution}
+use Rattle.press_history.specs.Laws.{GivenUnder}
 use Rattle.press_core.specs.Turns.{WereHandedOut}
 use Rattle.press_core.specs.World.{World, new_world}
 use Rattle.press_theorem.specs.declared.events.PressEvent.{PressEvent}

@@ -15,7 +15,7 @@ use Rattle.press_writer.specs.Faults as writer_faults
 use Rattle.press_writer.specs.Fitting.{refusal}
 use Rattle.press_writer.specs.Job.{job_bytes}
 use Rattle.press_writer.specs.Left.{HasImages, JobLeft, bytes_left}
-use Rattle.press_writer.specs.Printing.{PrintsTheTicket}
+use Rattle.press_printing.specs.Printing.{PrintsTheTicket}
 use Rattle.press_writer.specs.declared.fault.WriterError.{WriterError}
 use Rattle.press_writer.specs.declared.fault.WriterError.TheVariants as writer_errors
 use Rattle.press_theorem.specs.declared.tickets.NotPrinted.{NotPrinted}

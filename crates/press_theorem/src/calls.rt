@@ -1,14 +1,12 @@
 //! A stream by any calls of a job, and by a reader behind them.
-ghost use Rattle.std.specs.Prelude.{◌≡◌, List, Some, None, IsSome, false, IfOk, IfErr, IsErrOf, OnErr, OnOk, true};
+ghost use Rattle.std.specs.Prelude.{◌≡◌, Some, None, IsSome, false, IfOk, IfErr, IsErrOf, OnErr, OnOk, true};
 ghost use Rattle.std.specs.List.{flat_map};
 ghost use Rattle.press_devices.specs.Reading.{ReadFails};
 ghost use Rattle.press_sink.specs.SinkLog.{logs, HasFaultRoom, under};
-ghost use Rattle.press_sink.specs.Sending.{Complete, WentOut};
-ghost use Rattle.press_stream.specs.Answers.{FaultsBefore, fault_of};
-ghost use Rattle.press_stream.specs.Meaning.{CarriesOut};
+ghost use Rattle.press_sink.specs.Sending.{Complete, HandsOut, WentOut};
+ghost use Rattle.press_stream.specs.Answers.{CarriesOrStops, ending_by, fault_of};
 ghost use Rattle.press_stream.specs.Printed.{Prints, PrintedTo, Printed};
 ghost use Rattle.press_stream.specs.State.{IsOver, opened};
-ghost use Rattle.press_cmd.specs.Token.{Token};
 ghost use Rattle.press_theorem.specs.AtEnd.{meaning_at_end};
 ghost use Rattle.press_theorem.specs.Calls.{bytes_of};
 
@@ -44,9 +42,10 @@ pub fn print_calls<S: SheetSink, P: ReplySink>(
     replies: &mut P,
 ) -> Result<Job, JobError>
     requires { HasFaultRoom (logs (S.told sheets.old) (P.told replies.old)) }
-    ensures ok { IfOk result (λ job. Prints (flat_map bytes_of calls.now) tag Complete job.machine
-        (logs (S.told sheets.old) (P.told replies.old))
-        (logs (S.told sheets.new) (P.told replies.new))) }
+    ensures ok { IfOk result (λ job. HandsOut Complete
+        (Prints (flat_map bytes_of calls.now) Complete job.machine)
+        (under tag (logs (S.told sheets.old) (P.told replies.old))
+        (logs (S.told sheets.new) (P.told replies.new)))) }
     ensures machine { IfOk result (λ job.
         job.machine ≡ Some (meaning_at_end (flat_map bytes_of calls.now)).machine) }
     ensures told { OnOk result (WentOut tag
@@ -54,10 +53,10 @@ pub fn print_calls<S: SheetSink, P: ReplySink>(
         (logs (S.told sheets.old) (P.told replies.old))
         (logs (S.told sheets.new) (P.told replies.new))) }
     ensures over { IfOk result IsOver }
-    ensures err { IfErr result (λ error.
-        PrintedTo (Some error) (flat_map bytes_of calls.now) tag None
-        (logs (S.told sheets.old) (P.told replies.old))
-        (logs (S.told sheets.new) (P.told replies.new))) }
+    ensures err { IfErr result (λ error. HandsOut (ending_by (Some error))
+        (PrintedTo (Some error) (flat_map bytes_of calls.now) None)
+        (under tag (logs (S.told sheets.old) (P.told replies.old))
+        (logs (S.told sheets.new) (P.told replies.new)))) }
 {
     laws::chain();
     let mut job = Job::open(alloc)?;
@@ -95,8 +94,9 @@ pub fn print_stream<R: ReadDevice, S: SheetSink, P: ReplySink>(
     replies: &mut P,
 ) -> Result<PrintedStream, AllocError>
     requires { HasFaultRoom (logs (S.told sheets.old) (P.told replies.old)) }
-    ensures prints { IfOk result (λ printed. Printed (flat_map bytes_of calls.now) (R.remaining
-        reader.old) (R.remaining reader.new) (fault_of printed.result) printed.job.machine
+    ensures prints { IfOk result (λ printed. HandsOut (ending_by (fault_of printed.result))
+        (Printed (flat_map bytes_of calls.now) (R.remaining reader.old) (R.remaining reader.new)
+        (fault_of printed.result) printed.job.machine)
         (under tag (logs (S.told sheets.old) (P.told replies.old))
         (logs (S.told sheets.new) (P.told replies.new)))) }
     ensures over { IfOk result (λ printed. OnOk printed.result (IsOver printed.job)) }
@@ -122,8 +122,9 @@ fn run_calls<R: ReadDevice, S: SheetSink, P: ReplySink>(
 ) -> Result<(), JobError>
     requires opened { job.old ≡ opened }
     requires has_fault_room { HasFaultRoom (logs (S.told sheets.old) (P.told replies.old)) }
-    ensures prints { Printed (flat_map bytes_of calls.now) (R.remaining reader.old)
-        (R.remaining reader.new) (fault_of result) job.new.machine
+    ensures prints { HandsOut (ending_by (fault_of result))
+        (Printed (flat_map bytes_of calls.now) (R.remaining reader.old) (R.remaining reader.new)
+        (fault_of result) job.new.machine)
         (under tag (logs (S.told sheets.old) (P.told replies.old))
         (logs (S.told sheets.new) (P.told replies.new))) }
     ensures over { OnOk result (IsOver job.new) }
@@ -149,18 +150,13 @@ fn make<S: SheetSink, P: ReplySink>(
     requires running { IsSome job.old.machine }
     requires going { job.old.held.ended ≡ false }
     requires has_fault_room { HasFaultRoom (logs (S.told sheets.old) (P.told replies.old)) }
-    ensures goes { OnOk result ((given : List Token)
-        × CarriesOut job.old (bytes_of call.entry) given job.new
+    ensures goes { HandsOut (ending_by (fault_of result))
+        (CarriesOrStops job.old (bytes_of call.entry) result job.new)
         (under tag (logs (S.told sheets.old) (P.told replies.old))
-        (logs (S.told sheets.new) (P.told replies.new)))) }
+        (logs (S.told sheets.new) (P.told replies.new))) }
     ensures going { OnOk result (job.new.held.ended ≡ false) }
     ensures failed { OnErr result (job.new.machine ≡ None) }
-    ensures faults { IfErr result (λ error.
-        FaultsBefore job.old (bytes_of call.entry) error job.new
-        (under tag (logs (S.told sheets.old) (P.told replies.old))
-        (logs (S.told sheets.new) (P.told replies.new)))) }
 {
-    laws::chain();
     match call {
         Call::Push(piece) => job.push(piece),
         Call::Feed(piece) => job.feed(piece, tag, sheets, replies),

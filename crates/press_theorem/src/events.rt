@@ -7,7 +7,8 @@ ghost use Rattle.press_core.specs.World.{new_world};
 ghost use Rattle.press_theorem.specs.Events.{ComesFromNew, HappenAll, HappenUpTo, event_of, handing};
 
 use press_bits::Bitmap;
-use press_core::{OperatorCommand, Press, TurnError, laws};
+use press_core::{OperatorCommand, Press, TurnError};
+use press_history::laws;
 use press_sink::SheetSink;
 use std::alloc::AllocError;
 

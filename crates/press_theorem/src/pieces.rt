@@ -1,8 +1,9 @@
 //! A stream in pieces.
 ghost use Rattle.std.specs.Prelude.{Some, None, IfOk, IfErr};
 ghost use Rattle.std.specs.List.{flat_map};
-ghost use Rattle.press_sink.specs.SinkLog.{logs, HasFaultRoom};
-ghost use Rattle.press_sink.specs.Sending.{Complete};
+ghost use Rattle.press_sink.specs.SinkLog.{logs, HasFaultRoom, under};
+ghost use Rattle.press_sink.specs.Sending.{Complete, HandsOut};
+ghost use Rattle.press_stream.specs.Answers.{ending_by};
 ghost use Rattle.press_stream.specs.Printed.{Prints, PrintedTo};
 
 use press_sink::{ReplySink, SheetSink};
@@ -25,14 +26,14 @@ pub fn print_pieces<S: SheetSink, P: ReplySink>(
     replies: &mut P,
 ) -> Result<Job, JobError>
     requires { HasFaultRoom (logs (S.told sheets.old) (P.told replies.old)) }
-    ensures ok { IfOk result (λ job.
-        Prints (flat_map (λ piece. piece.now) pieces.now) tag Complete job.machine
-        (logs (S.told sheets.old) (P.told replies.old))
-        (logs (S.told sheets.new) (P.told replies.new))) }
-    ensures err { IfErr result (λ error.
-        PrintedTo (Some error) (flat_map (λ piece. piece.now) pieces.now) tag None
-        (logs (S.told sheets.old) (P.told replies.old))
-        (logs (S.told sheets.new) (P.told replies.new))) }
+    ensures ok { IfOk result (λ job. HandsOut Complete
+        (Prints (flat_map (λ piece. piece.now) pieces.now) Complete job.machine)
+        (under tag (logs (S.told sheets.old) (P.told replies.old))
+        (logs (S.told sheets.new) (P.told replies.new)))) }
+    ensures err { IfErr result (λ error. HandsOut (ending_by (Some error))
+        (PrintedTo (Some error) (flat_map (λ piece. piece.now) pieces.now) None)
+        (under tag (logs (S.told sheets.old) (P.told replies.old))
+        (logs (S.told sheets.new) (P.told replies.new)))) }
 {
     laws::chain();
     let mut job = Job::open(alloc)?;

@@ -9,6 +9,7 @@ ghost use Rattle.press_writer.specs.Wanted.{wanted};
 ghost use Rattle.press_theorem.specs.Tickets.{Delivers, IsNotPrinted, IsPrinterOf, IsUnfit, not_printed_number};
 
 use press_bits::Bitmap;
+use press_printing::open_job;
 use press_sink::{ListReplies, ListSink};
 use press_stream::{Job, JobError, laws};
 use press_ticket::{Ticket, TicketError, read_ticket};
@@ -70,7 +71,7 @@ fn job_of(alloc: Global, ticket: &Ticket, images: &[Bitmap]) -> Result<JobWriter
     ensures ok { IfOk result (λ writer. IsPrinterOf ticket.now images.now writer) }
     ensures err { IfErr result (λ why. IsUnfit ticket.now images.now why) }
 {
-    JobWriter::open(alloc, ticket, images)
+    open_job(alloc, ticket, images)
 }
 
 /// What a job delivers under a tag, from power on to its end, which comes in pieces. Lists have no fault, so it stops for want of memory

@@ -1,9 +1,9 @@
-use Rattle.std.proofs.Common.{◌≡◌, false, List, take}
+use Rattle.std.proofs.Common.{◌≡◌, false, take}
 use Rattle.std.specs.List.{flat_map}
-use Rattle.press_cmd.specs.Token.{Token}
 use Rattle.press_sink.specs.SinkLog.{logs, HasFaultRoom, under}
+use Rattle.press_sink.specs.Sending.{Complete, HandsOut}
 use Rattle.press_stream.specs.State.{opened}
-use Rattle.press_stream.specs.Meaning.{CarriesOut}
+use Rattle.press_stream.specs.Meaning.{CarriesOn}
 use Rattle.press_theorem.specs.Calls.{bytes_of}
 use Rattle.press_theorem.proofs.calls.print_calls.Given as goal
 
@@ -13,8 +13,7 @@ invariant-loop-call g l =
     let before = logs (g.S.SheetSink.told l.initial.sheets) (g.P.ReplySink.told l.initial.replies) in
     let after = logs (g.S.SheetSink.told l.sheets) (g.P.ReplySink.told l.replies) in
     record {
-      given : List Token;
-      goes : CarriesOut opened (flat_map bytes_of (take l.call-index l.calls)) given l.job (under l.tag before after);
+      goes : HandsOut Complete (CarriesOn opened (flat_map bytes_of (take l.call-index l.calls)) l.job) (under l.tag before after);
       going : l.job.held.ended ≡ false;
       has_fault_room : HasFaultRoom after;
     }

@@ -1,8 +1,8 @@
 use Rattle.std.proofs.Common.{◌≡◌, ◌++◌, ℕ, List, [], length, false}
 use Rattle.press_sink.specs.SinkLog.{under}
-use Rattle.press_cmd.specs.Token.{Token}
+use Rattle.press_sink.specs.Sending.{Complete, HandsOut}
 use Rattle.press_sink.specs.Kept.{deliveries, replied}
-use Rattle.press_stream.specs.Meaning.{CarriesOut}
+use Rattle.press_stream.specs.Meaning.{CarriesOn}
 use Rattle.press_stream.specs.State.{opened}
 use Rattle.press_writer.specs.Left.{HasImages, bytes_left}
 use Rattle.press_theorem.proofs.TicketLemmas.{told_by}
@@ -15,8 +15,7 @@ invariant-loop-piece l = record {
   done : List ℕ;
   left : bytes_left l.fn.writer l.images ≡ done ++ bytes_left l.writer l.images;
   held : l.piece.items ≡ [];
-  given : List Token;
-  goes : CarriesOut opened done given l.job (under l.tag (told_by [] []) (told_by (deliveries l.sheets) (replied l.replies)));
+  goes : HandsOut Complete (CarriesOn opened done l.job) (under l.tag (told_by [] []) (told_by (deliveries l.sheets) (replied l.replies)));
   going : l.job.held.ended ≡ false;
 }
 
