@@ -12,7 +12,7 @@ use Rattle.press_ticket.specs.declared.fault.TicketError.{TicketError}
 use Rattle.press_ticket.specs.declared.fault.TicketError.TheVariants as ticket_fault
 use Rattle.press_writer.specs.Fitting.{refusal}
 use Rattle.press_writer.specs.Job.{job_bytes}
-use Rattle.press_writer.specs.Printing.{PrintsTheTicket}
+use Rattle.press_printing.specs.Printing.{PrintsTheTicket}
 use Rattle.press_writer.specs.declared.fault.WriterError.{WriterError}
 use Rattle.press_writer.specs.declared.fault.WriterError.TheVariants.{WriteFault, NoMemory}
 use Rattle.press_files.specs.Change.{Change}

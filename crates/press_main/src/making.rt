@@ -17,9 +17,10 @@ use press_devices::ReadDevice;
 use press_files::{NamedInputs, Teller, report};
 use press_forms::{TextError, assembled};
 use press_jobs::{JobFileError, images_named, ticket_in};
+use press_printing::write_job;
 use press_sink::{NamedOutputs, write_output};
 use press_ticket::Ticket;
-use press_writer::{WriterError, check, write_job};
+use press_writer::{WriterError, check};
 use std::alloc::Global;
 
 /// Makes the output of this name, which holds the bytes of the assembly text that a reader has, and writes a fault to `err`. Of a text

@@ -13,8 +13,9 @@ use Rattle.press_sink.specs.declared.sheet.Delivery.{Delivery}
 use Rattle.press_core.specs.declared.turn.Turn.{Turn}
 use Rattle.press_core.specs.declared.engines.BadEngines.{BadEngines}
 use Rattle.press_core.specs.Engines.{are_engines}
-use Rattle.press_core.specs.Events.{TurnOn, Turned, Transition, Happens, IsAnswered, IsExecution}
-use Rattle.press_core.specs.Laws.{SheetsAreGiven}
+use Rattle.press_core.specs.Events.{TurnOn, Turned, Happens}
+use Rattle.press_history.specs.Runs.{Transition, IsAnswered, IsExecution}
+use Rattle.press_history.specs.Laws.{SheetsAreGiven}
 use Rattle.press_core.specs.World.{World, new_world}
 use Rattle.press_jobs.specs.declared.jobs.JobFileError.TheVariants as fault
 use Rattle.press_sessions.specs.declared.sessions.SessionError.{SessionError}

@@ -7,8 +7,9 @@ use Rattle.press_devices.specs.Writing.{AppendsPrefix}
 use Rattle.press_sink.specs.declared.sheet.Delivery.{Delivery}
 use Rattle.press_core.specs.declared.engines.BadEngines.{BadEngines}
 use Rattle.press_core.specs.Engines.{are_engines}
-use Rattle.press_core.specs.Events.{Event, Message, TurnOn, Operator, Transition, Happens, EventAnswer, Response, Turned, Nothing, IsAnswered, IsExecution}
-use Rattle.press_core.specs.Laws.{GivenUnder}
+use Rattle.press_core.specs.Events.{Event, Message, TurnOn, Operator, Happens, EventAnswer, Response, Turned, Nothing}
+use Rattle.press_history.specs.Runs.{Transition, IsAnswered, IsExecution}
+use Rattle.press_history.specs.Laws.{GivenUnder}
 use Rattle.press_core.specs.World.{World, new_world}
 use Rattle.press_files.specs.Causes.{Failures, InputCause}
 use Rattle.press_files.specs.Change.{Change}

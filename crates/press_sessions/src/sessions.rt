@@ -29,12 +29,13 @@ ghost use Rattle.press_sessions.specs.declared.sessions.SessionError.TheVariants
 
 use crate::event_lines::{LineEvent, event_of};
 use crate::talking::{Talk, answer_lines};
-use press_core::{BadEngines, OperatorCommand, Press, Turn, TurnError, laws};
+use press_core::{BadEngines, OperatorCommand, Press, Turn, TurnError};
 use press_devices::{ReadDevice, WriteDevice, write_flushed};
 use press_files::{
     EntrySheets, InputError, NO_OUTPUT, NamedInputs, Teller, list_delivered, open_named, read_all,
     report,
 };
+use press_history::laws;
 use press_jobs::{JobFileError, images_named};
 use press_units::ToldFault;
 use press_words::{WHAT, line_of, words_of};
