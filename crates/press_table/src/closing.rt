@@ -310,7 +310,8 @@ impl State {
           state = self.new;
           outputs = all_outputs out.new.items;
         }
-            ≡ after_outputs (all_outputs out.old.items) (finish_effect (effect_of self.old effect))) }
+            ≡ after_outputs (all_outputs out.old.items)
+            (finish_effect (effect_of self.old effect))) }
         ensures memory { IsErr result → TakesMemory (effect_of self.old effect) }
     {
         match effect {
