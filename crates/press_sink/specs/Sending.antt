@@ -30,8 +30,8 @@ under_tag tag sheets = map (λ (sheet : PrintedSheet). record { tag = tag; sheet
 abbrev pub sheets_in : List Delivery → List PrintedSheet
 sheets_in deliveries = map (λ (delivery : Delivery). delivery.sheet) deliveries
 
--- How outputs end: all of them go out; those up to a sheet at which the sheet sink has a fault; up to a reply in which the reply sink
--- has one; up to where memory runs out. A call that was refused hands none over, so none end so.
+-- How the outputs of a call end: all of them go out; those up to a sheet at which the sheet sink has a fault; up to a reply in which the
+-- reply sink has one; up to where memory runs out; or the call was refused, or could not read on.
 pub data Ending : Type 0 where
   Complete : Ending
   AtSheet : Ending
@@ -40,7 +40,7 @@ pub data Ending : Type 0 where
   Refused : Ending
 
 -- What goes out of outputs that end so: all of them; those before a sheet; those before a reply, and a prefix of that reply; or the
--- first of them.
+-- first of them. Outputs that are sent do not end refused.
 abbrev pub GoesOut : Ending → (went outputs : List Output) → Type 0
 GoesOut Complete went outputs = went ≡ outputs
 GoesOut AtSheet went outputs = (sheet : PrintedSheet) × (others : List Output) × (outputs ≡ went ++ Deliver sheet ∷ others)
@@ -68,14 +68,15 @@ pub record WentOut (tag : ℕ) (outputs : List Output) (ending : Ending) (before
   pub sheet_faults : after.sheets.faults ≡ sheet_faults_after ending before.sheets.faults
   pub reply_faults : after.replies.faults ≡ reply_faults_after ending before.replies.faults
 
--- The sinks took these outputs, all of them and in order, under a tag; and they count the fault of the ending.
+-- The sinks took these outputs, all of them and in order, under a tag. The ending says which sink counts one fault more; neither does
+-- where all went out, memory ran out, or the call was refused or could not read on.
 pub record Took (tag : ℕ) (went : List Output) (ending : Ending) (before after : SinkLog) : Type 0 where
   pub delivered : after.sheets.delivered ≡ option_map (λ all. all ++ under_tag tag (sheets_of went)) before.sheets.delivered
   pub replied : Appends before.replies.replied after.replies.replied (reply_bytes_of went)
   pub sheet_faults : after.sheets.faults ≡ sheet_faults_after ending before.sheets.faults
   pub reply_faults : after.replies.faults ≡ reply_faults_after ending before.replies.faults
 
--- Some outputs went out of a call, of which this is true: the sinks took them, and nothing else.
+-- Some outputs went out of a call. This is true of them, and the sinks took them and nothing else.
 pub record HandsOut (ending : Ending) (Is : (went : List Output) → Type 0) (sinks : SinkUse) : Type 0 where
   pub went : List Output
   pub is : Is went
