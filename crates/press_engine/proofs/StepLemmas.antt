@@ -18,7 +18,7 @@ use Rattle.press_engine.specs.Begun.{Begun, end_by, end_of}
 use Rattle.press_engine.specs.Engine.{IsOfKind, StepsTo}
 use Rattle.press_engine.specs.Machine.{StepResult, then_run, last_of}
 use Rattle.press_engine.specs.Stack.{continuation, room_where, room_in, IsNested, IsSound, IsOverlayEnd, EndsOverlay}
-use Rattle.press_engine.specs.Stepping.{used_up, Stepped, ended_by, unwind, finished, Gives, stepped_of, GoesOn}
+use Rattle.press_engine.specs.Stepping.{used_up, Stepped, ended_by, unwind, finished, Gives, stepped_of, LeavesWork}
 use Rattle.press_engine.proofs.BegunLemmas.{end-last}
 use Rattle.press_engine.proofs.CommandItems.{Taking, now, begins_at, effect_at, command-all}
 use Rattle.press_engine.proofs.ItemsLemmas.{ready-of}
@@ -94,7 +94,7 @@ pub ends-overlay : (activations rest : List Activation) (activation : Activation
 ends-overlay activations rest activation is used ends = subst EndsOverlay (sym is) (used-none activation.body used, ends)
 
 -- where the rest of a step may take memory, so may the command, or an overlay ends with it
-pub goes-memory : (at : Taking) (round : List Activation) → GoesOn (begins_at at) round → TakesMemory (effect_at at) ⊎ EndsOverlay round
+pub goes-memory : (at : Taking) (round : List Activation) → LeavesWork (begins_at at) round → TakesMemory (effect_at at) ⊎ EndsOverlay round
 goes-memory at round (inl some) = inl (begins-wants at (inl some))
 goes-memory at round (inr (inl some)) = inl (begins-wants at (inr some))
 goes-memory at round (inr (inr ends)) = inr ends
@@ -140,7 +140,7 @@ ends-append : (started round : List Activation) → EndsOverlay (started ++ roun
 ends-append [] round ends = inr ends
 ends-append (activation ∷ started) round ends = inl (λ (none : activation ∷ started ≡ []). cc)
 
-goes-on : (begin : Begun) (round : List Activation) → (begin.item.outputs ≢ []) ⊎ EndsOverlay (begin.started ++ round) → GoesOn begin round
+goes-on : (begin : Begun) (round : List Activation) → (begin.item.outputs ≢ []) ⊎ EndsOverlay (begin.started ++ round) → LeavesWork begin round
 goes-on begin round (inl some) = inl some
 goes-on begin round (inr ends) = inr (ends-append begin.started round ends)
 

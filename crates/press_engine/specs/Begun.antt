@@ -22,7 +22,8 @@ use Rattle.press_engine.specs.Machine.{overlay_levels, enter_overlay, leave_over
 abbrev pub finish_close : EjectCause → Machine → StepResult
 finish_close cause machine = finish_without_overlay machine (Closes cause machine.state)
 
--- what comes when a body is used up: what a call restores is restored; behind an overlay, the page close that waited for it
+-- what comes when a body is used up: what a call restores is restored; behind an overlay the cursor is put back, too, and then the page
+-- closes that waited for it
 abbrev pub end_by : ActivationEnd → (depth : ℕ) → Machine → StepResult
 end_by (ends_by.Macro end) depth after = silent (leave_body end depth after)
 end_by (ends_by.Close cause kept place) depth after = finish_close cause (leave_overlay kept place depth after)
@@ -30,6 +31,7 @@ end_by (ends_by.Close cause kept place) depth after = finish_close cause (leave_
 abbrev pub end_of : Activation → Machine → StepResult
 end_of activation = end_by activation.end activation.depth
 
+-- the item of a command, and the body that it starts: one body at most
 pub record Begun : Type 0 where
   pub item : StepResult
   pub started : List Activation
@@ -37,7 +39,7 @@ pub record Begun : Type 0 where
 abbrev pub begun_only : StepResult → Begun
 begun_only item = record { item = item; started = [] }
 
--- the body of a macro, where one more may start; else nothing
+-- the body of a macro, where one more may start; else the state alone
 abbrev pub begun_body : Bool → (macro_levels : ℕ) → List Token → BodyEnd → State → Machine → Begun
 begun_body in_overlay zero commands end state machine = begun_only (silent (with_state state machine))
 begun_body in_overlay (suc more) commands end state machine = record {

@@ -87,5 +87,5 @@ begun_over begin before activations = record {
 }
 
 -- what a step began lets something out, starts a body, or ends an overlay
-abbrev pub GoesOn : Begun → List Activation → Type 0
-GoesOn begin activations = (begin.item.outputs ≢ []) ⊎ (begin.started ≢ []) ⊎ EndsOverlay activations
+abbrev pub LeavesWork : Begun → List Activation → Type 0
+LeavesWork begin activations = (begin.item.outputs ≢ []) ⊎ (begin.started ≢ []) ⊎ EndsOverlay activations

@@ -33,26 +33,26 @@ trace_each one (command ∷ commands) machine =
 
 -- The items of a command, by what it begins: its item alone; or, where it starts a body, that item and the items of the body's
 -- commands, with the end of the body in the last of them.
-abbrev pub items_of : (Activation → Token → Machine → List StepResult) → StepResult → List Activation → List StepResult
-items_of inside item [] = item ∷ []
-items_of inside item (activation ∷ others) =
+abbrev pub item_and_body : (Activation → Token → Machine → List StepResult) → StepResult → List Activation → List StepResult
+item_and_body inside item [] = item ∷ []
+item_and_body inside item (activation ∷ others) =
     with_end (end_of activation) item (trace_each (inside activation) activation.body item.machine)
 
 abbrev pub begun_items : (Activation → Token → Machine → List StepResult) → Begun → List StepResult
-begun_items inside begin = items_of inside begin.item begin.started
+begun_items inside begin = item_and_body inside begin.item begin.started
 
--- The items of a command of an overlay, where so many macros may start.
+-- The items of a command of an overlay, where so many macros may start; with none left to start, its item alone.
 unfoldable pub trace_in_overlay : (macro_levels : ℕ) → Token → Machine → List StepResult
 trace_in_overlay zero command machine = (begins true 0 command machine).item ∷ []
-trace_in_overlay (suc more) command machine = begun_items (λ body. trace_in_overlay more) (begins true (suc more) command machine)
+trace_in_overlay (suc more) command machine = begun_items (λ activation. trace_in_overlay more) (begins true (suc more) command machine)
 
 -- the items of the commands of a body that is started outside an overlay: in the overlay, or of a macro
 abbrev pub inside_of : (Token → Machine → List StepResult) → Activation → Token → Machine → List StepResult
-inside_of of_macro body = if body.in_overlay then trace_in_overlay overlay_levels else of_macro
+inside_of of_macro activation = if activation.in_overlay then trace_in_overlay overlay_levels else of_macro
 
 -- The items of a command outside an overlay, where so many macros may start.
 unfoldable pub trace_at : (macro_levels : ℕ) → Token → Machine → List StepResult
-trace_at zero command machine = begun_items (λ body. trace_in_overlay overlay_levels) (begins false 0 command machine)
+trace_at zero command machine = begun_items (λ activation. trace_in_overlay overlay_levels) (begins false 0 command machine)
 trace_at (suc more) command machine = begun_items (inside_of (trace_at more)) (begins false (suc more) command machine)
 
 -- The trace of the commands of a stream.

@@ -47,7 +47,7 @@ impl Machine {
     ghost use Rattle.press_engine.specs.Stack.{HasNext, IsOverlayEnd, EndsOverlay};
     ghost use Rattle.press_table.specs.Outputs.{all_outputs};
     ghost use Rattle.press_table.specs.declared.effect.Source.TheVariants.{Stream};
-    ghost use Rattle.press_engine.specs.Stepping.{begun_over, first_effect, TakesFirst, finished, GoesOn, run_of};
+    ghost use Rattle.press_engine.specs.Stepping.{begun_over, first_effect, TakesFirst, finished, LeavesWork, run_of};
     ghost use Rattle.press_engine.specs.Stepping.{stepped_of, unwind, step_outer, step_inner};
     ghost use Rattle.press_table.specs.Table.{effect_on};
 
@@ -233,7 +233,7 @@ impl Machine {
             ≡ finished (begun in_overlay macro_levels self.old (effect_of self.old.state effect))
             (reverse activations.old.items)) }
         ensures memory { IsErr result → TakesMemory (effect_of self.old.state effect)
-            ⊎ GoesOn (begun in_overlay macro_levels self.old (effect_of self.old.state effect))
+            ⊎ LeavesWork (begun in_overlay macro_levels self.old (effect_of self.old.state effect))
             (reverse activations.old.items) }
     {
         let mut out = Vec::new(alloc);

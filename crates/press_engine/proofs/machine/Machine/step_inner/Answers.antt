@@ -5,7 +5,7 @@ use Rattle.press_engine.specs.declared.activation.Activation.{Activation}
 use Rattle.press_engine.specs.Begun.{begun, begun_only}
 use Rattle.press_engine.specs.Machine.{silent}
 use Rattle.press_engine.specs.Stack.{EndsOverlay}
-use Rattle.press_engine.specs.Stepping.{first_effect, finished, GoesOn}
+use Rattle.press_engine.specs.Stepping.{first_effect, finished, LeavesWork}
 use Rattle.press_engine.proofs.CommandItems.{taking_in}
 use Rattle.press_engine.proofs.EndsLemmas.{done-begins, steps-inner}
 use Rattle.press_engine.proofs.InnerLemmas.{lent-is, inner-taken}
@@ -41,7 +41,7 @@ returns-clause-memory c stops =
         rest,
         outer,
         is,
-        goes-memory (taking_in activation command old) (record activation { body = rest } ∷ outer) (subst₂ GoesOn taken.0 taken.1 goes),
+        goes-memory (taking_in activation command old) (record activation { body = rest } ∷ outer) (subst₂ LeavesWork taken.0 taken.1 goes),
       )
     ]
 

@@ -5,7 +5,7 @@ use Rattle.press_table.specs.Memory.{TakesMemory}
 use Rattle.press_table.specs.Table.{effect_on}
 use Rattle.press_engine.specs.Begun.{begins, begun, begun_only}
 use Rattle.press_engine.specs.Machine.{macro_levels, silent}
-use Rattle.press_engine.specs.Stepping.{step_outer, finished, stepped_of, GoesOn}
+use Rattle.press_engine.specs.Stepping.{step_outer, finished, stepped_of, LeavesWork}
 use Rattle.press_engine.proofs.CommandItems.{taking}
 use Rattle.press_engine.proofs.EndsLemmas.{begins-from, done-begins, steps-by}
 use Rattle.press_engine.proofs.StepLemmas.{goes-memory, no-overlay}
@@ -29,7 +29,7 @@ returns-clause-memory c stops =
     let begins = begins-from false macro_levels command old c.take.new.self c.in_ok-effect.effect c.in_ok-effect.ensures.taken gives in
     elim (c.go_on.ensures.memory stops) [
       | inl takes ↦ subst TakesMemory gives takes
-      | inr goes ↦ no-overlay (goes-memory (taking false macro_levels command old) [] (subst₂ GoesOn begins (ap reverse c.requires.none) goes))
+      | inr goes ↦ no-overlay (goes-memory (taking false macro_levels command old) [] (subst₂ LeavesWork begins (ap reverse c.requires.none) goes))
     ]
 
 pub returns-then-is_done-clause-steps : goal.returns-then-is_done-clause-steps
