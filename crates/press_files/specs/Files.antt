@@ -21,7 +21,7 @@ use Rattle.press_sink.specs.declared.fault.TemplateError.TheVariants.{BadTemplat
 use Rattle.press_files.specs.Causes.{Failures}
 use Rattle.press_files.specs.Change.{Change, change, Edge}
 use Rattle.press_files.specs.Printing.{status_of_fault, TellsFault}
-use Rattle.press_files.specs.Telling.{Tells, as_line}
+use Rattle.press_telling.specs.Telling.{Tells, as_line}
 
 -- deliveries are stored as the pairs of their tags and sheets
 abbrev pub delivery_code : Coded Delivery

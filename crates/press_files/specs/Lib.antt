@@ -1,4 +1,4 @@
--- Streams that are printed or listed, the inputs and outputs of the program, and what it tells.
+-- Streams that are printed or listed, and the inputs and outputs of the program.
 pub mod Causes
 pub mod Change
 pub mod EntryListing
@@ -14,4 +14,3 @@ pub mod NamedFiles
 pub mod NamedInputs
 pub mod Numbering
 pub mod Printing
-pub mod Telling

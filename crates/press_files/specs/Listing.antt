@@ -16,11 +16,10 @@ use Rattle.press_stream.specs.State.{JobState}
 use Rattle.press_stream.specs.Answers.{fault_of, ending_by}
 use Rattle.press_stream.specs.Meaning.{meaning_of, with_exit}
 use Rattle.press_stream.specs.Printed.{Printed}
-use Rattle.press_trace.specs.Faults.{output_text}
 use Rattle.press_files.specs.Causes.{Failures}
 use Rattle.press_files.specs.Change.{Change}
 use Rattle.press_files.specs.Printing.{machine_of, status_of_fault, TellsFault}
-use Rattle.press_files.specs.Telling.{Tells, as_line}
+use Rattle.press_telling.specs.Telling.{output_text, Tells, as_line}
 use Rattle.press_files.specs.declared.measures.Measures.{Measures}
 use Rattle.press_files.specs.Measured.{measures_of}
 

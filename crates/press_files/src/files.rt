@@ -9,10 +9,10 @@ ghost use Rattle.press_sink.specs.Template.{IsNoTemplate};
 ghost use Rattle.press_files.specs.Files.{MakesFiles, PrintsBy, PrintsFiles, PrintsNoFiles, PrintsTo};
 
 use crate::stream::{print_stream, told_status};
-use crate::telling::{Teller, report};
 use crate::told_folder::{Folder, ToldFolder};
 use press_devices::{ReadDevice, WriteDevice};
 use press_sink::{FolderSink, NamedOutputs, SheetSink, WriteReplies};
+use press_telling::{Teller, report};
 use std::alloc::Global;
 use std::marker::Brand;
 

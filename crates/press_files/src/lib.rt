@@ -1,5 +1,4 @@
-//! What the program reads and writes: inputs by their names, faults that are told in a line, and the files and the listing of a
-//! stream.
+//! What the program reads and writes: inputs by their names, and the files and the listing of a stream.
 #![tactic(auto)]
 
 mod entry_sheets;
@@ -11,7 +10,6 @@ mod measures;
 mod named_inputs;
 mod stream;
 mod taken;
-mod telling;
 mod told_folder;
 
 pub use entry_sheets::EntrySheets;
@@ -20,4 +18,3 @@ pub use inputs::{InputError, read_all};
 pub use listing::{list_delivered, print_list};
 pub use named_inputs::{NamedFile, NamedFiles, NamedInputs, open_named};
 pub use stream::print_stream;
-pub use telling::{NO_OUTPUT, Teller, report};

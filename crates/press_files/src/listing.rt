@@ -14,11 +14,11 @@ use crate::entry_sheets::{EntrySheet, EntrySheets};
 use crate::listing_sink::{ListedSheet, ListingSink};
 use crate::measures::Measures;
 use crate::stream::{print_stream, told_status};
-use crate::telling::{NO_OUTPUT, Teller, report};
 use itoa::Buffer;
 use press_devices::{ReadDevice, WriteDevice, write_flushed, write_pieces};
 use press_sink::ListReplies;
 use press_stream::{Job, JobError};
+use press_telling::{NO_OUTPUT, Teller, report};
 use std::alloc::Global;
 use std::io;
 

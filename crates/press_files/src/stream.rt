@@ -7,10 +7,10 @@ ghost use Rattle.press_stream.specs.Answers.{fault_of, ending_by};
 ghost use Rattle.press_stream.specs.Printed.{Printed};
 ghost use Rattle.press_files.specs.Printing.{machine_of, status_of_fault, TellsFault};
 
-use crate::telling::{Teller, report};
 use press_devices::ReadDevice;
 use press_sink::{ReplySink, SheetSink};
 use press_stream::{Job, JobError};
+use press_telling::{Teller, report};
 use std::alloc::Global;
 
 /// Prints the stream that a reader has, from power on: its sheets are delivered under the tag, and the job is handed back.

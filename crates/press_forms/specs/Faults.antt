@@ -3,7 +3,7 @@ use Rattle.std.specs.Prelude.{ℕ, List, Option, Some, None}
 use Rattle.press_units.specs.Faults.{fault_text}
 use Rattle.press_asm.specs.Faults as asm
 use Rattle.press_pbm.specs.Faults as pbm
-use Rattle.press_trace.specs.Faults.{output_text}
+use Rattle.press_telling.specs.Telling.{output_text}
 use Rattle.press_forms.specs.declared.assembly.TextError.{TextError}
 use Rattle.press_forms.specs.declared.assembly.TextError.TheVariants as texts
 use Rattle.press_forms.specs.declared.paging.PagingError.{PagingError}

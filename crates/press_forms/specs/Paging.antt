@@ -15,7 +15,7 @@ use Rattle.press_forms.specs.Causes.{PageCause}
 use Rattle.press_files.specs.Change.{Change}
 use Rattle.press_files.specs.Inputs.{ReadWhole}
 use Rattle.press_forms.specs.Faults.{told_of_page}
-use Rattle.press_files.specs.Telling.{Tells, as_line}
+use Rattle.press_telling.specs.Telling.{Tells, as_line}
 use Rattle.press_forms.specs.declared.paging.PagingError.{PagingError}
 use Rattle.press_forms.specs.declared.paging.PagingError.TheVariants.{Input, WriteFault, NoMemory}
 

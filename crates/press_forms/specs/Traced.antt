@@ -8,7 +8,7 @@ use Rattle.press_forms.specs.Causes.{TraceCause}
 use Rattle.press_files.specs.Change.{Change}
 use Rattle.press_files.specs.Inputs.{ReadWhole}
 use Rattle.press_forms.specs.Faults.{told_of_trace}
-use Rattle.press_files.specs.Telling.{Ended}
+use Rattle.press_telling.specs.Telling.{Ended}
 use Rattle.press_forms.specs.declared.traced.TracedError.{TracedError}
 use Rattle.press_forms.specs.declared.traced.TracedError.TheVariants.{Input, Output, NoMemory}
 

@@ -6,13 +6,14 @@ ghost use Rattle.press_forms.specs.Assembly.{Assembled, AssembledTo, TextRefused
 ghost use Rattle.press_forms.specs.Faults.{told_of_text};
 ghost use Rattle.press_forms.specs.Causes.{TextCause};
 ghost use Rattle.press_files.specs.Causes.{failures};
-ghost use Rattle.press_files.specs.Telling.{Ended};
+ghost use Rattle.press_telling.specs.Telling.{Ended};
 
 use press_asm::{AssembleError, assemble};
 use press_devices::{ReadDevice, WriteDevice, write_flushed};
 use press_disasm::disassemble;
-use press_files::{InputError, NO_OUTPUT, Teller, read_all, report};
+use press_files::{InputError, read_all};
 use press_pbm::WRITE_FAULT;
+use press_telling::{NO_OUTPUT, Teller, report};
 use press_units::ToldFault;
 use std::alloc::{AllocError, Global};
 use std::error::Error;

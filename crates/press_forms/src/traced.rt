@@ -7,7 +7,8 @@ ghost use Rattle.press_forms.specs.Causes.{TraceCause};
 ghost use Rattle.press_forms.specs.Traced.{StopsTelling, Traced, Tracing};
 
 use press_devices::{ReadDevice, WriteDevice, write_flushed};
-use press_files::{InputError, NO_OUTPUT, Teller, read_all, report};
+use press_files::{InputError, read_all};
+use press_telling::{NO_OUTPUT, Teller, report};
 use press_trace::{TraceError, trace_lines};
 use press_units::ToldFault;
 use std::alloc::Global;

@@ -17,13 +17,14 @@ ghost use Rattle.press_jobs.specs.Jobs.{
 };
 ghost use Rattle.press_jobs.specs.Faults.{told_of_job};
 ghost use Rattle.press_files.specs.NamedInputs.{named};
-ghost use Rattle.press_files.specs.Telling.{Ended};
+ghost use Rattle.press_telling.specs.Telling.{Ended};
 
 use press_bits::Bitmap;
 use press_devices::{ReadDevice, WriteDevice};
-use press_files::{InputError, NamedInputs, Teller, open_named, read_all, report};
+use press_files::{InputError, NamedInputs, open_named, read_all};
 use press_pbm::{ReadPbmError, read_pbm};
 use press_printing::write_job;
+use press_telling::{Teller, report};
 use press_ticket::{Ticket, TicketError, read_ticket};
 use press_units::ToldFault;
 use press_writer::WriterError;

@@ -10,7 +10,6 @@ use Rattle.press_sink.specs.declared.fault.SinkError.TheVariants.{SinkFault}
 use Rattle.press_devices.specs.Faults.{read_fault}
 use Rattle.press_devices.specs.Reading.{ReadFails}
 use Rattle.press_devices.specs.Writing.{AppendsPrefix}
-use Rattle.press_trace.specs.Faults.{output_text}
 use Rattle.press_files.specs.Causes.{Failures, making, writing}
 use Rattle.press_files.specs.Change.{Change, change, Edge, reading_file, reading_from}
 use Rattle.press_forms.specs.Causes.{TextCause}
@@ -27,7 +26,7 @@ use Rattle.press_files.specs.Listing.{PrintsListing}
 use Rattle.press_files.specs.NamedInputs.{NamedInput}
 use Rattle.press_forms.specs.Paging.{Paging}
 use Rattle.press_sessions.specs.Sessions.{Plays, Stops}
-use Rattle.press_files.specs.Telling.{Ended, Tells, as_line}
+use Rattle.press_telling.specs.Telling.{output_text, Ended, Tells, as_line}
 use Rattle.press_forms.specs.Traced.{Tracing}
 use Rattle.press_words.specs.View.{AsksHelp}
 use Rattle.press_words.specs.Words.{Source, Standard, FileNamed, Made, Listed, FilesBy, Answered, AsText, DebuggedOf, TracedOf, PageTo, StreamTo, JobTo, Arguments, arguments}

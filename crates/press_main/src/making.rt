@@ -10,15 +10,16 @@ ghost use Rattle.press_jobs.specs.Jobs.{MakesAJob, MakesNoJob, MakesTheTicket, S
 ghost use Rattle.press_forms.specs.Faults.{told_of_text};
 ghost use Rattle.press_jobs.specs.Faults.{told_of_job};
 ghost use Rattle.press_files.specs.NamedInputs.{named};
-ghost use Rattle.press_files.specs.Telling.{Ended};
+ghost use Rattle.press_telling.specs.Telling.{Ended};
 
 use press_bits::Bitmap;
 use press_devices::ReadDevice;
-use press_files::{NamedInputs, Teller, report};
+use press_files::NamedInputs;
 use press_forms::{TextError, assembled};
 use press_jobs::{JobFileError, images_named, ticket_in};
 use press_printing::write_job;
 use press_sink::{NamedOutputs, write_output};
+use press_telling::{Teller, report};
 use press_ticket::Ticket;
 use press_writer::{WriterError, check};
 use std::alloc::Global;

@@ -2,7 +2,7 @@
 use Rattle.std.specs.Prelude.{ℕ, List, Option, Some, None}
 use Rattle.press_units.specs.Faults.{fault_text}
 use Rattle.press_core.specs.TurnErrors.{bad_engines, turn_number}
-use Rattle.press_trace.specs.Faults.{output_text}
+use Rattle.press_telling.specs.Telling.{output_text}
 use Rattle.press_sessions.specs.declared.debugging.DebugError.{DebugError}
 use Rattle.press_sessions.specs.declared.debugging.DebugError.TheVariants as debugs
 use Rattle.press_sessions.specs.declared.sessions.SessionError.{SessionError}

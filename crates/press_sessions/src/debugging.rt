@@ -19,7 +19,7 @@ ghost use Rattle.press_sessions.specs.Debugging.{
   StopsDebugging,
 };
 ghost use Rattle.press_sessions.specs.Faults.{told_of_debugger};
-ghost use Rattle.press_files.specs.Telling.{Ended};
+ghost use Rattle.press_telling.specs.Telling.{Ended};
 
 use crate::debugger_lines::{DebuggerLine, asked_of};
 use crate::talking::{Talk, answer_lines};
@@ -28,7 +28,8 @@ use press_cmd::{Kind, LINE_FEED};
 use press_debug::{Break, BreakError, Debugger, Stop, Watch};
 use press_devices::{ReadDevice, WriteDevice};
 use press_engine::View;
-use press_files::{InputError, NO_OUTPUT, Teller, read_all, report};
+use press_files::{InputError, read_all};
+use press_telling::{NO_OUTPUT, Teller, report};
 use press_units::ToldFault;
 use press_words::{WHAT, line_of};
 use std::alloc::{AllocError, Global};

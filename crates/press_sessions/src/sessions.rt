@@ -24,19 +24,17 @@ ghost use Rattle.press_sessions.specs.Sessions.{
 };
 ghost use Rattle.press_sessions.specs.Faults.{told_of_session};
 ghost use Rattle.press_files.specs.NamedInputs.{named};
-ghost use Rattle.press_files.specs.Telling.{Ended};
+ghost use Rattle.press_telling.specs.Telling.{Ended};
 ghost use Rattle.press_sessions.specs.declared.sessions.SessionError.TheVariants.{NoMemory};
 
 use crate::event_lines::{LineEvent, event_of};
 use crate::talking::{Talk, answer_lines};
 use press_core::{BadEngines, OperatorCommand, Press, Turn, TurnError};
 use press_devices::{ReadDevice, WriteDevice, write_flushed};
-use press_files::{
-    EntrySheets, InputError, NO_OUTPUT, NamedInputs, Teller, list_delivered, open_named, read_all,
-    report,
-};
+use press_files::{EntrySheets, InputError, NamedInputs, list_delivered, open_named, read_all};
 use press_history::laws;
 use press_jobs::{JobFileError, images_named};
+use press_telling::{NO_OUTPUT, Teller, report};
 use press_units::ToldFault;
 use press_words::{WHAT, line_of, words_of};
 use std::alloc::{AllocError, Global};

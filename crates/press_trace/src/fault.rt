@@ -1,12 +1,10 @@
 //! Why the telling of a trace ended early, and what is told of it (this profile).
 
+use press_telling::NO_OUTPUT;
 use press_units::ToldFault;
 use std::alloc::AllocError;
 use std::error::Error;
 use std::{fmt, io};
-
-/// What is told where an answer, a text, a line or a listing cannot be written: it has no number.
-pub const NO_OUTPUT: &str = "fault output";
 
 /// Why the telling of a trace ended early.
 #[derive(Debug, Drop)]

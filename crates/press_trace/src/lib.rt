@@ -15,5 +15,5 @@ mod told;
 mod tracer;
 mod tracing;
 
-pub use fault::{NO_OUTPUT, TraceError};
+pub use fault::TraceError;
 pub use tracing::trace_lines;

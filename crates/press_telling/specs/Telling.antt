@@ -1,5 +1,5 @@
 -- What is told where faults are told, text behind text, and how calls that tell why they stopped end.
-use Rattle.std.specs.Prelude.{◌≡◌, ◌≢◌, ℕ, List, [], ◌∷◌, Option, Some, None}
+use Rattle.std.specs.Prelude.{◌≡◌, ◌≢◌, ℕ, List, [], ◌∷◌, Option, Some, None, codes}
 use Rattle.std.specs.Fmt.{option_append}
 use Rattle.std.specs.Io.KnownBytes.{Appends}
 
@@ -7,6 +7,10 @@ use Rattle.std.specs.Io.KnownBytes.{Appends}
 abbrev pub Tells : (said says : Option (List ℕ)) → (text : Option (List ℕ)) → Type 0
 Tells said says (Some text) = Appends said says text
 Tells said says None = (text : List ℕ) × Appends said says text
+
+-- that an answer, a text, a line or a listing cannot be written
+abbrev pub output_text : List ℕ
+output_text = codes "fault output"
 
 -- a text as a line
 abbrev pub as_line : Option (List ℕ) → Option (List ℕ)

@@ -1,10 +1,13 @@
-//! What the program tells.
-ghost use Rattle.std.specs.Prelude.{◌≡◌};
-ghost use Rattle.press_files.specs.Telling.{Tells, as_line};
+//! What the program tells (this profile).
 
-pub use press_trace::NO_OUTPUT;
+ghost use Rattle.std.specs.Prelude.{◌≡◌};
+ghost use Rattle.press_telling.specs.Telling.{Tells, as_line};
+
 use std::fmt::{self, Display};
 use std::io::Write;
+
+/// What is told where an answer, a text, a line or a listing cannot be written: it has no number.
+pub const NO_OUTPUT: &str = "fault output";
 
 /// Where faults are told, text behind text. Whether what is told reaches somebody is not asked: a teller has no faults.
 pub trait Teller {

@@ -1,0 +1,1 @@
+-- No lemmas: the check finds the proofs of this crate.

@@ -1,0 +1,2 @@
+-- What is told where faults are told.
+pub mod Telling
