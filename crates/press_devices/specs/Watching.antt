@@ -13,3 +13,7 @@ has_failed watched = watched.failed
 -- how many reads were made of it, the most of one input at most
 abbrev pub reads_of : {D : Type 0} → Watched D → ℕ
 reads_of watched = watched.reads
+
+-- whether bytes that were written to it may wait in the program
+abbrev pub is_waiting : {D : Type 0} → Watched D → Bool
+is_waiting watched = watched.waiting

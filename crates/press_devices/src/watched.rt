@@ -1,31 +1,35 @@
 //! Devices of std that are watched (this profile).
 ghost use Rattle.std.specs.Prelude.{◌≡◌, ◌↔◌, false, IsTrue};
 ghost use Rattle.press_devices.specs.Reading.{ReadFails};
-ghost use Rattle.press_devices.specs.Watching.{device_of, has_failed, reads_of};
+ghost use Rattle.press_devices.specs.Watching.{device_of, has_failed, is_waiting, reads_of};
 
 use crate::reading::{MOST_READS, ReadDevice};
 use crate::writing::WriteDevice;
 use std::io::{self, ErrorKind, Read, Write};
 
-/// A reader or a writer of std, how many reads were made of it, and whether a call of it failed so far.
+/// A reader or a writer of std, how many reads were made of it, whether a call of it failed so far, and whether bytes may wait in it.
 #[derive(Drop)]
 pub struct Watched<D> {
     device: D,
     reads: u32,
     failed: bool,
+    /// Whether bytes that were written may wait in the program.
+    waiting: bool,
 }
 
 impl<D> Watched<D> {
-    /// A device that was not read yet, and of which no call failed.
+    /// A device that was not read yet, of which no call failed, and to which nothing was written.
     pub fn new(device: D) -> Self
         ensures device { device_of result ≡ device }
         ensures reads { reads_of result ≡ 0 }
         ensures failed { has_failed result ≡ false }
+        ensures waiting { is_waiting result ≡ false }
     {
         Watched {
             device,
             reads: 0,
             failed: false,
+            waiting: false,
         }
     }
 
@@ -72,6 +76,8 @@ impl<W: Write> WriteDevice for Watched<W> {
 
     ghost failed = { λ watched. has_failed watched };
 
+    ghost waiting = { λ watched. is_waiting watched };
+
     /// A write that takes nothing of some bytes has failed.
     fn write_some(&mut self, bytes: &[u8]) -> io::Result<usize> {
         let mut taken = self.device.write(bytes);
@@ -79,12 +85,14 @@ impl<W: Write> WriteDevice for Watched<W> {
             taken = Err(io::Error::from(ErrorKind::WriteZero));
         }
         self.failed |= taken.is_err();
+        self.waiting |= !bytes.is_empty();
         taken
     }
 
     fn flush_all(&mut self) -> io::Result<()> {
         let flushed = self.device.flush();
         self.failed |= flushed.is_err();
+        self.waiting = self.waiting && flushed.is_err();
         flushed
     }
 }

@@ -1,5 +1,5 @@
 //! Bytes that are written whole (this profile).
-ghost use Rattle.std.specs.Prelude.{◌≡◌, ◌<◌, ◌⊎◌, true, length, IfOk, OnErr};
+ghost use Rattle.std.specs.Prelude.{◌≡◌, ◌<◌, ◌⊎◌, true, false, length, IfOk, OnOk, OnErr};
 ghost use Rattle.std.specs.Io.{WritesAtMost};
 ghost use Rattle.std.specs.Io.KnownBytes.{Keeps, WriteAppends};
 ghost use Rattle.std.specs.List.{flat_map};
@@ -21,6 +21,9 @@ pub trait WriteDevice {
     /// Whether a write or a flush failed, was interrupted, or took nothing of some bytes so far; true also where that is not known.
     ghost failed: { Self → Bool };
 
+    /// Whether bytes that were written may wait in the program, where that is known; a plain writer of std tells nothing of it.
+    ghost waiting: { Self → Bool };
+
     /// One write: how many bytes it took of the front of these.
     ///
     /// # Errors
@@ -41,14 +44,17 @@ pub trait WriteDevice {
     /// Where that failed.
     fn flush_all(&mut self) -> io::Result<()>
         ensures bytes { Keeps (contents self.old) (contents self.new) }
-        ensures failed { failed self.new ≡ failed_with (failed self.old) result };
+        ensures failed { failed self.new ≡ failed_with (failed self.old) result }
+        ensures through { OnOk result (waiting self.new ≡ false) };
 }
 
-/// Any writer of std, of which it is not known whether its writes failed.
+/// Any writer of std, of which it is not known whether its writes failed, nor whether bytes wait in it.
 impl<W: Write> WriteDevice for W {
     ghost contents = { λ writer. W.Write.contents writer };
 
     ghost failed = { λ _. true };
+
+    ghost waiting = { λ _. false };
 
     fn write_some(&mut self, bytes: &[u8]) -> io::Result<usize> {
         self.write(bytes)
@@ -110,6 +116,7 @@ pub fn write_pieces<W: WriteDevice>(output: &mut W, pieces: &[&[u8]]) -> io::Res
 /// Where a write or the flush failed. A prefix of the bytes is written then.
 pub fn write_flushed<W: WriteDevice>(output: &mut W, bytes: &[u8]) -> io::Result<()>
     ensures written { Writes result (W.contents output.old) (W.contents output.new) bytes.now }
+    ensures through { OnOk result (W.waiting output.new ≡ false) }
     ensures stays { W.failed output.old ≡ true → W.failed output.new ≡ true }
     ensures cause { OnErr result (W.failed output.new ≡ true) }
 {
