@@ -2,12 +2,12 @@
 _press() {
   local word="${COMP_WORDS[COMP_CWORD]}" first="${COMP_WORDS[1]}" place="$COMP_CWORD"
   local defaults="RESOLUTION=600 PAPER=A4 PAPER=LETTER PAPER=LEGAL PAPER=EXECUTIVE PAPER=LEDGER PAPER=A3 DUPLEX=ON COPIES=2 ORIENTATION=LANDSCAPE BINDING=SHORTEDGE"
-  if [ "$first" = --try ]; then
+  if [ "$first" = --prove ] || [ "$first" = --proved ]; then
     first="${COMP_WORDS[2]}"
     place=$((place - 1))
   fi
   if [ "$place" -eq 1 ]; then
-    mapfile -t COMPREPLY < <(compgen -W "--try print asm disasm debug trace page write press help --help --version" -- "$word")
+    mapfile -t COMPREPLY < <(compgen -W "--prove --proved print asm disasm debug trace page write press help --help --version" -- "$word")
   elif [ "${COMP_WORDS[COMP_CWORD-1]}" = --default ]; then
     mapfile -t COMPREPLY < <(compgen -W "$defaults" -- "$word")
   elif [ "$first" = print ] && [[ "$word" == -* ]]; then

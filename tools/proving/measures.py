@@ -55,6 +55,9 @@ class Measures:
             return self.table[name].seconds
         return SECONDS_AT_LEAST + SECONDS_A_LINE * self.given.lines(name)
 
+    def processor_seconds(self, name):
+        return self.table[name].processor_seconds if name in self.table else self.seconds(name)
+
     def memory(self, name, jobs):
         """The bytes that the proof of a crate with so many jobs takes, or a few less."""
         if name in self.table:

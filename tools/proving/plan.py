@@ -3,6 +3,8 @@
 import functools
 import time
 
+from proving import reckoned
+
 LARGE = 2500    # lines of a crate that gains from more than one job
 
 
@@ -23,6 +25,11 @@ class Plan:
         """The seconds of the longest chain from this one up, as far as it is not proved yet."""
         done = time.monotonic() - self.running[name][1] if name in self.running else 0
         return max(self.measures.seconds(name) - done, 0) + self.above(name)
+
+    def minutes_left(self):
+        """The minutes until all is proved that can be, as far as the table knows."""
+        left = [*self.running, *self.open()]
+        return reckoned.minutes(map(self.way, left), map(self.measures.processor_seconds, left), self.jobs)
 
     def open(self):
         """The crates that can still be proved, those with the longest way first."""

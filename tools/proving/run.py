@@ -6,7 +6,7 @@ import shutil
 import subprocess
 import time
 
-from proving import rooms, sources
+from proving import rooms, shared, sources, standing
 from proving.measures import Measure
 
 LOOKS_A_SECOND = 4
@@ -58,6 +58,9 @@ class Run:
         self.started, self.told = time.monotonic(), 0.0
         for part in ("locks", "done"):
             (logs / part).mkdir(parents=True, exist_ok=True)
+        shared.note(crates.parent)
+        given = plan.given
+        self.of_program = standing.sum_of_sources(given.rows, given.folder) if sources.PROGRAM in given.names else None
         for older in logs.glob("run-*.log"):
             if not os.path.exists(f"/proc/{older.stem.partition('-')[2]}"):
                 older.unlink()
@@ -69,10 +72,8 @@ class Run:
 
     def stands(self, name):
         """Whether what was made of a crate is of these sources."""
-        mark = self.logs / "done" / name
-        out = self.crates / name / "out"
-        made = out / name if name == sources.PROGRAM else out / rooms.BUILT / "stamp"
-        return mark.is_file() and made.is_file() and mark.read_text() == self.plan.given.sum(name)
+        stands = shared.is_proved(self.crates.parent, name, self.plan.given.sum(name))
+        return stands and (name != sources.PROGRAM or standing.is_of(self.crates.parent, self.crates / name / "out" / name, self.of_program))
 
     def lock(self, name):
         """What keeps other runs from this crate until it is closed, or None where one has it."""
@@ -94,8 +95,23 @@ class Run:
             elif (jobs := self.plan.jobs_for(name)) and (lock := self.lock(name)):
                 self.begin_one(name, jobs, lock)
 
+    def takes(self, name):
+        """Whether another checkout has the crate, and it could be taken from there."""
+        top, found = self.crates.parent, self.plan.given.sum(name)
+        if (other := shared.take(top, name, found, self.of_program, self.folder / f"taken-{name}")) is None:
+            return False
+        self.mark(name, f"tools/prove in {other}")
+        self.note(f"taken {name} from {other}")
+        return True
+
+    def mark(self, name, by):
+        """Notes that what stands of a crate was proved of these sources."""
+        (self.logs / "done" / name).write_text(self.plan.given.sum(name))
+        if name == sources.PROGRAM:
+            standing.note_proved(self.of_program, by)
+
     def begin_one(self, name, jobs, lock):
-        if self.stands(name):   # another run has just proved it
+        if self.stands(name) or self.takes(name):   # another run has just proved it, or another checkout has it
             lock.close()
             return
         room = rooms.Room(self.crates, self.plan.given, self.folder / "made", name, self.folder / name)
@@ -120,7 +136,7 @@ class Run:
             if not proof.room.bring_back(proof.proved()):
                 return False
             if proof.proved():
-                (self.logs / "done" / name).write_text(self.plan.given.sum(name))
+                self.mark(name, "tools/prove")
                 self.plan.measures.note(name, proof.measure)
             else:
                 self.why[name] = f"{self.logs / name}.log ends with: {proof.last_line()}"

@@ -2,26 +2,56 @@
 
 import functools
 import hashlib
+import os
 import shutil
 from pathlib import Path
+
+from seen import kit as kits
 
 PROGRAM = "press"
 PARTS = ("src", "specs", "proofs")
 LIST, HANDLES = "crates.txt", "HANDLES"
-KIT = "/opt/rattle/KIT-ID"
+KIT = "KIT-ID"      # in the kit's folder
 
 
 class Unknown(Exception):
     """A name that is no crate of the repository."""
 
 
+@functools.cache
+def kit_file():
+    """The file that tells which kit is on this machine, or nothing where there is none."""
+    found = kits.look()
+    path = Path(os.path.realpath(found)).parent.parent / KIT if found else None
+    return str(path) if path is not None and path.is_file() else ""
+
+
+def kit():
+    """The line that tells which kit is on this machine, or nothing."""
+    return Path(kit_file()).read_text(encoding="utf-8").strip() if kit_file() else ""
+
+
+def rows_of(top):
+    """The rows of the list of crates: for each crate the libraries that it uses."""
+    lines = [line.partition("#")[0] for line in (top / LIST).read_text(encoding="utf-8").splitlines()]
+    return {name.strip(): uses.split() for name, _, uses in (line.partition(":") for line in lines if line.strip())}
+
+
+def below(rows, name):
+    """This crate and all crates of the repository below it, in the order of their names."""
+    found, left = set(), [name]
+    while left:
+        if (crate := left.pop()) in rows and crate not in found:
+            found.add(crate)
+            left += rows[crate]
+    return sorted(found)
+
+
 class Sources:
     """A copy of the sources of some crates and of those below them, so that a run proves one state of the tree."""
 
     def __init__(self, top, folder, names):
-        rows = [line.partition("#")[0] for line in (top / LIST).read_text().splitlines()]
-        rows = [row.partition(":") for row in rows if row.strip()]
-        self.rows = {name.strip(): uses.split() for name, _, uses in rows}
+        self.rows = rows_of(top)
         if unknown := [name for name in names if name not in self.rows]:
             raise Unknown(unknown[0])
         self.folder = folder
@@ -58,7 +88,7 @@ class Sources:
     @functools.cache
     def sum(self, name):
         """A sum of all that the crate's proof reads: the kit, its row, its sources, and those of the crates below it."""
-        found = hashlib.sha256(repr((Path(KIT).read_text() if Path(KIT).exists() else "", self.rows[name])).encode())
+        found = hashlib.sha256(repr((kit(), self.rows[name])).encode())
         for path in sorted(path for path in (self.folder / name).glob("**/*") if path.is_file()):
             found.update(repr((str(path.relative_to(self.folder)), path.read_bytes())).encode())
         found.update(repr([self.sum(crate) for crate in self.uses(name)]).encode())

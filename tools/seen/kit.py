@@ -12,11 +12,15 @@ def say(text):
     print(f"press: {text}", file=sys.stderr, flush=True)
 
 
+def look():
+    """The path of `rt`, or None where there is none."""
+    return shutil.which("rt") or (PLACE if os.access(PLACE, os.X_OK) else None)
+
+
 def find():
     """The path of `rt`; ends the program where there is none."""
-    path = shutil.which("rt") or (PLACE if os.access(PLACE, os.X_OK) else None)
+    path = look()
     if path is None:
         say(f"the Rattle kit is not here: there is no rt on the PATH, and no {PLACE}.")
-        say("Without it tools/explain, tools/show and tools/why work: they need Python alone.")
         raise SystemExit(MISSING)
     return path
