@@ -4,9 +4,11 @@ import fcntl
 import os
 import shutil
 import subprocess
+import sys
 import time
+from pathlib import Path
 
-from proving import rooms, shared, sources, standing
+from proving import rooms, shared, sources, standing, stated
 from proving.measures import Measure
 
 LOOKS_A_SECOND = 4
@@ -18,7 +20,8 @@ GIVES_WAY = ["nice", "-n", "5"]
 
 def command(rt, name, jobs, urgent):
     """What proves a crate; the program is built and run with nothing on standard input, too."""
-    return [*([] if urgent else GIVES_WAY), rt, "run" if name == sources.PROGRAM else "lib", "--jobs", str(jobs)]
+    asked = [sys.executable, str(Path(__file__).with_name("remembered.py")), rt]
+    return [*([] if urgent else GIVES_WAY), *asked, "run" if name == sources.PROGRAM else "lib", "--jobs", str(jobs)]
 
 
 class Proof:
@@ -64,16 +67,50 @@ class Run:
         for older in logs.glob("run-*.log"):
             if not os.path.exists(f"/proc/{older.stem.partition('-')[2]}"):
                 older.unlink()
+        self.states, self.stamps = {}, None
         self.lines = open(logs / f"run-{os.getpid()}.log", "w", encoding="utf-8", buffering=1)
         self.work = Processors()
 
     def note(self, text):
         print(f"{time.monotonic() - self.started:7.0f} {text}", file=self.lines)
 
+    def stated(self, name):
+        """The sum of what a crate states that stands."""
+        if name not in self.states:
+            self.states[name] = stated.of_library(self.crates / name / "out" / rooms.BUILT / f"{name}.rlib")
+        return self.states[name]
+
+    def sum(self, name):
+        """The sum of all that the proof of a crate reads, whose lower ones stand."""
+        return self.plan.given.sum(name, self.stated)
+
     def stands(self, name):
         """Whether what was made of a crate is of these sources."""
-        stands = shared.is_proved(self.crates.parent, name, self.plan.given.sum(name))
+        stands = shared.is_proved(self.crates.parent, name, self.sum(name))
         return stands and (name != sources.PROGRAM or standing.is_of(self.crates.parent, self.crates / name / "out" / name, self.of_program))
+
+    def stamp(self, name):
+        """Gives a library that stands the stamp of the sources of now, since those below it may have other bodies."""
+        if name == sources.PROGRAM:
+            return
+        if self.stamps is None:
+            self.stamps = stated.stamps(self.rt, *self.whole())
+        path = self.crates / name / "out" / rooms.BUILT / "stamp"
+        if (wanted := self.stamps.get(name)) and path.read_text(encoding="utf-8") != wanted:
+            written = path.with_name("stamp.new")
+            written.write_text(wanted, encoding="utf-8")
+            written.replace(path)
+            shared.mark(self.crates.parent, name, self.sum(name))
+            self.note(f"stamps {name}")
+
+    def whole(self):
+        """A repository of the sources of this run, and its crates."""
+        given, top = self.plan.given, self.folder / "whole"
+        (top / "crates").mkdir(parents=True)
+        (top / sources.LIST).write_text("".join(f"{name}: {' '.join(given.rows[name])}\n" for name in given.names), encoding="utf-8")
+        for name in given.names:
+            rooms.linked(given.folder / name, top / "crates" / name)
+        return top, given.names
 
     def lock(self, name):
         """What keeps other runs from this crate until it is closed, or None where one has it."""
@@ -89,6 +126,7 @@ class Run:
         """Begins each crate that may be begun, and notes those that stand already."""
         for name in self.plan.ready():
             if self.stands(name):
+                self.stamp(name)
                 rooms.note_made(self.crates, self.folder / "made", name)
                 self.plan.end(name, True)
                 self.note(f"stands {name}")
@@ -97,7 +135,7 @@ class Run:
 
     def takes(self, name):
         """Whether another checkout has the crate, and it could be taken from there."""
-        top, found = self.crates.parent, self.plan.given.sum(name)
+        top, found = self.crates.parent, self.sum(name)
         if (other := shared.take(top, name, found, self.of_program, self.folder / f"taken-{name}")) is None:
             return False
         self.mark(name, f"tools/prove in {other}")
@@ -106,7 +144,7 @@ class Run:
 
     def mark(self, name, by):
         """Notes that what stands of a crate was proved of these sources."""
-        (self.logs / "done" / name).write_text(self.plan.given.sum(name))
+        shared.mark(self.crates.parent, name, self.sum(name))
         if name == sources.PROGRAM:
             standing.note_proved(self.of_program, by)
 

@@ -35,15 +35,27 @@ def others(top):
                     yield other
 
 
-def made_in(crate, name):
-    """What tells that a crate was made: the stamp of its library, or the program."""
-    return crate / "out" / (name if name == sources.PROGRAM else f"{rooms.BUILT}/stamp")
+def made_of(crate, name):
+    """What tells of a crate which make of it stands: the kit's stamp of its library; of the program nothing, which has a record of its own."""
+    out = crate / "out"
+    if name == sources.PROGRAM:
+        return "program" if (out / name).is_file() else None
+    return (out / rooms.BUILT / "stamp").read_text(encoding="utf-8").strip() or None
+
+
+def mark(top, name, found):
+    """Notes that what stands of a crate in a checkout was proved, and that all that its proof read has this sum."""
+    text = f"{found} {made_of(top / 'crates' / name, name)}\n"
+    path = top / "out/prove/done" / name
+    written = path.with_name(f"{name}.{os.getpid()}.new")
+    written.write_text(text, encoding="utf-8")
+    written.replace(path)
 
 
 def is_proved(top, name, found):
-    """Whether a checkout has what was made of a crate with this sum."""
+    """Whether a checkout has a crate with this sum, as it was when that was noted."""
     with contextlib.suppress(OSError):
-        return (top / "out/prove/done" / name).read_text() == found and made_in(top / "crates" / name, name).is_file()
+        return (top / "out/prove/done" / name).read_text(encoding="utf-8").split() == [found, made_of(top / "crates" / name, name)]
     return False
 
 

@@ -86,10 +86,15 @@ class Sources:
         return sum(path.read_bytes().count(b"\n") for path in files)
 
     @functools.cache
-    def sum(self, name):
-        """A sum of all that the crate's proof reads: the kit, its row, its sources, and those of the crates below it."""
+    def own(self, name):
+        """A sum of the kit, a crate's row and its sources."""
         found = hashlib.sha256(repr((kit(), self.rows[name])).encode())
         for path in sorted(path for path in (self.folder / name).glob("**/*") if path.is_file()):
             found.update(repr((str(path.relative_to(self.folder)), path.read_bytes())).encode())
-        found.update(repr([self.sum(crate) for crate in self.uses(name)]).encode())
         return found.hexdigest()
+
+    def sum(self, name, stated):
+        """A sum of all that the crate's proof reads: its own sum, and what the crates below it state. The program takes their bodies, too."""
+        below = sorted(self.below(name))
+        read = [self.own(crate) for crate in below] if name == PROGRAM else [stated(crate) for crate in below]
+        return hashlib.sha256(repr((self.own(name), list(zip(below, read)))).encode()).hexdigest()
