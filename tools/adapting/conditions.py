@@ -6,6 +6,7 @@ import re
 TOKEN = re.compile(r"\s*(>=|<=|==|!=|>|<|\(|\)|\"[^\"]*\"|'[^']*'|-?\d+|[A-Za-z_][\w.]*)")
 COMPARE = {">": operator.gt, "<": operator.lt, ">=": operator.ge, "<=": operator.le, "==": operator.eq, "!=": operator.ne}
 WORDS = {"true": True, "false": False, "null": None}
+MOST_TOKENS, MOST_DIGITS = 200, 40
 HITS = re.compile(r"\s*(>=|<=|==|>|<|%)?\s*(\d+)\s*")
 
 
@@ -37,6 +38,22 @@ def find(told, name):
     return told[some[0]]
 
 
+class Condition:
+    """What a text asks: a function of a step."""
+
+    def __init__(self, asks, names):
+        self.asks = asks
+        self.names = names      # of the fields that it reads
+
+    def __call__(self, step):
+        return self.asks(step)
+
+    def check(self, step):
+        """Fails where it reads what is no field."""
+        for name in self.names:
+            step.value(name)
+
+
 class Parser:
     def __init__(self, text):
         self.tokens, place = [], 0
@@ -46,7 +63,10 @@ class Parser:
                 raise BadCondition(f"{text[place:].strip()[:20]} is not understood")
             self.tokens.append(found[1])
             place = found.end()
+            if len(self.tokens) > MOST_TOKENS:
+                raise BadCondition(f"it has more than {MOST_TOKENS} words")
         self.place = 0
+        self.names = []
 
     def take(self, *wanted):
         """The next token, if it is one of these, or any."""
@@ -57,16 +77,16 @@ class Parser:
         return token
 
     def either(self):
-        one = self.both()
+        some = [self.both()]
         while self.take("or"):
-            one = (lambda left, right: lambda step: left(step) or right(step))(one, self.both())
-        return one
+            some.append(self.both())
+        return first_that_is(True, some)
 
     def both(self):
-        one = self.single()
+        some = [self.single()]
         while self.take("and"):
-            one = (lambda left, right: lambda step: left(step) and right(step))(one, self.single())
-        return one
+            some.append(self.single())
+        return first_that_is(False, some)
 
     def single(self):
         if self.take("not"):
@@ -94,10 +114,29 @@ class Parser:
         if token[0] in "\"'":
             return None, lambda step: token[1:-1]
         if token.lstrip("-").isdigit():
-            return None, lambda step: int(token)
+            number = number_of(token)
+            return None, lambda step: number
         if token in WORDS:
             return None, lambda step: WORDS[token]
+        self.names.append(token)
         return token, lambda step: step.value(token)
+
+
+def first_that_is(wanted, some):
+    """What the first of some says that is so, as true or as false, else the last."""
+    def asks(step):
+        for one in some:
+            said = one(step)
+            if bool(said) is wanted:
+                break
+        return said
+    return asks if len(some) > 1 else some[0]
+
+
+def number_of(digits):
+    if len(digits) > MOST_DIGITS:
+        raise BadCondition(f"a number has more than {MOST_DIGITS} digits")
+    return int(digits)
 
 
 def compared(sign, left, right):
@@ -107,20 +146,20 @@ def compared(sign, left, right):
 
 
 def read(text):
-    """What a text asks: a function of a step."""
+    """The condition that a text is."""
     parser = Parser(text)
     found = parser.either()
     if parser.place < len(parser.tokens):
         raise BadCondition(f"{parser.tokens[parser.place]} is one too many")
-    return found
+    return Condition(found, parser.names)
 
 
 def read_hits(text):
     """What a hit count asks: a function of how often a breakpoint was met. A number alone is `from this time on`."""
     found = HITS.fullmatch(text)
     if not found:
-        raise BadCondition(f"{text} is no number of hits")
-    number = int(found[2])
+        raise BadCondition(f"{text[:MOST_DIGITS]} is no number of hits")
+    number = number_of(found[2])
     if found[1] == "%":
         return lambda count: number > 0 and count % number == 0
     return lambda count: COMPARE[found[1] or ">="](count, number)

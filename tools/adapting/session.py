@@ -4,11 +4,12 @@ import os
 from pathlib import Path
 
 from model import defaults
-from seen import drawn, film, program
+from seen import drawn, film, made, program
 from seen.fields import State
 from seen.patches import Page
 
-from . import conditions, told
+from . import conditions, told, wire
+from .asked import Asked, Refused
 from .source import Text
 from .stops import FILTERS, Stop, Stops
 
@@ -23,16 +24,28 @@ CAPABILITIES = {
 }
 
 
-class Refused(Exception):
-    """A request that cannot be carried out, with the reason."""
+def serve(given, line, chosen=program.PROGRAM):
+    """Carries out what is asked for until it is told to end, or nothing more comes. A message that is none is told, and what follows is read."""
+    session = Session(line, chosen)
+    while True:
+        try:
+            request = wire.read(given)
+        except wire.Malformed as malformed:
+            line.complain(f"a message is passed over: {malformed}")
+            continue
+        if request is None:
+            return
+        line.note("<", request)
+        if request.get("type") == "request" and not session.carry_out(request):
+            return
 
 
 class Session:
-    def __init__(self, wire, chosen=program.PROGRAM):
-        self.wire = wire
+    def __init__(self, line, chosen=program.PROGRAM):
+        self.wire = line
         self.chosen = chosen
         self.film = self.text = self.stops = None
-        self.source, self.picture = None, None
+        self.stream, self.source, self.picture = None, None, None   # paths: the stream, its text, the picture of its page
         self.shown = None      # the page that stands in the picture
         self.count = 0
         self.stop = Stop("entry")
@@ -41,18 +54,18 @@ class Session:
 
     def carry_out(self, request):
         """Answers a request; False ends the session."""
-        name = request["command"]
-        call = getattr(self, "do_" + name, None)
-        asked = request.get("arguments") or {}
         try:
+            name = Asked(request).needed("command", str)
+            call = getattr(self, "do_" + name, None)
             if call is None:
                 raise Refused(f"{name} is not carried out")
             if self.film is None and name not in ("initialize", "launch", "disconnect", "terminate"):
                 raise Refused("nothing was launched")
-            self.wire.answer(request, call(asked) or {})
-        except (Refused, conditions.BadCondition, KeyError, OSError, ValueError) as fault:
-            self.wire.refuse(request, f"{fault} is missing" if isinstance(fault, KeyError) else str(fault))
+            body = call(Asked(request.get("arguments"))) or {}
+        except (Refused, conditions.BadCondition, OSError, ValueError) as fault:
+            self.wire.refuse(request, str(fault))
             return True
+        self.wire.answer(request, body)
         if (behind := getattr(self, "behind_" + name, None)) is not None:
             behind()
         return name not in ("disconnect", "terminate")
@@ -63,17 +76,19 @@ class Session:
         return CAPABILITIES
 
     def do_launch(self, asked):
-        path = Path(asked["program"])
-        stream, front = path.read_bytes(), front_of(asked.get("defaults") or [])
-        self.film = film.Film(stream, front, self.chosen)
-        self.text, self.stops = Text(stream, front, self.chosen), Stops(self.film)
-        self.source = Path(os.path.abspath(asked.get("text") or f"{path}.steps.txt"))
-        self.picture = Path(os.path.abspath(asked.get("page") or f"{path}.page.png")) if asked.get("page", True) else None
-        if path.resolve() in (self.source.resolve(), self.picture and self.picture.resolve()):
-            self.film = None
-            raise Refused(f"{path} is the stream, and would be replaced")
-        self.text.write(self.source)
-        self.on_entry = asked.get("stopOnEntry", True)
+        path, on_entry = Path(asked.needed("program", str)), asked.given("stopOnEntry", bool) is not False
+        source, picture = places_beside(path, asked.given("text", str), asked.given("page", str, bool))
+        if not path.is_file():
+            raise Refused(f"{path} is no file")
+        made.refuse_inputs([source, picture or source], [path])
+        if picture and (picture == source or made.identity(picture) == made.identity(source) is not None):
+            raise Refused(f"{source} is the name of the text, and of the picture")
+        stream, front = path.read_bytes(), front_of(asked)
+        shot, text = film.Film(stream, front, self.chosen), Text(stream, front, self.chosen)
+        made.make(source, text.whole(), [path])
+        self.film, self.text, self.stops, self.shown = shot, text, Stops(shot), None
+        self.stream, self.source, self.picture, self.on_entry = path, source, picture, on_entry
+        self.count, self.ended, self.stop = 0, False, Stop("entry")
 
     def behind_launch(self):
         self.wire.tell("initialized", {})
@@ -111,11 +126,13 @@ class Session:
     # Stops
 
     def do_setBreakpoints(self, asked):
-        self.stops.lines, answers = [], []
-        same = os.path.realpath(asked["source"].get("path", "")) == os.path.realpath(self.source)
-        for each in asked.get("breakpoints", []):
-            answers.append(self.made(self.stops.lines, each, line=min(each["line"], len(self.text.lines))) if same else
-                           {"verified": False, "message": "the stream has no such text"})
+        some, answers = [], []
+        same = os.path.realpath(asked.within("source").given("path", str) or "") == os.path.realpath(self.source)
+        for each in asked.objects("breakpoints"):
+            line = min(each.needed("line", int), len(self.text.lines))
+            answers.append(self.made(some, each, line=line) if same and line > 0 else
+                           {"verified": False, "message": f"the {'text' if same else 'stream'} has no such {'line' if same else 'text'}"})
+        self.stops.lines = some
         return {"breakpoints": answers}
 
     def made(self, some, asked, line=None, words=None):
@@ -128,18 +145,20 @@ class Session:
         return {"verified": True, "id": one.number} | ({"line": line} if line else {})
 
     def do_setFunctionBreakpoints(self, asked):
-        self.stops.kinds = []
-        return {"breakpoints": [self.made(self.stops.kinds, each, words=each["name"]) for each in asked.get("breakpoints", [])]}
+        some = []
+        answers = [self.made(some, each, words=each.needed("name", str)) for each in asked.objects("breakpoints")]
+        self.stops.kinds = some
+        return {"breakpoints": answers}
 
     def do_setExceptionBreakpoints(self, asked):
-        chosen = {name: None for name in asked.get("filters", [])}
-        chosen |= {each["filterId"]: conditions.read(each["condition"]) if each.get("condition") else None
-                   for each in asked.get("filterOptions", [])}
+        chosen = {name: None for name in asked.texts("filters")}
+        chosen |= {each.needed("filterId", str): self.stops.condition(each) for each in asked.objects("filterOptions")}
         self.stops.filters = {name: asks for name, asks in chosen.items() if name in FILTERS}
 
     def do_breakpointLocations(self, asked):
-        last = min(asked.get("endLine", asked["line"]), len(self.text.lines))
-        return {"breakpoints": [{"line": line} for line in range(asked["line"], last + 1)]}
+        line = asked.needed("line", int)
+        last = asked.given("endLine", int)
+        return {"breakpoints": [{"line": each} for each in range(max(1, line), min(line if last is None else last, len(self.text.lines)) + 1)]}
 
     def do_exceptionInfo(self, _asked):
         return {"exceptionId": self.stop.text, "description": self.stop.text, "breakMode": "always"}
@@ -181,10 +200,11 @@ class Session:
             return
         page, now = self.film.page(self.count), self.film.state(self.count)[0]
         self.shown = version
-        size = told_size(now)
-        beside = self.picture.with_name(self.picture.name + ".part")
-        beside.write_bytes(drawn.picture(page or Page(*size)))
-        beside.replace(self.picture)
+        try:
+            made.make(self.picture, drawn.picture(page or Page(*told_size(now))), [self.stream])
+        except (OSError, ValueError) as fault:
+            self.picture = None
+            self.wire.complain(f"the page is not drawn any more: {fault}")
 
     # Steps: they are answered first, and then it stops
 
@@ -218,12 +238,15 @@ class Session:
         self.stopped(Stop("pause"))
 
     def do_gotoTargets(self, asked):
-        line = min(asked["line"], len(self.text.lines))
-        return {"targets": [{"id": line, "label": self.text.lines[line - 1][:80], "line": line}]}
+        line = min(asked.needed("line", int), len(self.text.lines))
+        return {"targets": [{"id": line, "label": self.text.lines[line - 1][:80], "line": line}] if line > 0 else []}
 
     def do_goto(self, asked):
         """The next place where this line comes, else the first."""
-        place = self.text.begins(asked["targetId"])
+        target = asked.needed("targetId", int)
+        if target < 1:
+            raise Refused("there is no such target")
+        place = self.text.begins(target)
         some = [count for count in range(len(self.film)) if self.film.taken[count].offset == place]
         if not some:
             raise Refused("no step takes this line")
@@ -246,20 +269,21 @@ class Session:
         source = {"name": self.source.name, "path": str(self.source)}
         frames = [{"id": number, "name": name, "line": self.text.line(placed), "column": 1, "source": source}
                   for number, (name, placed) in enumerate(zip(names, places), 1)]
-        first = asked.get("startFrame", 0)
-        return {"stackFrames": frames[first:first + (asked.get("levels") or len(frames))], "totalFrames": len(frames)}
+        first, levels = max(0, asked.given("startFrame", int) or 0), asked.given("levels", int) or 0
+        return {"stackFrames": frames[first:first + levels if levels > 0 else None], "totalFrames": len(frames)}
 
     def do_scopes(self, _asked):
         return {"scopes": [{"name": name, "variablesReference": number, "expensive": False} for number, name in enumerate(told.SCOPES, 1)]}
 
     def do_variables(self, asked):
-        if not 1 <= asked["variablesReference"] <= told.DEFAULT:
+        scope = asked.needed("variablesReference", int)
+        if not 1 <= scope <= told.DEFAULT:
             raise Refused("there is no such scope")
-        return {"variables": told.variables(asked["variablesReference"], self.film, self.count)}
+        return {"variables": told.variables(scope, self.film, self.count)}
 
     def do_evaluate(self, asked):
         """A field, or a condition over fields."""
-        step, text = self.stops.step(self.count), asked["expression"].strip()
+        step, text = self.stops.step(self.count), asked.needed("expression", str).strip()
         found = conditions.read(text)(step)
         name = next((key for key in step.now if key == text or key.endswith("." + text)), "")
         return {"result": told.spelled(name, found, step.now["page.resolution"]), "variablesReference": 0}
@@ -270,8 +294,15 @@ def told_size(now):
     return State(now).size[1:3]
 
 
-def front_of(words):
+def places_beside(path, text, page):
+    """Where the text and the picture of the page are made: beside the stream, or where it is asked for; None for no picture."""
+    source = Path(os.path.abspath(text or f"{path}.steps.txt"))
+    return source, None if page is False else Path(os.path.abspath(page if isinstance(page, str) and page else f"{path}.page.png"))
+
+
+def front_of(asked):
+    words = asked.given("defaults", list, dict) or []
     try:
-        return defaults.front([f"{name}={value}" for name, value in words.items()] if isinstance(words, dict) else words)
+        return defaults.front([f"{name}={value}" for name, value in words.items()] if isinstance(words, dict) else asked.texts("defaults"))
     except defaults.Refused as refused:
         raise Refused(f"{refused} sets no variable of the job language to a value that it has") from None

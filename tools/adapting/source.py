@@ -19,8 +19,9 @@ class Text:
         self.size = len(stream) + self.shift
         self.lines = [line_of(row.text, row.remark) for row in rows] + [line_of("uel", explained.of_end(run))]
 
-    def write(self, path):
-        path.write_text("".join(line + "\n" for line in self.lines), encoding="utf-8")
+    def whole(self):
+        """Its bytes."""
+        return "".join(line + "\n" for line in self.lines).encode()
 
     def line(self, placed):
         """The line of a command, or of the end."""

@@ -38,11 +38,17 @@ class Stops:
         if words is not None and wanted is None:
             raise conditions.BadCondition(f"{words} is no kind: esc E, par *cP, ctl 0C or uel")
         self.made += 1
-        asks, counts = (read(asked[key]) if asked.get(key) else None
-                        for key, read in (("condition", conditions.read), ("hitCondition", conditions.read_hits)))
-        if asks:
-            asks(self.step(0))     # a field that is none is told at once
-        return Breakpoint(self.made, place, wanted, asks, counts)
+        hits = asked.given("hitCondition", str)
+        return Breakpoint(self.made, place, wanted, self.condition(asked), conditions.read_hits(hits) if hits else None)
+
+    def condition(self, asked):
+        """The condition that is asked for, or None; a field that is none is told at once."""
+        text = asked.given("condition", str)
+        if not text:
+            return None
+        asks = conditions.read(text)
+        asks.check(self.step(0))
+        return asks
 
     def step(self, count):
         return conditions.Step(self.film.told(count), self.film.told(max(0, count - 1)))

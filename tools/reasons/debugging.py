@@ -24,7 +24,7 @@ def findings(script, name, stream, chosen=program.PROGRAM):
             answers = [next(printed, "") for _ in answers]
         shown = f"line {number}"
         if answers == ["what?"]:
-            yield Finding(None, f"{shown} asks nothing of the debugger: {line.decode(errors='replace')[:60]!r}", advice_for(line))
+            yield Finding(None, f"{shown} asks nothing of the debugger: '{line.decode(errors='replace')[:60]}'", advice_for(line))
         elif answers and answers[0] in REFUSALS:
             sentence, advice = REFUSALS[answers[0]]
             yield Finding(None, f"{shown} is answered {answers[0]}: {sentence}", advice)

@@ -8,6 +8,7 @@ from pathlib import Path
 from .finding import Found
 
 NOT_OPENED = 304
+MOST_PARTS = 1000   # names that the program tries for a file that is not whole
 
 
 def open_input(name, what):
@@ -80,7 +81,18 @@ def check_output(name, number, size, what="OUT"):
         raise Found(number, f"{what} {name[:20]}.. has a name of more than 255 bytes", "Give a shorter name")
     if not os.access(name if os.path.exists(name) else folder, os.W_OK):
         raise Found(number, f"{what} {name} may not be written", "Look at the permissions of the file and its folder")
+    check_parts(name, number, what)
     check_room(name, folder, number, size, what)
+
+
+def check_parts(name, number, what):
+    """Fails where each name is taken under which the program begins a file."""
+    if os.path.exists(name) and not stat.S_ISREG(os.stat(name).st_mode):
+        return
+    folder = os.path.dirname(os.path.realpath(name))
+    if all(os.path.lexists(os.path.join(folder, f".press-{each}.part")) for each in range(1, MOST_PARTS + 1)):
+        raise Found(number, f"{what} {name} cannot be made: {folder} has {MOST_PARTS:,} files that were begun and left, .press-1.part and so on",
+                    f"Remove those that no press still makes: rm {folder}/.press-*.part")
 
 
 def check_room(name, folder, number, size, what):

@@ -2,6 +2,8 @@
 
 from typing import NamedTuple, Optional
 
+from seen.printable import printable
+
 REFUSED_WORDS = 2
 
 
@@ -12,8 +14,9 @@ class Finding(NamedTuple):
     harmless: bool = False   # whether what is printed is the same without it
 
     def text(self):
+        """One line: what it tells of a stream or of words has no control character left."""
         shown = "" if self.number is None or self.number == REFUSED_WORDS else f" ({self.number})"
-        return f"{self.sentence}{shown}. {self.advice}"
+        return printable(f"{self.sentence}{shown}. {self.advice}")
 
     def status(self):
         """The status that the program ends with."""

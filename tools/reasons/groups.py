@@ -5,9 +5,11 @@ import re
 from model.commands import Param, carries_data
 from model.values import read_value
 from seen import remarks
+from seen.printable import printable
 
 from .finding import counted
 
+LONGEST_NAME = 64   # characters that are told of a name
 CUT = re.compile(rb"\x1b([!-/])([`-~]?)([+-]?[0-9]*(?:\.[0-9]*)?)([@-^`-~])(.*)", re.DOTALL)
 
 
@@ -105,7 +107,8 @@ def variables(_, some, __):
 
 def job_name(happening):
     line = happening.placed.command.line
-    return re.sub(rb"(?is)^@PJL[ \t]+\w+[ \t]+", b"", line).partition(b"=")[0].strip().decode("ascii", "replace").upper()
+    name = re.sub(rb"(?is)^@PJL[ \t]+\w+[ \t]+", b"", line).partition(b"=")[0].strip().decode("utf-8", "replace")
+    return printable(name.upper(), LONGEST_NAME)
 
 
 def cut_command(data):

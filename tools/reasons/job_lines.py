@@ -2,9 +2,11 @@
 
 from model import pjl
 from model.commands import PjlLine
+from seen.printable import printable
 
 KNOWN_WORDS = {b"COMMENT", b"ENTER", b"JOB", b"EOJ", b"RESET", b"INITIALIZE", b"SET", b"DEFAULT", b"INQUIRE", b"DINQUIRE", b"ECHO", b"INFO",
                b"USTATUS", b"USTATUSOFF"}
+LONGEST_SHOWN = 64   # characters
 NAMES = ", ".join(name.decode() for name in pjl.FACTORY)
 VARIABLES = f"This press has {NAMES}; the others set what it has not, and no dot depends on them"
 WORDS = "The line is passed over, and what follows is read"
@@ -22,7 +24,8 @@ def assigned(happening):
 
 
 def shown(text):
-    return text.decode("ascii", "replace")
+    """What a line says, as the program's faults tell a key."""
+    return printable(text.decode("utf-8", "replace"), LONGEST_SHOWN)
 
 
 def other_variable(_, happening):

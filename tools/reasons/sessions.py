@@ -46,7 +46,7 @@ def findings(script, engines, chosen=program.PROGRAM):
             return
         answer = next(answers, b"")
         if answer == b"what?" or (words[0] == b"message" and not all(words)):
-            yield Finding(None, f"{shown} is none of a session: {line.decode(errors='replace')[:60]!r}", advice_for(line))
+            yield Finding(None, f"{shown} is none of a session: '{line.decode(errors='replace')[:60]}'", advice_for(line))
         elif words[0] == b"message":
             yield from refusals(f"{shown}, {words[1].decode(errors='replace')}", answer, *asked)
 

@@ -1,18 +1,22 @@
 """What a stream prints, whole: a P4 file for each side in a folder, its listing and its replies; by the program where it stands, else by the
 model."""
 
+import itertools
+import re
 from pathlib import Path
 from typing import NamedTuple
 
 from model import pages, pbm, runs
 
-from . import pdf, png, program
+from . import pdf, png, program, traced
 
 BY_MODEL = "the model in Python, since the proved program is not built"
 BY_PROGRAM = "the proved program"
 RESOLUTIONS = {(size.width, size.height): size.resolution
                for plain in pages.SIZES.values() for size in (plain.at(resolution) for resolution in (300, 600))}
 TEMPLATE = "page-%d.pbm"
+NUMBER_OF_SHEET = re.compile(rb"^sheet (\d+) ", re.MULTILINE)
+DELIVERED, SHEETS = re.compile(rb'"delivered":(\d+)'), re.compile(rb'"sheets":(\d+)')
 
 
 class Printed(NamedTuple):
@@ -65,3 +69,31 @@ def page_of(name):
 
 def is_blank(page):
     return not any(map(any, page.rows))
+
+
+def count_sides(stream, chosen=program.PROGRAM):
+    """How many sides come out, copies too; 0 where the program does not stand."""
+    if not program.stands(chosen):
+        return 0
+    return len(NUMBER_OF_SHEET.findall(asked(["print", "--list", "-"], stream, chosen, None)))
+
+
+def without_copies(printed, stream, chosen=program.PROGRAM):
+    """The P4 files of a stream that was printed, of each sheet those of its first copy. The trace is asked only where a sheet is as the one before."""
+    numbered = zip(NUMBER_OF_SHEET.findall(printed.listing), printed.names, strict=True)
+    sheets = {int(number): [name for _, name in some] for number, some in itertools.groupby(numbered, lambda each: each[0])}
+    if any(are_equal(sheets[number], sheets[number - 1]) for number in sheets if number > 1):
+        firsts = set(first_copies(stream, chosen))
+        sheets = {number: some for number, some in sheets.items() if number in firsts}
+    return [name for some in sheets.values() for name in some]
+
+
+def are_equal(some, others):
+    return len(some) == len(others) and all(one.read_bytes() == other.read_bytes() for one, other in zip(some, others))
+
+
+def first_copies(stream, chosen):
+    """The number of the first copy of each sheet that goes out, as the trace tells them."""
+    for line in traced.texts(stream, chosen):
+        if (copies := DELIVERED.search(line)) is not None:
+            yield int(SHEETS.search(line)[1]) - int(copies[1]) + 1

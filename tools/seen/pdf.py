@@ -17,16 +17,6 @@ class Page(NamedTuple):
     resolution: int
 
 
-def packed(line):
-    """The bytes of a line that is a byte for each dot, 1 where it is black."""
-    digits = line.translate(bytes.maketrans(b"\0\1", b"01")) + b"0" * (-len(line) % 8)
-    return int(digits, 2).to_bytes(len(digits) // 8, "big") if 1 in line else bytes(len(digits) // 8)
-
-
-def page_of_lines(width, lines, resolution):
-    return Page(width, [packed(line) for line in lines], resolution)
-
-
 def size_of(page):
     """Width and height in points."""
     sides = (dots * POINTS_PER_INCH / page.resolution for dots in (page.width, len(page.rows)))
