@@ -45,7 +45,7 @@ exec "{compiler}" "$@"
 """
 
 
-class NotCompiled(Exception):
+class NotCompiled(OSError):
     """Why there is no program."""
 
 

@@ -44,6 +44,11 @@ class Plan:
         """Whether no crate that is not proved yet has a longer way: what waits for this one ends last."""
         return all(self.way(name) >= self.way(other) for other in [*self.running, *self.open()])
 
+    def gives_way(self, name):
+        """Whether this one may run at a lower priority to its end: it never becomes urgent, since all that waits for it takes less than half as long
+        as the longest way."""
+        return 2 * self.way(name) < max(self.way(other) for other in [*self.running, *self.open()])
+
     def is_alone(self, name):
         """Whether nothing else can be proved before this one is: all that is not proved yet stands on it."""
         return all(name == other or name in self.given.below(other) for other in [*self.running, *self.open()])

@@ -18,10 +18,10 @@ SECONDS_BETWEEN_LINES = 10
 GIVES_WAY = ["nice", "-n", "5"]
 
 
-def command(rt, name, jobs, urgent):
+def command(rt, name, jobs, gives_way):
     """What proves a crate; the program is built and run with nothing on standard input, too."""
     asked = [sys.executable, str(Path(__file__).with_name("remembered.py")), rt]
-    return [*([] if urgent else GIVES_WAY), *asked, "run" if name == sources.PROGRAM else "lib", "--jobs", str(jobs)]
+    return [*(GIVES_WAY if gives_way else []), *asked, "run" if name == sources.PROGRAM else "lib", "--jobs", str(jobs)]
 
 
 class Proof:
@@ -153,16 +153,16 @@ class Run:
             lock.close()
             return
         room = rooms.Room(self.crates, self.plan.given, self.folder / "made", name, self.folder / name)
-        urgent = self.plan.is_urgent(name)
+        urgent, gives_way = self.plan.is_urgent(name), self.plan.gives_way(name)
         try:
-            self.proofs[name] = Proof(command(self.rt, name, jobs, urgent), room, jobs, self.logs / f"{name}.log", lock)
+            self.proofs[name] = Proof(command(self.rt, name, jobs, gives_way), room, jobs, self.logs / f"{name}.log", lock)
         except OSError as error:
             lock.close()
             self.why[name] = f"its room could not be made: {error.strerror} ({error.filename})"
             self.plan.end(name, False)
             return
         self.plan.begin(name, jobs)
-        self.note(f"begins {name} jobs={jobs}{' urgent' if urgent else ''}")
+        self.note(f"begins {name} jobs={jobs}{' urgent' if urgent else ''}{' gives way' if gives_way else ''}")
 
     def collect(self):
         """Takes what ended into the crates' own folders; answers the crates that were refused now."""

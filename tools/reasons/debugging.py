@@ -17,11 +17,9 @@ REFUSALS = {
 def findings(script, name, stream, chosen=program.PROGRAM):
     """The findings on the lines of a debugger of this stream, in order."""
     model = DebugLines(stream)
-    printed = iter(program.ask(["debug", name], script, chosen).stdout.decode(errors="replace").splitlines()) if program.stands(chosen) else None
+    printed = iter(program.ask(["debug", name], script, chosen).stdout.decode(errors="replace").splitlines())
     for number, line in enumerate(press_lines.lines_of(script), 1):
-        answers = model.answers(line)
-        if printed:
-            answers = [next(printed, "") for _ in answers]
+        answers = [next(printed, "") for _ in model.answers(line)]
         shown = f"line {number}"
         if answers == ["what?"]:
             yield Finding(None, f"{shown} asks nothing of the debugger: '{line.decode(errors='replace')[:60]}'", advice_for(line))

@@ -59,12 +59,9 @@ def missing_engine(words, engines):
 
 
 def answers_of(script, engines, chosen):
-    """The answers of the program where it stands, else of the model."""
+    """The answers of the program."""
     words = ["--engines", str(engines)] if engines > 1 else []
-    if program.stands(chosen):
-        return iter(program.ask(["press", *words], script, chosen).stdout.split(b"\n"))
-    (_, printed, _), _ = press_lines.played(words, script)
-    return iter(printed.split(b"\n"))
+    return iter(program.ask(["press", *words], script, chosen).stdout.split(b"\n"))
 
 
 def files_of(shown, names):

@@ -3,8 +3,6 @@
 import re
 from typing import NamedTuple
 
-from model import pages, runs
-
 from . import program
 
 LINE = re.compile(rb"sheet (\d+) (front|back) (\d+)x(\d+) black (\d+)\n")
@@ -20,9 +18,7 @@ class Listed(NamedTuple):
 
 
 def listing_of(run):
-    """The program's listing of a run's stream where it stands, else the model's."""
-    if not program.stands(run.chosen):
-        return pages.listing(runs.run_stream(run.whole).sheets, b"")
+    """The program's listing of a run's stream."""
     ran = program.ask(["print", "--list", "-"], run.whole, run.chosen)
     if ran.returncode:
         raise OSError(f"press print: {ran.stderr.decode(errors='replace').strip()}")

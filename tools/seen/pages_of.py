@@ -1,17 +1,14 @@
-"""What a stream prints, whole: a P4 file for each side in a folder, its listing and its replies; by the program where it stands, else by the
-model."""
+"""What a stream prints, whole: a P4 file for each side in a folder, its listing and its replies; by the program."""
 
 import itertools
 import re
 from pathlib import Path
 from typing import NamedTuple
 
-from model import pages, pbm, runs
+from model import pages
 
 from . import pdf, png, program, traced
 
-BY_MODEL = "the model in Python, since the proved program is not built"
-BY_PROGRAM = "the proved program"
 RESOLUTIONS = {(size.width, size.height): size.resolution
                for plain in pages.SIZES.values() for size in (plain.at(resolution) for resolution in (300, 600))}
 TEMPLATE = "page-%d.pbm"
@@ -31,23 +28,10 @@ class Fault(Exception):
 
 
 def print_into(folder, stream, chosen=program.PROGRAM):
-    return by_program(folder, stream, chosen) if program.stands(chosen) else by_model(folder, stream)
-
-
-def by_model(folder, stream):
-    outcome = runs.run_stream(stream)
-    names = []
-    for number, side in enumerate((side for sheet in outcome.sheets for _, side in sheet.sides()), 1):
-        names.append(folder / TEMPLATE.replace("%d", str(number)))
-        names[-1].write_bytes(pbm.bytes_of_rows(side.physical_rows()))
-    return Printed(pages.listing(outcome.sheets, b""), outcome.replies, names, BY_MODEL)
-
-
-def by_program(folder, stream, chosen):
     replies = asked(["print", "-", TEMPLATE], stream, chosen, folder)
     listed = asked(["print", "--list", "-"], stream, chosen, folder)
     names = [folder / TEMPLATE.replace("%d", str(number)) for number in range(1, len(list(folder.glob("page-*.pbm"))) + 1)]
-    return Printed(listed[:len(listed) - len(replies)], replies, names, BY_PROGRAM)
+    return Printed(listed[:len(listed) - len(replies)], replies, names, program.who(chosen))
 
 
 def asked(words, stream, chosen, folder):
@@ -72,9 +56,7 @@ def is_blank(page):
 
 
 def count_sides(stream, chosen=program.PROGRAM):
-    """How many sides come out, copies too; 0 where the program does not stand."""
-    if not program.stands(chosen):
-        return 0
+    """How many sides come out, copies too."""
     return len(NUMBER_OF_SHEET.findall(asked(["print", "--list", "-"], stream, chosen, None)))
 
 

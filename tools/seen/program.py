@@ -1,5 +1,6 @@
 """The program, where it stands, and what the tools ask of it."""
 
+import functools
 import os
 import subprocess
 import sys
@@ -19,9 +20,23 @@ def stands(program=PROGRAM):
     return program.is_file() and os.access(program, os.X_OK)
 
 
+@functools.cache
+def answering(chosen=PROGRAM):
+    """The program that is asked: one that the caller chose, or else the one that `press` runs, proved if it stands, or compiled of the sources."""
+    if chosen != PROGRAM:
+        return chosen
+    from proving import compiled, standing   # they stand on this module
+    return PROGRAM if standing.proved() is not None else compiled.find()
+
+
+def who(chosen=PROGRAM):
+    """What the program that is asked is called."""
+    return "the proved program" if answering(chosen) == PROGRAM else "the program, which is not proved on this machine"
+
+
 def ask(words, given=b"", program=PROGRAM, folder=None):
     """What the program does with these words and this standard input."""
-    return subprocess.run([program, *words], input=given, capture_output=True, timeout=SECONDS, check=False, cwd=folder)
+    return subprocess.run([answering(program), *words], input=given, capture_output=True, timeout=SECONDS, check=False, cwd=folder)
 
 
 def printed_sides(stream, program=PROGRAM):

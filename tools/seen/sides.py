@@ -1,4 +1,4 @@
-"""The sides that a stream prints, each once: by the program where it stands, else by the model in Python."""
+"""The sides that a stream prints, each once: by the program; where there are too many copies, by the model in Python."""
 
 from typing import NamedTuple
 
@@ -23,14 +23,12 @@ class Side(NamedTuple):
 def who(run):
     """Who prints the sides of a run."""
     files = sum(copies for _, _, _, copies in run.pages_of_sides())
-    if not program.stands(run.chosen):
-        return "the model in Python, since the proved program is not built"
-    return f"the model in Python, since the copies have {files} sides" if files > MOST_FILES else "the proved program"
+    return f"the model in Python, since the copies have {files} sides" if files > MOST_FILES else program.who(run.chosen)
 
 
 def packed_sides(run):
     """The P4 file of each side of a run, one after another."""
-    if who(run) == "the proved program":
+    if who(run) == program.who(run.chosen):
         yield from printed(run)
         return
     wanted = {(number, name) for _, number, name, _ in run.pages_of_sides()}
