@@ -13,6 +13,7 @@ use Rattle.press_engine.specs.Stack.{items_in, room_where}
 use Rattle.press_engine.specs.Trace.{last_machine, with_end, trace_each, trace_at}
 use Rattle.press_engine.proofs.BegunLemmas.{IsAlone, end-depth}
 use Rattle.press_engine.proofs.CommandItems.{Taking, taking, now, effect_at, StartsIn, command-all}
+use Rattle.press_engine.proofs.FoldLaws.{trace_tells_the_run}
 use Rattle.press_engine.proofs.TraceLaws.{last_machine-append, with_end-machine}
 
 -- so many bodies or fewer
@@ -84,4 +85,4 @@ pub at-most-four : (commands : List Token) (machine : Machine) → machine.depth
 at-most-four commands machine none =
     let all = each-depths 4 4 (trace_at macro_levels)
     (λ command machine. command-all (DepthsAt 4) (alone-depths 4) (body-depths 4) (taking false macro_levels command machine)) commands machine in
-    record { depths = all.within (omega (arith, none)); none_left = all.keeps ∙ none }
+    record { depths = all.within (omega (arith, none)); none_left = ap (λ (at : Machine). at.depth) (sym (trace_tells_the_run commands machine).machine) ∙ all.keeps ∙ none }

@@ -3,6 +3,7 @@ pub mod BegunLemmas
 pub mod CommandItems
 pub mod DepthLaws
 pub mod EndsLemmas
+pub mod FoldLaws
 pub mod ItemsLemmas
 pub mod Runs
 pub mod SendsLemmas

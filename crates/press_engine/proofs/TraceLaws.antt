@@ -7,7 +7,7 @@ use Rattle.press_table.specs.Table.{effect_on}
 use Rattle.press_engine.specs.declared.machine.Machine.{Machine}
 use Rattle.press_engine.specs.Laws.{IsOneStep}
 use Rattle.press_engine.specs.Machine.{StepResult, macro_levels}
-use Rattle.press_engine.specs.Trace.{last_machine, joined, with_end, trace_each, trace_at, trace, told_by, run, run_all}
+use Rattle.press_engine.specs.Trace.{last_machine, joined, with_end, trace_each, trace_at, trace, told_by}
 use Rattle.press_engine.proofs.CommandItems.{Taking, taking, effect_at, items_from, command-all}
 
 pub last_machine-append : (items others : List StepResult) (machine : Machine) → last_machine machine (items ++ others) ≡ last_machine (last_machine machine items) others
@@ -39,7 +39,7 @@ trace_each-append tracing (command ∷ commands) others machine =
     ∙ ap (λ at. (first ++ items) ++ trace_each tracing others at) (sym (last_machine-append first items machine))
 
 -- The trace of commands and then others.
-pub trace-append : (commands others : List Token) (machine : Machine) → trace (commands ++ others) machine ≡ trace commands machine ++ trace others (run_all commands machine).machine
+pub trace-append : (commands others : List Token) (machine : Machine) → trace (commands ++ others) machine ≡ trace commands machine ++ trace others (last_machine machine (trace commands machine))
 trace-append commands others machine = trace_each-append (trace_at macro_levels) commands others machine
 
 -- A command that is one step has one item.
@@ -56,7 +56,7 @@ told-one items item machine is =
     let P : List StepResult → Type 0 = λ these. these ≡ told_by these machine ∷ [] in
     subst P (sym is) (λ i. record { machine = item.machine; outputs = sym (append-nil item.outputs) i } ∷ [])
 
-pub trace-one : (command : Token) (machine : Machine) → IsOneStep (effect_on sources.Stream command machine.state) → trace (command ∷ []) machine ≡ run command machine ∷ []
+pub trace-one : (command : Token) (machine : Machine) → IsOneStep (effect_on sources.Stream command machine.state) → trace (command ∷ []) machine ≡ told_by (trace_at macro_levels command machine) machine ∷ []
 unfolding trace_each
 trace-one command machine step =
     let one = one-item (taking false macro_levels command machine) step in

@@ -15,6 +15,7 @@ use Rattle.press_engine.specs.Begun.{begins}
 use Rattle.press_engine.specs.Stack.{continuation, HasNext}
 use Rattle.press_engine.specs.Stepping.{unwind}
 use Rattle.press_engine.specs.Trace.{joined, trace_at, told_by}
+use Rattle.press_engine.proofs.FoldLaws.{told-run}
 use Rattle.press_engine.proofs.SendsLemmas.{WentOut-exit, has_fault_room-then}
 use Rattle.press_engine.proofs.StackLaws.{outer-continuation}
 use Rattle.press_engine.proofs.StackLemmas.{begins-wants}
@@ -86,7 +87,8 @@ pub runs-of : (old : Option Machine) (command : Token) (tag : ℕ) (result : Res
     → LeavesAll old (trace_at macro_levels command) tag result new before after → Runs old command result new (under tag before after)
 runs-of None command tag result new before after leaves = absurd leaves
 runs-of (Some machine) command tag result new before after leaves =
-    (leaves.left, leaves.sends)
+    let there = subst (λ (one : StepResult). Leaves one tag result new before after) (told-run command machine) leaves in
+    (there.left, there.sends)
 
 -- the first step stopped
 pub runs-stopped : (old : Option Machine) (command : Token) (tag : ℕ) (result : Result Kind EngineError)

@@ -22,7 +22,7 @@ use Rattle.press_table.specs.Outcome.{is_marked}
 use Rattle.press_table.specs.Outputs.{all_outputs}
 use Rattle.press_table.specs.Table.{effect_on}
 use Rattle.press_engine.specs.Machine.{StepResult}
-use Rattle.press_engine.specs.Trace.{run}
+use Rattle.press_engine.specs.Fold.{run}
 use Rattle.press_engine.specs.Begun.{source_in}
 use Rattle.press_engine.specs.Stack.{continuation, EndsOverlay}
 use Rattle.press_table.specs.declared.effect.Source.TheVariants.{Stream}

@@ -8,7 +8,8 @@ use Rattle.press_table.specs.Calls.{overlay_body}
 use Rattle.press_engine.specs.Machine.{StepResult}
 use Rattle.press_table.specs.Outcome.{Effect, Changes, MayAllocate, GivesReply, Stays, Closes, Starts}
 use Rattle.press_table.specs.Table.{effect_on}
-use Rattle.press_engine.specs.Trace.{last_machine, joined, trace, run, run_all}
+use Rattle.press_engine.specs.Fold.{run, run_all}
+use Rattle.press_engine.specs.Trace.{last_machine, joined, trace}
 
 -- The items stand for a run: they end in its machine, and their outputs joined are its outputs.
 pub record Tells (items : List StepResult) (before : Machine) (run : StepResult) : Type 0 where

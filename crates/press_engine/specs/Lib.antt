@@ -2,6 +2,7 @@
 pub mod Begun
 pub mod Engine
 pub mod Faults
+pub mod Fold
 pub mod Laws
 pub mod PageKept
 pub mod Steps

@@ -9,7 +9,7 @@ use Rattle.press_table.specs.Passing.{HasNoEffect}
 use Rattle.press_engine.specs.declared.machine.Last.TheVariants as lasts
 use Rattle.press_engine.specs.declared.machine.Machine.{Machine}
 use Rattle.press_engine.specs.Machine.{silent}
-use Rattle.press_engine.specs.Trace.{run_all}
+use Rattle.press_engine.specs.Fold.{run_all}
 
 -- so many steps more, the last of which took a command of this kind
 abbrev pub passed : (count : ℕ) → Kind → Machine → Machine

@@ -62,10 +62,3 @@ trace = trace_each (trace_at macro_levels)
 -- What items leave from a machine on: the machine of the last, and all outputs in order.
 abbrev pub told_by : List StepResult → Machine → StepResult
 told_by items machine = record { machine = last_machine machine items; outputs = joined items }
-
--- A command of the stream, carried out whole, with the bodies that it starts; and commands one after another.
-abbrev pub run : Token → Machine → StepResult
-run command machine = told_by (trace_at macro_levels command machine) machine
-
-abbrev pub run_all : List Token → Machine → StepResult
-run_all commands machine = told_by (trace commands machine) machine

@@ -19,7 +19,7 @@ use Rattle.press_rows.specs.DeltaRow.{deltas, replacements, laid_over}
 use Rattle.press_rows.specs.Row.{raster_row}
 use Rattle.press_sink.specs.Sending.{Output, Deliver, Reply}
 use Rattle.press_engine.specs.Machine.{power_on}
-use Rattle.press_engine.specs.Trace.{run_all, trace_each, trace_at}
+use Rattle.press_engine.specs.Fold.{fold, whole_at, run_all}
 
 -- a line, with its line feed
 abbrev line : String → Token
@@ -50,21 +50,21 @@ letter = blank 2550 3300
 copies_are_asked :
     told (Uel ∷ line "@PJL SET COPIES=3\r" ∷ line "@PJL INQUIRE COPIES\r" ∷ line "@PJL DINQUIRE COPIES\r" ∷ [])
     ≡ reply "@PJL INQUIRE COPIES" "3" ∷ reply "@PJL DINQUIRE COPIES" "1" ∷ []
-unfolding trace_each trace_at digits
+unfolding fold whole_at digits
 copies_are_asked = refl
 
 -- a reply after each sheet
 a_reply_after_a_sheet :
     told (Uel ∷ line "@PJL USTATUS PAGE=ON" ∷ line "@PJL ENTER LANGUAGE=PCL" ∷ form_feed ∷ [])
     ≡ front letter ∷ reply "@PJL USTATUS PAGE" "1" ∷ []
-unfolding trace_each trace_at digits
+unfolding fold whole_at digits
 a_reply_after_a_sheet = refl
 
 a_reply_after_each_copy :
     told (line "@PJL USTATUS PAGE=ON" ∷ copies "2" ∷ form_feed ∷ line "@PJL INFO PAGECOUNT" ∷ [])
     ≡ front letter ∷ reply "@PJL USTATUS PAGE" "1" ∷ front letter ∷ reply "@PJL USTATUS PAGE" "2"
     ∷ reply "@PJL INFO PAGECOUNT" "2" ∷ []
-unfolding trace_each trace_at digits
+unfolding fold whole_at digits
 a_reply_after_each_copy = refl
 
 -- the page that a job closes counts in the job before, and then the count begins anew
@@ -82,7 +82,7 @@ a_job_closes_the_page :
     told (line "@PJL USTATUS PAGE=ON" ∷ form_feed ∷ small_box ++ (line "@PJL JOB" ∷ form_feed ∷ []))
     ≡ front letter ∷ reply "@PJL USTATUS PAGE" "1" ∷ front boxed ∷ reply "@PJL USTATUS PAGE" "2"
     ∷ front letter ∷ reply "@PJL USTATUS PAGE" "1" ∷ []
-unfolding trace_each trace_at digits
+unfolding fold whole_at digits
 a_job_closes_the_page = refl
 
 -- a value that is set holds from the next page on: the page that the line closes goes out as it was set before
@@ -90,14 +90,14 @@ a_value_holds_behind_the_page :
     told (line "@PJL USTATUS PAGE=ON" ∷ small_box ++ (line "@PJL SET COPIES=2" ∷ form_feed ∷ []))
     ≡ front boxed ∷ reply "@PJL USTATUS PAGE" "1"
     ∷ front letter ∷ reply "@PJL USTATUS PAGE" "2" ∷ front letter ∷ reply "@PJL USTATUS PAGE" "3" ∷ []
-unfolding trace_each trace_at digits
+unfolding fold whole_at digits
 a_value_holds_behind_the_page = refl
 
 -- so does a front that waits, which goes out alone with its reply
 a_front_goes_out_alone :
     told (line "@PJL SET DUPLEX=ON" ∷ line "@PJL USTATUS PAGE=ON" ∷ form_feed ∷ line "@PJL SET PAPER=A4" ∷ form_feed ∷ [])
     ≡ front letter ∷ reply "@PJL USTATUS PAGE" "1" ∷ front (blank 2480 3507) ∷ reply "@PJL USTATUS PAGE" "2" ∷ []
-unfolding trace_each trace_at digits
+unfolding fold whole_at digits
 a_front_goes_out_alone = refl
 
 -- so does a page with a mark, and a front that waits, of another resolution
@@ -107,13 +107,13 @@ fine_letter = blank 5100 6600
 another_resolution :
     told (small_box ++ (line "@PJL SET RESOLUTION=600" ∷ form_feed ∷ line "@PJL SET RESOLUTION=300" ∷ form_feed ∷ []))
     ≡ front boxed ∷ front fine_letter ∷ front letter ∷ []
-unfolding trace_each trace_at
+unfolding fold whole_at
 another_resolution = refl
 
 a_front_of_another_resolution :
     told (line "@PJL SET DUPLEX=ON" ∷ form_feed ∷ line "@PJL SET RESOLUTION=600" ∷ form_feed ∷ form_feed ∷ [])
     ≡ front letter ∷ Deliver (record { front = fine_letter; back = Some fine_letter }) ∷ []
-unfolding trace_each trace_at
+unfolding fold whole_at
 a_front_of_another_resolution = refl
 
 -- the resolution outlives a reset and the universal exit, until a line changes it
@@ -124,7 +124,7 @@ a_resolution_stays :
     told (line "@PJL SET RESOLUTION=600" ∷ reset ∷ Uel ∷ form_feed ∷ line "@PJL RESET" ∷ form_feed ∷ line "@PJL DEFAULT RESOLUTION=600" ∷ form_feed
     ∷ line "@PJL EOJ" ∷ form_feed ∷ line "@PJL INITIALIZE" ∷ form_feed ∷ [])
     ≡ front fine_letter ∷ front letter ∷ front letter ∷ front fine_letter ∷ front letter ∷ []
-unfolding trace_each trace_at
+unfolding fold whole_at
 a_resolution_stays = refl
 
 -- a PCL unit of 1/300 inch has two dots there: the box is at (150, 300), and has six columns and four lines
@@ -136,7 +136,7 @@ fine_box =
 a_resolution_is_asked :
     told (line "@PJL SET RESOLUTION=600" ∷ reset ∷ small_box ++ (reset ∷ line "@PJL INQUIRE RESOLUTION" ∷ line "@PJL DINQUIRE RESOLUTION" ∷ []))
     ≡ front fine_box ∷ reply "@PJL INQUIRE RESOLUTION" "600" ∷ reply "@PJL DINQUIRE RESOLUTION" "300" ∷ []
-unfolding trace_each trace_at
+unfolding fold whole_at
 a_resolution_is_asked = refl
 
 -- ESC*t200R, ESC*r1A, ESC*b1W of a dot: three by three dots at (150, 375); at 300 dots per inch the resolution stays 75, and they
@@ -152,11 +152,11 @@ with_row page corner size bytes =
     (raster_mark Portrait page corner size (record { bits = 0x80 ∷ replicate (bytes - 1) 0; dots = 8 * bytes }) (black_brush both_transparent))
 
 a_row_at_200 : told (line "@PJL SET RESOLUTION=600" ∷ row_of_a_dot) ≡ front (with_row fine_letter (record { x = 150; y = pos 375 }) 3 200) ∷ []
-unfolding trace_each trace_at raster_row
+unfolding fold whole_at raster_row
 a_row_at_200 = refl
 
 no_row_at_200 : told row_of_a_dot ≡ front (with_row letter (record { x = 75; y = pos 187 }) 4 75) ∷ []
-unfolding trace_each trace_at raster_row
+unfolding fold whole_at raster_row
 no_row_at_200 = refl
 
 -- Adaptive compression, a command of five rows at 300 dots per inch: a row of eight dots, the same twice more, an empty one, and
@@ -175,13 +175,13 @@ rows_of_blocks :
     told (Grouped (code "*") (code "t") (codes "300") (code "R") [] ∷ Grouped (code "*") (code "r") (codes "0") (code "A") []
     ∷ Grouped (code "*") (code "b") (codes "5") (code "M") [] ∷ five_rows ∷ form_feed ∷ [])
     ≡ front (row_at 191 0x81 (row_at 190 0x00 (row_at 189 0xFF (row_at 188 0xFF (row_at 187 0xFF letter))))) ∷ []
-unfolding trace_each trace_at items raster_row deltas replacements laid_over
+unfolding fold whole_at items raster_row deltas replacements laid_over
 rows_of_blocks = refl
 
 -- no data is no row there: the page has no mark, and ESC E prints none; by method 0 it is a row
 no_rows_of_no_data :
     told (Grouped (code "*") (code "b") (codes "5") (code "M") [] ∷ Grouped (code "*") (code "b") (codes "0") (code "W") [] ∷ reset ∷ []) ≡ []
-unfolding trace_each trace_at items
+unfolding fold whole_at items
 no_rows_of_no_data = refl
 
 -- a definition that is open is dropped where a value is set, and goes on at a query
@@ -189,21 +189,21 @@ abbrev define : Token
 define = Grouped (code "&") (code "f") (codes "0") (code "X") []
 
 a_value_drops_the_definition : told (define ∷ line "@PJL SET COPIES=1" ∷ form_feed ∷ []) ≡ front letter ∷ []
-unfolding trace_each trace_at
+unfolding fold whole_at
 a_value_drops_the_definition = refl
 
 a_query_leaves_the_definition :
     told (define ∷ line "@PJL INQUIRE COPIES" ∷ form_feed ∷ []) ≡ reply "@PJL INQUIRE COPIES" "1" ∷ []
-unfolding trace_each trace_at digits
+unfolding fold whole_at digits
 a_query_leaves_the_definition = refl
 
 -- the page after a change of a value has it; the page of a default that changed has not
 another_page_size : told (line "@PJL SET PAPER=A4" ∷ form_feed ∷ []) ≡ front (blank 2480 3507) ∷ []
-unfolding trace_each trace_at
+unfolding fold whole_at
 another_page_size = refl
 
 another_default : told (line "@PJL DEFAULT PAPER=A4" ∷ form_feed ∷ line "@PJL RESET" ∷ form_feed ∷ []) ≡ front letter ∷ front (blank 2480 3507) ∷ []
-unfolding trace_each trace_at
+unfolding fold whole_at
 another_default = refl
 
 -- HP-GL/2 ends where a value is set, and goes on at a query
@@ -213,5 +213,5 @@ enter_hp_gl = Ungrouped (code "%") (codes "0") (code "B") []
 a_value_ends_hp_gl :
     told (enter_hp_gl ∷ form_feed ∷ line "@PJL ECHO a b" ∷ form_feed ∷ line "@PJL SET COPIES=1" ∷ form_feed ∷ [])
     ≡ Reply (codes "@PJL ECHO a b" ++ (13 ∷ 10 ∷ 12 ∷ [])) ∷ front letter ∷ []
-unfolding trace_each trace_at
+unfolding fold whole_at
 a_value_ends_hp_gl = refl

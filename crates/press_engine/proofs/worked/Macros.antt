@@ -2,7 +2,7 @@
 -- compute: at each command that looks a macro up it is put in by what a map says of it.
 use Prim.Native.Char.{Char, code}
 use Prim.Native.String.{String}
-use Rattle.std.proofs.Common.{◌≡◌, ◌∙◌, ℕ, suc, false, true, List, [], ◌∷◌, ◌++◌, Some, None, map, refl, ap}
+use Rattle.std.proofs.Common.{◌≡◌, ◌∙◌, ℕ, suc, false, true, List, [], ◌∷◌, ◌++◌, Some, None, map, refl, sym, ap}
 use Rattle.std.proofs.lemmas.List.{append-nil}
 use Rattle.std.specs.FinMap as maps
 use Rattle.std.specs.Prelude.{codes, if◌then◌else◌}
@@ -32,10 +32,12 @@ use Rattle.press_table.specs.Calls.{kept_of, overlay_body}
 use Rattle.press_table.specs.Macros.{start_body, record_command}
 use Rattle.press_table.specs.Outcome.{Effect, Changes, MayAllocate, Stays, Closes, Starts, is_marked, with_macros}
 use Rattle.press_engine.specs.Begun.{begun_outside, begun_close}
+use Rattle.press_engine.specs.Fold.{run_all}
 use Rattle.press_engine.specs.Machine.{StepResult, silent, with_state, taken, enter_body, leave_body, power_on, source_at, overlay_levels}
 use Rattle.press_table.specs.Motion.{to_left_margin}
 use Rattle.press_table.specs.Table.{effect_on, is_recorded, is_skipped, table_row, row_unless_skipped}
-use Rattle.press_engine.specs.Trace.{last_machine, joined, with_end, begun_items, inside_of, trace, trace_each, trace_at, trace_in_overlay, run_all}
+use Rattle.press_engine.specs.Trace.{last_machine, joined, with_end, begun_items, inside_of, trace, trace_each, trace_at, trace_in_overlay}
+use Rattle.press_engine.proofs.FoldLaws.{told_all-run_all}
 use Rattle.press_engine.proofs.TraceLaws.{trace_each-append}
 
 -- ESC, a parameterized character, a group character, a field and a termination character
@@ -257,12 +259,13 @@ machine_of_items :
     (commands : List Token) (items : List StepResult) → trace commands power_on ≡ items
     → (run_all commands power_on).machine ≡ last_machine power_on items
 machine_of_items commands items same =
-    ap (λ all. last_machine power_on all) same
+    ap (λ (leaves : StepResult). leaves.machine) (sym (told_all-run_all commands power_on)) ∙ ap (λ all. last_machine power_on all) same
 
 outputs_of_items :
     (commands : List Token) (items : List StepResult) → trace commands power_on ≡ items
     → (run_all commands power_on).outputs ≡ joined items
-outputs_of_items commands items same = ap joined same
+outputs_of_items commands items same =
+    ap (λ (leaves : StepResult). leaves.outputs) (sym (told_all-run_all commands power_on)) ∙ ap joined same
 
 computed_x : (last_machine power_on (stream_with [] called)).state.cursor.x ≡ 96
 unfolding trace_each trace_at

@@ -20,7 +20,7 @@ use Rattle.press_page.specs.declared.media.Orientation.{Orientation}
 use Rattle.press_page.specs.declared.media.Orientation.TheVariants.{Portrait, Landscape}
 use Rattle.press_table.specs.Outcome.{power_on_state}
 use Rattle.press_engine.specs.Machine.{StepResult, power_on}
-use Rattle.press_engine.specs.Trace.{run_all, trace_each, trace_at}
+use Rattle.press_engine.specs.Fold.{fold, whole_at, run_all}
 
 -- ESC, a parameterized character, a group character, a field and a termination character
 abbrev sequence : Char → Char → String → Char → Token
@@ -79,37 +79,37 @@ abbrev front_alone : Page → Output
 front_alone front = Deliver (record { front = front; back = None })
 
 empty_stream : run_all (Uel ∷ []) power_on ≡ ends_after 1 1 0 []
-unfolding trace_each trace_at
+unfolding fold whole_at
 empty_stream = refl
 
 blank_sheet : run_all (reset_command ∷ form_feed_command ∷ reset_command ∷ Uel ∷ []) power_on ≡ ends_after 4 3 1 (front_alone letter ∷ [])
-unfolding trace_each trace_at
+unfolding fold whole_at
 blank_sheet = refl
 
 -- ESC E, ESC*p0x0Y, ESC*c3a2b0P, ESC E
 box_at_the_origin :
     run_all (reset_command ∷ star "p" "0" "X" ∷ star "p" "0" "Y" ∷ small_box ++ (reset_command ∷ Uel ∷ [])) power_on
     ≡ ends_after 8 3 1 (front_alone (boxed Portrait letter 75 150 3 2) ∷ [])
-unfolding trace_each trace_at
+unfolding fold whole_at
 box_at_the_origin = refl
 
 -- ESC*p10x20Y, ESC*c3a2b0P, FF
 box_off_the_origin :
     run_all (star "p" "10" "X" ∷ star "p" "20" "Y" ∷ small_box ++ (form_feed_command ∷ Uel ∷ [])) power_on
     ≡ ends_after 7 1 1 (front_alone (boxed Portrait letter 85 170 3 2) ∷ [])
-unfolding trace_each trace_at
+unfolding fold whole_at
 box_off_the_origin = refl
 
 -- ESC*p10, CR, FF: the broken sequence has no effect
 broken_sequence :
     run_all (Broken (27 ∷ codes "*p10") ∷ Control 13 ∷ form_feed_command ∷ Uel ∷ []) power_on ≡ ends_after 4 1 1 (front_alone letter ∷ [])
-unfolding trace_each trace_at
+unfolding fold whole_at
 broken_sequence = refl
 
 -- ESC&l1S, FF, ESC E: a front waits for its back, and goes out alone
 front_goes_out_alone :
     run_all (page_control "1" "S" ∷ form_feed_command ∷ reset_command ∷ Uel ∷ []) power_on ≡ ends_after 4 2 1 (front_alone letter ∷ [])
-unfolding trace_each trace_at
+unfolding fold whole_at
 front_goes_out_alone = refl
 
 -- ESC&l1S, ESC&l2X, FF, FF: two copies of a sheet with a blank front and a blank back
@@ -119,14 +119,14 @@ blank_sheet_on_both_sides = Deliver (record { front = letter; back = Some letter
 two_copies_on_both_sides :
     run_all (page_control "1" "S" ∷ page_control "2" "X" ∷ form_feed_command ∷ form_feed_command ∷ Uel ∷ []) power_on
     ≡ ends_after 5 1 2 (blank_sheet_on_both_sides ∷ blank_sheet_on_both_sides ∷ [])
-unfolding trace_each trace_at
+unfolding fold whole_at
 two_copies_on_both_sides = refl
 
 -- ESC&l1O, ESC*p0x0Y, ESC*c3a2b0P, FF: in landscape, at dot (60, 150) of the frame
 box_in_landscape :
     run_all (page_control "1" "O" ∷ star "p" "0" "X" ∷ star "p" "0" "Y" ∷ small_box ++ (form_feed_command ∷ Uel ∷ [])) power_on
     ≡ ends_after 8 1 1 (front_alone (boxed Landscape letter 60 150 3 2) ∷ [])
-unfolding trace_each trace_at
+unfolding fold whole_at
 box_in_landscape = refl
 
 -- a line feed that passes the end of the text closes the page: the first line is at 900, and a text of 60 lines ends at 72000
@@ -134,9 +134,9 @@ line_feeds : ℕ → List Token
 line_feeds n = replicate n (Control 10)
 
 no_page_after_59_line_feeds : (run_all (line_feeds 59) power_on).outputs ≡ []
-unfolding trace_each trace_at line_feeds
+unfolding fold whole_at line_feeds
 no_page_after_59_line_feeds = refl
 
 a_page_after_60_line_feeds : (run_all (line_feeds 60) power_on).outputs ≡ front_alone letter ∷ []
-unfolding trace_each trace_at line_feeds
+unfolding fold whole_at line_feeds
 a_page_after_60_line_feeds = refl

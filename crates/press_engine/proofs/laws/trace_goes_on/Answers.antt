@@ -1,5 +1,5 @@
-use Rattle.press_engine.proofs.TraceLaws.{trace-append}
+use Rattle.press_engine.proofs.FoldLaws.{trace_goes_on}
 use Rattle.press_engine.proofs.laws.trace_goes_on.Goals as goal
 
 pub returns : goal.returns
-returns c = trace-append
+returns c = trace_goes_on

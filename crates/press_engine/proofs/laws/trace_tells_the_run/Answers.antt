@@ -1,5 +1,5 @@
-use Rattle.std.proofs.Common.{refl}
+use Rattle.press_engine.proofs.FoldLaws.{trace_tells_the_run}
 use Rattle.press_engine.proofs.laws.trace_tells_the_run.Goals as goal
 
 pub returns : goal.returns
-returns c = λ commands machine. record { machine = refl; outputs = refl }
+returns c = trace_tells_the_run
