@@ -14,7 +14,9 @@ use Rattle.press_engine.specs.Machine.{StepResult}
 use Rattle.press_table.specs.Passing.{HasNoEffect, SkipsBytes, SkipsControls}
 use Rattle.press_engine.specs.Passing.{passed}
 use Rattle.press_engine.specs.Stack.{continuation}
-use Rattle.press_engine.specs.Trace.{last_machine, trace, run_all}
+use Rattle.press_engine.specs.Fold.{run_all}
+use Rattle.press_engine.specs.Trace.{last_machine, joined, trace}
+use Rattle.press_engine.proofs.FoldLaws.{trace_tells_the_run}
 use Rattle.press_engine.proofs.PassingLaws.{passing_is_counted}
 use Rattle.press_stream.specs.Answers.{PassesOn}
 use Rattle.press_stream.specs.Meaning.{left, Owes}
@@ -93,6 +95,7 @@ passes_on old new going still idle none carries =
     let given = carries.given in
     let from = carries.from in
     let items = trace given from in
+    let tells = trace_tells_the_run given from in
     let stays = each-stays given old.held new.held carries.each in
     record {
       goes = (
@@ -106,13 +109,13 @@ passes_on old new going still idle none carries =
           to_end = each-owes given old new going still carries.each;
           from = from;
           starts = carries.starts;
-          ends = carries.ends;
+          ends = carries.ends ∙ ap (λ (m : Machine). Some m) (sym tells.machine);
           are =
               ap (λ (bodies : List Activation). left given bodies from) idle
               ∙ sym (append-nil items)
               ∙ ap (λ (bodies : List Activation). items ++ continuation bodies (last_machine from items)) (sym none);
         },
-        sym carries.nothing,
+        sym (tells.outputs ∙ carries.nothing),
       );
       idle = none;
       fewer = rw (going, still) (omega (arith, stays.fewer));

@@ -12,7 +12,8 @@ use Rattle.press_engine.specs.Engine.{IsOfKind, NeedsMemory, Steps}
 use Rattle.press_engine.specs.Machine.{StepResult, macro_levels}
 use Rattle.press_table.specs.Outputs.{all_outputs}
 use Rattle.press_engine.specs.Stack.{continuation, HasNext}
-use Rattle.press_engine.specs.Trace.{trace_at, run_all}
+use Rattle.press_engine.specs.Fold.{run_all}
+use Rattle.press_engine.specs.Trace.{trace_at}
 use Rattle.press_stream.specs.declared.fault.JobError.{JobError}
 use Rattle.press_stream.specs.declared.fault.JobError.TheVariants as errors
 use Rattle.press_stream.specs.State.{JobState}
