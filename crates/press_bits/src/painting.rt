@@ -1,10 +1,12 @@
 //! Rows of dots that are mixed into the bytes of a page, sixty-four dots at a time.
-ghost use Rattle.std.specs.Prelude.{◌≡◌, ℕ, ◌+◌, ◌-◌, ◌*◌, ◌^◌, ◌<◌, ◌≤◌, ◌⊎◌, ◌&&◌, nat_le, nat_lt, min, pos, ◌+ℤ◌, length};
+ghost use Rattle.std.specs.Prelude.{◌≡◌, ℕ, ◌+◌, ◌-◌, ◌*◌, ◌/◌, ◌^◌, ◌<◌, ◌≤◌, ◌⊎◌, ◌&&◌, nat_le, nat_lt, min, pos, ◌+ℤ◌, length, false};
+ghost use Rattle.press_bits.specs.Mark.{IsBlack, row, row_dot};
 ghost use Rattle.press_bits.specs.Words.{word_dot};
 ghost use Rattle.press_bits.specs.Ranges.{IsBlackened, IsPaintedAlong, IsPaintedFrom};
 
+use crate::mode::Mode;
 use crate::stroke::{Run, Stroke};
-use crate::word::{mixed_word, put_word, word_at, word_from};
+use crate::word::{alike, mixed_word, put_word, whole_word_from, word_at, word_from};
 
 /// The dots that lie on a side of a page, of a row whose first dot lies at place `at`.
 pub(crate) fn run_within(at: i64, dots: usize, side: u32) -> Run
@@ -87,6 +89,105 @@ fn paint_words(rows: &mut [u8], first: usize, words: usize, line: usize, stroke:
     }
 }
 
+/// Paints these sixty-four dots of a stroke, from a byte on, where its pattern is black and its white dots are transparent.
+#[inline(always)]
+fn ink_word(rows: &mut [u8], index: usize, line: usize, stroke: &Stroke<'_, '_>, dots: u64)
+    requires black { IsBlack (row stroke.now.through.pattern) }
+    requires transparent { stroke.now.mode.source_opaque ≡ false }
+    requires room { index + 8 ≤ length rows.old }
+    requires small { length rows.old < 2 ^ 40 }
+    requires begun { 8 * line + stroke.now.run.first ≤ 8 * index }
+    requires left { 8 * index + 64 ≤ 8 * line + stroke.now.run.first + stroke.now.run.count }
+    requires enough { stroke.now.run.skip + stroke.now.run.count ≤ stroke.now.source.dots }
+    requires dots { (j : ℕ) → j < 64 → word_dot dots j ≡ row_dot stroke.now.source.bits.now
+        (stroke.now.run.skip + (8 * index - (8 * line + stroke.now.run.first)) + j) }
+    ensures { IsPaintedFrom rows.old rows.new line stroke.now (8 * index) (8 * index + 64) }
+{
+    let before = word_at(rows, index);
+    let mask = mask_word(Part {
+        index,
+        from: 8 * index,
+        to: 8 * index + 64,
+    });
+    let mode = Mode {
+        source_opaque: false,
+        pattern_opaque: stroke.mode.pattern_opaque,
+    };
+    let through = alike(true);
+    let after = mixed_word(before, dots, through, mask, mode);
+    put_word(rows, index, after);
+}
+
+/// Paints so many words of sixty-four dots of a stroke, from a byte on, where its pattern is black and its white dots are transparent:
+/// those of the source that end before its last byte.
+#[inline(always)]
+fn ink_inner_words(
+    rows: &mut [u8],
+    first: usize,
+    words: usize,
+    line: usize,
+    stroke: &Stroke<'_, '_>,
+)
+    requires black { IsBlack (row stroke.now.through.pattern) }
+    requires transparent { stroke.now.mode.source_opaque ≡ false }
+    requires room { first + 8 * words ≤ length rows.old }
+    requires small { length rows.old < 2 ^ 40 }
+    requires begun { 8 * line + stroke.now.run.first ≤ 8 * first }
+    requires left { 8 * first + 64 * words
+        ≤ 8 * line + stroke.now.run.first + stroke.now.run.count }
+    requires enough { stroke.now.run.skip + stroke.now.run.count ≤ stroke.now.source.dots }
+    requires inner { 0 < words → (stroke.now.run.skip + (8 * first
+        - (8 * line + stroke.now.run.first))) / 8 + 8 * words + 1
+        ≤ length stroke.now.source.bits.now }
+    ensures { IsPaintedFrom rows.old rows.new line stroke.now (8 * first) (8 * first + 64 * words) }
+{
+    let dot = stroke.run.skip + (8 * first - (8 * line + stroke.run.first));
+    for word in 0..words {
+        let dots = whole_word_from(stroke.source.bits, dot + 64 * word);
+        ink_word(rows, first + 8 * word, line, stroke, dots);
+    }
+}
+
+/// Paints so many words of sixty-four dots of a stroke, from a byte on, where its pattern is black and its white dots are transparent.
+#[inline(always)]
+fn ink_last_words(rows: &mut [u8], first: usize, words: usize, line: usize, stroke: &Stroke<'_, '_>)
+    requires black { IsBlack (row stroke.now.through.pattern) }
+    requires transparent { stroke.now.mode.source_opaque ≡ false }
+    requires room { first + 8 * words ≤ length rows.old }
+    requires small { length rows.old < 2 ^ 40 }
+    requires begun { 8 * line + stroke.now.run.first ≤ 8 * first }
+    requires left { 8 * first + 64 * words
+        ≤ 8 * line + stroke.now.run.first + stroke.now.run.count }
+    requires enough { stroke.now.run.skip + stroke.now.run.count ≤ stroke.now.source.dots }
+    ensures { IsPaintedFrom rows.old rows.new line stroke.now (8 * first) (8 * first + 64 * words) }
+{
+    let dot = stroke.run.skip + (8 * first - (8 * line + stroke.run.first));
+    for word in 0..words {
+        let dots = word_from(stroke.source.bits, dot + 64 * word);
+        ink_word(rows, first + 8 * word, line, stroke, dots);
+    }
+}
+
+/// The same, whose words of the source that end before its last byte ask for no bound.
+#[inline(always)]
+fn ink_words(rows: &mut [u8], first: usize, words: usize, line: usize, stroke: &Stroke<'_, '_>)
+    requires black { IsBlack (row stroke.now.through.pattern) }
+    requires transparent { stroke.now.mode.source_opaque ≡ false }
+    requires room { first + 8 * words ≤ length rows.old }
+    requires small { length rows.old < 2 ^ 40 }
+    requires begun { 8 * line + stroke.now.run.first ≤ 8 * first }
+    requires left { 8 * first + 64 * words
+        ≤ 8 * line + stroke.now.run.first + stroke.now.run.count }
+    requires enough { stroke.now.run.skip + stroke.now.run.count ≤ stroke.now.source.dots }
+    ensures { IsPaintedFrom rows.old rows.new line stroke.now (8 * first) (8 * first + 64 * words) }
+{
+    let dot = stroke.run.skip + (8 * first - (8 * line + stroke.run.first));
+    let behind = stroke.source.bits.len().saturating_sub(dot / 8 + 1);
+    let inner = words.min(behind / 8);
+    ink_inner_words(rows, first, inner, line, stroke);
+    ink_last_words(rows, first + 8 * inner, words - inner, line, stroke);
+}
+
 /// Paints so many words of sixty-four dots of a stroke, from a byte on: where it is laid and its dots stand in whole bytes, these.
 #[inline(always)]
 fn lay_words(rows: &mut [u8], first: usize, words: usize, line: usize, stroke: &Stroke<'_, '_>)
@@ -98,6 +199,10 @@ fn lay_words(rows: &mut [u8], first: usize, words: usize, line: usize, stroke: &
     requires enough { stroke.now.run.skip + stroke.now.run.count ≤ stroke.now.source.dots }
     ensures { IsPaintedFrom rows.old rows.new line stroke.now (8 * first) (8 * first + 64 * words) }
 {
+    if stroke.through.is_black() && !stroke.mode.source_opaque {
+        ink_words(rows, first, words, line, stroke);
+        return;
+    }
     let run = stroke.run;
     let dot = run.skip + (8 * first - (8 * line + run.first));
     if !stroke.laid || dot % 8 != 0 {

@@ -2,7 +2,7 @@
 //! Reference Manual, Raster Graphics, the bits of a raster row).
 #![tactic(auto)]
 
-ghost use Rattle.std.specs.Prelude.{◌≡◌, ℕ, ◌+◌, ◌-◌, ◌*◌, ◌^◌, ◌<◌, ◌≤◌, ◌⊎◌, length, count_ones};
+ghost use Rattle.std.specs.Prelude.{◌≡◌, ℕ, ◌+◌, ◌-◌, ◌*◌, ◌/◌, ◌^◌, ◌<◌, ◌≤◌, ◌⊎◌, length, count_ones};
 ghost use Rattle.std.specs.List.{count_by, range_with_len};
 ghost use Rattle.press_bits.specs.Mark.{row_dot};
 ghost use Rattle.press_bits.specs.DotRows.{mixed_dot};
@@ -54,6 +54,35 @@ pub fn word_from(bits: &[u8], first: usize) -> u64
     (left << (first % 8)) | (right >> (8 - first % 8))
 }
 
+/// The sixty-four dots of the eight bytes from one on, all of which stand: no bound is asked.
+#[inline(always)]
+fn whole_word_at(bits: &[u8], index: usize) -> u64
+    requires { index + 8 ≤ length bits.now }
+    ensures { (j : ℕ) → j < 64 → word_dot result j ≡ row_dot bits.now (8 * index + j) }
+{
+    u64::from_be_bytes([
+        bits[index],
+        bits[index + 1],
+        bits[index + 2],
+        bits[index + 3],
+        bits[index + 4],
+        bits[index + 5],
+        bits[index + 6],
+        bits[index + 7],
+    ])
+}
+
+/// Sixty-four dots of the bytes from dot `first` on, in nine bytes all of which stand.
+#[inline(always)]
+pub(crate) fn whole_word_from(bits: &[u8], first: usize) -> u64
+    requires { first / 8 + 9 ≤ length bits.now }
+    ensures { (j : ℕ) → j < 64 → word_dot result j ≡ row_dot bits.now (first + j) }
+{
+    let left = whole_word_at(bits, first / 8);
+    let right = bits[first / 8 + 8] as u64;
+    (left << (first % 8)) | (right >> (8 - first % 8))
+}
+
 /// Puts sixty-four dots into the eight bytes from one on.
 #[inline(always)]
 pub fn put_word(rows: &mut [u8], index: usize, word: u64)
@@ -78,7 +107,8 @@ pub(crate) fn joined(prefix: u64, count: usize, rest: u64) -> u64
 }
 
 /// Sixty-four dots that are all black, or all white.
-fn alike(black: bool) -> u64
+#[inline(always)]
+pub(crate) fn alike(black: bool) -> u64
     ensures { (j : ℕ) → j < 64 → word_dot result j ≡ black }
 {
     if black { u64::MAX } else { 0 }

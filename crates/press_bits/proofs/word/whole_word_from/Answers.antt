@@ -1,0 +1,6 @@
+use Rattle.std.proofs.Common.{rules}
+use Rattle.press_bits.proofs.WordLemmas.{nine_bytes}
+use Rattle.press_bits.proofs.word.whole_word_from.Goals as goal
+
+pub returns : goal.returns
+returns c = λ j within. nine_bytes c.args.bits.now c.args.first c.whole_word_at-left.result _ j (search rules) c.whole_word_at-left.ensures (search rules) within
