@@ -1,14 +1,14 @@
 //! The files of a file system as named outputs (this profile).
 ghost use Rattle.std.specs.Prelude.{◌≡◌, ◌||◌, false, IfOk};
 ghost use Rattle.press_devices.specs.Watching.{has_failed};
-ghost use Rattle.press_sink.specs.Kept.{file_failed};
+ghost use Rattle.press_sink.specs.Kept.{file_failed, file_waiting, waits_in};
 
 use crate::file_number::FileNumber;
 use crate::named_outputs::NamedOutputs;
 use crate::output_file::OutputFile;
 use crate::parts::make_part;
 use crate::stream_name::is_stream_name;
-use press_devices::{Watched, WriteDevice};
+use press_devices::Watched;
 use std::alloc::{AllocError, Global};
 use std::fmt::Write as _;
 use std::fs::{self, File, Files, Metadata, OpenOptions};
@@ -55,6 +55,8 @@ pub struct FileOutputs<'a, F> {
     spared: Vec<FileNumber>,
     /// Whether making, writing or closing a file failed or was interrupted so far.
     failed: bool,
+    /// Whether bytes of a file that was closed or given up never went out of the program.
+    waiting: bool,
 }
 
 impl<'a, F: Files<File = File>> FileOutputs<'a, F> {
@@ -64,7 +66,8 @@ impl<'a, F: Files<File = File>> FileOutputs<'a, F> {
     ///
     /// Where there is no memory for the buffer and for names. Making a file takes none, but for a link's.
     pub fn new(alloc: Global, files: &'a F) -> Result<Self, AllocError>
-        ensures { IfOk result (λ outputs. file_failed outputs ≡ false) }
+        ensures failed { IfOk result (λ outputs. file_failed outputs ≡ false) }
+        ensures waiting { IfOk result (λ outputs. file_waiting outputs ≡ false) }
     {
         Ok(FileOutputs {
             alloc,
@@ -74,12 +77,14 @@ impl<'a, F: Files<File = File>> FileOutputs<'a, F> {
             buffer: Vec::with_capacity(alloc, BUFFER)?,
             spared: Vec::new(alloc),
             failed: false,
+            waiting: false,
         })
     }
 
     /// Opens the file of this name so that it can be written. An input is not opened.
     fn open(&mut self, name: &str) -> io::Result<File>
-        ensures { file_failed self.new ≡ file_failed self.old }
+        ensures failed { file_failed self.new ≡ file_failed self.old }
+        ensures waiting { file_waiting self.new ≡ file_waiting self.old }
     {
         self.part.clear();
         let found = match fs::metadata(self.files, name) {
@@ -122,7 +127,8 @@ impl<'a, F: Files<File = File>> FileOutputs<'a, F> {
 
     /// Opens a file that takes the place of the one of this name, of which this is told, with the same permissions.
     fn replace(&mut self, name: &str, found: &Metadata) -> io::Result<File>
-        ensures { file_failed self.new ≡ file_failed self.old }
+        ensures failed { file_failed self.new ≡ file_failed self.old }
+        ensures waiting { file_waiting self.new ≡ file_waiting self.old }
     {
         self.name.clear();
         if fs::symlink_metadata(self.files, name)?.is_symlink() {
@@ -138,7 +144,8 @@ impl<'a, F: Files<File = File>> FileOutputs<'a, F> {
 
     /// Opens a new file in the folder of the name, with these permissions.
     fn open_part(&mut self, mode: u32) -> io::Result<File>
-        ensures { file_failed self.new ≡ file_failed self.old }
+        ensures failed { file_failed self.new ≡ file_failed self.old }
+        ensures waiting { file_waiting self.new ≡ file_waiting self.old }
     {
         for number in 1..=MOST_PARTS {
             self.name_part(number)?;
@@ -151,7 +158,8 @@ impl<'a, F: Files<File = File>> FileOutputs<'a, F> {
 
     /// Takes the name of the part with this number.
     fn name_part(&mut self, number: u32) -> Result<(), AllocError>
-        ensures { file_failed self.new ≡ file_failed self.old }
+        ensures failed { file_failed self.new ≡ file_failed self.old }
+        ensures waiting { file_waiting self.new ≡ file_waiting self.old }
     {
         self.part.clear();
         if let Some((folder, _)) = self.name.as_str().rsplit_once('/') {
@@ -169,12 +177,13 @@ impl<'a, F: Files<File = File>> FileOutputs<'a, F> {
         fs::rename(self.files, self.part.as_str(), self.name.as_str())
     }
 
-    /// Takes the buffer of a file that was written, which is closed, and whether that failed. Until then it is held.
-    fn take_back(&mut self, output: Watched<OutputFile<File>>)
-        ensures { file_failed self.new ≡ (file_failed self.old || has_failed output) }
+    /// Takes the buffer of a file that was written, which is closed, and whether bytes wait in it. Until then the file is held.
+    fn take_back(&mut self, file: OutputFile<File>)
+        ensures failed { file_failed self.new ≡ file_failed self.old }
+        ensures waiting { file_waiting self.new ≡ (file_waiting self.old || waits_in file) }
     {
-        self.failed |= output.failed();
-        self.buffer = output.into_inner().into_buffer();
+        self.waiting |= file.waits();
+        self.buffer = file.into_buffer();
     }
 
     /// Removes a file that is not whole.
@@ -187,11 +196,13 @@ impl<'a, F: Files<File = File>> FileOutputs<'a, F> {
 
 impl<F: Files<File = File>> NamedOutputs for FileOutputs<'_, F> {
     ghost use Rattle.std.specs.Prelude.{None};
-    ghost use Rattle.press_sink.specs.Kept.{file_failed};
+    ghost use Rattle.press_sink.specs.Kept.{file_failed, file_waiting};
 
     ghost made = { λ _. None };
 
     ghost failed = { file_failed };
+
+    ghost waiting = { file_waiting };
 
     type Output = Watched<OutputFile<File>>;
 
@@ -217,8 +228,10 @@ impl<F: Files<File = File>> NamedOutputs for FileOutputs<'_, F> {
         }
     }
 
-    fn close(&mut self, mut output: Watched<OutputFile<File>>) -> io::Result<()> {
-        let mut closed = output.flush_all();
+    fn close(&mut self, output: Watched<OutputFile<File>>) -> io::Result<()> {
+        self.failed |= output.failed();
+        let mut file = output.into_inner();
+        let mut closed = file.finish();
         if closed.is_ok() {
             closed = self.place();
         }
@@ -226,12 +239,13 @@ impl<F: Files<File = File>> NamedOutputs for FileOutputs<'_, F> {
             self.failed = true;
             self.remove();
         }
-        self.take_back(output);
+        self.take_back(file);
         closed
     }
 
     fn abandon(&mut self, output: Watched<OutputFile<File>>) {
+        self.failed |= output.failed();
         self.remove();
-        self.take_back(output);
+        self.take_back(output.into_inner());
     }
 }
