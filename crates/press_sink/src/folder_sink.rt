@@ -98,6 +98,8 @@ impl<O: NamedOutputs + Drop> FolderSink<O> {
         ensures faults { file_faults self.new ≡ file_faults self.old }
         ensures through { OnOk result
             (O.waiting (outputs_of self.new) ≡ O.waiting (outputs_of self.old)) }
+        ensures unmade { IfErr result (λ error. error ≡ SinkError.NoMemory
+            → O.waiting (outputs_of self.new) ≡ O.waiting (outputs_of self.old)) }
         ensures failed { O.failed (outputs_of self.old) ≡ true
             → O.failed (outputs_of self.new) ≡ true }
         ensures cause { IfErr result (λ error.
@@ -149,6 +151,8 @@ impl<O: NamedOutputs + Drop> SheetSink for FolderSink<O> {
         ensures stays { OnErr result (next_number self.new ≡ next_number self.old) }
         ensures through { OnOk result
             (O.waiting (outputs_of self.new) ≡ O.waiting (outputs_of self.old)) }
+        ensures unmade { IfErr result (λ error. error ≡ SinkError.NoMemory
+            → O.waiting (outputs_of self.new) ≡ O.waiting (outputs_of self.old)) }
         ensures failed { O.failed (outputs_of self.old) ≡ true
             → O.failed (outputs_of self.new) ≡ true }
         ensures cause { IfErr result (λ error.
