@@ -15,6 +15,8 @@ FEED = b"\x0c"
 OLDER = b"an older file\n"
 PAGE = page([])
 TEXT, STREAM = b"uel\nctl 0C\n", b"\x1b%-12345X\x0c"
+SIDES = b"".join(b"sheet %d front 2550x3300 black 0\n" % number for number in range(1, 501))
+ANSWER = b"@PJL ECHO x\r\n\x0c"
 FOLDER = "a folder"
 PART = ".press-1.part"
 PARTS = {f".press-{number}.part": OLDER for number in range(1, 1001)}
@@ -119,6 +121,14 @@ ROWS = [
     Row("a first side that is too long", "print - p%d", {"p1": OLDER, "p2": OLDER}, {}, "fault 301", FEED * 2, most=LIMIT),
     Row("a first side that is too long, on a disk in memory", "print - {folder}/p%d", {"p1": OLDER}, {}, "fault 301", FEED, most=LIMIT, at=MEMORY),
     Row("by the folder of the process", "print - /proc/self/cwd/p%d", {"p1": OLDER}, {}, "fault 301", FEED, most=LIMIT),
+    Row("a stream that is too long behind what standard output has", "asm - /dev/stdout", {"out": OLDER}, {"out": OLDER + b"\x1b%-12345X" * 20}, "fault 115",
+        b"uel\n" * 20 + b"txt 41\n" * 100, output="out", most=len(OLDER) + 180),
+    Row("a listing that is too long", "print --list -", {"out": b""}, {"out": SIDES[:100]}, "fault output", FEED * 9, output="out", most=100),
+    Row("a longer one", "print --list -", {"out": b""}, {"out": SIDES[:5000]}, "fault output", FEED * 500, output="out", most=5000),
+    Row("a text that is too long", "disasm -", {"out": b""}, {"out": (b"ctl 0C\n" * 20)[:100]}, "fault output", FEED * 20, output="out", most=100),
+    Row("a longer one of these", "disasm -", {"out": b""}, {"out": (b"ctl 0C\n" * 900)[:5000]}, "fault output", FEED * 900, output="out", most=5000),
+    Row("answers that are too long", "press", {"out": b""}, {"out": (b"ok\n" * 40)[:100]}, "fault output", b"pause\n" * 40, output="out", most=100),
+    Row("a reply that is too long", "print - p%d", {"out": b""}, {"out": ANSWER[:5]}, "fault 302", ECHO, output="out", most=5),
     Row("a new side that is too long", "print - p%d", {}, {}, "fault 301", FEED, most=LIMIT),
     Row("a signal in the midst of a side", "print - p%d", {"p1": OLDER}, {PART: PAGE[:LIMIT]}, given=FEED, most=LIMIT, signal=25),
     Row("a reply behind the first side", "print - p%d", {"p1": OLDER, "p2": OLDER}, {"p1": PAGE}, "fault 302", FEED + ECHO + FEED, is_full=True),
