@@ -1,6 +1,7 @@
 """What stands in a folder behind a run: each file, link and folder in it, those that were there before with it.
 
 An output takes its name when it is whole; until then an older file is there, and behind a fault nothing else. An output that is an input is refused.
+In the words `{folder}` is the name of the folder, and `{stream}` that of an open stream beside the standard ones.
 """
 
 from typing import NamedTuple
@@ -14,8 +15,12 @@ FEED = b"\x0c"
 OLDER = b"an older file\n"
 PAGE = page([])
 TEXT, STREAM = b"uel\nctl 0C\n", b"\x1b%-12345X\x0c"
+SIDES = b"".join(b"sheet %d front 2550x3300 black 0\n" % number for number in range(1, 501))
+ANSWER = b"@PJL ECHO x\r\n\x0c"
 FOLDER = "a folder"
 PART = ".press-1.part"
+PARTS = {f".press-{number}.part": OLDER for number in range(1, 1001)}
+MEMORY = "/dev/shm"  # a disk in memory, whose files are files as all others
 LONG_NAME = "n" * 250
 LIMIT = 100_000  # bytes of a file, where they are limited
 
@@ -30,7 +35,7 @@ class Row(NamedTuple):
     shows: str
     words: str
     before: dict             # from each name in the folder to what stands there
-    made: dict               # the names of which something else stands there behind it, or which were not there before
+    made: dict               # the names of which something else stands there behind it, or which were not there before; nothing, if it is None
     told: str = ""           # on standard error; then the status is 1
     given: bytes = b""       # on standard input
     input: str = ""          # the file that standard input is
@@ -38,6 +43,10 @@ class Row(NamedTuple):
     signal: int = 0          # the signal that ends it
     is_full: bool = False    # whether standard output takes no byte
     fixed: tuple = ()        # the names that may not be written, `.` for the folder
+    at: str = ""             # where the folder is
+    output: str = ""         # the file that standard output is written behind
+    stream: str = ""         # the file that is open for reading as one more stream
+    held: tuple = ()         # the names of files that another run holds
 
 
 TAKEN = {"ticket": TICKET, "dot": FILES["dot"]}
@@ -60,6 +69,23 @@ ROWS = [
     Row("its tenth side, of which it has none", "print p10 p%d", {"p10": FEED}, {}, "fault 301"),
     Row("by a link to it", "print in p%d", {"in": FEED * 3, "p2": Link("in"), "p3": OLDER}, {"p1": PAGE}, "fault 301"),
     Row("a stream on standard input", "print - p%d", {"p1": FEED}, {}, "fault 301", input="p1"),
+    Row("its first side, on a disk in memory", "print in1 {folder}/in%d", {"in1": FEED}, {}, "fault 301", at=MEMORY),
+    Row("a text that is its own output there", "asm in {folder}/in", {"in": TEXT}, {}, "fault 115", at=MEMORY),
+    Row("a text on standard input there", "asm - {folder}/in", {"in": TEXT}, {}, "fault 115", input="in", at=MEMORY),
+    Row("a stream that is the page of a step there", "page in 1 {folder}/in", {"in": FEED}, {}, "fault 115", at=MEMORY),
+    Row("a ticket that is its own output there", "write ticket {folder}/ticket dot", TAKEN, {}, "fault 614", at=MEMORY),
+    Row("an image that is the output there", "write ticket {folder}/dot dot", TAKEN, {}, "fault 614", at=MEMORY),
+    Row("the second image", "write ticket lines dot lines", TAKEN | {"lines": FILES["lines"]}, {}, "fault 614"),
+    Row("the second image there", "write ticket {folder}/lines dot lines", TAKEN | {"lines": FILES["lines"]}, {}, "fault 614", at=MEMORY),
+    Row("an image behind a ticket on standard input", "write /dev/stdin dot dot", TAKEN, {}, "fault 614", input="ticket"),
+    Row("a text, by the folder of the process", "asm in /proc/self/cwd/in", {"in": TEXT}, {}, "fault 115"),
+    Row("by a stream that is open for reading", "asm in {stream}", {"in": TEXT}, {}, "fault 115", stream="in"),
+    Row("that is read by that stream, too", "asm {stream} {stream}", {"in": TEXT}, {}, "fault 115", stream="in"),
+    Row("by the name of standard input", "asm - /dev/stdin", {"in": TEXT}, {}, "fault 115", input="in"),
+    Row("by that of standard output", "asm in /dev/stdout", {"in": TEXT}, {}, "fault 115", output="in"),
+    Row("a stream by that of standard output", "page in 1 /dev/stdout", {"in": FEED}, {}, "fault 115", output="in"),
+    Row("an image by that of standard output", "write ticket /dev/stdout dot", TAKEN, {}, "fault 614", output="dot"),
+    Row("its first side by that of standard output", "print in /dev/fd/%d", {"in": FEED}, {}, "fault 301", output="in"),
     Row("names that are no side's", "print p0 p%d", {"p0": FEED, "p01": OLDER, "p": OLDER}, {"p1": PAGE}),
     Row("a stream without a number", "print p p%d", {"p": FEED}, {"p1": PAGE}),
     Row("a stream with more behind its number", "print p1x p%d", {"p1x": FEED}, {"p1": PAGE}),
@@ -69,7 +95,18 @@ ROWS = [
     Row("through a link", "asm - out", {"out": Link("real"), "real": OLDER}, {"real": STREAM}, given=TEXT),
     Row("in place of a link to nothing", "asm - out", {"out": Link("none")}, {"out": STREAM}, given=TEXT),
     Row("in place of one of two names", "asm - out", {"out": OLDER, "other": Link("out", True)}, {"out": STREAM}, given=TEXT),
-    Row("beside a part of another run", "asm - out", {PART: OLDER}, {"out": STREAM}, given=TEXT),
+    Row("beside a part of another run", "asm - out", {PART: OLDER}, {"out": STREAM}, given=TEXT, held=(PART,)),
+    Row("beside a link that is called as a part", "asm - out", {PART: Link("other"), "other": OLDER}, {"out": STREAM}, given=TEXT),
+    Row("beside a folder that is called so", "asm - out", {PART: FOLDER}, {"out": STREAM}, given=TEXT),
+    Row("in place of a part that was left", "asm - out", {PART: OLDER}, {"out": STREAM, PART: None}, given=TEXT),
+    Row("in place of one of a thousand", "print - p%d", PARTS, {"p1": PAGE, "p2": PAGE, PART: None}, given=FEED * 2),
+    Row("on a disk in memory", "asm - {folder}/out", {"out": OLDER}, {"out": STREAM}, given=TEXT, at=MEMORY),
+    Row("in the folder of the process", "asm - /proc/self/cwd/out", {"out": OLDER}, {"out": STREAM}, given=TEXT),
+    Row("to a device", "asm - /dev/null", {}, {}, given=TEXT),
+    Row("to standard output, which is a new file", "asm in /dev/stdout", {"in": TEXT, "out": b""}, {"out": STREAM}, output="out"),
+    Row("behind what standard output has", "asm in /dev/stdout", {"in": TEXT, "out": OLDER}, {"out": OLDER + STREAM}, output="out"),
+    Row("by its number", "page in 0 /proc/self/fd/1", {"in": FEED, "out": OLDER}, {"out": OLDER + PAGE}, output="out"),
+    Row("behind what another stream has", "write ticket {stream} dot", TAKEN | {"out": OLDER}, {"out": OLDER + job([DOT])}, stream="out"),
     Row("with a name of 250 bytes", f"print - {LONG_NAME}%d", {}, {f"{LONG_NAME}1": PAGE}, given=FEED),
     Row("of a step", "page - 0 out", {"out": OLDER}, {"out": PAGE}, given=FEED),
     Row("of a ticket", "write ticket out dot", TAKEN | {"out": OLDER}, {"out": job([DOT])}),
@@ -82,6 +119,16 @@ ROWS = [
     Row("a folder in which nothing can be made", "print - /sys/p%d", {}, {}, "fault 301", FEED),
     Row("a second side that is a folder", "print - p%d", {"p1": OLDER, "p2": FOLDER, "p3": OLDER}, {"p1": PAGE}, "fault 301", FEED * 3),
     Row("a first side that is too long", "print - p%d", {"p1": OLDER, "p2": OLDER}, {}, "fault 301", FEED * 2, most=LIMIT),
+    Row("a first side that is too long, on a disk in memory", "print - {folder}/p%d", {"p1": OLDER}, {}, "fault 301", FEED, most=LIMIT, at=MEMORY),
+    Row("by the folder of the process", "print - /proc/self/cwd/p%d", {"p1": OLDER}, {}, "fault 301", FEED, most=LIMIT),
+    Row("a stream that is too long behind what standard output has", "asm - /dev/stdout", {"out": OLDER}, {"out": OLDER + b"\x1b%-12345X" * 20}, "fault 115",
+        b"uel\n" * 20 + b"txt 41\n" * 100, output="out", most=len(OLDER) + 180),
+    Row("a listing that is too long", "print --list -", {"out": b""}, {"out": SIDES[:100]}, "fault output", FEED * 9, output="out", most=100),
+    Row("a longer one", "print --list -", {"out": b""}, {"out": SIDES[:5000]}, "fault output", FEED * 500, output="out", most=5000),
+    Row("a text that is too long", "disasm -", {"out": b""}, {"out": (b"ctl 0C\n" * 20)[:100]}, "fault output", FEED * 20, output="out", most=100),
+    Row("a longer one of these", "disasm -", {"out": b""}, {"out": (b"ctl 0C\n" * 900)[:5000]}, "fault output", FEED * 900, output="out", most=5000),
+    Row("answers that are too long", "press", {"out": b""}, {"out": (b"ok\n" * 40)[:100]}, "fault output", b"pause\n" * 40, output="out", most=100),
+    Row("a reply that is too long", "print - p%d", {"out": b""}, {"out": ANSWER[:5]}, "fault 302", ECHO, output="out", most=5),
     Row("a new side that is too long", "print - p%d", {}, {}, "fault 301", FEED, most=LIMIT),
     Row("a signal in the midst of a side", "print - p%d", {"p1": OLDER}, {PART: PAGE[:LIMIT]}, given=FEED, most=LIMIT, signal=25),
     Row("a reply behind the first side", "print - p%d", {"p1": OLDER, "p2": OLDER}, {"p1": PAGE}, "fault 302", FEED + ECHO + FEED, is_full=True),

@@ -1,5 +1,5 @@
 //! Streams that are printed to files.
-ghost use Rattle.std.specs.Prelude.{◌≡◌, ◌≤◌, ◌<◌, ◌⊎◌, true, IfSome, ⊤};
+ghost use Rattle.std.specs.Prelude.{◌≡◌, ◌≤◌, ◌<◌, ◌⊎◌, true, false, IfSome, ⊤};
 ghost use Rattle.press_devices.specs.Reading.{ReadFails};
 ghost use Rattle.press_files.specs.Causes.{failures};
 ghost use Rattle.press_files.specs.Change.{around, change};
@@ -9,9 +9,10 @@ ghost use Rattle.press_sink.specs.Template.{IsNoTemplate};
 ghost use Rattle.press_files.specs.Files.{MakesFiles, PrintsBy, PrintsFiles, PrintsNoFiles, PrintsTo};
 
 use crate::stream::{print_stream, told_status};
+use crate::through_replies::ThroughReplies;
 use crate::told_folder::{Folder, ToldFolder};
 use press_devices::{ReadDevice, WriteDevice};
-use press_sink::{FolderSink, NamedOutputs, SheetSink, WriteReplies};
+use press_sink::{FolderSink, NamedOutputs, SheetSink};
 use press_telling::{Teller, report};
 use std::alloc::Global;
 use std::marker::Brand;
@@ -26,7 +27,8 @@ pub struct Finished<W, O> {
 
 /// Prints the stream that a reader has to files: a P4 file for each side, whose name is the template with the number of the
 /// side, from 1 on, in place of `%d`. Replies go to `out`, each when it is asked for, and a fault stands on `err`. A text that
-/// is no template (121) is told before the stream is read. The status is 0, or 1 after a fault.
+/// is no template (121) is told before the stream is read. The status is 0, and nothing waits of a file or a reply that did not before,
+/// or 1 after a fault.
 pub fn print_files<O: NamedOutputs + Drop, R: ReadDevice, W: WriteDevice + Drop, E: Teller>(
     alloc: Global,
     outputs: O,
@@ -40,6 +42,8 @@ pub fn print_files<O: NamedOutputs + Drop, R: ReadDevice, W: WriteDevice + Drop,
     ensures unread { IsNoTemplate template.now → R.remaining reader.new ≡ R.remaining reader.old }
     ensures files { result.status ≡ 0 → IfSome (R.remaining reader.old) (λ bytes.
         MakesFiles template.now bytes (O.made outputs) (O.made result.outputs)) }
+    ensures flushed { result.status ≡ 0 → W.waiting out ≡ false → W.waiting result.out ≡ false }
+    ensures through { result.status ≡ 0 → O.waiting result.outputs ≡ O.waiting outputs }
     ensures prints { PrintsFiles template.now result.status
         (around (failures (ReadFails (R.failed reader.new) (R.reads reader.new)) ⊥
         (W.failed result.out ≡ true) (O.failed result.outputs ≡ true))
@@ -72,16 +76,26 @@ fn print_by<O: NamedOutputs + Drop, R: ReadDevice, W: WriteDevice + Drop, E: Tel
 ) -> Finished<W, O>
     requires names { name_parts sink ≡ D.parts }
     requires begun { O.made (outputs_of sink) ≡ D.begun }
+    requires waits { O.waiting (outputs_of sink) ≡ D.waits }
+    requires waited { W.waiting out ≡ D.waited }
     requires first { next_number sink ≡ 1 }
     requires faults { file_faults sink ≡ 0 }
-    ensures { PrintsBy D.parts result.status
+    ensures flushed { result.status ≡ 0 → D.waited ≡ false → W.waiting result.out ≡ false }
+    ensures through { result.status ≡ 0 → O.waiting result.outputs ≡ D.waits }
+    ensures prints { PrintsBy D.parts result.status
         (around (failures (ReadFails (R.failed reader.new) (R.reads reader.new)) ⊥
         (W.failed result.out ≡ true) (O.failed result.outputs ≡ true))
         (E.said err.old) (E.said err.new) (R.remaining reader.old) (R.remaining reader.new)
         (W.contents out) (W.contents result.out) D.begun (O.made result.outputs)) }
 {
     let mut sheets: ToldFolder<O, D> = ToldFolder::new(sink);
-    let (status, out) = print_to(alloc, reader, &mut sheets, out, err);
+    let (status, out) = print_to::<R, ToldFolder<O, D>, W, E, D>(
+        alloc,
+        reader,
+        &mut sheets,
+        out,
+        err,
+    );
     Finished {
         status,
         out,
@@ -91,15 +105,18 @@ fn print_by<O: NamedOutputs + Drop, R: ReadDevice, W: WriteDevice + Drop, E: Tel
 
 /// Prints the stream that a reader has to a sheet sink, and writes each reply when it is asked for. A fault stands on `err`. The
 /// answer has the status, and the writer of the replies.
-fn print_to<R: ReadDevice, S: SheetSink, W: WriteDevice + Drop, E: Teller>(
+fn print_to<R: ReadDevice, S: SheetSink, W: WriteDevice + Drop, E: Teller, D: Folder>(
     alloc: Global,
     reader: &mut R,
     sheets: &mut S,
     out: W,
     err: &mut E,
 ) -> (u8, W)
-    requires { (S.told sheets.old).faults < most_faults }
-    ensures { PrintsTo
+    requires faults { (S.told sheets.old).faults < most_faults }
+    requires waited { W.waiting out ≡ D.waited }
+    ensures sound { result.0 ≡ 0 → (S.told sheets.new).faults ≡ (S.told sheets.old).faults }
+    ensures flushed { result.0 ≡ 0 → D.waited ≡ false → W.waiting result.1 ≡ false }
+    ensures prints { PrintsTo
         (failures (ReadFails (R.failed reader.new) (R.reads reader.new))
         ⊥ (W.failed result.1 ≡ true) ⊤) result.0
         (change (E.said err.old) (E.said err.new))
@@ -107,7 +124,7 @@ fn print_to<R: ReadDevice, S: SheetSink, W: WriteDevice + Drop, E: Teller>(
         (change (S.told sheets.old) (S.told sheets.new))
         (change (W.contents out) (W.contents result.1)) }
 {
-    let mut replies = WriteReplies::new(out);
+    let mut replies: ThroughReplies<W, D> = ThroughReplies::new(out);
     let printed = print_stream(alloc, reader, 0, sheets, &mut replies);
     let status = told_status(&printed, err);
     (status, replies.into_inner())

@@ -10,6 +10,7 @@ mod measures;
 mod named_inputs;
 mod stream;
 mod taken;
+mod through_replies;
 mod told_folder;
 
 pub use entry_sheets::EntrySheets;

@@ -1,5 +1,5 @@
 //! A folder sink that tells the sheets that it took.
-ghost use Rattle.std.specs.Prelude.{◌≡◌, ◌≢◌, ◌+◌, true, Some, None, []};
+ghost use Rattle.std.specs.Prelude.{◌≡◌, ◌≢◌, ◌+◌, true, false, Some, None, []};
 ghost use Rattle.press_sink.specs.Kept.{name_parts, next_number, file_faults, outputs_of};
 ghost use Rattle.press_sink.specs.Outputs.{MadeOutput};
 ghost use Rattle.press_sink.specs.Sending.{sheets_in};
@@ -11,20 +11,28 @@ use crate::taken::Taken;
 use press_sink::{FolderSink, NamedOutputs, Sheet, SheetSink, SinkError};
 use std::marker::{Brand, PhantomData};
 
-/// A folder: the template by which its outputs are named, and what was made before. It stands in proofs alone; that of a call says
-/// which it is.
+/// A folder: the template by which its outputs are named, what was made before, and whether bytes waited before, of outputs, and in the
+/// writer of the replies. It stands in proofs alone; that of a call says which it is.
 pub trait Folder {
-    ghost use Rattle.std.specs.Prelude.{List, Option};
+    ghost use Rattle.std.specs.Prelude.{Bool, List, Option};
 
     ghost parts: { NameParts };
 
     ghost begun: { Option (List MadeOutput) };
+
+    ghost waits: { Bool };
+
+    ghost waited: { Bool };
 }
 
 impl Folder for Brand {
     ghost parts = { record { front = []; back = [] } };
 
     ghost begun = { None };
+
+    ghost waits = { false };
+
+    ghost waited = { false };
 }
 
 /// A folder sink up to its first fault, after which it takes no sheet more. It tells the sheets that it took.
@@ -37,6 +45,7 @@ pub struct ToldFolder<O: NamedOutputs, D: Folder> {
     ghost keeps: { ∥ KeepsFolder D.parts D.begun (sheets_in taken) faults (folder (name_parts sink)
         (next_number sink) (file_faults sink) (O.made (outputs_of sink))) ∥₁ },
     ghost cause: { faults ≢ 0 → O.failed (outputs_of sink) ≡ true },
+    ghost through: { faults ≡ 0 → O.waiting (outputs_of sink) ≡ D.waits },
 }
 
 impl<O: NamedOutputs + Drop, D: Folder> ToldFolder<O, D> {
@@ -44,6 +53,7 @@ impl<O: NamedOutputs + Drop, D: Folder> ToldFolder<O, D> {
     pub fn new(sink: FolderSink<O>) -> Self
         requires names { name_parts sink ≡ D.parts }
         requires begun { O.made (outputs_of sink) ≡ D.begun }
+        requires waits { O.waiting (outputs_of sink) ≡ D.waits }
         requires first { next_number sink ≡ 1 }
         requires faults { file_faults sink ≡ 0 }
         ensures taken { result.taken ≡ [] }
@@ -62,6 +72,7 @@ impl<O: NamedOutputs + Drop, D: Folder> ToldFolder<O, D> {
         ensures makes { ∥ MakesSheets D.parts (sheets_in self.taken) self.faults
             D.begun (O.made result) ∥₁ }
         ensures cause { self.faults ≢ 0 → O.failed result ≡ true }
+        ensures through { self.faults ≡ 0 → O.waiting result ≡ D.waits }
     {
         let ToldFolder { sink, .. } = self;
         sink.into_outputs()

@@ -1,5 +1,5 @@
 //! Jobs of tickets, over readers, named inputs and writers.
-ghost use Rattle.std.specs.Prelude.{◌≡◌, true, map, IfOk, IfErr, OnOk};
+ghost use Rattle.std.specs.Prelude.{◌≡◌, true, false, map, IfOk, IfErr, OnOk};
 ghost use Rattle.press_devices.specs.Reading.{ReadFails, SomeFails};
 ghost use Rattle.press_files.specs.Causes.{failures};
 ghost use Rattle.press_jobs.specs.Causes.{JobCause};
@@ -148,11 +148,15 @@ fn write_to<W: WriteDevice>(
         (WritesAJob ticket.now images.now (W.contents out.old) (W.contents out.new)) }
     ensures err { IfErr result (λ why.
         WritesNoJob ticket.now images.now (W.contents out.old) (W.contents out.new) why) }
+    ensures flushed { OnOk result (W.waiting out.new ≡ false) }
     ensures cause { IfErr result (λ why.
         why ≡ WriterError.WriteFault → W.failed out.new ≡ true) }
 {
     write_job(alloc, ticket, images, out)?;
-    out.flush_all().map_err(|_| WriterError::WriteFault)
+    match out.flush_all() {
+        Ok(()) => Ok(()),
+        Err(_) => Err(WriterError::WriteFault),
+    }
 }
 
 /// Writes the job of the ticket that a reader has, with the images of these inputs, to `out`.
@@ -174,6 +178,7 @@ fn write_from<T: ReadDevice, I: NamedInputs, W: WriteDevice>(
         (I.bytes inputs.now) (I.missing inputs.now)
         name.now) names.now)
         (W.contents out.old) (W.contents out.new) why) }
+    ensures flushed { OnOk result (W.waiting out.new ≡ false) }
     ensures cause { IfErr result (JobCause
         (failures (ReadFails (T.failed ticket.new) (T.reads ticket.new))
         ⊥ ⊥ (W.failed out.new ≡ true))
@@ -188,7 +193,8 @@ fn write_from<T: ReadDevice, I: NamedInputs, W: WriteDevice>(
 }
 
 /// Writes the job of the ticket that a reader has, with the images of the inputs of these names in the order of its pages, to `out`, and a
-/// fault to `err`. Nothing is written to `out` before the images are found to fit. The answer is the status: 0, or 1 after a fault.
+/// fault to `err`. Nothing is written to `out` before the images are found to fit. The answer is the status: 0, and nothing waits in `out`, or
+/// 1 after a fault.
 pub fn write_files<T: ReadDevice, I: NamedInputs, W: WriteDevice, E: Teller>(
     alloc: Global,
     ticket: &mut T,
@@ -197,7 +203,8 @@ pub fn write_files<T: ReadDevice, I: NamedInputs, W: WriteDevice, E: Teller>(
     out: &mut W,
     err: &mut E,
 ) -> u8
-    ensures { Ended result (E.said err.old) (E.said err.new) told_of_job
+    ensures flushed { result ≡ 0 → W.waiting out.new ≡ false }
+    ensures ended { Ended result (E.said err.old) (E.said err.new) told_of_job
         (WritesTheTicket (T.remaining ticket.old) (T.remaining ticket.new)
         (map (λ name. named (SomeFails I.Input.failed I.Input.reads)
         (I.bytes inputs.now) (I.missing inputs.now)

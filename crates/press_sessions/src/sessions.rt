@@ -1,5 +1,5 @@
 //! Sessions with a press: lines of events, and what each is answered.
-ghost use Rattle.std.specs.Prelude.{◌≡◌, ◌∷◌, ◌++◌, ℕ, List, [], map, is_ok, IfOk, IfErr, OnOk, true};
+ghost use Rattle.std.specs.Prelude.{◌≡◌, ◌∷◌, ◌++◌, ℕ, List, [], map, is_ok, IfOk, IfErr, OnOk, true, false};
 ghost use Rattle.press_devices.specs.Reading.{ReadFails, SomeFails};
 ghost use Rattle.press_files.specs.Causes.{failures};
 ghost use Rattle.press_files.specs.Change.{change};
@@ -146,7 +146,7 @@ impl From<AllocError> for SessionError {
 ///
 /// In whatever order the events come, under the number of an entry in flight the sheets of the steps of its job were delivered. Of a
 /// completed one it is all that its ticket wants, of every other one a prefix of those. After a fault, which stands on `err`, no line
-/// is carried out, and nothing is listed. The answer is the status: 0, or 1 after a fault.
+/// is carried out, and nothing is listed. The answer is the status: 0, and nothing waits in `out`, or 1 after a fault.
 pub fn press_lines<I: NamedInputs, R: ReadDevice, W: WriteDevice, E: Teller>(
     alloc: Global,
     inputs: &I,
@@ -155,7 +155,8 @@ pub fn press_lines<I: NamedInputs, R: ReadDevice, W: WriteDevice, E: Teller>(
     out: &mut W,
     err: &mut E,
 ) -> u8
-    ensures { Ended result (E.said err.old) (E.said err.new) told_of_session
+    ensures flushed { result ≡ 0 → W.waiting out.new ≡ false }
+    ensures ended { Ended result (E.said err.old) (E.said err.new) told_of_session
         (Plays engines
         (named (SomeFails I.Input.failed I.Input.reads) (I.bytes inputs.now) (I.missing inputs.now))
         (R.remaining reader.old) (R.remaining reader.new)
@@ -191,6 +192,7 @@ fn play<I: NamedInputs, R: ReadDevice, W: WriteDevice>(
         ⊥ (W.failed out.new ≡ true) ⊥)
         (change (R.remaining reader.old) (R.remaining reader.new))
         (change (W.contents out.old) (W.contents out.new))) }
+    ensures flushed { OnOk result (W.waiting out.new ≡ false) }
 {
     laws::sheets_are_given();
     let session = Session::new(alloc, engines)?;
@@ -264,6 +266,7 @@ impl Session {
         ensures err { IfErr result (StopsListing (W.failed out.new ≡ true)
             (delivered_by self.now)
             (W.contents out.old) (W.contents out.new)) }
+        ensures flushed { OnOk result (W.waiting out.new ≡ false) }
     {
         let listing = self.listing()?;
         write_flushed(out, &listing)?;

@@ -1,5 +1,5 @@
 //! Talks: lines that a reader has, each of which is answered.
-ghost use Rattle.std.specs.Prelude.{◌≡◌, ℕ, true, List, ⊤, IfErr, OnOk};
+ghost use Rattle.std.specs.Prelude.{◌≡◌, ℕ, true, false, List, ⊤, IfErr, OnOk};
 ghost use Rattle.press_devices.specs.Reading.{ReadFails};
 ghost use Rattle.std.specs.Io.KnownBytes.{Appends};
 ghost use Rattle.press_files.specs.Causes.{InputCause};
@@ -58,6 +58,7 @@ pub fn answer_lines<T: Talk, R: ReadDevice, W: WriteDevice>(
         (W.failed out.new ≡ true)) talk.old
         (R.remaining reader.old) (R.remaining reader.new)
         (change (W.contents out.old) (W.contents out.new))) }
+    ensures flushed { OnOk result (W.waiting out.old ≡ false → W.waiting out.new ≡ false) }
 {
     let mut lines = LineReader::new(alloc);
     let mut line = Vec::new(alloc);
@@ -84,6 +85,7 @@ fn answer_line<T: Talk, W: WriteDevice>(
         T.Error.From-1.from_gives T.Error.From-2.from_gives)
         (λ _. ⊤) (W.failed out.new ≡ true)) line.now talk.old
         (W.contents out.old) (W.contents out.new)) }
+    ensures flushed { OnOk result (W.waiting out.new ≡ false) }
 {
     let answer = talk.answer(line)?;
     write_flushed(out, &answer)?;

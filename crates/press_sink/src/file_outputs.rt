@@ -1,14 +1,17 @@
 //! The files of a file system as named outputs (this profile).
 ghost use Rattle.std.specs.Prelude.{◌≡◌, ◌||◌, false, IfOk};
 ghost use Rattle.press_devices.specs.Watching.{has_failed};
-ghost use Rattle.press_sink.specs.Kept.{file_failed};
+ghost use Rattle.press_sink.specs.Kept.{file_failed, file_waiting, waits_in};
 
+use crate::file_number::FileNumber;
 use crate::named_outputs::NamedOutputs;
 use crate::output_file::OutputFile;
-use press_devices::{Watched, WriteDevice};
+use crate::parts::make_part;
+use crate::stream_name::is_stream_name;
+use press_devices::Watched;
 use std::alloc::{AllocError, Global};
 use std::fmt::Write as _;
-use std::fs::{self, File, Files, Metadata, OpenFile, OpenOptions};
+use std::fs::{self, File, Files, Metadata, OpenOptions};
 use std::io::{self, ErrorKind, Write};
 use std::mem;
 use std::os::unix::fs::MetadataExt;
@@ -26,28 +29,18 @@ const LONGEST_PART: usize = 32;
 /// How many files that are not whole a folder has at most.
 const MOST_PARTS: u32 = 1_000;
 
-/// A file among those of the system: its device, and its number there.
-#[derive(Clone, Copy, PartialEq)]
-struct FileNumber {
-    device: u64,
-    number: u64,
-}
+/// The permissions of a file that is new, less those that the system keeps from new files.
+const NEW: u32 = 0o666;
 
-impl FileNumber {
-    /// The file of which this is told.
-    fn of(found: &Metadata) -> Self {
-        FileNumber {
-            device: found.dev(),
-            number: found.ino(),
-        }
-    }
-}
+/// Those that one file hands on to another: who may read, write and run it.
+const HANDED_ON: u32 = 0o777;
 
 /// The files of a file system, which are made by their names. What a file holds is not known.
 ///
 /// A file is made as `.press-1.part` in its folder, or with the next number that is free, and takes its name when it is whole; one that
-/// is given up is removed. So what stood under the name before is there until then. A link is followed. What is no file, as a pipe, or
-/// has its name in `/dev` or `/proc`, is written where it stands.
+/// is given up is removed. So what stood under the name before is there until then. A link is followed. What is no file, as a pipe, is
+/// written where it stands; a file behind the name of an open stream, as `/dev/stdout`, too, behind what it has. A part that an earlier
+/// run left is removed where its name is wanted; this run holds its own.
 #[derive(Drop)]
 pub struct FileOutputs<'a, F> {
     alloc: Global,
@@ -62,16 +55,19 @@ pub struct FileOutputs<'a, F> {
     spared: Vec<FileNumber>,
     /// Whether making, writing or closing a file failed or was interrupted so far.
     failed: bool,
+    /// Whether bytes of a file that was closed or given up never went out of the program.
+    waiting: bool,
 }
 
-impl<'a, F: Files> FileOutputs<'a, F> {
+impl<'a, F: Files<File = File>> FileOutputs<'a, F> {
     /// The files of this file system, of which none was made yet.
     ///
     /// # Errors
     ///
     /// Where there is no memory for the buffer and for names. Making a file takes none, but for a link's.
     pub fn new(alloc: Global, files: &'a F) -> Result<Self, AllocError>
-        ensures { IfOk result (λ outputs. file_failed outputs ≡ false) }
+        ensures failed { IfOk result (λ outputs. file_failed outputs ≡ false) }
+        ensures waiting { IfOk result (λ outputs. file_waiting outputs ≡ false) }
     {
         Ok(FileOutputs {
             alloc,
@@ -81,49 +77,59 @@ impl<'a, F: Files> FileOutputs<'a, F> {
             buffer: Vec::with_capacity(alloc, BUFFER)?,
             spared: Vec::new(alloc),
             failed: false,
+            waiting: false,
         })
     }
 
-    /// Opens the file of this name so that it can be written.
-    fn open(&mut self, name: &str) -> io::Result<F::File>
-        ensures { file_failed self.new ≡ file_failed self.old }
+    /// Opens the file of this name so that it can be written. An input is not opened.
+    fn open(&mut self, name: &str) -> io::Result<File>
+        ensures failed { file_failed self.new ≡ file_failed self.old }
+        ensures waiting { file_waiting self.new ≡ file_waiting self.old }
     {
         self.part.clear();
-        if name.starts_with("/dev/") || name.starts_with("/proc/") {
-            return fs::create(self.files, name);
-        }
-        let Some(older) = self.older(name)? else {
-            self.name.clear();
-            self.name.push_str(name)?;
-            return self.open_part();
+        let found = match fs::metadata(self.files, name) {
+            Ok(found) => found,
+            Err(error) => {
+                if error.kind() != ErrorKind::NotFound {
+                    return Err(error);
+                }
+                self.name.clear();
+                self.name.push_str(name)?;
+                return self.open_part(NEW);
+            }
         };
-        let found = older.metadata()?;
-        if !found.is_file() {
+        let stays = found.is_file() && is_stream_name(name);
+        let older = self.open_older(name, &found, stays)?;
+        if stays || !found.is_file() {
             return Ok(older);
         }
         self.replace(name, &found)
     }
 
-    /// Opens what stands under a name, if anything does. What may not be written is not opened.
-    fn older(&self, name: &str) -> io::Result<Option<F::File>> {
-        match OpenOptions::new().write(true).open(self.files, name) {
-            Ok(file) => Ok(Some(file)),
-            Err(error) => {
-                if error.kind() == ErrorKind::NotFound {
-                    return Ok(None);
-                }
-                Err(error)
-            }
-        }
+    /// Opens what stands under a name, of which this is told, and changes nothing there; where it stays, what is written stands behind it.
+    /// What may not be written is not opened.
+    fn open_older(&self, name: &str, found: &Metadata, stays: bool) -> io::Result<File> {
+        self.ask_spared(found)?;
+        let mut options = OpenOptions::new();
+        options.write(true).append(stays);
+        let older = options.open(self.files, name)?;
+        self.ask_spared(&older.metadata()?)?;
+        Ok(older)
     }
 
-    /// Opens a file that takes the place of the one of this name, of which this is told, with the same permissions.
-    fn replace(&mut self, name: &str, found: &Metadata) -> io::Result<F::File>
-        ensures { file_failed self.new ≡ file_failed self.old }
-    {
+    /// Asks whether a file is one that is not replaced.
+    fn ask_spared(&self, found: &Metadata) -> io::Result<()> {
         if self.spared.contains(&FileNumber::of(found)) {
             return Err(io::Error::from(ErrorKind::AlreadyExists));
         }
+        Ok(())
+    }
+
+    /// Opens a file that takes the place of the one of this name, of which this is told, with the same permissions.
+    fn replace(&mut self, name: &str, found: &Metadata) -> io::Result<File>
+        ensures failed { file_failed self.new ≡ file_failed self.old }
+        ensures waiting { file_waiting self.new ≡ file_waiting self.old }
+    {
         self.name.clear();
         if fs::symlink_metadata(self.files, name)?.is_symlink() {
             let behind = self.files.canonicalize(self.alloc, name)?;
@@ -131,24 +137,20 @@ impl<'a, F: Files> FileOutputs<'a, F> {
         } else {
             self.name.push_str(name)?;
         }
-        let file = self.open_part()?;
+        let file = self.open_part(found.mode() & HANDED_ON)?;
         let _ = file.set_permissions(found.permissions());
         Ok(file)
     }
 
-    /// Opens a new file in the folder of the name.
-    fn open_part(&mut self) -> io::Result<F::File>
-        ensures { file_failed self.new ≡ file_failed self.old }
+    /// Opens a new file in the folder of the name, with these permissions.
+    fn open_part(&mut self, mode: u32) -> io::Result<File>
+        ensures failed { file_failed self.new ≡ file_failed self.old }
+        ensures waiting { file_waiting self.new ≡ file_waiting self.old }
     {
         for number in 1..=MOST_PARTS {
             self.name_part(number)?;
-            match File::create_new(self.files, self.part.as_str()) {
-                Ok(file) => return Ok(file),
-                Err(error) => {
-                    if error.kind() != ErrorKind::AlreadyExists {
-                        return Err(error);
-                    }
-                }
+            if let Some(part) = make_part(self.files, self.part.as_str(), mode)? {
+                return Ok(part);
             }
         }
         Err(io::Error::from(ErrorKind::AlreadyExists))
@@ -156,7 +158,8 @@ impl<'a, F: Files> FileOutputs<'a, F> {
 
     /// Takes the name of the part with this number.
     fn name_part(&mut self, number: u32) -> Result<(), AllocError>
-        ensures { file_failed self.new ≡ file_failed self.old }
+        ensures failed { file_failed self.new ≡ file_failed self.old }
+        ensures waiting { file_waiting self.new ≡ file_waiting self.old }
     {
         self.part.clear();
         if let Some((folder, _)) = self.name.as_str().rsplit_once('/') {
@@ -174,12 +177,13 @@ impl<'a, F: Files> FileOutputs<'a, F> {
         fs::rename(self.files, self.part.as_str(), self.name.as_str())
     }
 
-    /// Takes the buffer of a file that was written, and whether that failed.
-    fn take_back(&mut self, output: Watched<OutputFile<F::File>>)
-        ensures { file_failed self.new ≡ (file_failed self.old || has_failed output) }
+    /// Takes the buffer of a file that was written, which is closed, and whether bytes wait in it. Until then the file is held.
+    fn take_back(&mut self, file: OutputFile<File>)
+        ensures failed { file_failed self.new ≡ file_failed self.old }
+        ensures waiting { file_waiting self.new ≡ (file_waiting self.old || waits_in file) }
     {
-        self.failed |= output.failed();
-        self.buffer = output.into_inner().into_buffer();
+        self.waiting |= file.waits();
+        self.buffer = file.into_buffer();
     }
 
     /// Removes a file that is not whole.
@@ -190,15 +194,17 @@ impl<'a, F: Files> FileOutputs<'a, F> {
     }
 }
 
-impl<F: Files> NamedOutputs for FileOutputs<'_, F> {
+impl<F: Files<File = File>> NamedOutputs for FileOutputs<'_, F> {
     ghost use Rattle.std.specs.Prelude.{None};
-    ghost use Rattle.press_sink.specs.Kept.{file_failed};
+    ghost use Rattle.press_sink.specs.Kept.{file_failed, file_waiting};
 
     ghost made = { λ _. None };
 
     ghost failed = { file_failed };
 
-    type Output = Watched<OutputFile<F::File>>;
+    ghost waiting = { file_waiting };
+
+    type Output = Watched<OutputFile<File>>;
 
     fn spare(&mut self, input: &str) -> Result<(), AllocError> {
         if let Ok(found) = fs::metadata(self.files, input)
@@ -209,7 +215,7 @@ impl<F: Files> NamedOutputs for FileOutputs<'_, F> {
         Ok(())
     }
 
-    fn make(&mut self, name: &str) -> io::Result<Watched<OutputFile<F::File>>> {
+    fn make(&mut self, name: &str) -> io::Result<Watched<OutputFile<File>>> {
         match self.open(name) {
             Ok(file) => {
                 let buffer = mem::replace(&mut self.buffer, Vec::new(self.alloc));
@@ -222,9 +228,10 @@ impl<F: Files> NamedOutputs for FileOutputs<'_, F> {
         }
     }
 
-    fn close(&mut self, mut output: Watched<OutputFile<F::File>>) -> io::Result<()> {
-        let mut closed = output.flush_all();
-        self.take_back(output);
+    fn close(&mut self, output: Watched<OutputFile<File>>) -> io::Result<()> {
+        self.failed |= output.failed();
+        let mut file = output.into_inner();
+        let mut closed = file.finish();
         if closed.is_ok() {
             closed = self.place();
         }
@@ -232,11 +239,13 @@ impl<F: Files> NamedOutputs for FileOutputs<'_, F> {
             self.failed = true;
             self.remove();
         }
+        self.take_back(file);
         closed
     }
 
-    fn abandon(&mut self, output: Watched<OutputFile<F::File>>) {
-        self.take_back(output);
+    fn abandon(&mut self, output: Watched<OutputFile<File>>) {
+        self.failed |= output.failed();
         self.remove();
+        self.take_back(output.into_inner());
     }
 }

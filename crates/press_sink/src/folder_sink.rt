@@ -34,7 +34,7 @@ pub struct Unopened<O> {
 }
 
 impl<O: NamedOutputs + Drop> FolderSink<O> {
-    ghost use Rattle.std.specs.Prelude.{◌≡◌, true, IfOk, IfErr, IsErrAnd};
+    ghost use Rattle.std.specs.Prelude.{◌≡◌, true, IfOk, IfErr, IsErrAnd, OnOk};
     ghost use Rattle.press_sink.specs.Kept.{name_parts, next_number, file_faults, outputs_of, output_of_side};
     ghost use Rattle.press_sink.specs.Outputs.{side_output, sheet_outputs, MakesOutputs};
     ghost use Rattle.press_sink.specs.Template.{IsTemplate, IsNoTemplate};
@@ -96,6 +96,10 @@ impl<O: NamedOutputs + Drop> FolderSink<O> {
         ensures template { name_parts self.new ≡ name_parts self.old }
         ensures number { next_number self.new ≡ next_number self.old }
         ensures faults { file_faults self.new ≡ file_faults self.old }
+        ensures through { OnOk result
+            (O.waiting (outputs_of self.new) ≡ O.waiting (outputs_of self.old)) }
+        ensures unmade { IfErr result (λ error. error ≡ SinkError.NoMemory
+            → O.waiting (outputs_of self.new) ≡ O.waiting (outputs_of self.old)) }
         ensures failed { O.failed (outputs_of self.old) ≡ true
             → O.failed (outputs_of self.new) ≡ true }
         ensures cause { IfErr result (λ error.
@@ -145,6 +149,10 @@ impl<O: NamedOutputs + Drop> SheetSink for FolderSink<O> {
         ensures numbers { OnOk result
             (next_number self.new ≡ number_after (side_count sheet.now) (next_number self.old)) }
         ensures stays { OnErr result (next_number self.new ≡ next_number self.old) }
+        ensures through { OnOk result
+            (O.waiting (outputs_of self.new) ≡ O.waiting (outputs_of self.old)) }
+        ensures unmade { IfErr result (λ error. error ≡ SinkError.NoMemory
+            → O.waiting (outputs_of self.new) ≡ O.waiting (outputs_of self.old)) }
         ensures failed { O.failed (outputs_of self.old) ≡ true
             → O.failed (outputs_of self.new) ≡ true }
         ensures cause { IfErr result (λ error.

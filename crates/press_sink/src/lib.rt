@@ -2,6 +2,7 @@
 #![tactic(auto)]
 
 mod fault;
+mod file_number;
 mod file_outputs;
 mod folder_sink;
 mod fuse_replies;
@@ -11,9 +12,11 @@ mod list_replies;
 mod list_sink;
 mod named_outputs;
 mod output_file;
+mod parts;
 mod sheet;
 mod side;
 mod sink;
+mod stream_name;
 mod template;
 mod write_replies;
 

@@ -1,5 +1,5 @@
 //! Named outputs that are kept in a list.
-ghost use Rattle.std.specs.Prelude.{◌≡◌, [], Some, true};
+ghost use Rattle.std.specs.Prelude.{◌≡◌, [], Some, false, true};
 ghost use Rattle.press_sink.specs.Kept.{kept_outputs, outputs_in};
 ghost use Rattle.press_sink.specs.Outputs.{last_holds};
 
@@ -53,6 +53,8 @@ impl NamedOutputs for ListOutputs {
     ghost made = { λ outputs. Some (kept_outputs outputs) };
 
     ghost failed = { λ _. true };
+
+    ghost waiting = { λ _. false };
 
     type Output = Vec<u8>;
 

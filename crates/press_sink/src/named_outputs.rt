@@ -19,6 +19,9 @@ pub trait NamedOutputs {
     /// Whether making, writing or closing one failed or was interrupted so far; true also where that is not known.
     ghost failed: { Self → Bool };
 
+    /// Whether bytes that were written to outputs which are not open any more may wait in the program.
+    ghost waiting: { Self → Bool };
+
     /// An output that is open.
     type Output: WriteDevice + Drop;
 
@@ -29,7 +32,8 @@ pub trait NamedOutputs {
     /// Where there is no memory to note it.
     fn spare(&mut self, input: &str) -> Result<(), AllocError>
         ensures made { made self.new ≡ made self.old }
-        ensures failed { failed self.new ≡ failed self.old };
+        ensures failed { failed self.new ≡ failed self.old }
+        ensures waiting { waiting self.new ≡ waiting self.old };
 
     /// Makes the output of this name, which holds nothing yet.
     ///
@@ -42,9 +46,10 @@ pub trait NamedOutputs {
         ensures empty { IfOk result (λ output.
             Self.Output.contents output ≡ option_map (λ _. []) (made self.old)) }
         ensures fault { OnErr result (made self.new ≡ made self.old) }
-        ensures failed { failed self.new ≡ failed_with (failed self.old) result };
+        ensures failed { failed self.new ≡ failed_with (failed self.old) result }
+        ensures waiting { waiting self.new ≡ waiting self.old };
 
-    /// Closes the output that was made last. It holds what was written to it.
+    /// Closes the output that was made last. It holds what was written to it, of which nothing waits.
     ///
     /// # Errors
     ///
@@ -53,7 +58,8 @@ pub trait NamedOutputs {
         ensures closes { Closes result (Self.Output.contents output)
             (made self.old) (made self.new) }
         ensures failed { failed self.new
-            ≡ failed_with (failed self.old || Self.Output.failed output) result };
+            ≡ failed_with (failed self.old || Self.Output.failed output) result }
+        ensures through { OnOk result (waiting self.new ≡ waiting self.old) };
 
     /// Gives up the output that was made last, which is not whole. It holds a prefix of what was written to it, or is removed where
     /// nothing tells of it.
@@ -72,6 +78,7 @@ pub fn write_output<O: NamedOutputs>(outputs: &mut O, name: &str, bytes: &[u8]) 
         ≡ with_outputs (holding name.now bytes.now ∷ []) (O.made outputs.old)) }
     ensures fault { OnErr result (MakesPrefix (holding name.now bytes.now ∷ [])
         (O.made outputs.old) (O.made outputs.new)) }
+    ensures through { OnOk result (O.waiting outputs.new ≡ O.waiting outputs.old) }
     ensures stays { O.failed outputs.old ≡ true → O.failed outputs.new ≡ true }
     ensures cause { OnErr result (O.failed outputs.new ≡ true) }
 {
@@ -101,6 +108,7 @@ pub fn write_page<O: NamedOutputs>(
         ≡ with_outputs (holding name.now (file_of page.now) ∷ []) (O.made outputs.old)) }
     ensures fault { OnErr result (MakesPrefix (holding name.now (file_of page.now) ∷ [])
         (O.made outputs.old) (O.made outputs.new)) }
+    ensures through { OnOk result (O.waiting outputs.new ≡ O.waiting outputs.old) }
     ensures stays { O.failed outputs.old ≡ true → O.failed outputs.new ≡ true }
     ensures cause { OnErr result (O.failed outputs.new ≡ true) }
 {

@@ -1,4 +1,7 @@
 //! A file that is being written (this profile).
+ghost use Rattle.std.specs.Prelude.{◌≡◌, false, OnOk};
+ghost use Rattle.press_sink.specs.Kept.{waits_in};
+
 use press_devices::write_whole;
 use std::io::{self, Write};
 
@@ -28,8 +31,25 @@ impl<T: Write + Drop> OutputFile<T> {
         self.held.capacity().saturating_sub(self.held.len())
     }
 
+    /// Whether bytes that were written wait in the buffer.
+    pub(crate) fn waits(&self) -> bool
+        ensures { result ≡ waits_in self.now }
+    {
+        0 < self.held.len()
+    }
+
+    /// Has all that was written go to the file, and out of the program.
+    pub(crate) fn finish(&mut self) -> io::Result<()>
+        ensures { OnOk result (waits_in self.new ≡ false) }
+    {
+        self.send()?;
+        self.file.flush()
+    }
+
     /// Writes to the file what is held. Where that failed a prefix of it was written, and nothing is held.
-    fn send(&mut self) -> io::Result<()> {
+    fn send(&mut self) -> io::Result<()>
+        ensures { waits_in self.new ≡ false }
+    {
         let sent = write_whole(&mut self.file, &self.held);
         self.held.clear();
         sent
@@ -49,7 +69,6 @@ impl<T: Write + Drop> Write for OutputFile<T> {
     }
 
     fn flush(&mut self) -> io::Result<()> {
-        self.send()?;
-        self.file.flush()
+        self.finish()
     }
 }

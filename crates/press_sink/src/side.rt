@@ -1,5 +1,5 @@
 //! Sides of sheets, and their outputs (Netpbm, the raw form of the PBM format).
-ghost use Rattle.std.specs.Prelude.{◌≡◌, ◌∷◌, [], true, IfErr, OnErr};
+ghost use Rattle.std.specs.Prelude.{◌≡◌, ◌∷◌, [], true, IfErr, OnOk, OnErr};
 ghost use Rattle.press_sink.specs.Kept.{output_of_side};
 ghost use Rattle.press_sink.specs.Outputs.{MakesOutputs};
 
@@ -19,6 +19,7 @@ pub(crate) fn make_side<O: NamedOutputs>(outputs: &mut O, side: &Side<'_>) -> Re
     ensures made { MakesOutputs result (output_of_side side.now ∷ [])
         (O.made outputs.old) (O.made outputs.new) }
     ensures fault { IfErr result (λ error. error ≡ SinkError.SinkFault) }
+    ensures through { OnOk result (O.waiting outputs.new ≡ O.waiting outputs.old) }
     ensures stays { O.failed outputs.old ≡ true → O.failed outputs.new ≡ true }
     ensures cause { OnErr result (O.failed outputs.new ≡ true) }
 {

@@ -36,7 +36,7 @@ impl<W: WriteDevice + Drop> WriteReplies<W> {
 }
 
 impl<W: WriteDevice + Drop> ReplySink for WriteReplies<W> {
-    ghost use Rattle.std.specs.Prelude.{◌≡◌, ◌<◌, true, OnErr};
+    ghost use Rattle.std.specs.Prelude.{◌≡◌, ◌<◌, true, false, IfErr, OnOk, OnErr};
     ghost use Rattle.press_sink.specs.SinkLog.{Replies, most_faults, written_log};
     ghost use Rattle.press_sink.specs.Kept.{reply_writer, write_faults};
 
@@ -52,6 +52,8 @@ impl<W: WriteDevice + Drop> ReplySink for WriteReplies<W> {
         ensures replies { Replies
             (written_log (W.contents (reply_writer self.old)) (write_faults self.old)) bytes.now
             result (written_log (W.contents (reply_writer self.new)) (write_faults self.new)) }
+        ensures through { OnOk result (W.waiting (reply_writer self.new) ≡ false) }
+        ensures fault { IfErr result (λ error. error ≡ ReplyError.ReplyFault) }
         ensures stays { W.failed (reply_writer self.old) ≡ true
             → W.failed (reply_writer self.new) ≡ true }
         ensures cause { OnErr result (W.failed (reply_writer self.new) ≡ true) }

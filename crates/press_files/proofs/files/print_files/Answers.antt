@@ -20,7 +20,7 @@ returns-in-Ok-clause-files g c = λ zero.
     (around fails (g.E.Teller.said c.args.err.now) (g.E.Teller.said c.print_by.new.err)
     (g.R.ReadDevice.remaining c.args.reader.now) (g.R.ReadDevice.remaining c.print_by.new.reader) (g.W.WriteDevice.contents c.args.out)
     (g.W.WriteDevice.contents c.print_by.result.out) before (g.O.NamedOutputs.made c.print_by.result.outputs)) in
-    makes_files c.args.template.now _ _ _ _ _ _ _ _ _ _ _ c.in-Ok.ensures.template (subst P begun c.print_by.ensures) zero
+    makes_files c.args.template.now _ _ _ _ _ _ _ _ _ _ _ c.in-Ok.ensures.template (subst P begun c.print_by.ensures.prints) zero
 
 pub returns-in-Ok-clause-prints : goal.returns-in-Ok-clause-prints
 returns-in-Ok-clause-prints g c =
@@ -34,7 +34,7 @@ returns-in-Ok-clause-prints g c =
     (around fails (g.E.Teller.said c.args.err.now) (g.E.Teller.said c.print_by.new.err)
     (g.R.ReadDevice.remaining c.args.reader.now) (g.R.ReadDevice.remaining c.print_by.new.reader) (g.W.WriteDevice.contents c.args.out)
     (g.W.WriteDevice.contents c.print_by.result.out) before (g.O.NamedOutputs.made c.print_by.result.outputs)) in
-    inl (record { parts = name_parts c.in-Ok.sink; is_template = c.in-Ok.ensures.template; by_parts = subst P begun c.print_by.ensures })
+    inl (record { parts = name_parts c.in-Ok.sink; is_template = c.in-Ok.ensures.template; by_parts = subst P begun c.print_by.ensures.prints })
 
 pub returns-in-Err-clause-prints : goal.returns-in-Err-clause-prints
 returns-in-Err-clause-prints g c =

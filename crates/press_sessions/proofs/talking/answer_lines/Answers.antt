@@ -12,6 +12,7 @@ loop-line-init g c = record {
   ready = c.requires;
   answered = IsAnswered-begun g.T.Talk.answers c.args.talk.now _ _ (held c.new-lines.result) c.new-lines.ensures.held;
   told = omega (arith, c.new-lines.ensures.reads);
+  flushed = λ nothing. nothing;
 }
 
 pub returns-in_err-next-clause-err : goal.returns-in_err-next-clause-err
@@ -36,6 +37,7 @@ loop-line-preserved g c =
           c.next.new.line.items c.loop-line.invariant.answered c.answer_line.new.talk (g.W.WriteDevice.contents c.answer_line.new.out)
           (subst P c.if-branch.true c.in_ok-next.ensures.line) (rw c.deref.ensures.value at c.in_ok-answer_line.ensures.ok);
       told = c.next.ensures.told c.loop-line.invariant.told;
+      flushed = λ _. c.in_ok-answer_line.ensures.flushed;
     }
 
 pub returns-in_err-answer_line-clause-err : goal.returns-in_err-answer_line-clause-err
@@ -87,3 +89,6 @@ returns-clause-err g c =
     c.next.new.line.items c.loop-line.invariant.answered _ _ _ (g.W.WriteDevice.contents c.answer_line-2.new.out) why
     given (one-line c.next.new.line.items given.2 (rw c.next.new.line.ok.0 at (sym c.is_empty.ensures ∙ c.if-is_empty.false))))
     (rw c.deref-2.ensures.value at c.answer_line-2.ensures.err)
+
+pub returns-clause-flushed : goal.returns-clause-flushed
+returns-clause-flushed g c = on_ok_weaker c.answer_line-2.result (λ nothing _. nothing) c.answer_line-2.ensures.flushed

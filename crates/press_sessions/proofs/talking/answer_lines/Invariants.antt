@@ -1,4 +1,4 @@
-use Rattle.std.proofs.Common.{◌≤◌}
+use Rattle.std.proofs.Common.{◌≡◌, ◌≤◌, false}
 use Rattle.press_sessions.specs.LineReading.{held, bytes_left}
 use Rattle.press_sessions.proofs.TalkLemmas.{IsAnswered}
 use Rattle.press_sessions.proofs.talking.answer_lines.Given as goal
@@ -10,6 +10,7 @@ invariant-loop-line g l = record {
   answered : IsAnswered g.T.Talk.answers l.fn.talk (g.R.ReadDevice.remaining l.fn.reader) (g.R.ReadDevice.remaining l.reader)
       (g.W.WriteDevice.contents l.fn.out) (held l.lines) l.talk (g.W.WriteDevice.contents l.out);
   told : l.lines.count.reads ≤ g.R.ReadDevice.reads l.reader;
+  flushed : g.W.WriteDevice.waiting l.fn.out ≡ false → g.W.WriteDevice.waiting l.out ≡ false;
 }
 
 abbrev pub decreases-loop-line : goal.decreases-loop-line
