@@ -78,9 +78,10 @@ pub(crate) fn whole_word_from(bits: &[u8], first: usize) -> u64
     requires { first / 8 + 9 ≤ length bits.now }
     ensures { (j : ℕ) → j < 64 → word_dot result j ≡ row_dot bits.now (first + j) }
 {
+    let shift = first % 8;
     let left = whole_word_at(bits, first / 8);
     let right = bits[first / 8 + 8] as u64;
-    (left << (first % 8)) | (right >> (8 - first % 8))
+    (left << shift) | (right >> (8 - shift))
 }
 
 /// Puts sixty-four dots into the eight bytes from one on.

@@ -1,0 +1,1 @@
+"""What the repository states, as tools/stated keeps it."""
