@@ -1,6 +1,11 @@
 -- A sheet that is delivered once more.
-use Rattle.std.proofs.Common.{◌≡◌, ◌∙◌, ◌-◌, suc, List, [], ◌∷◌, ◌++◌, length, map, slice_get, Option, Some, None, option_map, ap, arith}
+use Rattle.std.proofs.Common.{◌≡◌, ◌∙◌, ◌-◌, suc, List, [], ◌∷◌, ◌++◌, length, map, slice_get, Option, Some, None, option_map, refl, sym, ap, arith}
+use Rattle.std.proofs.Common.{Result, Ok, Err, OnOk, OnErr, IfErr}
+use Rattle.press_sink.specs.SinkLog.{Delivers}
+use Rattle.press_sink.specs.declared.fault.SinkError.{SinkError}
+use Rattle.press_sink.specs.declared.fault.SinkError.TheVariants.{NoMemory, SinkFault}
 use Rattle.press_sink.specs.declared.sheet.Delivery.{Delivery}
+use Rattle.press_files.specs.Listed.{last_of}
 
 -- the last of a list that is seen so
 last-seen : {A : Type 0} (seen : A → Delivery) (kept : List A) (last : A) (all : List Delivery) (one : Delivery)
@@ -14,6 +19,31 @@ last-seen seen (item ∷ next ∷ kept) last (first ∷ all) one is sees =
     let place : length (item ∷ next ∷ kept) - 1 ≡ suc (length (next ∷ kept) - 1) = omega arith in
     let rest : map seen (next ∷ kept) ≡ all ++ one ∷ [] = cc in
     last-seen seen (next ∷ kept) last all one (is ∙ ap (slice_get (item ∷ next ∷ kept)) place) rest
+
+-- the last of those that were delivered
+last_of-push : (all : List Delivery) (one : Delivery) → last_of (all ++ one ∷ []) ≡ Some one
+last_of-push [] one = refl
+last_of-push (first ∷ []) one = refl
+last_of-push (first ∷ second ∷ all) one = last_of-push (second ∷ all) one
+
+pub last-taken : (taken taken' : List Delivery) (one : Delivery) → taken' ≡ taken ++ one ∷ [] → Some one ≡ last_of taken'
+last-taken taken taken' one is = sym (ap last_of is ∙ last_of-push taken one)
+
+pub kept-last : (last one : Delivery) (taken : List Delivery) (before : Option (List Delivery)) → Some last ≡ last_of taken
+    → Some taken ≡ option_map (λ all. all ++ one ∷ []) before → last ≡ one
+kept-last last one taken None kept took = absurd cc
+kept-last last one taken (Some all) kept took =
+    let is : taken ≡ all ++ one ∷ [] = cc in
+    let same : Some last ≡ Some one = kept ∙ ap last_of is ∙ last_of-push all one in
+    cc
+
+-- a sheet was listed that is this one, or memory ran out
+pub delivers-listed : (result : Result (Unit {0}) SinkError) (taken taken' : List Delivery) (listed one : Delivery) → listed ≡ one
+    → OnOk result (taken' ≡ taken ++ listed ∷ []) → OnErr result (taken' ≡ taken) → IfErr result (λ error. error ≡ NoMemory)
+    → Delivers (record { delivered = Some taken; faults = 0 }) one result (record { delivered = Some taken'; faults = 0 })
+delivers-listed (Ok done) taken taken' listed one same ok err memory = (ap Some (ok ∙ ap (λ (last : Delivery). taken ++ last ∷ []) same), refl)
+delivers-listed (Err NoMemory) taken taken' listed one same ok err memory = (ap Some err, refl)
+delivers-listed (Err SinkFault) taken taken' listed one same ok err memory = absurd (cc)
 
 -- what a sink tells that it took last is the last that it keeps
 pub told-last : {A : Type 0} (seen : A → Delivery) (kept : List A) (last : A) (one : Delivery) (before : Option (List Delivery))

@@ -4,7 +4,7 @@ use Rattle.std.proofs.Common.{get_or, Option, Some, None, option_map, codes, ref
 use Rattle.std.proofs.lemmas.List.{append_assoc, at_drop_more}
 use Rattle.press_bits.specs.Page.{Page}
 use Rattle.press_files.specs.declared.entry_sheets.EntrySheet.{EntrySheet}
-use Rattle.press_files.specs.declared.listing_sink.ListedSheet.{ListedSheet}
+use Rattle.press_files.specs.declared.listed_sheet.ListedSheet.{ListedSheet}
 use Rattle.press_files.specs.declared.measures.Measures.{Measures}
 use Rattle.press_files.specs.EntryListing.{entry_measured_line, entry_back_line, entry_sheet_lines, entry_lines, entry_listing_after}
 use Rattle.press_files.specs.EntrySheets.{entries_of, numbers_of, entry_deliveries_of}

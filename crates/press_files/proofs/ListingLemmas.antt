@@ -1,8 +1,14 @@
 -- Lines of sheets, one sheet after another, and what a stream was that was listed.
-use Rattle.std.proofs.Common.{◌≡◌, ◌∙◌, ◌<◌, ℕ, ◌+◌, List, [], ◌++◌, length, drop, get_or, Option, Some, None, option_map}
-use Rattle.std.proofs.Common.{Result, Ok, Err, is_ok, IfSome, OnErr, Bool, true, false, codes, refl, sym, ap, subst}
+use Rattle.std.proofs.Common.{◌≡◌, ◌∙◌, ℕ, suc, ◌+◌, List, [], ◌∷◌, ◌++◌, length, drop, Option, Some, None, option_map}
+use Rattle.std.proofs.Common.{Result, Ok, Err, is_ok, IfSome, Bool, true, false, codes, refl, sym, ap, subst, arith}
+use mathlib.Core.Logic.{∥∥₁_elim}
+use Rattle.std.specs.Coded.{Coded-set, coded_list, coded_ℕ}
 use Rattle.std.specs.Io.KnownBytes.{Appends}
-use Rattle.std.proofs.lemmas.List.{append_assoc, append-nil, at_drop_more}
+use Rattle.std.proofs.KnownBytes.{Appends-nil, Appends-trans}
+use Rattle.std.proofs.Math.Seq.{drop-append_seam}
+use Rattle.std.proofs.lemmas.Bool.{true≢false}
+use Rattle.std.proofs.lemmas.List.{append_assoc, append-nil, length-map, map-append}
+use Rattle.press_devices.proofs.WritesLemmas.{prefix_then, prefix_more}
 use Rattle.std.proofs.lemmas.Option.{same_Some}
 use Rattle.press_bits.specs.Page.{Page}
 use Rattle.press_devices.specs.Writing.{AppendsPrefix, Writes}
@@ -17,10 +23,9 @@ use Rattle.press_stream.specs.State.{JobState}
 use Rattle.press_stream.specs.Meaning.{meaning_of, with_exit}
 use Rattle.press_stream.specs.Answers.{Reads, fault_of, ending_by}
 use Rattle.press_stream.specs.Printed.{Printed}
-use Rattle.press_files.specs.declared.listing_sink.ListedSheet.{ListedSheet}
+use Rattle.press_files.specs.declared.listed_sheet.ListedSheet.{ListedSheet}
 use Rattle.press_files.specs.declared.measures.Measures.{Measures}
-use Rattle.press_files.specs.Listed.{deliveries_of}
-use Rattle.press_files.specs.Listing.{measured_line, back_line, sheet_lines, lines_from, Lists, took, ListsPrinted, status_of_listing}
+use Rattle.press_files.specs.Listing.{HasListed, measured_line, back_line, sheet_lines, lines_from, Lists, took, ListsPrinted, status_of_listing}
 use Rattle.press_files.specs.Measured.{measures_of}
 use Rattle.press_files.specs.Printing.{machine_of, status_of_fault}
 
@@ -44,16 +49,19 @@ sheet_lines-kept number one =
     ∙ ap (λ back. measured_line number (codes "front") (measures_of one.sheet.value.front) ++ back)
     (ap (kept_line (measured_line number (codes "back"))) one.back_measured ∙ sym (back_line-kept number one.sheet.value.back))
 
--- one sheet more was listed
-pub lines_from-next : (listed : List ListedSheet) (i : ℕ) (one : ListedSheet) (done all : List ℕ) → i < length listed
-    → one ≡ get_or listed i one
-    → all ≡ done ++ lines_from (i + 1) (sheets_in (deliveries_of (drop i listed)))
-    → all ≡ (done ++ sheet_lines (i + 1) one.sheet.value) ++ lines_from (i + 1 + 1) (sheets_in (deliveries_of (drop (i + 1) listed)))
-lines_from-next listed i one done all inside is split =
-    let rest = lines_from (i + 1 + 1) (sheets_in (deliveries_of (drop (i + 1) listed))) in
-    split ∙ ap (λ rest. done ++ rest) (at_drop_more (λ rest. lines_from (i + 1) (sheets_in (deliveries_of rest))) listed i one inside)
-    ∙ sym (append_assoc done (sheet_lines (i + 1) (get_or listed i one).sheet.value) rest)
-    ∙ ap (λ (other : ListedSheet). (done ++ sheet_lines (i + 1) other.sheet.value) ++ rest) (sym is)
+-- the lines of one sheet more
+pub lines_from-push : (number : ℕ) (sheets : List PrintedSheet) (sheet : PrintedSheet)
+    → lines_from number (sheets ++ sheet ∷ []) ≡ lines_from number sheets ++ sheet_lines (number + length sheets) sheet
+lines_from-push number [] sheet =
+    append-nil (sheet_lines number sheet) ∙ ap (λ (n : ℕ). sheet_lines n sheet) (sym (plus-zero number)) where
+      plus-zero : (n : ℕ) → n + 0 ≡ n
+      plus-zero n = omega arith
+lines_from-push number (first ∷ sheets) sheet =
+    ap (λ (rest : List ℕ). sheet_lines number first ++ rest) (lines_from-push (number + 1) sheets sheet)
+    ∙ sym (append_assoc (sheet_lines number first) (lines_from (number + 1) sheets) (sheet_lines (number + 1 + length sheets) sheet))
+    ∙ ap (λ (n : ℕ). (sheet_lines number first ++ lines_from (number + 1) sheets) ++ sheet_lines n sheet) (next number (length sheets)) where
+      next : (n m : ℕ) → n + 1 + m ≡ n + suc m
+      next n m = omega arith
 
 -- a reader that had no fault was read to its end
 pub read_all : (bytes : List ℕ) (left : Option (List ℕ)) (read : List ℕ) → Reads (Some bytes) left None read → read ≡ bytes
@@ -87,42 +95,100 @@ lists-printed (Ok job) true (Some bytes) left old new stream zero =
           (stream.lists refl),
     )
 
--- what a listing wrote, by whether it was written
-wrote-all : {X E : Type 0} (result : Result X E) (old new : Option (List ℕ)) (bytes : List ℕ) → Writes result old new bytes
-    → is_ok result ≡ true → Appends old new bytes
-wrote-all (Ok value) old new bytes wrote ok = wrote
-wrote-all (Err error) old new bytes wrote ok = absurd cc
+-- ---- what was written of a listing
 
-wrote-prefix : {X E : Type 0} (result : Result X E) (old new : Option (List ℕ)) (bytes : List ℕ) → Writes result old new bytes
-    → is_ok result ≡ false → AppendsPrefix old new bytes
-wrote-prefix (Ok value) old new bytes wrote fault = absurd cc
-wrote-prefix (Err error) old new bytes wrote fault = wrote
+-- nothing yet
+pub listed-begins : (old new : Option (List ℕ)) → new ≡ old → HasListed true old new []
+listed-begins old new is = subst (λ (now : Option (List ℕ)). Appends old now []) (sym is) (Appends-nil old)
+
+-- more of it, by whether that was written
+pub listed-more : {X E : Type 0} (result : Result X E) (written : Bool) (old middle new : Option (List ℕ)) (bytes more : List ℕ)
+    → written ≡ is_ok result → Appends old middle bytes → Writes result middle new more → HasListed written old new (bytes ++ more)
+listed-more (Ok value) written old middle new bytes more is wrote writes = rw is (Appends-trans old middle new bytes more wrote writes)
+listed-more (Err error) written old middle new bytes more is wrote writes = rw is (prefix_then old middle new bytes more wrote writes)
+
+-- nothing more, after a write failed
+pub listed-stays : (written : Bool) (old new : Option (List ℕ)) (bytes more : List ℕ) → written ≡ false → HasListed written old new bytes
+    → HasListed written old new (bytes ++ more)
+listed-stays true old new bytes more fault listed = absurd (true≢false fault)
+listed-stays false old new bytes more fault listed = prefix_more old new bytes more listed
+
+-- more, where all was written before
+pub listed-then : {X E : Type 0} (result : Result X E) (written now : Bool) (old middle new : Option (List ℕ)) (bytes more : List ℕ)
+    → written ≡ true → now ≡ is_ok result → HasListed written old middle bytes → Writes result middle new more
+    → HasListed now old new (bytes ++ more)
+listed-then result true now old middle new bytes more ok is listed writes = listed-more result now old middle new bytes more is listed writes
+listed-then result false now old middle new bytes more ok is listed writes = absurd (true≢false (sym ok))
+
+-- the lines of a sheet more
+pub listed-sheet : (written : Bool) (old new : Option (List ℕ)) (taken taken' : List Delivery) (one : Delivery) (number : ℕ)
+    → taken' ≡ taken ++ one ∷ [] → number ≡ 1 + length taken
+    → HasListed written old new (lines_from 1 (sheets_in taken) ++ sheet_lines number one.sheet)
+    → HasListed written old new (lines_from 1 (sheets_in taken'))
+listed-sheet written old new taken taken' one number is counts listed =
+    let sheets = sheets_in taken in
+    let more : sheets_in taken' ≡ sheets ++ one.sheet ∷ [] = ap sheets_in is ∙ map-append _ taken (one ∷ []) in
+    let long : number ≡ 1 + length sheets = counts ∙ ap (λ (n : ℕ). 1 + n) (sym (length-map taken _)) in
+    let lines : lines_from 1 sheets ++ sheet_lines number one.sheet ≡ lines_from 1 (sheets_in taken') =
+    ap (λ (n : ℕ). lines_from 1 sheets ++ sheet_lines n one.sheet) long ∙ sym (lines_from-push 1 sheets one.sheet) ∙ ap (lines_from 1) (sym more) in
+    subst (HasListed written old new) lines listed
+
+-- That all of it was written, or a prefix, is a fact: how it came to be so, there is one way to tell.
+wrote-fact : (old new : Option (List ℕ)) (bytes : List ℕ) → ∥ Appends old new bytes ∥₁ → Appends old new bytes
+wrote-fact None new bytes wrote = tt
+wrote-fact (Some held) None bytes wrote = ∥∥₁_elim wrote (λ p q. absurd p) (λ p. p)
+wrote-fact (Some held) (Some holds) bytes wrote = ∥∥₁_elim wrote (Coded-set (coded_list coded_ℕ) _ _) (λ p. p)
+
+prefix-fact : (old new : Option (List ℕ)) (bytes : List ℕ) → ∥ AppendsPrefix old new bytes ∥₁ → AppendsPrefix old new bytes
+prefix-fact None new bytes wrote = ([], bytes, refl, tt)
+prefix-fact (Some held) None bytes wrote = absurd (∥∥₁_elim wrote (λ p q. absurd p) (λ prefix. prefix.3))
+prefix-fact (Some held) (Some holds) bytes wrote =
+    let prefix = drop (length held) holds in
+    let back = drop (length prefix) bytes in
+    let is : (wrote : AppendsPrefix (Some held) (Some holds) bytes) → prefix ≡ wrote.0 =
+    λ wrote. ap (drop (length held)) wrote.3 ∙ drop-append_seam held wrote.0 in
+    let split : bytes ≡ prefix ++ back =
+    ∥∥₁_elim wrote (Coded-set (coded_list coded_ℕ) _ _) (λ wrote.
+    let behind : back ≡ wrote.1 = ap (λ (front : List ℕ). drop (length front) bytes) (is wrote) ∙ ap (drop (length wrote.0)) wrote.2 ∙ drop-append_seam wrote.0 wrote.1 in
+    wrote.2 ∙ ap (λ (front : List ℕ). front ++ wrote.1) (sym (is wrote)) ∙ ap (λ (rest : List ℕ). prefix ++ rest) (sym behind)) in
+    let holding : holds ≡ held ++ prefix =
+    ∥∥₁_elim wrote (Coded-set (coded_list coded_ℕ) _ _) (λ wrote. wrote.3 ∙ ap (λ (front : List ℕ). held ++ front) (sym (is wrote))) in
+    (prefix, back, split, holding)
+
+listed-fact : (written : Bool) (old new : Option (List ℕ)) (bytes : List ℕ) → ∥ HasListed written old new bytes ∥₁ → HasListed written old new bytes
+listed-fact true old new bytes listed = wrote-fact old new bytes listed
+listed-fact false old new bytes listed = prefix-fact old new bytes listed
+
+listed-all : (written : Bool) (old new : Option (List ℕ)) (bytes : List ℕ) → HasListed written old new bytes → written ≡ true → Appends old new bytes
+listed-all true old new bytes listed is = listed
+listed-all false old new bytes listed is = absurd (true≢false (sym is))
+
+listed-cut : (written : Bool) (old new : Option (List ℕ)) (bytes : List ℕ) → HasListed written old new bytes → written ≡ false
+    → AppendsPrefix old new bytes
+listed-cut true old new bytes listed is = absurd (true≢false is)
+listed-cut false old new bytes listed is = listed
 
 -- what the sinks tell, and what is listed of it
-pub lists-stream : {X E : Type 0} (printed : Result JobState JobError) (wrote : Result X E) (written : Bool)
-    (had left old new : Option (List ℕ)) (first last deliveries : List Delivery) (nothing all replies : List ℕ)
-    → first ≡ [] → nothing ≡ [] → last ≡ deliveries → all ≡ replies
+pub lists-stream : (printed : Result JobState JobError) (written : Bool)
+    (had left old new : Option (List ℕ)) (first last : List Delivery) (nothing all replies : List ℕ)
+    → first ≡ [] → nothing ≡ [] → all ≡ replies
     → HandsOut (ending_by (fault_of printed)) (Printed [] had left (fault_of printed) (machine_of printed))
-    (under 0 (took first nothing) (took last all)) → written ≡ is_ok wrote
-    → Writes wrote old new (lines_from 1 (sheets_in deliveries) ++ replies) → ListsPrinted printed written had left old new
-lists-stream printed wrote written had left old new first last deliveries nothing all replies p q r s prints is writes =
+    (under 0 (took first nothing) (took last all))
+    → ∥ HasListed written old new (lines_from 1 (sheets_in last) ++ replies) ∥₁ → ListsPrinted printed written had left old new
+lists-stream printed written had left old new first last nothing all replies p q s prints listed =
     let P : SinkLog → SinkLog → Type 0 =
     λ before after.
     HandsOut (ending_by (fault_of printed)) (Printed [] had left (fault_of printed) (machine_of printed)) (under 0 before after) in
     let begun : took first nothing ≡ took [] [] = cc (p, q) in
-    let ended : took last all ≡ took deliveries replies = cc (r, s) in
+    let ended : took last all ≡ took last replies = cc s in
+    let fact = listed-fact written old new (lines_from 1 (sheets_in last) ++ replies) listed in
     record {
-      deliveries = deliveries;
+      deliveries = last;
       replies = replies;
-      prints = subst (λ (told : SinkLog). P told (took deliveries replies)) begun (subst (P (took first nothing)) ended prints);
-      lists = λ ok. wrote-all wrote old new _ writes (sym is ∙ ok);
-      cut = λ fault. wrote-prefix wrote old new _ writes (sym is ∙ fault);
+      prints = subst (λ (told : SinkLog). P told (took last replies)) begun (subst (P (took first nothing)) ended prints);
+      lists = listed-all written old new _ fact;
+      cut = listed-cut written old new _ fact;
     }
-
--- why a listing was not written
-pub unwritten : {X E : Type 0} (Why : Type 0) (result : Result X E) → OnErr result Why → is_ok result ≡ false → Why
-unwritten Why (Ok value) why fault = absurd cc
-unwritten Why (Err error) why fault = why
 
 -- the status of a stream and its listing
 pub status-written : (printed : Result JobState JobError) (written : Bool) (status : ℕ) → written ≡ true

@@ -1,17 +1,19 @@
 -- The sheets of which the listing keeps what it tells.
-use Rattle.std.specs.Prelude.{List, map}
+use Rattle.std.specs.Prelude.{ℕ, List, [], ◌∷◌, Option, Some, None}
 use Rattle.press_sink.specs.declared.sheet.Delivery.{Delivery}
-use Rattle.press_files.specs.declared.listing_sink.ListedSheet.{ListedSheet}
-use Rattle.press_files.specs.declared.listing_sink.ListingSink.{ListingSink}
+use Rattle.press_files.specs.declared.held_replies.HeldReplies.{HeldReplies}
+use Rattle.press_files.specs.declared.listed_sheet.ListedSheet.{ListedSheet}
 
 -- a sheet as it was delivered
 abbrev pub delivery_of : ListedSheet → Delivery
 delivery_of one = record { tag = one.tag; sheet = one.sheet.value }
 
--- sheets as they were delivered
-abbrev pub deliveries_of : List ListedSheet → List Delivery
-deliveries_of sheets = map delivery_of sheets
+-- the last of the sheets that were delivered, if there is one
+abbrev pub last_of : List Delivery → Option Delivery
+last_of [] = None
+last_of (one ∷ []) = Some one
+last_of (one ∷ other ∷ more) = last_of (other ∷ more)
 
--- what a sink of the listing kept
-abbrev pub listed : ListingSink → List ListedSheet
-listed sink = sink.sheets.items
+-- the bytes of the replies that are held
+abbrev pub held : HeldReplies → List ℕ
+held sink = sink.bytes.items

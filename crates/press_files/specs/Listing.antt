@@ -54,6 +54,11 @@ listing_of outputs = lines_from 1 (sheets_of outputs) ++ reply_bytes_of outputs
 abbrev pub Lists : List ℕ → Option (List ℕ) → Option (List ℕ) → Type 0
 Lists bytes old new = (commands : List Token) × Closed bytes commands × Appends old new (listing_of (meaning_of (with_exit commands)).outputs)
 
+-- What was written of a listing that is these bytes: all of them, or a prefix where a write failed.
+abbrev pub HasListed : (written : Bool) (old new : Option (List ℕ)) (bytes : List ℕ) → Type 0
+HasListed true old new bytes = Appends old new bytes
+HasListed false old new bytes = AppendsPrefix old new bytes
+
 -- what the sinks of a listing tell that took these sheets and replies
 abbrev pub took : List Delivery → List ℕ → SinkLog
 took deliveries replies = logs (record { delivered = Some deliveries; faults = 0 }) (record { replied = Some replies; faults = 0 })

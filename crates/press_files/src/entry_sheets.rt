@@ -3,7 +3,7 @@ ghost use Rattle.std.specs.Prelude.{◌≡◌, ℕ, [], map, nat_eq, unwrap_or};
 ghost use Rattle.std.specs.Map.{lookup};
 ghost use Rattle.press_files.specs.Numbering.{occurrences_of, numbers_after};
 
-use crate::listing_sink::ListedSheet;
+use crate::listed_sheet::ListedSheet;
 use indexmap::IndexMap;
 use press_sink::{Sheet, SheetSink, SinkError};
 use std::alloc::{AllocError, Global};

@@ -3,7 +3,9 @@
 
 mod entry_sheets;
 mod files;
+mod held_replies;
 mod inputs;
+mod listed_sheet;
 mod listing;
 mod listing_sink;
 mod measures;
@@ -16,6 +18,6 @@ mod told_folder;
 pub use entry_sheets::EntrySheets;
 pub use files::{Finished, print_files};
 pub use inputs::{InputError, read_all};
-pub use listing::{list_delivered, print_list};
+pub use listing::{Answered, list_delivered, print_list};
 pub use named_inputs::{NamedFile, NamedFiles, NamedInputs, open_named};
 pub use stream::print_stream;

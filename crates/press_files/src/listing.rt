@@ -1,106 +1,108 @@
 //! The listings of streams and of presses.
-ghost use Rattle.std.specs.Prelude.{◌≡◌, ◌≤◌, ◌++◌, true, false, IfSome, OnErr, IsErrOf};
+ghost use Rattle.std.specs.Prelude.{◌≡◌, ◌≤◌, true, false, IfSome, OnErr, OnOk, IsErrOf};
 ghost use Rattle.press_files.specs.Change.{change};
 ghost use Rattle.press_devices.specs.Reading.{ReadFails};
 ghost use Rattle.press_devices.specs.Writing.{Writes};
 ghost use Rattle.press_files.specs.Causes.{failures};
-ghost use Rattle.press_files.specs.Listing.{measured_line, sheet_lines, lines_from, Lists, ListsPrinted, PrintsListing};
-ghost use Rattle.press_files.specs.Listed.{deliveries_of};
+ghost use Rattle.press_files.specs.Listing.{measured_line, sheet_lines, Lists, ListsPrinted, PrintsListing};
 ghost use Rattle.press_files.specs.EntryListing.{entry_mark, entry_measured_line, entry_sheet_lines, entry_lines, entry_listing};
 ghost use Rattle.press_files.specs.EntrySheets.{kept, entry_deliveries_of};
-ghost use Rattle.press_sink.specs.Sending.{sheets_in};
 
 use crate::entry_sheets::{EntrySheet, EntrySheets};
-use crate::listing_sink::{ListedSheet, ListingSink};
+use crate::held_replies::HeldReplies;
+use crate::listed_sheet::ListedSheet;
+use crate::listing_sink::{ListingSink, Unlisted};
 use crate::measures::Measures;
 use crate::stream::{print_stream, told_status};
 use itoa::Buffer;
-use press_devices::{ReadDevice, WriteDevice, write_flushed, write_pieces};
-use press_sink::ListReplies;
+use press_devices::{ReadDevice, WriteDevice, write_pieces};
 use press_stream::{Job, JobError};
 use press_telling::{NO_OUTPUT, Teller, report};
 use std::alloc::Global;
 use std::io;
+use std::marker::Brand;
+
+/// How a listing ended: the status, and its writer, which is handed back.
+#[derive(Drop)]
+pub struct Answered<W> {
+    pub status: u8,
+    pub out: W,
+}
 
 /// Prints the stream that a reader has, and lists its sheets: a line for each side, and then the replies. In the line
 /// `sheet 1 front 2550x3300 black 6` stand the number of the sheet from 1, `front` or `back`, width and height in dots, and how
-/// many dots are black. After a fault the sheets before it are listed, and the fault stands on `err`. The answer is the status: 0, or 1
-/// after a fault.
-pub fn print_list<R: ReadDevice, W: WriteDevice, E: Teller>(
+/// many dots are black. A line is written when its sheet comes, and the replies are held until the end, 268,435,456 bytes of them at most.
+/// After a fault the sheets before it are listed, and the fault stands on `err`. The status is 0, or 1 after a fault.
+pub fn print_list<R: ReadDevice, W: WriteDevice + Drop, E: Teller>(
     alloc: Global,
     reader: &mut R,
-    out: &mut W,
+    out: W,
     err: &mut E,
-) -> u8
-    ensures status { result ≤ 1 }
-    ensures lists { result ≡ 0 → IfSome (R.remaining reader.old) (λ bytes.
-        Lists bytes (W.contents out.old) (W.contents out.new)) }
+) -> Answered<W>
+    ensures status { result.status ≤ 1 }
+    ensures lists { result.status ≡ 0 → IfSome (R.remaining reader.old) (λ bytes.
+        Lists bytes (W.contents out) (W.contents result.out)) }
+    ensures flushed { result.status ≡ 0 → W.waiting result.out ≡ false }
     ensures printed { PrintsListing
         (failures (ReadFails (R.failed reader.new) (R.reads reader.new))
-        ⊥ (W.failed out.new ≡ true) ⊥) result
+        ⊥ (W.failed result.out ≡ true) ⊥) result.status
         (change (E.said err.old) (E.said err.new))
         (change (R.remaining reader.old) (R.remaining reader.new))
-        (change (W.contents out.old) (W.contents out.new)) }
+        (change (W.contents out) (W.contents result.out)) }
 {
-    let stream = list_stream(alloc, reader, out);
+    let stream = list_stream::<R, W, Brand>(alloc, reader, out);
     let status = told_status(&stream.printed, err);
     if stream.written {
-        status
-    } else {
-        report(&NO_OUTPUT, err)
+        return Answered {
+            status,
+            out: stream.out,
+        };
+    }
+    Answered {
+        status: report(&NO_OUTPUT, err),
+        out: stream.out,
     }
 }
 
-/// A stream that was printed and listed: how it ended, and whether its listing was written.
+/// A stream that was printed and listed: how it ended, whether its listing was written, and the writer.
 #[derive(Drop)]
-struct ListedStream {
+struct ListedStream<W> {
     printed: Result<Job, JobError>,
     written: bool,
+    out: W,
 }
 
-/// Prints the stream that a reader has, and lists what went out of it, whatever fault it had.
-fn list_stream<R: ReadDevice, W: WriteDevice>(
+/// Prints the stream that a reader has, and lists what goes out of it, whatever fault it has. The call's proof says what the writer held.
+fn list_stream<R: ReadDevice, W: WriteDevice + Drop, D: Unlisted>(
     alloc: Global,
     reader: &mut R,
-    out: &mut W,
-) -> ListedStream
+    out: W,
+) -> ListedStream<W>
+    requires { W.contents out ≡ D.begun }
     ensures lists { ListsPrinted result.printed result.written (R.remaining reader.old)
-        (R.remaining reader.new) (W.contents out.old) (W.contents out.new) }
+        (R.remaining reader.new) D.begun (W.contents result.out) }
+    ensures flushed { result.written ≡ true → W.waiting result.out ≡ false }
     ensures reads { IsErrOf result.printed JobError.ReadFault
         → ReadFails (R.failed reader.new) (R.reads reader.new) }
-    ensures writes { result.written ≡ false → W.failed out.new ≡ true }
+    ensures writes { result.written ≡ false → W.failed result.out ≡ true }
 {
-    let mut sheets = ListingSink::new(alloc);
-    let mut replies = ListReplies::new(alloc);
+    let mut sheets: ListingSink<W, D> = ListingSink::new(out);
+    let mut replies = HeldReplies::new(alloc);
     let printed = print_stream(alloc, reader, 0, &mut sheets, &mut replies);
-    let written = list(out, sheets.sheets(), replies.bytes()).is_ok();
-    ListedStream { printed, written }
-}
-
-/// Lists the sides of the sheets, and then the replies.
-fn list<W: WriteDevice>(out: &mut W, sheets: &[ListedSheet], replies: &[u8]) -> io::Result<()>
-    ensures written { Writes result (W.contents out.old) (W.contents out.new)
-        (lines_from 1 (sheets_in (deliveries_of sheets.now)) ++ replies.now) }
-    ensures cause { OnErr result (W.failed out.new ≡ true) }
-{
-    list_sheets(out, sheets)?;
-    write_flushed(out, replies)
-}
-
-/// Lists the sides of the sheets, which are numbered from 1.
-fn list_sheets<W: WriteDevice>(out: &mut W, sheets: &[ListedSheet]) -> io::Result<()>
-    ensures written { Writes result (W.contents out.old) (W.contents out.new)
-        (lines_from 1 (sheets_in (deliveries_of sheets.now))) }
-    ensures cause { OnErr result (W.failed out.new ≡ true) }
-{
-    for (index, sheet) in sheets.iter().enumerate() {
-        list_sheet(out, index + 1, sheet)?;
+    let ended = sheets.finish(replies.bytes());
+    ListedStream {
+        printed,
+        written: ended.written,
+        out: ended.out,
     }
-    Ok(())
 }
 
 /// Lists the sides of one sheet.
-fn list_sheet<W: WriteDevice>(out: &mut W, number: usize, sheet: &ListedSheet) -> io::Result<()>
+pub(crate) fn list_sheet<W: WriteDevice>(
+    out: &mut W,
+    number: usize,
+    sheet: &ListedSheet,
+) -> io::Result<()>
     ensures written { Writes result (W.contents out.old) (W.contents out.new)
         (sheet_lines number sheet.now.sheet.value) }
     ensures cause { OnErr result (W.failed out.new ≡ true) }
@@ -151,6 +153,7 @@ fn list_side<W: WriteDevice>(
 pub fn list_delivered<W: WriteDevice>(out: &mut W, sheets: &EntrySheets) -> io::Result<()>
     ensures written { Writes result (W.contents out.old) (W.contents out.new)
         (entry_listing (entry_deliveries_of (kept sheets.now))) }
+    ensures flushed { OnOk result (W.waiting out.new ≡ false) }
     ensures cause { OnErr result (W.failed out.new ≡ true) }
 {
     list_entries(out, sheets.sheets())
@@ -160,6 +163,7 @@ pub fn list_delivered<W: WriteDevice>(out: &mut W, sheets: &EntrySheets) -> io::
 fn list_entries<W: WriteDevice>(out: &mut W, sheets: &[EntrySheet]) -> io::Result<()>
     ensures written { Writes result (W.contents out.old) (W.contents out.new)
         (entry_lines sheets.now) }
+    ensures flushed { OnOk result (W.waiting out.new ≡ false) }
     ensures cause { OnErr result (W.failed out.new ≡ true) }
 {
     for sheet in sheets {

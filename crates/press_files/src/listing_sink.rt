@@ -1,114 +1,141 @@
-//! The sink that keeps what a listing tells.
-ghost use Rattle.std.specs.Prelude.{◌≡◌, option_map};
-ghost use Rattle.press_files.specs.Measured.{measures_of};
+//! The sink that lists sheets as they come.
+ghost use Rattle.std.specs.Prelude.{◌≡◌, ℕ, List, Option, ◌++◌, ◌∷◌, [], true, false, length, option_map, IfErr, OnOk, OnErr};
+ghost use Rattle.press_sink.specs.Sending.{sheets_in};
+ghost use Rattle.press_files.specs.Listed.{delivery_of, last_of};
+ghost use Rattle.press_files.specs.Listing.{HasListed, lines_from, sheet_lines};
 
-use crate::measures::Measures;
+use crate::listed_sheet::ListedSheet;
+use crate::listing::list_sheet;
+use crate::taken::Taken;
+use press_devices::{WriteDevice, write_flushed};
 use press_sink::{Sheet, SheetSink, SinkError};
-use std::alloc::{AllocError, Global};
-use std::snapshot::Snapshot;
+use std::marker::{Brand, PhantomData};
 
-/// What the listing tells of a sheet, and the tag under which it was delivered. Of the sheet itself clauses alone know: its
-/// dots are not kept.
+/// A writer before its listing. It stands in proofs alone; that of a call says what the writer held.
+pub trait Unlisted {
+    ghost use Rattle.std.specs.Prelude.{List, Option, ℕ};
+
+    ghost begun: { Option (List ℕ) };
+}
+
+impl Unlisted for Brand {
+    ghost use Rattle.std.specs.Prelude.{None};
+
+    ghost begun = { None };
+}
+
+/// A sheet sink that writes the lines of each sheet when it takes it. Of the sheets it keeps what the listing told of the last one, which
+/// may come once more, and how many there were. Where a write failed it goes on to take sheets, and writes nothing more. It has no faults.
 #[derive(Drop)]
-pub struct ListedSheet {
-    pub tag: u64,
-    pub front: Measures,
-    pub back: Option<Measures>,
-    pub sheet: Snapshot<Sheet>,
-    pub ghost front_measured: { front ≡ measures_of sheet.value.front },
-    pub ghost back_measured: { back ≡ option_map measures_of sheet.value.back },
+pub struct ListingSink<W: WriteDevice + Drop, D: Unlisted> {
+    out: W,
+    /// How many sheets it took.
+    count: usize,
+    last: Option<ListedSheet>,
+    /// Whether all lines were written so far.
+    written: bool,
+    taken: Taken,
+    of: PhantomData<D>,
+    ghost lists: { ∥ HasListed written D.begun (W.contents out)
+        (lines_from 1 (sheets_in taken)) ∥₁ },
+    ghost counted: { count ≡ length taken },
+    ghost kept: { ∥ option_map delivery_of last ≡ last_of taken ∥₁ },
+    ghost cause: { written ≡ false → W.failed out ≡ true },
 }
 
-/// A sheet sink that keeps of each sheet what the listing tells, in the order of delivery. It has no faults.
+/// A listing that came to its end: its writer, and whether all was written.
 #[derive(Drop)]
-pub struct ListingSink {
-    sheets: Vec<ListedSheet>,
+pub struct EndedListing<W> {
+    pub out: W,
+    pub written: bool,
 }
 
-impl ListedSheet {
-    ghost use Rattle.press_files.specs.Listed.{delivery_of};
-
-    /// What the listing tells of a sheet that is delivered under a tag.
-    pub fn of(tag: u64, sheet: &Sheet) -> Self
-        ensures { delivery_of result ≡ record { tag = tag; sheet = sheet.now } }
-    {
-        let back = match &sheet.back {
-            Some(back) => Some(Measures::of(back)),
-            None => None,
-        };
-        ListedSheet {
-            tag,
-            front: Measures::of(&sheet.front),
-            back,
-            sheet: Snapshot::of(sheet),
-        }
-    }
-
-    /// What the listing tells of the same sheet once more: its dots are not counted again.
-    pub fn again(&self, sheet: &Sheet) -> Self
-        requires { self.now.sheet.value ≡ sheet.now }
-        ensures { delivery_of result ≡ delivery_of self.now }
-    {
-        ListedSheet {
-            tag: self.tag,
-            front: self.front,
-            back: self.back,
-            sheet: Snapshot::of(sheet),
-        }
-    }
-}
-
-impl ListingSink {
-    ghost use Rattle.std.specs.Prelude.{◌++◌, ◌∷◌, [], OnOk, OnErr};
-    ghost use Rattle.press_files.specs.Listed.{listed, delivery_of, deliveries_of};
-
+impl<W: WriteDevice + Drop, D: Unlisted> ListingSink<W, D> {
     /// A sink that took nothing yet.
-    pub fn new(alloc: Global) -> Self
-        ensures { listed result ≡ [] }
+    pub fn new(out: W) -> Self
+        requires { W.contents out ≡ D.begun }
+        ensures { result.taken ≡ [] }
     {
         ListingSink {
-            sheets: Vec::new(alloc),
+            out,
+            count: 0,
+            last: None,
+            written: true,
+            taken: Taken::none(),
+            of: PhantomData,
         }
     }
 
-    /// What it kept of the sheets that it took, in the order of delivery.
-    pub fn sheets(&self) -> &[ListedSheet]
-        ensures { result.now ≡ listed self.now }
+    /// Writes the replies behind the lines, and flushes.
+    pub fn finish(self, replies: &[u8]) -> EndedListing<W>
+        ensures lists { ∥ HasListed result.written D.begun (W.contents result.out)
+            (lines_from 1 (sheets_in self.taken) ++ replies.now) ∥₁ }
+        ensures flushed { result.written ≡ true → W.waiting result.out ≡ false }
+        ensures cause { result.written ≡ false → W.failed result.out ≡ true }
     {
-        &self.sheets
+        let ListingSink {
+            mut out,
+            written,
+            ..
+        } = self;
+        if !written {
+            return EndedListing { out, written };
+        }
+        let written = write_flushed(&mut out, replies).is_ok();
+        EndedListing { out, written }
     }
 
-    /// Keeps what the listing tells of a sheet.
-    fn keep(&mut self, sheet: ListedSheet) -> Result<(), AllocError>
-        ensures ok { OnOk result (deliveries_of (listed self.new)
-            ≡ deliveries_of (listed self.old) ++ delivery_of sheet ∷ []) }
-        ensures err { OnErr result (listed self.new ≡ listed self.old) }
+    /// Lists a sheet, and keeps what is told of it.
+    fn list(&mut self, listed: ListedSheet, sheet: &Sheet) -> Result<(), SinkError>
+        requires { listed.sheet.value ≡ sheet.now }
+        ensures ok { OnOk result (self.new.taken ≡ self.old.taken ++ delivery_of listed ∷ []) }
+        ensures err { OnErr result (self.new.taken ≡ self.old.taken) }
+        ensures memory { IfErr result (λ error. error ≡ SinkError.NoMemory) }
     {
-        self.sheets.push(sheet)?;
+        let Some(number) = self.count.checked_add(1) else {
+            return Err(SinkError::NoMemory);
+        };
+        self.written = list_more(&mut self.out, self.written, number, &listed);
+        self.taken.add(listed.tag, sheet);
+        self.count = number;
+        self.last = Some(listed);
         Ok(())
     }
 }
 
-impl SheetSink for ListingSink {
-    ghost use Rattle.std.specs.Prelude.{Some};
-    ghost use Rattle.press_files.specs.Listed.{listed, deliveries_of};
+/// Writes the lines of a sheet, unless a write failed before: whether all lines are written now.
+fn list_more<W: WriteDevice>(out: &mut W, written: bool, number: usize, sheet: &ListedSheet) -> bool
+    ensures lists { (old : Option (List ℕ)) (bytes : List ℕ)
+        → HasListed written old (W.contents out.old) bytes
+        → HasListed result old (W.contents out.new)
+        (bytes ++ sheet_lines number sheet.now.sheet.value) }
+    ensures cause { result ≡ false → (written ≡ false → W.failed out.old ≡ true)
+        → W.failed out.new ≡ true }
+{
+    if !written {
+        return written;
+    }
+    list_sheet(out, number, sheet).is_ok()
+}
 
-    ghost told = { λ sink. record { delivered = Some (deliveries_of (listed sink)); faults = 0 } };
+impl<W: WriteDevice + Drop, D: Unlisted> SheetSink for ListingSink<W, D> {
+    ghost use Rattle.std.specs.Prelude.{Some};
+
+    ghost told = { λ sink. record { delivered = Some sink.taken; faults = 0 } };
 
     fn faults(&self) -> u64 {
         0
     }
 
     fn deliver(&mut self, tag: u64, sheet: &Sheet) -> Result<(), SinkError> {
-        self.keep(ListedSheet::of(tag, sheet))
-            .map_err(|_| SinkError::NoMemory)
+        self.list(ListedSheet::of(tag, sheet), sheet)
     }
 
     fn deliver_again(&mut self, tag: u64, sheet: &Sheet) -> Result<(), SinkError> {
-        let Some(last) = self.sheets.last() else {
+        let Some(last) = &self.last else {
             return self.deliver(tag, sheet);
         };
         let again = last.again(sheet);
-        self.keep(again).map_err(|_| SinkError::NoMemory)
+        self.list(again, sheet)
     }
 }

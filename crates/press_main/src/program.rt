@@ -224,15 +224,7 @@ fn make<
         (W.contents out) (W.contents result.out) (O.made outputs) (O.made result.outputs)) }
 {
     match output {
-        Output::Listing(prefix) => {
-            let (status, input) = list_behind(alloc, prefix, reader, &mut out, err);
-            Performed {
-                status,
-                input,
-                out,
-                outputs,
-            }
-        }
+        Output::Listing(prefix) => list_behind(alloc, outputs, prefix, reader, out, err),
         Output::Files(prefix, template) => {
             print_behind(alloc, outputs, prefix, reader, template, out, err)
         }
@@ -295,31 +287,43 @@ fn make<
     }
 }
 
-/// Lists the sheets of the stream of these bytes and those that a reader has behind them.
-fn list_behind<R: ReadDevice + Drop, W: WriteDevice, E: Teller>(
+/// Lists the sheets of the stream of these bytes and those that a reader has behind them. No output is made.
+fn list_behind<O: NamedOutputs + Drop, R: ReadDevice + Drop, W: WriteDevice + Drop, E: Teller>(
     alloc: Global,
+    outputs: O,
     prefix: &[u8],
     mut reader: R,
-    out: &mut W,
+    out: W,
     err: &mut E,
-) -> (u8, R)
-    ensures { HoldsBehind prefix.now (R.remaining reader) (R.remaining result.1)
+) -> Performed<R, W, O>
+    ensures lists { HoldsBehind prefix.now (R.remaining reader) (R.remaining result.input)
         (λ had left. PrintsListing
-        (failures (ReadFails (R.failed result.1) (R.reads result.1))
-        ⊥ (W.failed out.new ≡ true) ⊥) result.0
+        (failures (ReadFails (R.failed result.input) (R.reads result.input))
+        ⊥ (W.failed result.out ≡ true) ⊥) result.status
         (change (E.said err.old) (E.said err.new)) (change had left)
-        (change (W.contents out.old) (W.contents out.new))) }
+        (change (W.contents out) (W.contents result.out))) }
+    ensures outputs { result.outputs ≡ outputs }
 {
     if prefix.is_empty() {
-        let status = print_list(alloc, &mut reader, out, err);
-        return (status, reader);
+        let ended = print_list(alloc, &mut reader, out, err);
+        return Performed {
+            status: ended.status,
+            input: reader,
+            out: ended.out,
+            outputs,
+        };
     }
     let mut listed = Behind {
         bytes: prefix,
         reader,
     };
-    let status = print_list(alloc, &mut listed, out, err);
-    (status, listed.reader)
+    let ended = print_list(alloc, &mut listed, out, err);
+    Performed {
+        status: ended.status,
+        input: listed.reader,
+        out: ended.out,
+        outputs,
+    }
 }
 
 /// Tells the trace of the stream of these bytes and those that a reader has behind them.

@@ -56,20 +56,20 @@ impl Write for Held {
 fn the_listing_is_flushed(rt: HostRuntime) -> Result<(), Fail> {
     for fails in [false, true] {
         let mut reader: &[u8] = b"\x0C";
-        let mut out = Held {
+        let out = Held {
             bytes: Vec::new(rt.alloc()),
             flushed: 0,
             fails,
         };
         let mut err = Vec::new(rt.alloc());
-        let status = print_list(rt.alloc(), &mut reader, &mut out, &mut err);
+        let listed = print_list(rt.alloc(), &mut reader, out, &mut err);
         let wanted: (u8, usize, &[u8]) = if fails {
             (1, 0, b"fault output\n")
         } else {
             (0, 32, b"")
         };
-        assert_eq!(rt; status, wanted.0);
-        assert_eq!(rt; out.flushed, wanted.1);
+        assert_eq!(rt; listed.status, wanted.0);
+        assert_eq!(rt; listed.out.flushed, wanted.1);
         assert_eq!(rt; err.as_slice(), wanted.2);
     }
     Ok(())

@@ -1,8 +1,8 @@
-use Rattle.std.proofs.Common.{refl}
+use Rattle.std.proofs.Common.{ap, refl}
 use Rattle.press_main.proofs.program.make.Goals as goal
 
 pub returns-in-Listing : goal.returns-in-Listing
-returns-in-Listing g c = rw (c.in-Listing.is, ← c.deref.ensures.value) (c.list_behind-status.ensures, refl)
+returns-in-Listing g c = rw (c.in-Listing.is, ← c.deref.ensures.value) (c.list_behind.ensures.lists, ap g.O.NamedOutputs.made c.list_behind.ensures.outputs)
 
 pub returns-in-Files : goal.returns-in-Files
 returns-in-Files g c = rw (c.in-Files.is, ← c.deref-in-Files.ensures.value) c.print_behind.ensures
@@ -11,7 +11,7 @@ pub returns-in-Session : goal.returns-in-Session
 returns-in-Session g c = rw c.in-Session.is (c.press_lines.ensures, refl)
 
 pub returns-in-Text : goal.returns-in-Text
-returns-in-Text g c = rw c.in-Text.is (c.disasm_bytes.ensures, refl)
+returns-in-Text g c = rw c.in-Text.is (c.disasm_bytes.ensures.ended, refl)
 
 pub returns-in-Debugged : goal.returns-in-Debugged
 returns-in-Debugged g c = rw (c.in-Debugged.is, ← c.deref-in-Debugged.ensures.value) (c.debug_file.ensures, refl)

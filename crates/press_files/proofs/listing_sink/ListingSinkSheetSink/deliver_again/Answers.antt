@@ -1,14 +1,36 @@
-use Rattle.std.proofs.Common.{◌≡◌, ◌∙◌, ◌-◌, List, length, slice_get, ap, rules}
+use Rattle.std.proofs.Common.{◌≡◌, ◌∙◌, sym, ap, option_map}
+use Rattle.std.specs.Coded.{Coded-set}
+use mathlib.Core.Logic.{∥∥₁_elim}
 use Rattle.press_sink.specs.declared.sheet.Delivery.{Delivery}
-use Rattle.press_files.specs.declared.listing_sink.ListedSheet.{ListedSheet}
-use Rattle.press_files.specs.Listed.{delivery_of, listed}
-use Rattle.press_files.proofs.AgainLemmas.{told-last}
+use Rattle.press_files.specs.Files.{delivery_code}
+use Rattle.press_files.specs.Listed.{delivery_of}
+use Rattle.press_files.proofs.AgainLemmas.{delivers-listed, kept-last}
 use Rattle.press_files.proofs.listing_sink.ListingSinkSheetSink.deliver_again.Goals as goal
 
-pub returns : goal.returns
-returns c =
+pub again-again-requires : goal.again-again-requires
+again-again-requires g c =
     let one : Delivery = record { tag = c.args.tag; sheet = c.args.sheet.now } in
-    let last = c.in-Some.ensures.value ∙ ap (λ (all : List ListedSheet). slice_get all (length all - 1)) c.deref.ensures.value in
-    let same : delivery_of c.again-again.result ≡ one =
-    c.again-again.ensures ∙ told-last delivery_of (listed c.args.self.now) c.in-Some.last.now one _ last c.requires.last.1 in
-    search (rules, same)
+    let same : delivery_of c.in-Some.last ≡ one =
+    ∥∥₁_elim c.args.self.now.kept (Coded-set delivery_code _ _) (λ kept.
+    kept-last (delivery_of c.in-Some.last) one c.args.self.now.taken c.requires.last.0
+    (ap (option_map delivery_of) (sym c.in-Some.is) ∙ kept) c.requires.last.1) in
+    ap (λ (delivery : Delivery). delivery.sheet) same
+
+pub list-requires : goal.list-requires
+list-requires g c =
+    let one : Delivery = record { tag = c.args.tag; sheet = c.args.sheet.now } in
+    let same : delivery_of c.in-Some.last ≡ one =
+    ∥∥₁_elim c.args.self.now.kept (Coded-set delivery_code _ _) (λ kept.
+    kept-last (delivery_of c.in-Some.last) one c.args.self.now.taken c.requires.last.0
+    (ap (option_map delivery_of) (sym c.in-Some.is) ∙ kept) c.requires.last.1) in
+    ap (λ (delivery : Delivery). delivery.sheet) (c.again-again.ensures ∙ same)
+
+pub returns : goal.returns
+returns g c =
+    let one : Delivery = record { tag = c.args.tag; sheet = c.args.sheet.now } in
+    let same : delivery_of c.in-Some.last ≡ one =
+    ∥∥₁_elim c.args.self.now.kept (Coded-set delivery_code _ _) (λ kept.
+    kept-last (delivery_of c.in-Some.last) one c.args.self.now.taken c.requires.last.0
+    (ap (option_map delivery_of) (sym c.in-Some.is) ∙ kept) c.requires.last.1) in
+    delivers-listed c.list.result c.args.self.now.taken c.list.new.self.taken (delivery_of c.again-again.result) one (c.again-again.ensures ∙ same)
+    c.list.ensures.ok c.list.ensures.err c.list.ensures.memory
