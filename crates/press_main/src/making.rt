@@ -25,7 +25,7 @@ use press_writer::{WriterError, check};
 use std::alloc::Global;
 
 /// Makes the output of this name, which holds the bytes of the assembly text that a reader has, and writes a fault to `err`. Of a text
-/// that is refused nothing is made. The answer is the status: 0, or 1 after a fault.
+/// that is refused nothing is made. The answer is the status: 0, and nothing of it waits in the program, or 1 after a fault.
 pub fn asm_file<R: ReadDevice, O: NamedOutputs, E: Teller>(
     alloc: Global,
     reader: &mut R,
@@ -33,7 +33,8 @@ pub fn asm_file<R: ReadDevice, O: NamedOutputs, E: Teller>(
     name: &str,
     err: &mut E,
 ) -> u8
-    ensures { Ended result (E.said err.old) (E.said err.new) told_of_text
+    ensures through { result ≡ 0 → O.waiting outputs.new ≡ O.waiting outputs.old }
+    ensures ended { Ended result (E.said err.old) (E.said err.new) told_of_text
         (AssembledInto name.now (R.remaining reader.old) (R.remaining reader.new)
         (O.made outputs.old) (O.made outputs.new))
         (λ why. StopsMaking name.now (R.remaining reader.old) (R.remaining reader.new)
@@ -56,6 +57,7 @@ fn make_stream<R: ReadDevice, O: NamedOutputs>(
 ) -> Result<(), TextError>
     ensures ok { OnOk result (AssembledInto name.now (R.remaining reader.old)
         (R.remaining reader.new) (O.made outputs.old) (O.made outputs.new)) }
+    ensures through { OnOk result (O.waiting outputs.new ≡ O.waiting outputs.old) }
     ensures err { IfErr result (λ why. StopsMaking name.now (R.remaining reader.old)
         (R.remaining reader.new) (O.made outputs.old) (O.made outputs.new) why) }
     ensures cause { IfErr result (TextCause
@@ -68,7 +70,7 @@ fn make_stream<R: ReadDevice, O: NamedOutputs>(
 
 /// Makes the output of this name, which holds the job of the ticket that a reader has, with the images of the inputs of these names
 /// in the order of its pages, and writes a fault to `err`. Nothing is made before the images are found to fit. The answer is the
-/// status: 0, or 1 after a fault.
+/// status: 0, and nothing of it waits in the program, or 1 after a fault.
 pub fn job_file<T: ReadDevice, I: NamedInputs, O: NamedOutputs, E: Teller>(
     alloc: Global,
     ticket: &mut T,
@@ -78,7 +80,8 @@ pub fn job_file<T: ReadDevice, I: NamedInputs, O: NamedOutputs, E: Teller>(
     name: &str,
     err: &mut E,
 ) -> u8
-    ensures { Ended result (E.said err.old) (E.said err.new) told_of_job
+    ensures through { result ≡ 0 → O.waiting outputs.new ≡ O.waiting outputs.old }
+    ensures ended { Ended result (E.said err.old) (E.said err.new) told_of_job
         (MakesTheTicket name.now (T.remaining ticket.old) (T.remaining ticket.new)
         (map (λ name. named (SomeFails I.Input.failed I.Input.reads)
         (I.bytes inputs.now) (I.missing inputs.now) name.now) names.now)
@@ -113,6 +116,7 @@ fn make_ticket<T: ReadDevice, I: NamedInputs, O: NamedOutputs>(
         (map (λ name. named (SomeFails I.Input.failed I.Input.reads)
         (I.bytes inputs.now) (I.missing inputs.now) name.now) names.now)
         (O.made outputs.old) (O.made outputs.new)) }
+    ensures through { OnOk result (O.waiting outputs.new ≡ O.waiting outputs.old) }
     ensures err { IfErr result (λ why. StopsMakingJob name.now (T.remaining ticket.old)
         (T.remaining ticket.new)
         (map (λ name. named (SomeFails I.Input.failed I.Input.reads)
@@ -143,6 +147,7 @@ fn make_job<O: NamedOutputs>(
 ) -> Result<(), WriterError>
     ensures ok { OnOk result (MakesAJob name.now ticket.now images.now
         (O.made outputs.old) (O.made outputs.new)) }
+    ensures through { OnOk result (O.waiting outputs.new ≡ O.waiting outputs.old) }
     ensures err { IfErr result (λ why. MakesNoJob name.now ticket.now images.now
         (O.made outputs.old) (O.made outputs.new) why) }
     ensures cause { IfErr result (λ error.

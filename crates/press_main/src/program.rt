@@ -1,5 +1,5 @@
 //! What the words ask for, done.
-ghost use Rattle.std.specs.Prelude.{◌≡◌, ◌⊎◌, None, map, IfOk, true};
+ghost use Rattle.std.specs.Prelude.{◌≡◌, ◌⊎◌, None, map, IfOk, true, false};
 ghost use Rattle.press_devices.specs.Reading.{ReadFails, SomeFails};
 ghost use Rattle.press_files.specs.Causes.{failures};
 ghost use Rattle.press_files.specs.Change.{answering, around, change};
@@ -109,7 +109,8 @@ fn refuse<W: WriteDevice, E: Teller>(
     out: &mut W,
     err: &mut E,
 ) -> u8
-    ensures { RefusesBy (status_of refusal.now) result
+    ensures flushed { result ≡ 0 → W.waiting out.new ≡ false }
+    ensures refuses { RefusesBy (status_of refusal.now) result
         (answering (W.failed out.new ≡ true) (change (E.said err.old) (E.said err.new))
         (change (W.contents out.old) (W.contents out.new)))
         ⊎ RefusesBy 1 result
@@ -133,7 +134,8 @@ fn write_help<W: WriteDevice, E: Teller>(
     out: &mut W,
     err: &mut E,
 ) -> u8
-    ensures { RefusesBy 0 result
+    ensures flushed { result ≡ 0 → W.waiting out.new ≡ false }
+    ensures refuses { RefusesBy 0 result
         (answering (W.failed out.new ≡ true) (change (E.said err.old) (E.said err.new))
         (change (W.contents out.old) (W.contents out.new)))
         ⊎ RefusesBy 1 result
@@ -394,7 +396,9 @@ fn print_behind<O: NamedOutputs + Drop, R: ReadDevice + Drop, W: WriteDevice + D
     out: W,
     err: &mut E,
 ) -> Performed<R, W, O>
-    ensures { HoldsBehind prefix.now (R.remaining reader) (R.remaining result.input)
+    ensures flushed { result.status ≡ 0 → W.waiting out ≡ false → W.waiting result.out ≡ false }
+    ensures through { result.status ≡ 0 → O.waiting result.outputs ≡ O.waiting outputs }
+    ensures prints { HoldsBehind prefix.now (R.remaining reader) (R.remaining result.input)
         (λ had left. PrintsFiles template.now result.status
         (around (failures (ReadFails (R.failed result.input) (R.reads result.input)) ⊥
         (W.failed result.out ≡ true) (O.failed result.outputs ≡ true))
@@ -495,7 +499,8 @@ fn write_file<R: ReadDevice, I: NamedInputs, O: NamedOutputs, E: Teller>(
     name: &str,
     err: &mut E,
 ) -> u8
-    ensures { Writing name.now result
+    ensures through { result ≡ 0 → O.waiting outputs.new ≡ O.waiting outputs.old }
+    ensures writes { Writing name.now result
         (map (named (SomeFails I.Input.failed I.Input.reads)
         (I.bytes inputs.now) (I.missing inputs.now))
         (map (λ image. image.now) images.now))

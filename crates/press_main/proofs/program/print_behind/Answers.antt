@@ -6,8 +6,8 @@ use Rattle.press_files.specs.Files.{PrintsFiles, PrintsNoFiles}
 use Rattle.press_words.proofs.DefaultsLemmas.{holds-behind}
 use Rattle.press_main.proofs.program.print_behind.Goals as goal
 
-pub returns : goal.returns
-returns g c =
+pub returns-clause-prints : goal.returns-clause-prints
+returns-clause-prints g c =
     let reader = c.print_files-printed-2.new.reader.reader in
     let out = c.print_files-printed-2.result.out in
     let outputs = c.print_files-printed-2.result.outputs in

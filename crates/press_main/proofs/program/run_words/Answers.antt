@@ -54,4 +54,4 @@ returns g c =
     (g.E.Teller.said c.args.err.now) (g.E.Teller.said c.refuse.new.err) (g.S.ReadDevice.remaining c.args.input)
     (g.W.WriteDevice.contents c.args.out) (g.W.WriteDevice.contents c.refuse.new.out) (g.O.NamedOutputs.made c.args.outputs)
     c.in-Err.refusal
-    (rw seen at refused.refused) (λ zero_. rw seen at refused.help zero_) c.refuse.ensures
+    (rw seen at refused.refused) (λ zero_. rw seen at refused.help zero_) c.refuse.ensures.refuses

@@ -10,14 +10,14 @@ use Rattle.press_jobs.specs.declared.jobs.JobFileError.TheVariants as fault
 use Rattle.press_files.proofs.MapLemmas.{map-twice}
 use Rattle.press_main.proofs.program.write_file.Goals as goal
 
-pub returns-in_default : goal.returns-in_default
-returns-in_default g c = record {
+pub returns-in_default-clause-writes : goal.returns-in_default-clause-writes
+returns-in_default-clause-writes g c = record {
   done = λ zero. absurd (omega (arith, c.report.ensures.status, zero));
   stops = λ other. (c.report.ensures.status, fault.Ticket ticket_fault.NoMemory, c.report.ensures.told, (inl (record { refused = tt; unwritten = refl }), tt));
 }
 
-pub returns : goal.returns
-returns g c =
+pub returns-clause-writes : goal.returns-clause-writes
+returns-clause-writes g c =
     let input = named (SomeFails g.I.Input.ReadDevice.failed g.I.Input.ReadDevice.reads) (g.I.NamedInputs.bytes c.args.inputs.now) (g.I.NamedInputs.missing c.args.inputs.now) in
     let had = g.R.ReadDevice.remaining c.args.reader.now in
     let left = g.R.ReadDevice.remaining c.job_file.new.ticket in
@@ -31,4 +31,4 @@ returns g c =
     let says = g.E.Teller.said c.job_file.new.err in
     let P : List NamedInput → Type 0 = λ inputs.
     Writing c.args.name.now c.job_file.result inputs (around fails said says had left None None before after) in
-    subst P same c.job_file.ensures
+    subst P same c.job_file.ensures.ended
