@@ -4,7 +4,7 @@ use Rattle.std.proofs.Common.{Result, Ok, Err, is_ok, IfSome, Bool, true, false,
 use mathlib.Core.Logic.{∥∥₁_elim}
 use Rattle.std.specs.Coded.{Coded-set, coded_list, coded_ℕ}
 use Rattle.std.specs.Io.KnownBytes.{Appends}
-use Rattle.std.proofs.KnownBytes.{Appends-nil, Appends-trans}
+use Rattle.std.proofs.KnownBytes.{Appends-trans}
 use Rattle.std.proofs.Math.Seq.{drop-append_seam}
 use Rattle.std.proofs.lemmas.Bool.{true≢false}
 use Rattle.std.proofs.lemmas.List.{append_assoc, append-nil, length-map, map-append}
@@ -96,10 +96,6 @@ lists-printed (Ok job) true (Some bytes) left old new stream zero =
     )
 
 -- ---- what was written of a listing
-
--- nothing yet
-pub listed-begins : (old new : Option (List ℕ)) → new ≡ old → HasListed true old new []
-listed-begins old new is = subst (λ (now : Option (List ℕ)). Appends old now []) (sym is) (Appends-nil old)
 
 -- more of it, by whether that was written
 pub listed-more : {X E : Type 0} (result : Result X E) (written : Bool) (old middle new : Option (List ℕ)) (bytes more : List ℕ)
