@@ -188,6 +188,24 @@ fn ink_words(rows: &mut [u8], first: usize, words: usize, line: usize, stroke: &
     ink_last_words(rows, first + 8 * inner, words - inner, line, stroke);
 }
 
+/// Paints so many words of sixty-four dots of a stroke, from a byte on: ink by a loop of its own.
+#[inline(always)]
+fn mix_words(rows: &mut [u8], first: usize, words: usize, line: usize, stroke: &Stroke<'_, '_>)
+    requires room { first + 8 * words ≤ length rows.old }
+    requires small { length rows.old < 2 ^ 40 }
+    requires begun { 8 * line + stroke.now.run.first ≤ 8 * first }
+    requires left { 8 * first + 64 * words
+        ≤ 8 * line + stroke.now.run.first + stroke.now.run.count }
+    requires enough { stroke.now.run.skip + stroke.now.run.count ≤ stroke.now.source.dots }
+    ensures { IsPaintedFrom rows.old rows.new line stroke.now (8 * first) (8 * first + 64 * words) }
+{
+    if stroke.through.is_black() && !stroke.mode.source_opaque {
+        ink_words(rows, first, words, line, stroke);
+    } else {
+        paint_words(rows, first, words, line, stroke);
+    }
+}
+
 /// Paints so many words of sixty-four dots of a stroke, from a byte on: where it is laid and its dots stand in whole bytes, these.
 #[inline(always)]
 fn lay_words(rows: &mut [u8], first: usize, words: usize, line: usize, stroke: &Stroke<'_, '_>)
@@ -199,14 +217,10 @@ fn lay_words(rows: &mut [u8], first: usize, words: usize, line: usize, stroke: &
     requires enough { stroke.now.run.skip + stroke.now.run.count ≤ stroke.now.source.dots }
     ensures { IsPaintedFrom rows.old rows.new line stroke.now (8 * first) (8 * first + 64 * words) }
 {
-    if stroke.through.is_black() && !stroke.mode.source_opaque {
-        ink_words(rows, first, words, line, stroke);
-        return;
-    }
     let run = stroke.run;
     let dot = run.skip + (8 * first - (8 * line + run.first));
     if !stroke.laid || dot % 8 != 0 {
-        paint_words(rows, first, words, line, stroke);
+        mix_words(rows, first, words, line, stroke);
         return;
     }
     let bits = &stroke.source.bits[dot / 8..dot / 8 + 8 * words];
