@@ -9,10 +9,11 @@ import pathlib
 import tempfile
 from typing import Callable, NamedTuple
 
-from asked import assembly, made
+from asked import assembly, leaves, made
 from asked.examples import examples, lay_out
 from asked.parts import named_rows, shown
 from pinning.jobs import Jobs
+from seen import effects
 
 ASKED, EXAMPLE, WORKED = "asked row", "example", "worked row"
 
@@ -76,6 +77,12 @@ def prints_what_is_wanted(stream, written):
         (side.width(), side.height()) == size for sheet in outcome.sheets for _, side in sheet.sides())
 
 
+def digest_by_model(stream):
+    outcome = importlib.import_module("model.runs").run_stream(stream)
+    listing = importlib.import_module("model.pages").listing(outcome.sheets, outcome.replies)
+    return effects.digest_of(importlib.import_module("model.trace_lines").steps(stream), listing)
+
+
 def worked_rows():
     """The tests of the model, each of which stands for its examples."""
     names = [name for name in vars(importlib.import_module("model.tests")) if name.startswith("test_")]
@@ -106,6 +113,8 @@ def every_row():
         yield Row(ASKED, f"made: {shown(row[0], row[2])}", lambda row=row: asking.leaves(*row))
     for stream in assembly.THERE_AND_BACK:
         yield Row(ASKED, f"there and back: {stream[:60]!r}", lambda stream=stream: asking.goes_there_and_back(stream))
+    for shows, stream, wanted in leaves.ROWS:
+        yield Row(ASKED, f"leaves: {shows}", lambda stream=stream, wanted=wanted: digest_by_model(stream) == wanted)
     for row in examples():
         yield Row(EXAMPLE, shown(row[0], row[3]), lambda row=row: asking.agrees(*row))
     yield from worked_rows()
