@@ -234,3 +234,13 @@ ROWS += [("disasm -", 0, text, stream) for stream, text, _ in STREAMS]
 ROWS += [("asm - /dev/stdout", 0, assembled, text.encode()) for _, text, assembled in STREAMS]
 ROWS += [("disasm -", 0, text, assembled) for _, text, assembled in STREAMS]
 ROWS += [("disasm -", 0, text, stream) for stream, text in CUT]
+# A signed count of data; the 33rd byte of a field without group; an ESC before the exit of another language; data with an exit inside; a negative count.
+SELDOM = [
+    (b"\x1b*b+2W\x01\x02A", "par *b+2W 0102\ntxt 41\n"),
+    (b"\x1b%" + b"1" * 33 + b"A", "brk 1B25" + "31" * 32 + "\ntxt 31\ntxt 41\n"),
+    (b"\x1b%" + b"1" * 32 + b"A", "par %" + "1" * 32 + "A\n"),
+    (b"\x1b%-12345X@PJL ENTER LANGUAGE=X\n\x1b\x1b%-12345X~", "uel\npjl 40504A4C20454E544552204C414E47554147453D580A\nfor 1B\nuel\ntxt 7E\n"),
+    (b"\x1b*b9W\x1b%-12345XA", "par *b9W 1B252D313233343558\ntxt 41\n"),
+    (b"\x1b*b-2WAB", "par *b-2W\ntxt 41\ntxt 42\n"),
+]
+ROWS += [("disasm -", 0, text, stream) for stream, text in SELDOM]

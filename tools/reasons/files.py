@@ -1,5 +1,6 @@
 """Inputs that are read and outputs that are made; nothing is written here."""
 
+import fcntl
 import os
 import stat
 import sys
@@ -90,9 +91,23 @@ def check_parts(name, number, what):
     if os.path.exists(name) and not stat.S_ISREG(os.stat(name).st_mode):
         return
     folder = os.path.dirname(os.path.realpath(name))
-    if all(os.path.lexists(os.path.join(folder, f".press-{each}.part")) for each in range(1, MOST_PARTS + 1)):
-        raise Found(number, f"{what} {name} cannot be made: {folder} has {MOST_PARTS:,} files that were begun and left, .press-1.part and so on",
-                    f"Remove those that no press still makes: rm {folder}/.press-*.part")
+    if all(is_taken(os.path.join(folder, f".press-{each}.part")) for each in range(1, MOST_PARTS + 1)):
+        raise Found(number, f"{what} {name} cannot be made: {folder} has {MOST_PARTS:,} names of files that are being made, .press-1.part and so on, "
+                            "and none of them can be taken over", f"Remove those that no press still makes: rm -r {folder}/.press-*.part")
+
+
+def is_taken(part):
+    """Whether a name under which a file is made cannot be taken over: it is that of no file, or of one that a run holds."""
+    if not os.path.lexists(part):
+        return False
+    if os.path.islink(part) or not os.path.isfile(part):
+        return True
+    try:
+        with open(part, "r+b") as left:
+            fcntl.flock(left, fcntl.LOCK_EX | fcntl.LOCK_NB)
+        return False
+    except OSError:
+        return True
 
 
 def check_room(name, folder, number, size, what):

@@ -11,7 +11,7 @@ from model import defaults, table
 TICKET = b'{"Amount":1,"JobID":"J","NPage":1,"Type":"DigitalPrinting","Version":"1.5"}'
 DOT = b"P4 1 1\n\x80"
 UEL = b"\x1b%-12345X"
-LEFT = {f".press-{number}.part": b"" for number in range(1, 1001)}   # of runs that a signal ended
+LEFT = {f".press-{number}.part": None for number in range(1, 1001)}   # folders, which no run takes over
 
 
 def ticket(old=b"", new=b""):
@@ -88,8 +88,8 @@ FILES = [
     Mistake("asm page.asm /dev/full", 115, ("OUT /dev/full", "disk that is full"), {"page.asm": b"uel\n"}),
     Mistake("write t.json /dev/full a.pbm", 614, ("OUT /dev/full", "disk that is full"), {"t.json": TICKET, "a.pbm": DOT}),
     Mistake("write t.json no/job.prn a.pbm", 614, ("OUT no/job.prn",), {"t.json": TICKET, "a.pbm": DOT}),
-    Mistake("asm page.asm page.pcl", 115, ("OUT page.pcl cannot be made", "1,000 files that were begun and left", "rm "), {"page.asm": b"uel\n", **LEFT}),
-    Mistake("print in.pcl %d.pbm", 301, ("OUT 1.pbm cannot be made", "1,000 files that were begun and left"), {"in.pcl": b"\x0c", **LEFT}),
+    Mistake("asm page.asm page.pcl", 115, ("OUT page.pcl cannot be made", "1,000 names of files that are being made", "rm "), {"page.asm": b"uel\n", **LEFT}),
+    Mistake("print in.pcl %d.pbm", 301, ("OUT 1.pbm cannot be made", "1,000 names of files that are being made"), {"in.pcl": b"\x0c", **LEFT}),
     Mistake("asm page.asm " + "x" * 256, 115, ("more than 255 bytes", "shorter"), {"page.asm": b"uel\n"}),
     Mistake("disasm none.pcl", 304, ("none.pcl is not there",)),
     Mistake("debug none.pcl", 304, ("none.pcl is not there",)),
