@@ -1,2 +1,3 @@
 -- Lemmas on pages of streams.
 mod PagingLemmas
+mod TracedLemmas

@@ -1,5 +1,5 @@
 -- The page that is open at a step of a stream, made an output.
-use Rattle.std.specs.Prelude.{◌≡◌, ◌≢◌, ◌<◌, ◌⊎◌, ℕ, List, [], ◌∷◌, ◌++◌, Option, Some, Result, Ok, Err, codes, take}
+use Rattle.std.specs.Prelude.{◌≡◌, ◌≢◌, ◌≤◌, ◌<◌, ℕ, List, [], ◌∷◌, ◌++◌, Option, Some, Result, Ok, Err, codes, length, take}
 use Rattle.std.specs.Fmt.{decimal}
 use Rattle.std.specs.Io.KnownBytes.{Appends}
 use Rattle.press_bits.specs.Page.{Page}
@@ -43,11 +43,23 @@ StopsPaging steps name had left made WriteFault =
 StopsPaging steps name had left made (Input why) = made.after ≡ made.before
 StopsPaging steps name had left made NoMemory = made.after ≡ made.before
 
--- A stream of these bytes of which so many steps were taken, or all where it has fewer.
-pub record StandsAt (bytes : List ℕ) (steps : ℕ) (now : DebuggerState) : Type 0 where
+-- So many items were taken of a trace, of as many as were asked for: all that it has, where those are fewer.
+pub record AreTaken (steps : ℕ) (items : List StepResult) (taken : ℕ) : Type 0 where
+  pub few : taken ≤ steps
+  pub within : taken ≤ length items
+  pub all : taken < steps → taken ≡ length items
+
+-- An output was made of the page behind so many steps, and so many items of the trace were taken.
+abbrev pub PagedBehind : (steps : ℕ) (name : List ℕ) (had left : Option (List ℕ)) (before after : Option (List MadeOutput)) (taken : ℕ) → Type 0
+PagedBehind steps name had left before after taken =
+    (paged : PagedInto steps name had left before after) × AreTaken steps paged.1.items taken
+
+-- A stream of these bytes of which so many steps were taken, or all where it has fewer, and how many those are.
+pub record StandsAt (bytes : List ℕ) (steps : ℕ) (taken : ℕ) (now : DebuggerState) : Type 0 where
   pub items : List StepResult
   pub trace : IsTraceOf bytes items
   pub state : now.job.machine ≡ Some (last_machine power_on (take steps items))
+  pub count : AreTaken steps items taken
 
 -- An output of this name was made of a page, or not, and this is why.
 abbrev pub MakesPage : (page : Page) (name : List ℕ) → Result (Unit {0}) PagingError → (before after : Option (List MadeOutput)) → Type 0
@@ -60,13 +72,16 @@ MakesPage page name (Err (Input why)) before after = ⊥
 abbrev pub end_text : (taken : ℕ) → List ℕ
 end_text taken = codes "the stream ends behind step " ++ (decimal taken ++ 10 ∷ [])
 
--- Nothing was told; or that fewer steps could be taken.
-abbrev pub TellsEnd : (steps : ℕ) (said says : Option (List ℕ)) → Type 0
-TellsEnd steps said says = (says ≡ said) ⊎ ((taken : ℕ) × (taken < steps) × Appends said says (end_text taken))
+-- Where a trace has fewer items than so many, it was told how many it has; else nothing was told.
+pub record TellsEnd (steps : ℕ) (items : List StepResult) (said says : Option (List ℕ)) : Type 0 where
+  pub short : length items < steps → Appends said says (end_text (length items))
+  pub long : steps ≤ length items → says ≡ said
 
--- The page at a step was made an output of this name, and at most the end of the stream was told; or it was not, and why is what was told.
+-- The page at a step was made an output of this name, and where the stream ends before that step, it was told behind which; or it was not
+-- made, and why is what was told.
 pub record Paging (fails : Failures) (steps : ℕ) (name : List ℕ) (status : ℕ) (told read : Change (Option (List ℕ))) (made : Change (Option (List MadeOutput))) : Type 0 where
-  pub done : status ≡ 0 → TellsEnd steps told.before told.after × PagedInto steps name read.before read.after made.before made.after
+  pub done : status ≡ 0
+      → (paged : PagedInto steps name read.before read.after made.before made.after) × TellsEnd steps paged.1.items told.before told.after
   pub stops : status ≢ 0
       → (status ≡ 1) × (why : PagingError) × Tells told.before told.after (as_line (told_of_page why))
       × StopsPaging steps name read.before read.after made why × PageCause fails why

@@ -1,5 +1,5 @@
 -- The trace of a stream that a reader has, told to a writer.
-use Rattle.std.specs.Prelude.{◌≡◌, ℕ, List, Option}
+use Rattle.std.specs.Prelude.{◌≡◌, ◌⊎◌, ℕ, List, Option}
 use Rattle.press_trace.specs.Traced.{Traces, StopsTracing}
 use Rattle.press_trace.specs.declared.fault.TraceError.{TraceError}
 use Rattle.press_trace.specs.declared.fault.TraceError.TheVariants as traces
@@ -22,12 +22,12 @@ IsTold (traces.Output error) told = told ≡ Output
 IsTold traces.NoMemory told = told ≡ NoMemory
 
 -- Why it stopped, and what was written: nothing, where the stream was not read; else the lines of its first steps, and where a
--- line cannot be written a prefix of the next.
+-- line cannot be written a prefix of the next; or all lines, of which some do not go out of the program.
 abbrev pub StopsTelling : (had left old new : Option (List ℕ)) → TracedError → Type 0
 StopsTelling had left old new (Input why) = new ≡ old
 StopsTelling had left old new Output =
     (bytes : List ℕ) × ReadWhole had left bytes
-    × (why : TraceError) × IsTold why Output × StopsTracing bytes old new why
+    × (((why : TraceError) × IsTold why Output × StopsTracing bytes old new why) ⊎ Traces bytes old new)
 StopsTelling had left old new NoMemory =
     (bytes : List ℕ) × ReadWhole had left bytes
     × (why : TraceError) × IsTold why NoMemory × StopsTracing bytes old new why

@@ -1,5 +1,5 @@
 //! Assembly text to bytes, and back.
-ghost use Rattle.std.specs.Prelude.{◌≡◌, IfOk, IfErr, OnOk, true};
+ghost use Rattle.std.specs.Prelude.{◌≡◌, IfOk, IfErr, OnOk, false, true};
 ghost use Rattle.press_devices.specs.Reading.{ReadFails};
 ghost use Rattle.std.specs.String.{string_bytes};
 ghost use Rattle.press_forms.specs.Assembly.{Assembled, AssembledTo, TextRefused, StopsAssembling, Disassembled, DisassembledTo, StreamUnread, StopsDisassembling};
@@ -101,6 +101,7 @@ fn assemble_to<R: ReadDevice, W: WriteDevice>(
     ensures err { IfErr result (λ why.
         StopsAssembling (R.remaining reader.old) (R.remaining reader.new)
         (W.contents out.old) (W.contents out.new) why) }
+    ensures flushed { OnOk result (W.waiting out.new ≡ false) }
     ensures cause { IfErr result (TextCause
         (failures (ReadFails (R.failed reader.new) (R.reads reader.new))
         ⊥ ⊥ (W.failed out.new ≡ true))) }
@@ -117,7 +118,8 @@ pub fn asm_text<R: ReadDevice, W: WriteDevice, E: Teller>(
     out: &mut W,
     err: &mut E,
 ) -> u8
-    ensures { Ended result (E.said err.old) (E.said err.new) told_of_text
+    ensures flushed { result ≡ 0 → W.waiting out.new ≡ false }
+    ensures ended { Ended result (E.said err.old) (E.said err.new) told_of_text
         (AssembledTo (R.remaining reader.old) (R.remaining reader.new)
         (W.contents out.old) (W.contents out.new))
         (λ why. StopsAssembling (R.remaining reader.old) (R.remaining reader.new)
@@ -154,6 +156,7 @@ fn disassemble_to<R: ReadDevice, W: WriteDevice>(
     ensures err { IfErr result (λ why.
         StopsDisassembling (R.remaining reader.old) (R.remaining reader.new)
         (W.contents out.old) (W.contents out.new) why) }
+    ensures flushed { OnOk result (W.waiting out.new ≡ false) }
     ensures cause { IfErr result (TextCause
         (failures (ReadFails (R.failed reader.new) (R.reads reader.new))
         ⊥ (W.failed out.new ≡ true) ⊥)) }
@@ -170,7 +173,8 @@ pub fn disasm_bytes<R: ReadDevice, W: WriteDevice, E: Teller>(
     out: &mut W,
     err: &mut E,
 ) -> u8
-    ensures { Ended result (E.said err.old) (E.said err.new) told_of_text
+    ensures flushed { result ≡ 0 → W.waiting out.new ≡ false }
+    ensures ended { Ended result (E.said err.old) (E.said err.new) told_of_text
         (DisassembledTo (R.remaining reader.old) (R.remaining reader.new)
         (W.contents out.old) (W.contents out.new))
         (λ why. StopsDisassembling (R.remaining reader.old) (R.remaining reader.new)

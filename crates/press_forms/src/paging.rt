@@ -1,12 +1,12 @@
 //! The page that is open at a step of a stream, made an output.
-ghost use Rattle.std.specs.Prelude.{◌≡◌, ◌<◌, true, IfOk, IfErr, IfSome, OnOk};
+ghost use Rattle.std.specs.Prelude.{◌≡◌, true, IfOk, IfErr, IfSome};
 ghost use Rattle.press_devices.specs.Reading.{ReadFails};
 ghost use Rattle.press_files.specs.Causes.{failures};
 ghost use Rattle.press_files.specs.Change.{change};
 ghost use Rattle.press_forms.specs.Causes.{PageCause};
 ghost use Rattle.press_table.specs.Closing.{page_now};
 ghost use Rattle.press_table.specs.Place.{blank_page};
-ghost use Rattle.press_forms.specs.Paging.{MakesPage, PagedInto, Paging, StandsAt, StopsPaging};
+ghost use Rattle.press_forms.specs.Paging.{MakesPage, PagedBehind, Paging, StandsAt, StopsPaging};
 ghost use Rattle.press_forms.specs.declared.paging.PagingError.{PagingError};
 
 use press_bits::{Bitmap, BlankError};
@@ -138,7 +138,7 @@ fn make_page<R: ReadDevice, O: NamedOutputs>(
     outputs: &mut O,
     name: &str,
 ) -> Result<u64, PagingError>
-    ensures ok { OnOk result (PagedInto steps name.now (R.remaining reader.old)
+    ensures ok { IfOk result (PagedBehind steps name.now (R.remaining reader.old)
         (R.remaining reader.new) (O.made outputs.old) (O.made outputs.new)) }
     ensures err { IfErr result (λ why. StopsPaging steps name.now (R.remaining reader.old)
         (R.remaining reader.new)
@@ -148,25 +148,35 @@ fn make_page<R: ReadDevice, O: NamedOutputs>(
         ⊥ ⊥ (O.failed outputs.new ≡ true))) }
 {
     let bytes = read_all(alloc, reader)?;
-    let stepper = behind_steps(alloc, &bytes, steps)?;
-    write_open_page(alloc, &stepper, outputs, name)?;
-    Ok(stepper.view().step)
+    let stands = behind_steps(alloc, &bytes, steps)?;
+    write_open_page(alloc, &stands.stepper, outputs, name)?;
+    Ok(stands.taken)
+}
+
+/// A stream behind some of its steps, and how many were taken.
+#[derive(Drop)]
+struct StandingStream {
+    stepper: Stepper,
+    taken: u64,
 }
 
 /// The stream of these bytes, of which so many steps were taken, or all where it has fewer.
-fn behind_steps(alloc: Global, bytes: &[u8], steps: u64) -> Result<Stepper, AllocError>
-    ensures { IfOk result (StandsAt bytes.now steps) }
+fn behind_steps(alloc: Global, bytes: &[u8], steps: u64) -> Result<StandingStream, AllocError>
+    ensures { IfOk result (λ stands. StandsAt bytes.now steps stands.taken stands.stepper) }
 {
     places();
     let mut stepper = Stepper::open(alloc, bytes)?;
-    for _step in 0..steps {
+    for taken in 0..steps {
         match stepper.take() {
             Taken::Steps => {}
-            Taken::Nothing => return Ok(stepper),
+            Taken::Nothing => return Ok(StandingStream { stepper, taken }),
             Taken::Fault => return Err(AllocError),
         }
     }
-    Ok(stepper)
+    Ok(StandingStream {
+        stepper,
+        taken: steps,
+    })
 }
 
 /// Makes the output of this name, the P4 file of the page that is open.

@@ -1,12 +1,14 @@
 //! The trace of a stream, told to a writer.
-ghost use Rattle.std.specs.Prelude.{◌≡◌, IfErr, OnOk, true};
+ghost use Rattle.std.specs.Prelude.{◌≡◌, IfErr, OnErr, OnOk, false, true};
+ghost use Rattle.std.specs.Io.KnownBytes.{Keeps};
 ghost use Rattle.press_devices.specs.Reading.{ReadFails};
 ghost use Rattle.press_files.specs.Change.{change};
 ghost use Rattle.press_files.specs.Causes.{failures};
 ghost use Rattle.press_forms.specs.Causes.{TraceCause};
 ghost use Rattle.press_forms.specs.Traced.{StopsTelling, Traced, Tracing};
+ghost use Rattle.press_forms.specs.declared.traced.TracedError.{TracedError};
 
-use press_devices::{ReadDevice, WriteDevice, write_flushed};
+use press_devices::{ReadDevice, WriteDevice};
 use press_files::{InputError, read_all};
 use press_telling::{NO_OUTPUT, Teller, report};
 use press_trace::{TraceError, trace_lines};
@@ -20,7 +22,7 @@ use std::fmt;
 pub enum TracedError {
     /// The stream was not read to its end.
     Input(InputError),
-    /// A line cannot be written.
+    /// A line cannot be written, or what was written does not go out of the program.
     Output,
     NoMemory,
 }
@@ -73,7 +75,8 @@ pub fn tell_trace<R: ReadDevice, W: WriteDevice, E: Teller>(
     out: &mut W,
     err: &mut E,
 ) -> u8
-    ensures { Tracing
+    ensures flushed { result ≡ 0 → W.waiting out.new ≡ false }
+    ensures traces { Tracing
         (failures (ReadFails (R.failed reader.new) (R.reads reader.new))
         ⊥ (W.failed out.new ≡ true) ⊥) result
         (change (E.said err.old) (E.said err.new))
@@ -96,11 +99,22 @@ fn trace_to<R: ReadDevice, W: WriteDevice>(
         (W.contents out.old) (W.contents out.new)) }
     ensures err { IfErr result (StopsTelling (R.remaining reader.old) (R.remaining reader.new)
         (W.contents out.old) (W.contents out.new)) }
+    ensures flushed { OnOk result (W.waiting out.new ≡ false) }
     ensures cause { IfErr result (TraceCause
         (failures (ReadFails (R.failed reader.new) (R.reads reader.new))
         ⊥ (W.failed out.new ≡ true) ⊥)) }
 {
     let bytes = read_all(alloc, reader)?;
     trace_lines(alloc, &bytes, out)?;
-    Ok(())
+    flush_lines(out)
+}
+
+/// Sees to it that no line that was written waits in the program.
+fn flush_lines<W: WriteDevice>(out: &mut W) -> Result<(), TracedError>
+    ensures lines { Keeps (W.contents out.old) (W.contents out.new) }
+    ensures err { IfErr result (λ why. why ≡ TracedError.Output) }
+    ensures flushed { OnOk result (W.waiting out.new ≡ false) }
+    ensures cause { OnErr result (W.failed out.new ≡ true) }
+{
+    out.flush_all().map_err(|_| TracedError::Output)
 }

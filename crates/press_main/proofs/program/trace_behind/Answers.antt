@@ -13,4 +13,4 @@ returns g c =
     let told = change (g.E.Teller.said c.args.err.now) (g.E.Teller.said c.tell_trace-status-2.new.err) in
     let written = change (g.W.WriteDevice.contents c.args.out.now) (g.W.WriteDevice.contents c.tell_trace-status-2.new.out) in
     let Holds : Option (List ℕ) → Option (List ℕ) → Type 0 = λ had left. Tracing fails c.tell_trace-status-2.result told (change had left) written in
-    holds-behind c.args.prefix.now _ _ _ Holds (sym c.is_empty.ensures ∙ c.if-is_empty.false) c.tell_trace-status-2.ensures
+    holds-behind c.args.prefix.now _ _ _ Holds (sym c.is_empty.ensures ∙ c.if-is_empty.false) c.tell_trace-status-2.ensures.traces
