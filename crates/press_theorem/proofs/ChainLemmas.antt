@@ -1,6 +1,6 @@
 -- The calls of a job, one after another.
 use Rattle.std.proofs.Common.{◌≡◌, ◌∙◌, ◌<◌, ◌+◌, ℕ, List, [], ◌∷◌, ◌++◌, length, take, drop, get_or, Ok, Err, Result, Option}
-use Rattle.std.proofs.Common.{Some, None, IsSome, OnErr, OnOk, false, refl, sym, ap, subst, append_assoc}
+use Rattle.std.proofs.Common.{Some, None, IsSome, IfErr, OnErr, OnOk, false, refl, sym, ap, subst, append_assoc}
 use Rattle.std.specs.List.{flat_map}
 use Rattle.std.proofs.KnownBytes.{Consumes-nil}
 use Rattle.std.proofs.lemmas.Grind.{flat_map-append}
@@ -19,9 +19,10 @@ use Rattle.press_stream.specs.declared.step.Step.TheVariants as steps
 use Rattle.press_stream.specs.Chain.{PrintsAll}
 use Rattle.press_stream.specs.Meaning.{CarriesOn}
 use Rattle.press_stream.specs.Printed.{Prints, PrintedTo, Printed}
-use Rattle.press_stream.proofs.Faults.{Faults-then, CarriesOrStops-feeds, HandsOut-goes, HandsOut-nothing}
+use Rattle.press_stream.proofs.Faults.{Faults-then, Faults-now, CarriesOrStops-feeds, HandsOut-goes, HandsOut-nothing}
 use Rattle.press_stream.proofs.Going.{CarriesOn-after, CarriesOn-none, CarriesOn-push, Stops-memory, taken-ended}
 use Rattle.press_stream.proofs.Refusals.{CarriesOrStops-lost}
+use Rattle.press_theorem.specs.Calls.{StopsHanded, StopsRead}
 
 -- the bytes of the first pieces, and of one more
 pub pieces-next : {A : Type 0} (f : A → List ℕ) (pieces : List A) (i : ℕ) (other : A) → i < length pieces → flat_map f (take (i + 1) pieces) ≡ flat_map f (take i pieces) ++ f (get_or pieces i other)
@@ -192,3 +193,42 @@ Printed-stopped bytes had tag error new before after =
 pub read-over : (job new : JobState) (bytes : List ℕ) (result : Result (Unit {0}) JobError) (went : List Output) → RunsThrough job bytes result new went → OnOk result (IsOver new)
 read-over job new bytes (Ok done) went runs = runs.1
 read-over job new bytes (Err error) went runs = tt
+
+-- ---- which errors there are
+
+no_machine_left : (machine : Option Machine) → IsSome machine → machine ≡ None → ⊥
+no_machine_left machine some none = cc
+
+-- of a job that runs, where all its bytes are handed in
+pub Faults-handed : (old new : JobState) (bytes : List ℕ) (error : JobError) (went : List Output) → IsSome old.machine → Faults old bytes error new went
+    → StopsHanded error
+Faults-handed old new bytes errors.SinkFault went running faults = tt
+Faults-handed old new bytes errors.ReplyFault went running faults = tt
+Faults-handed old new bytes errors.NoMemory went running faults = tt
+Faults-handed old new bytes errors.Failed went running faults = absurd (no_machine_left old.machine running faults.0)
+Faults-handed old new bytes errors.ReadFault went running faults = absurd faults.1.goes
+Faults-handed old new bytes errors.AfterEnd went running faults = absurd faults.1.goes
+
+-- of one that takes more bytes
+pub stops-handed : (old new : JobState) (bytes : List ℕ) (error : JobError) (went : List Output) → IsSome old.machine → old.held.ended ≡ false
+    → CarriesOrStops old bytes (Err error) new went → StopsHanded error
+stops-handed old new bytes error went running going faults = Faults-handed old new bytes error went running (Faults-now old new bytes error went going faults)
+
+-- of one that reads
+pub handed-read : (error : JobError) → StopsHanded error → StopsRead error
+handed-read errors.SinkFault stops = stops
+handed-read errors.ReplyFault stops = stops
+handed-read errors.NoMemory stops = stops
+handed-read errors.Failed stops = stops
+handed-read errors.ReadFault stops = tt
+handed-read errors.AfterEnd stops = stops
+
+pub run-read : (old new : JobState) (bytes : List ℕ) (result : Result (Unit {0}) JobError) (went : List Output) → IsSome old.machine → old.held.ended ≡ false
+    → RunsThrough old bytes result new went → IfErr result StopsRead
+run-read old new bytes (Ok done) went running going runs = tt
+run-read old new bytes (Err errors.ReadFault) went running going runs = tt
+run-read old new bytes (Err errors.AfterEnd) went running going runs = absurd (true≢false (sym runs.0.1 ∙ going))
+run-read old new bytes (Err errors.SinkFault) went running going runs = tt
+run-read old new bytes (Err errors.ReplyFault) went running going runs = tt
+run-read old new bytes (Err errors.NoMemory) went running going runs = tt
+run-read old new bytes (Err errors.Failed) went running going runs = absurd (no_machine_left old.machine running runs.0)

@@ -8,7 +8,7 @@ ghost use Rattle.press_stream.specs.Answers.{CarriesOrStops, ending_by, fault_of
 ghost use Rattle.press_stream.specs.Printed.{Prints, PrintedTo, Printed};
 ghost use Rattle.press_stream.specs.State.{IsOver, opened};
 ghost use Rattle.press_theorem.specs.AtEnd.{meaning_at_end};
-ghost use Rattle.press_theorem.specs.Calls.{bytes_of};
+ghost use Rattle.press_theorem.specs.Calls.{bytes_of, StopsHanded, StopsRead};
 
 use press_devices::ReadDevice;
 use press_sink::{ReplySink, SheetSink};
@@ -57,6 +57,7 @@ pub fn print_calls<S: SheetSink, P: ReplySink>(
         (PrintedTo (Some error) (flat_map bytes_of calls.now) None)
         (under tag (logs (S.told sheets.old) (P.told replies.old))
         (logs (S.told sheets.new) (P.told replies.new)))) }
+    ensures unread { IfErr result StopsHanded }
 {
     laws::chain();
     let mut job = Job::open(alloc)?;
@@ -101,6 +102,7 @@ pub fn print_stream<R: ReadDevice, S: SheetSink, P: ReplySink>(
         (logs (S.told sheets.new) (P.told replies.new)))) }
     ensures over { IfOk result (λ printed. OnOk printed.result (IsOver printed.job)) }
     ensures failed { IfOk result (λ printed. OnErr printed.result (printed.job.machine ≡ None)) }
+    ensures listed { IfOk result (λ printed. IfErr printed.result StopsRead) }
     ensures cause { IfOk result (λ printed. IsErrOf printed.result JobError.ReadFault
         → ReadFails (R.failed reader.new) (R.reads reader.new)) }
     ensures nothing { OnErr result ((reader.new ≡ reader.old) × (sheets.new ≡ sheets.old)
@@ -129,6 +131,7 @@ fn run_calls<R: ReadDevice, S: SheetSink, P: ReplySink>(
         (logs (S.told sheets.new) (P.told replies.new))) }
     ensures over { OnOk result (IsOver job.new) }
     ensures failed { OnErr result (job.new.machine ≡ None) }
+    ensures listed { IfErr result StopsRead }
     ensures cause { IsErrOf result JobError.ReadFault
         → ReadFails (R.failed reader.new) (R.reads reader.new) }
 {

@@ -5,6 +5,7 @@ ghost use Rattle.press_sink.specs.SinkLog.{logs, HasFaultRoom, under};
 ghost use Rattle.press_sink.specs.Sending.{Complete, HandsOut};
 ghost use Rattle.press_stream.specs.Answers.{ending_by};
 ghost use Rattle.press_stream.specs.Printed.{Prints, PrintedTo};
+ghost use Rattle.press_theorem.specs.Calls.{StopsHanded};
 
 use press_sink::{ReplySink, SheetSink};
 use press_stream::{Job, JobError, laws};
@@ -34,6 +35,7 @@ pub fn print_pieces<S: SheetSink, P: ReplySink>(
         (PrintedTo (Some error) (flat_map (λ piece. piece.now) pieces.now) None)
         (under tag (logs (S.told sheets.old) (P.told replies.old))
         (logs (S.told sheets.new) (P.told replies.new)))) }
+    ensures unread { IfErr result StopsHanded }
 {
     laws::chain();
     let mut job = Job::open(alloc)?;

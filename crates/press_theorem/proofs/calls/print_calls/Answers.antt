@@ -6,7 +6,10 @@ use Rattle.press_sink.proofs.SendingLemmas.{Took-has_fault_room}
 use Rattle.press_theorem.specs.declared.calls.Call.TheVariants.{Push}
 use Rattle.press_theorem.specs.Calls.{bytes_of}
 use Rattle.press_theorem.proofs.AtEndLemmas.{machine-means, told-means}
+use Rattle.press_stream.specs.State.{opened}
+use Rattle.press_stream.proofs.Going.{CarriesOn-to}
 use Rattle.press_theorem.proofs.ChainLemmas.{opened-going, pieces-next, HandsOut-opened, HandsOut-more, Prints-end, pieces-rest, PrintedTo-before, PrintedTo-none, PrintedTo-end}
+use Rattle.press_theorem.proofs.ChainLemmas.{Faults-handed, stops-handed}
 use Rattle.press_theorem.proofs.calls.print_calls.Goals as goal
 
 pub loop-call-init : goal.loop-call-init
@@ -78,3 +81,25 @@ returns-in_err-finish-clause-err g c =
     (PrintedTo-end c.chain.ensures.prints (flat_map bytes_of (take i calls)) (flat_map bytes_of calls)
     c.args.tag c.in_err-finish.field-0.0 c.loop-call.job c.finish.new.self _ _ _
     (sym (ap (flat_map bytes_of) (take_all i calls c.loop-call-test.false))) c.loop-call.invariant.goes c.in_err-finish.ensures.finishes)
+
+pub returns-in_err-job-clause-unread : goal.returns-in_err-job-clause-unread
+returns-in_err-job-clause-unread g c = rw (exit-is c.from_residual.ensures.1) tt
+
+pub returns-in_err-make-clause-unread : goal.returns-in_err-make-clause-unread
+returns-in_err-make-clause-unread g c =
+    let calls = c.args.calls.now in
+    let i = c.loop-call.call-index in
+    let call = get_or calls i (Push (record { ref_ptr = (0, 0); now = [] })) in
+    let so_far = c.loop-call.invariant in
+    let running = CarriesOn-to opened c.loop-call.job (flat_map bytes_of (take i calls)) so_far.goes.went so_far.goes.is in
+    let goes = c.in_err-make.ensures.goes in
+    rw (exit-is c.from_residual-in_err-make.ensures.1)
+    (stops-handed c.loop-call.job c.make.new.job (bytes_of call) c.in_err-make.field-0.0 goes.went running so_far.going goes.is)
+
+pub returns-in_err-finish-clause-unread : goal.returns-in_err-finish-clause-unread
+returns-in_err-finish-clause-unread g c =
+    let so_far = c.loop-call.invariant in
+    let running = CarriesOn-to opened c.loop-call.job (flat_map bytes_of (take c.loop-call.call-index c.args.calls.now)) so_far.goes.went so_far.goes.is in
+    let stops = c.in_err-finish.ensures.finishes in
+    rw (exit-is c.from_residual-in_err-finish.ensures.1)
+    (Faults-handed c.loop-call.job c.finish.new.self [] c.in_err-finish.field-0.0 stops.went running stops.is)

@@ -12,6 +12,7 @@ use Rattle.press_stream.proofs.Going.{CarriesOn-to}
 use Rattle.press_stream.proofs.Refusals.{RunsThrough-lost}
 use Rattle.press_theorem.proofs.ChainLemmas.{opened-going, pieces-next, HandsOut-opened, HandsOut-more, pieces-rest}
 use Rattle.press_theorem.proofs.ChainLemmas.{PrintedTo-before, Printed-stopped, Printed-run, read-over}
+use Rattle.press_theorem.proofs.ChainLemmas.{stops-handed, handed-read, run-read}
 use Rattle.press_theorem.proofs.calls.run_calls.Goals as goal
 
 pub loop-call-init : goal.loop-call-init
@@ -86,3 +87,22 @@ returns-clause-failed g c =
     let running = CarriesOn-to opened c.loop-call.job (flat_map bytes_of (take c.loop-call.call-index c.args.calls.now)) goes.went goes.is in
     (RunsThrough-lost c.loop-call.job c.run.new.self runs.is.bytes c.run.result runs.went running
     c.loop-call.invariant.going runs.is.through).lost
+
+pub returns-in_err-make-clause-listed : goal.returns-in_err-make-clause-listed
+returns-in_err-make-clause-listed g c =
+    let calls = c.args.calls.now in
+    let i = c.loop-call.call-index in
+    let call = get_or calls i (Push (record { ref_ptr = (0, 0); now = [] })) in
+    let so_far = c.loop-call.invariant in
+    let running = CarriesOn-to opened c.loop-call.job (flat_map bytes_of (take i calls)) so_far.goes.went so_far.goes.is in
+    let goes = c.in_err-make.ensures.goes in
+    rw (exit-is c.from_residual.ensures.1)
+    (handed-read c.in_err-make.field-0.0
+    (stops-handed c.loop-call.job c.make.new.job (bytes_of call) c.in_err-make.field-0.0 goes.went running so_far.going goes.is))
+
+pub returns-clause-listed : goal.returns-clause-listed
+returns-clause-listed g c =
+    let runs = c.run.ensures.runs in
+    let goes = c.loop-call.invariant.goes in
+    let running = CarriesOn-to opened c.loop-call.job (flat_map bytes_of (take c.loop-call.call-index c.args.calls.now)) goes.went goes.is in
+    run-read c.loop-call.job c.run.new.self runs.is.bytes c.run.result runs.went running c.loop-call.invariant.going runs.is.through
