@@ -5,10 +5,7 @@ ghost use Rattle.press_files.specs.Listed.{held};
 use press_sink::{ReplyError, ReplySink};
 use std::alloc::Global;
 
-/// The most bytes of replies that a listing holds: 256 MiB, the replies of ten million pages.
-pub const MOST_REPLIES: usize = 1 << 28;
-
-/// A reply sink that holds the bytes of all replies, up to so many. It has no faults.
+/// A reply sink that holds the bytes of all replies. It has no faults.
 #[derive(Drop)]
 pub struct HeldReplies {
     bytes: Vec<u8>,
@@ -41,11 +38,8 @@ impl ReplySink for HeldReplies {
         0
     }
 
-    /// Holds a reply. `NoMemory`: there is none, or too many bytes would be held.
+    /// Holds a reply.
     fn reply(&mut self, bytes: &[u8]) -> Result<(), ReplyError> {
-        if bytes.len() > MOST_REPLIES - self.bytes.len().min(MOST_REPLIES) {
-            return Err(ReplyError::NoMemory);
-        }
         self.bytes
             .extend_from_slice(bytes)
             .map_err(|_| ReplyError::NoMemory)

@@ -31,7 +31,7 @@ pub struct Answered<W> {
 
 /// Prints the stream that a reader has, and lists its sheets: a line for each side, and then the replies. In the line
 /// `sheet 1 front 2550x3300 black 6` stand the number of the sheet from 1, `front` or `back`, width and height in dots, and how
-/// many dots are black. A line is written when its sheet comes, and the replies are held until the end, 268,435,456 bytes of them at most.
+/// many dots are black. A line is written when its sheet comes, and the replies are held until the end.
 /// After a fault the sheets before it are listed, and the fault stands on `err`. The status is 0, or 1 after a fault.
 pub fn print_list<R: ReadDevice, W: WriteDevice + Drop, E: Teller>(
     alloc: Global,
