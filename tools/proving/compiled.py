@@ -2,7 +2,8 @@
 
 The kit's `rt try` makes a module of the whole program before it proves anything, and hands it to its compiler. It is asked in a folder that
 looks like the kit, by links, but for the compiler: that one takes the module, and the kit is asked for no more. The module is compiled twice:
-at `-O0`, which takes a quarter of a minute and answers the first call, and at `-O2` behind the caller's back, which answers the later ones.
+at `-O0`, which takes a dozen seconds and answers the first call, and at `-O2` behind the caller's back, which answers the later ones, each in
+parts side by side by the kit's linker, which compiles a module to an object that can be linked again.
 What was made is kept in out/compiling/ under a sum of the code and the kit. A program is put there under its name when it is whole.
 """
 
@@ -26,9 +27,9 @@ FOLDER = ROOT / "out" / "compiling"
 RECORD = ROOT / "out" / "compiled"
 CRATE = program.PROGRAM.parent.parent
 TARGET = "x86_64-unknown-linux-gnu"
-FLAGS = ("-march=x86-64 -mllvm -no-trap-after-noreturn -ffunction-sections -fdata-sections -mllvm -trap-unreachable "
-         "-mllvm -no-x86-call-frame-opt -mllvm -disable-machine-licm -mllvm -disable-postra-machine-licm "
-         "-mllvm -sink-common-insts=false --no-default-config -fintegrated-cc1 -c -x ir -fPIE").split()
+FLAGS = [word for flag in ("relocation-model=pic", "no-trap-after-noreturn", "trap-unreachable", "no-x86-call-frame-opt", "disable-machine-licm",
+                           "disable-postra-machine-licm", "sink-common-insts=false") for word in ("-mllvm", f"-{flag}")]
+PARTS = 8                           # in which the module is compiled side by side
 FIRST, FAST = 0, 2                  # the levels of optimisation
 LOOKS_A_SECOND = 50
 SMALL = 100_000                     # bytes of the modules that the kit compiles beside the program
@@ -133,7 +134,7 @@ def make_program(module, level, room, to):
     """Compiles and links the module, and gives the program its name when it is whole."""
     given = home()
     made, whole = room / f"program-{level}.o", room / f"program-{level}"
-    run([given / "toolchain/bin/clang", f"--target={TARGET}", f"--sysroot={given}/toolchain", *FLAGS, module, "-o", made, f"-O{level}"])
+    run([given / "toolchain/bin/ld.lld", "-r", *FLAGS, f"--lto-O{level}", f"--lto-CGO{level}", f"--lto-partitions={PARTS}", module, "-o", made])
     run([given / "bin/rattle-link", "--target", TARGET, "--toolchain", given / "toolchain", "-o", whole, made,
          given / "c/libos_c.a", given / "c/liblibc_c.a"])
     text = whole.read_bytes()
@@ -186,7 +187,7 @@ def begin_fast(code):
 
 def make_first(code):
     """Makes the first program of these sources, while the fast one is begun."""
-    kit.say("nothing is proved on this machine: the program is compiled, which takes half a minute the first time")
+    kit.say("nothing is proved on this machine: the program is compiled, which takes about a minute the first time")
     with room_of(code) as room:
         module = make_module(room)
         kept = name_of(code, "module")
