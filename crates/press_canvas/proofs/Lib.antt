@@ -5,3 +5,4 @@ pub mod LineLemmas
 pub mod FrameLemmas
 pub mod ColumnLemmas
 mod StripLemmas
+pub mod worked

@@ -6,3 +6,4 @@ pub mod Refusals
 pub mod Over
 pub mod Going
 pub mod PlaceLaws
+pub mod worked

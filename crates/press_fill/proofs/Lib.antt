@@ -1,2 +1,3 @@
 -- The lemmas on rectangle fills.
 mod FillLemmas
+pub mod worked

@@ -1,3 +1,4 @@
 -- The lemmas on tiles.
 pub mod TileLemmas
 pub mod HatchLemmas
+pub mod worked

@@ -4,3 +4,4 @@ pub mod OutputsLemmas
 pub mod SendingLemmas
 pub mod SideNameLemmas
 pub mod TemplateLemmas
+pub mod worked

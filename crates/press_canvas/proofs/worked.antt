@@ -1,0 +1,2 @@
+-- Worked places of pages that are turned.
+pub mod Turns

@@ -1,0 +1,2 @@
+-- Worked breakpoints.
+pub mod Breakpoints

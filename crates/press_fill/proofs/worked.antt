@@ -1,0 +1,2 @@
+-- Worked fills.
+pub mod Fills

@@ -1,0 +1,2 @@
+-- Worked tiles.
+pub mod Tiles

@@ -1,0 +1,2 @@
+-- Worked states of the scanner.
+pub mod Buffers

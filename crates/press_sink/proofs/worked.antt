@@ -1,0 +1,2 @@
+-- Worked names and outputs.
+pub mod Names
