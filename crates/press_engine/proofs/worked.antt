@@ -1,4 +1,5 @@
 -- Worked rows.
+pub mod Folds
 pub mod Jobs
 pub mod Macros
 pub mod Streams

@@ -1,10 +1,11 @@
--- Worked streams of macros and the overlay, computed on the definitions from power on. What is found under a macro ID does not
+-- Worked streams of macros and the overlay, computed on the trace from power on. What is found under a macro ID does not
 -- compute: at each command that looks a macro up it is put in by what a map says of it.
 use Prim.Native.Char.{Char, code}
 use Prim.Native.String.{String}
-use Rattle.std.proofs.Common.{◌≡◌, ◌∙◌, ℕ, suc, false, true, List, [], ◌∷◌, ◌++◌, Some, None, map, refl, sym, ap}
+use Rattle.std.proofs.Common.{◌≡◌, ◌∙◌, ℕ, suc, false, true, List, [], ◌∷◌, ◌++◌, Some, None, map, refl, ap, rules}
 use Rattle.std.proofs.lemmas.List.{append-nil}
 use Rattle.std.specs.FinMap as maps
+use Rattle.std.specs.FinMap.{gets}
 use Rattle.std.specs.Prelude.{codes, if◌then◌else◌}
 use Rattle.press_bits.specs.DotRule.{both_transparent}
 use Rattle.press_bits.specs.Mark.{painted}
@@ -14,7 +15,7 @@ use Rattle.press_cmd.specs.Kinds.{kind_of}
 use Rattle.press_fill.specs.Fill.{fill_mark}
 use Rattle.press_store.specs.Things.{stored}
 use Rattle.press_store.proofs.StoreLemmas.{found-stored}
-use Rattle.press_macros.specs.Macros.{Macros, abandoned, body_of}
+use Rattle.press_macros.specs.Macros.{Macros, abandoned, body_of, without}
 use Rattle.press_page.specs.declared.media.Orientation.TheVariants.{Portrait}
 use Rattle.press_pattern.specs.Solid.{solid_black}
 use Rattle.press_sink.specs.Sending.{Output, Deliver}
@@ -32,12 +33,10 @@ use Rattle.press_table.specs.Calls.{kept_of, overlay_body}
 use Rattle.press_table.specs.Macros.{start_body, record_command}
 use Rattle.press_table.specs.Outcome.{Effect, Changes, MayAllocate, Stays, Closes, Starts, is_marked, with_macros}
 use Rattle.press_engine.specs.Begun.{begun_outside, begun_close}
-use Rattle.press_engine.specs.Fold.{run_all}
 use Rattle.press_engine.specs.Machine.{StepResult, silent, with_state, taken, enter_body, leave_body, power_on, source_at, overlay_levels}
 use Rattle.press_table.specs.Motion.{to_left_margin}
 use Rattle.press_table.specs.Table.{effect_on, is_recorded, is_skipped, table_row, row_unless_skipped}
-use Rattle.press_engine.specs.Trace.{last_machine, joined, with_end, begun_items, inside_of, trace, trace_each, trace_at, trace_in_overlay}
-use Rattle.press_engine.proofs.FoldLaws.{told_all-run_all}
+use Rattle.press_engine.specs.Trace.{last_machine, with_end, begun_items, inside_of, trace, trace_each, trace_at, trace_in_overlay}
 use Rattle.press_engine.proofs.TraceLaws.{trace_each-append}
 
 -- ESC, a parameterized character, a group character, a field and a termination character
@@ -54,17 +53,17 @@ abbrev pub call : Token
 call = macro_control "3"
 
 -- a rectangle of so many units in a line, painted black
-abbrev dots : String → List Token
+abbrev pub dots : String → List Token
 dots width = sequence "*" "c" width "A" ∷ sequence "*" "c" "1" "B" ∷ sequence "*" "c" "0" "P" ∷ []
 
 abbrev pub form_feed : Token
 form_feed = Control 12
 
 -- The macro that was defined is found under its ID.
-abbrev one_macro : (id : ℕ) → List Token → Macros
+abbrev pub one_macro : (id : ℕ) → List Token → Macros
 one_macro id commands = record { stored = stored maps.empty id commands; definition = None }
 
-macro_is_found : (commands : List Token) → body_of (one_macro 1 commands) 1 ≡ Some commands
+pub macro_is_found : (commands : List Token) → body_of (one_macro 1 commands) 1 ≡ Some commands
 macro_is_found commands = found-stored maps.empty 1 commands
 
 -- the items of an effect outside an overlay, where so many macros may start inside of what it starts
@@ -72,13 +71,13 @@ abbrev outside_items : (more : ℕ) → Machine → Effect → List StepResult
 outside_items more machine effect = begun_items (inside_of (trace_at more)) (begun_outside (suc more) machine effect)
 
 -- A call of a macro that is found gives the items of its body.
-abbrev call_end : (before : Machine) → Machine → StepResult
+abbrev pub call_end : (before : Machine) → Machine → StepResult
 call_end before after = silent (leave_body (ends.Call (kept_of before.state)) before.depth after)
 
-abbrev inside_call : Machine → Machine
+abbrev pub inside_call : Machine → Machine
 inside_call before = enter_body (ends.Call (kept_of before.state)) before.state (taken call before)
 
-abbrev call_effect : List Token → Machine → Effect
+abbrev pub call_effect : List Token → Machine → Effect
 call_effect commands before = Starts commands (ends.Call (kept_of before.state)) before.state
 
 call_items :
@@ -90,13 +89,13 @@ call_items macro_levels commands before starts = ap (outside_items macro_levels 
 
 -- ESC*p0x0Y, ESC&f1y0X, ESC*c1a1b0P, ESC*p+2X, ESC&f3X, ESC&f1X, ESC&f3X: a macro that paints a dot, moves two units and
 -- calls itself, is called; a third one does not run
-abbrev dot_and_move : List Token
+abbrev pub dot_and_move : List Token
 dot_and_move = dots "1" ++ (sequence "*" "p" "+2" "X" ∷ [])
 
-abbrev body : List Token
+abbrev pub body : List Token
 body = dot_and_move ++ (call ∷ [])
 
-abbrev definition : List Token
+abbrev pub definition : List Token
 definition =
     (sequence "*" "p" "0" "X" ∷ sequence "*" "p" "0" "Y" ∷ macro_id "1" ∷ macro_control "0" ∷ body) ++ (macro_control "1" ∷ [])
 
@@ -177,7 +176,7 @@ abbrev stream_with : (others : List Token) → (inner : List StepResult) → Lis
 stream_with others inner =
     trace definition power_on ++ (inner ++ trace_each (trace_at 2) others (last_machine first inner))
 
-abbrev dot_twice : (others : List Token) → List Token
+abbrev pub dot_twice : (others : List Token) → List Token
 dot_twice others = definition ++ (call ∷ others)
 
 items_of : (others : List Token) → trace (dot_twice others) power_on ≡ stream_with others called
@@ -201,23 +200,23 @@ abbrev recorded : Token → Seen
 recorded command = (0, lasts.Recorded (kind_of command), [])
 
 -- a page with so many black dots in a line from a dot on
-abbrev dotted : (x y width : ℕ) → Page → Page
+abbrev pub dotted : (x y width : ℕ) → Page → Page
 dotted x y width page =
     painted page
     (fill_mark Portrait page (record { x = x; y = y; width = width; height = 1 }) solid_black both_transparent)
 
-abbrev letter : Page
+abbrev pub letter : Page
 letter = blank 2550 3300
 
-abbrev sheet_of : Page → Output
+abbrev pub sheet_of : Page → Output
 sheet_of page = Deliver (record { front = page; back = None })
 
 -- The trace with FF and the universal exit. Ten steps of the stream come first, then the call and four of the macro's, and the call in
 -- it and four more. Then comes the call that has no effect and ends both, and two steps of the stream.
-abbrev page_and_exit : List Token
+abbrev pub page_and_exit : List Token
 page_and_exit = form_feed ∷ Uel ∷ []
 
-abbrev two_dots_sheet : Output
+abbrev pub two_dots_sheet : Output
 two_dots_sheet = sheet_of (dotted 77 150 1 (dotted 75 150 1 letter))
 
 abbrev calls_seen : List Seen
@@ -254,34 +253,6 @@ computed_calls = refl
 the_items_of_the_calls : seen_of (trace (dot_twice page_and_exit) power_on) ≡ calls_seen
 the_items_of_the_calls = ap seen_of (items_of page_and_exit) ∙ computed_calls
 
--- A stream leaves the machine of its last item, and its outputs are those of its items.
-machine_of_items :
-    (commands : List Token) (items : List StepResult) → trace commands power_on ≡ items
-    → (run_all commands power_on).machine ≡ last_machine power_on items
-machine_of_items commands items same =
-    ap (λ (leaves : StepResult). leaves.machine) (sym (told_all-run_all commands power_on)) ∙ ap (λ all. last_machine power_on all) same
-
-outputs_of_items :
-    (commands : List Token) (items : List StepResult) → trace commands power_on ≡ items
-    → (run_all commands power_on).outputs ≡ joined items
-outputs_of_items commands items same =
-    ap (λ (leaves : StepResult). leaves.outputs) (sym (told_all-run_all commands power_on)) ∙ ap joined same
-
-computed_x : (last_machine power_on (stream_with [] called)).state.cursor.x ≡ 96
-unfolding trace_each trace_at
-computed_x = refl
-
-the_cursor_stays_where_the_calls_left_it : (run_all (dot_twice []) power_on).machine.state.cursor.x ≡ 96
-the_cursor_stays_where_the_calls_left_it =
-    ap (λ (at : Machine). at.state.cursor.x) (machine_of_items (dot_twice []) (stream_with [] called) (items_of [])) ∙ computed_x
-
-computed_dots : joined (stream_with page_and_exit called) ≡ two_dots_sheet ∷ []
-unfolding trace_each trace_at trace_in_overlay
-computed_dots = refl
-
-two_dots : (run_all (dot_twice page_and_exit) power_on).outputs ≡ two_dots_sheet ∷ []
-two_dots = outputs_of_items (dot_twice page_and_exit) (stream_with page_and_exit called) (items_of page_and_exit) ∙ computed_dots
-
 -- A command of the stream that closes the page, where the overlay's macro is found, gives the items of the overlay's body.
 close_with_overlay :
     (command : Token) (commands : List Token) (cause : EjectCause) (before : Machine) (state : State)
@@ -293,14 +264,14 @@ close_with_overlay command commands cause before state closes found =
     ap (outside_items 1 (taken command before)) closes
     ∙ ap (λ body. begun_items (inside_of (trace_at 1)) (begun_close body cause (with_state state (taken command before)))) found
 
-second_macro_is_found : (commands : List Token) → body_of (one_macro 2 commands) 2 ≡ Some commands
+pub second_macro_is_found : (commands : List Token) → body_of (one_macro 2 commands) 2 ≡ Some commands
 second_macro_is_found commands = found-stored maps.empty 2 commands
 
 -- ESC&f2y0X, ESC*c4a1b0P, FF, ESC&f1X, ESC&f4X: a macro with a form feed is laid under every page
-abbrev four_dots : List Token
+abbrev pub four_dots : List Token
 four_dots = dots "4" ++ (form_feed ∷ [])
 
-abbrev overlaid : List Token
+abbrev pub overlaid : List Token
 overlaid = (macro_id "2" ∷ macro_control "0" ∷ four_dots) ++ (macro_control "1" ∷ macro_control "4" ∷ [])
 
 abbrev pub with_overlay : Machine
@@ -314,7 +285,7 @@ abbrev fed : Machine → Machine
 fed before = last_machine before (fed_items before)
 
 -- A form feed that is not recorded and not skipped closes the page; the cursor stays where line termination says nothing.
-feed_closes :
+pub feed_closes :
     (state : State)
     → is_recorded form_feed state ≡ false
     → is_skipped sources.Stream FormFeed state ≡ false
@@ -362,7 +333,7 @@ second_overlay = second_macro_is_found four_dots
 second_feed : trace_at 2 form_feed second_page ≡ fed_items second_page
 second_feed = close_with_overlay form_feed four_dots causes.Feed second_page second_page.state second_feed_closes second_overlay
 
-abbrev exit : List Token
+abbrev pub exit : List Token
 exit = Uel ∷ []
 
 abbrev two_pages : List StepResult
@@ -416,20 +387,8 @@ computed_overlay = refl
 the_items_under_the_overlay : seen_of (trace (overlaid ++ (form_feed ∷ form_feed ∷ exit)) power_on) ≡ pages_seen
 the_items_under_the_overlay = ap seen_of items_of_two_pages ∙ computed_overlay
 
-computed_pages :
-    joined (trace overlaid power_on ++ two_pages) ≡ sheet_of (dotted 75 187 4 letter) ∷ sheet_of (dotted 75 187 4 letter) ∷ []
-unfolding trace_each trace_at trace_in_overlay
-computed_pages = refl
-
-every_page_has_the_overlay :
-    (run_all (overlaid ++ (form_feed ∷ form_feed ∷ exit)) power_on).outputs
-    ≡ sheet_of (dotted 75 187 4 letter) ∷ sheet_of (dotted 75 187 4 letter) ∷ []
-every_page_has_the_overlay =
-    outputs_of_items (overlaid ++ (form_feed ∷ form_feed ∷ exit)) (trace overlaid power_on ++ two_pages) items_of_two_pages
-    ∙ computed_pages
-
 -- ESC*c1a1b0P, ESC&f3y0X and the end of the stream: the exit drops the open definition before the overlay runs
-abbrev open_definition : List Token
+abbrev pub open_definition : List Token
 open_definition = overlaid ++ (dots "1" ++ (macro_id "3" ∷ macro_control "0" ∷ []))
 
 abbrev in_definition : Machine
@@ -438,11 +397,11 @@ in_definition = last_machine power_on (trace open_definition power_on)
 abbrev dropped : State
 dropped = with_macros abandoned (record in_definition.state { hp_gl = false })
 
-abbrev exit_closes : EjectCause
+abbrev pub exit_closes : EjectCause
 exit_closes = causes.Change page_changes.Reset
 
 -- An exit that is not recorded and not skipped, on a page with a mark, closes it.
-reset_closes :
+pub reset_closes :
     (state : State)
     → is_recorded Uel state ≡ false
     → is_skipped sources.Stream Reset state ≡ false
@@ -503,13 +462,82 @@ computed_exit = refl
 the_items_of_the_exit : seen_of (trace (open_definition ++ exit) power_on) ≡ exit_seen
 the_items_of_the_exit = ap seen_of items_with_the_exit ∙ computed_exit
 
-computed_last_page :
-    joined (trace open_definition power_on ++ exit_items) ≡ sheet_of (dotted 75 187 4 (dotted 75 187 1 letter)) ∷ []
-unfolding trace_each trace_at trace_in_overlay
-computed_last_page = refl
+-- ESC&f1y0X, ESC&f8X, ESC*c1a1b0P, ESC&f1X, ESC&f2X, ESC&f2X, FF: a body that deletes its own macro runs on, and a second execute
+-- finds no macro
+abbrev pub execute : Token
+execute = macro_control "2"
 
-the_exit_drops_a_definition :
-    (run_all (open_definition ++ exit) power_on).outputs ≡ sheet_of (dotted 75 187 4 (dotted 75 187 1 letter)) ∷ []
-the_exit_drops_a_definition =
-    outputs_of_items (open_definition ++ exit) (trace open_definition power_on ++ exit_items) items_with_the_exit
-    ∙ computed_last_page
+abbrev pub deleting : List Token
+deleting = macro_control "8" ∷ dots "1"
+
+abbrev pub deleting_defined : List Token
+deleting_defined = (macro_id "1" ∷ macro_control "0" ∷ deleting) ++ (macro_control "1" ∷ [])
+
+-- The macro that was deleted is not found.
+pub macro_is_gone : (commands : List Token) → body_of (without (one_macro 1 commands) 1) 1 ≡ None
+macro_is_gone commands = grind (gets, rules)
+
+abbrev ready : Machine
+ready = last_machine power_on (trace deleting_defined power_on)
+
+abbrev executed_items : List StepResult
+executed_items = outside_items 1 (taken execute ready) (Starts deleting ends.Execute ready.state)
+
+abbrev deleted : Machine
+deleted = last_machine ready executed_items
+
+execute_starts : effect_on (source_at 2) execute ready.state ≡ Starts deleting ends.Execute ready.state
+unfolding trace_each trace_at
+execute_starts = ap (λ found. start_body found ends.Execute ready.state) (macro_is_found deleting)
+
+second_changes : effect_on (source_at 2) execute deleted.state ≡ Changes deleted.state
+unfolding trace_each trace_at
+second_changes = ap (λ found. start_body found ends.Execute deleted.state) (macro_is_gone deleting)
+
+first_execute : trace_at 2 execute ready ≡ executed_items
+unfolding trace_at
+first_execute = ap (outside_items 1 (taken execute ready)) execute_starts
+
+second_execute : trace_at 2 execute deleted ≡ silent (taken execute deleted) ∷ []
+unfolding trace_at
+second_execute = ap (outside_items 1 (taken execute deleted)) second_changes
+
+abbrev after_deletion : List StepResult
+after_deletion = executed_items ++ (silent (taken execute deleted) ∷ trace_each (trace_at 2) page_and_exit (taken execute deleted))
+
+items_of_deletion : trace (deleting_defined ++ (execute ∷ execute ∷ page_and_exit)) power_on ≡ trace deleting_defined power_on ++ after_deletion
+items_of_deletion =
+    trace_each-append (trace_at 2) deleting_defined (execute ∷ execute ∷ page_and_exit) power_on
+    ∙ ap (λ items. trace deleting_defined power_on ++ items)
+    (trace_each-cons (trace_at 2) execute (execute ∷ page_and_exit) ready
+    ∙ ap (λ items. items ++ trace_each (trace_at 2) (execute ∷ page_and_exit) (last_machine ready items)) first_execute
+    ∙ ap (λ items. executed_items ++ items)
+    (trace_each-cons (trace_at 2) execute page_and_exit deleted
+    ∙ ap (λ items. items ++ trace_each (trace_at 2) page_and_exit (last_machine deleted items)) second_execute))
+
+-- All items: the definition, the first execute with its body, the second, which has no effect, and the page with the dot.
+abbrev deletion_seen : List Seen
+deletion_seen =
+    ran 0 (macro_id "1")
+    ∷ ran 0 (macro_control "0")
+    ∷ recorded (macro_control "8")
+    ∷ recorded (sequence "*" "c" "1" "A")
+    ∷ recorded (sequence "*" "c" "1" "B")
+    ∷ recorded (sequence "*" "c" "0" "P")
+    ∷ ran 0 (macro_control "1")
+    ∷ ran 1 execute
+    ∷ ran 1 (macro_control "8")
+    ∷ ran 1 (sequence "*" "c" "1" "A")
+    ∷ ran 1 (sequence "*" "c" "1" "B")
+    ∷ ran 0 (sequence "*" "c" "0" "P")
+    ∷ ran 0 execute
+    ∷ (0, lasts.Ran (kind_of form_feed), sheet_of (dotted 75 187 1 letter) ∷ [])
+    ∷ ran 0 Uel
+    ∷ []
+
+computed_deletion : seen_of (trace deleting_defined power_on ++ after_deletion) ≡ deletion_seen
+unfolding trace_each trace_at trace_in_overlay
+computed_deletion = refl
+
+the_items_of_the_deletion : seen_of (trace (deleting_defined ++ (execute ∷ execute ∷ page_and_exit)) power_on) ≡ deletion_seen
+the_items_of_the_deletion = ap seen_of items_of_deletion ∙ computed_deletion
