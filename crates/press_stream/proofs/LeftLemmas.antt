@@ -113,7 +113,7 @@ then-some : (items others : List StepResult) → items ++ others ≡ [] → othe
 then-some [] others is = is
 then-some (item ∷ items) others is = absurd cc
 
-ready_owes : (bodies : List Activation) (machine : Machine) → HasNext bodies → continuation bodies machine ≡ [] → ⊥
+pub ready_owes : (bodies : List Activation) (machine : Machine) → HasNext bodies → continuation bodies machine ≡ [] → ⊥
 ready_owes bodies machine (activation, command, rest, outer, is) none =
     let some = inner-continuation activation command rest outer machine in
     nothing (sym some ∙ ap (λ (activations : List Activation). continuation activations machine) (sym is) ∙ none) where
@@ -121,7 +121,7 @@ ready_owes bodies machine (activation, command, rest, outer, is) none =
       nothing e = cc
 
 -- a command has an item
-command_owes : (command : Token) (commands : List Token) (bodies : List Activation) (machine : Machine) → left (command ∷ commands) bodies machine ≡ [] → ⊥
+pub command_owes : (command : Token) (commands : List Token) (bodies : List Activation) (machine : Machine) → left (command ∷ commands) bodies machine ≡ [] → ⊥
 unfolding trace_each
 command_owes command commands bodies machine none =
     let at = last_machine machine (continuation bodies machine) in

@@ -15,7 +15,7 @@ use Rattle.press_table.specs.Passing.{HasNoEffect, SkipsBytes, SkipsControls}
 use Rattle.press_engine.specs.Passing.{passed}
 use Rattle.press_engine.specs.Stack.{continuation}
 use Rattle.press_engine.specs.Fold.{run_all}
-use Rattle.press_engine.specs.Trace.{last_machine, joined, trace}
+use Rattle.press_engine.specs.Trace.{last_machine, trace}
 use Rattle.press_engine.proofs.FoldLaws.{trace_tells_the_run}
 use Rattle.press_engine.proofs.PassingLaws.{passing_is_counted}
 use Rattle.press_stream.specs.Answers.{PassesOn}

@@ -16,9 +16,10 @@ use Rattle.press_stream.specs.declared.step.Step.{Step}
 use Rattle.press_stream.specs.declared.step.Step.TheVariants as answers
 use Rattle.press_stream.specs.declared.step.JobStep.{JobStep}
 use Rattle.press_stream.specs.declared.step.JobStep.TheVariants as steps
-use Rattle.press_stream.specs.State.{JobState, NeedsInput, IsOver, IsAfterEnd, with_piece, most_commands}
+use Rattle.press_stream.specs.State.{JobState, NeedsInput, IsOver, IsAfterEnd, opened, with_piece, most_commands}
 use Rattle.press_stream.specs.Steps.{Does, DoesStep}
 use Rattle.press_stream.specs.Meaning.{left, CarriesOut, CarriesOn, Stops}
+use Rattle.press_stream.specs.Traced.{IsTraceSoFar}
 
 -- an engine's error as a job's
 abbrev pub job_error : EngineError → JobError
@@ -113,6 +114,15 @@ Takes old (Ok (answers.Ran kind)) new went = (item : StepResult) × Does old ite
 Takes old (Ok answers.Hungry) new went = NeedsInput old × (new ≡ old) × (went ≡ [])
 Takes old (Ok answers.Ended) new went = IsOver old × (new ≡ old) × (went ≡ [])
 Takes old (Err error) new went = FaultsBy (λ ending these. StopsAtDue old ending these) old error new went
+
+-- Hungry is answered exactly where the job has not failed, its end of input was not given, and the commands so far are carried out with
+-- their bodies; Ended exactly where no step is left. traced: in a job that was handed these bytes since it was opened and did these items,
+-- Hungry is answered exactly where they are the whole trace of the bytes.
+pub record StandsStill (old : JobState) (result : Result Step JobError) : Type 0 where
+  pub hungry : (result ≡ Ok answers.Hungry) ↔ NeedsInput old
+  pub over : (result ≡ Ok answers.Ended) ↔ IsOver old
+  pub traced : (bytes : List ℕ) (given : List Token) (items : List StepResult) → CarriesOut opened bytes given items old
+      → old.held.ended ≡ false → (result ≡ Ok answers.Hungry) ↔ IsTraceSoFar bytes items
 
 -- no step was taken, and there was no fault
 abbrev pub IsStill : Result Step JobError → Type 0

@@ -52,7 +52,7 @@ impl Job {
     ghost use Rattle.press_engine.specs.Stack.{IsReady};
     ghost use Rattle.press_stream.specs.Left.{LeftWith};
     ghost use Rattle.press_stream.specs.State.{opened, with_piece, input_ended, most_commands, NeedsInput, IsOver, IsAfterEnd};
-    ghost use Rattle.press_stream.specs.Answers.{fault_of, ending_by, Pushes, IsGoing, IsEarly, IsStill, TakesStep, Takes, WantsMemory, CarriesOrStops, PassesOn, IsIdle, ComesToWant, Feeds, Finishes, RunsReader, Answered};
+    ghost use Rattle.press_stream.specs.Answers.{fault_of, ending_by, Pushes, IsGoing, IsEarly, IsStill, StandsStill, TakesStep, Takes, WantsMemory, CarriesOrStops, PassesOn, IsIdle, ComesToWant, Feeds, Finishes, RunsReader, Answered};
     ghost use Rattle.press_devices.specs.Reading.{most_reads, no_reads, HasFault, ReadFails};
 
     /// A job at the beginning of a stream, with an engine after power on.
@@ -112,6 +112,7 @@ impl Job {
     #[inline(always)]
     pub fn take_step(&mut self) -> Result<JobStep, JobError>
         ensures takes { TakesStep self.old result self.new }
+        ensures ready { IsReady self.old.bodies }
     {
         if !self.is_idle() {
             return self.take_inside();
@@ -148,7 +149,8 @@ impl Job {
     ///
     /// # Errors
     ///
-    /// `SinkFault` (301) and `ReplyFault` (302): a sink had a fault, and nothing came after it.
+    /// `SinkFault` (301) and `ReplyFault` (302): a sink had a fault, and nothing came after it. `NoMemory`, where something goes out.
+    /// The job has failed then.
     #[inline(always)]
     pub fn hand_over<S: SheetSink, P: ReplySink>(
         &mut self,
@@ -182,13 +184,15 @@ impl Job {
         self.engine.reuse(sent);
     }
 
-    /// Takes a table step as [`Job::take_step`] does, and hands what goes out in it to the sinks.
+    /// Takes a table step as [`Job::take_step`] does, and hands what goes out in it to the sinks. `Hungry` is answered exactly where no
+    /// item of the trace of the bytes handed in is left and the end of input was not given, `Ended` exactly where no step is left.
     ///
     /// Source: PCL 5 Printer Language Technical Reference Manual, Macros.
     ///
     /// # Errors
     ///
-    /// `SinkFault` (301) and `ReplyFault` (302): a sink had a fault, and nothing came after it. `Failed` (303).
+    /// `SinkFault` (301) and `ReplyFault` (302): a sink had a fault, and nothing came after it. `Failed` (303). `NoMemory`: a front of what
+    /// goes out in the step did. The job has failed then, as at each of the others.
     pub fn step<S: SheetSink, P: ReplySink>(
         &mut self,
         tag: u64,
@@ -202,6 +206,7 @@ impl Job {
         ensures still { IsStill result
             → logs (S.told sheets.new) (P.told replies.new)
             ≡ logs (S.told sheets.old) (P.told replies.old) }
+        ensures stands { StandsStill self.old result }
         ensures memory { IsErrOf result JobError.NoMemory → WantsMemory self.old }
         ensures answered { Answered self.old result self.new
             (logs (S.told sheets.old) (P.told replies.old))
@@ -269,7 +274,8 @@ impl Job {
     /// # Errors
     ///
     /// `SinkFault` (301) and `ReplyFault` (302): a sink had a fault, and nothing came after it. `Failed` (303). `AfterEnd`
-    /// (305): the end of input was given, and nothing changes.
+    /// (305): the end of input was given, and nothing changes. After `NoMemory` the job has failed, and what went out is a front of what
+    /// the piece has go out.
     pub fn feed<S: SheetSink, P: ReplySink>(
         &mut self,
         piece: &[u8],
@@ -331,7 +337,8 @@ impl Job {
     ///
     /// # Errors
     ///
-    /// `SinkFault` (301) and `ReplyFault` (302): a sink had a fault, and nothing came after it. `Failed` (303).
+    /// `SinkFault` (301) and `ReplyFault` (302): a sink had a fault, and nothing came after it. `Failed` (303). After `NoMemory` the job
+    /// has failed, and what went out is a front of what was left.
     pub fn finish<S: SheetSink, P: ReplySink>(
         &mut self,
         tag: u64,
@@ -363,7 +370,8 @@ impl Job {
     ///
     /// `SinkFault` (301) and `ReplyFault` (302): a sink had a fault, and nothing came after it. `Failed` (303) and `AfterEnd`
     /// (305), where the end of input was given: nothing was read. `ReadFault` (304): a read failed, or one more would be too
-    /// many; the commands of the bytes so far were carried out.
+    /// many; the commands of the bytes so far were carried out. After `NoMemory` the job has failed, and what went out is a front of what
+    /// the whole stream has go out.
     pub fn run<R: ReadDevice, S: SheetSink, P: ReplySink>(
         &mut self,
         reader: &mut R,

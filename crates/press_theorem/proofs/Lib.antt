@@ -1,5 +1,3 @@
--- The lemmas on chains of calls, on events and on tickets.
-pub mod ChainLemmas
+-- The lemmas on events and on tickets.
 pub mod EventLemmas
 pub mod TicketLemmas
-pub mod AtEndLemmas

@@ -3,12 +3,8 @@
 //! in whatever order messages, turns and commands of the operator come.
 #![tactic(auto)]
 
-mod calls;
 mod events;
-mod pieces;
 mod tickets;
 
-pub use calls::{Call, PrintedStream, print_calls, print_stream};
 pub use events::{PressEvent, carry_out_events};
-pub use pieces::print_pieces;
 pub use tickets::{Delivered, NotPrinted, print_ticket};

@@ -1,18 +1,19 @@
 //! A stream by any calls of a job, and by a reader behind them.
-ghost use Rattle.std.specs.Prelude.{◌≡◌, Some, None, IsSome, false, IfOk, IfErr, IsErrOf, OnErr, OnOk, true};
+ghost use Rattle.std.specs.Prelude.{◌≡◌, ◌++◌, ℕ, List, Some, None, IsSome, false, IfOk, IfErr, IsErrOf, OnErr, OnOk, true};
 ghost use Rattle.std.specs.List.{flat_map};
 ghost use Rattle.press_devices.specs.Reading.{ReadFails};
 ghost use Rattle.press_sink.specs.SinkLog.{logs, HasFaultRoom, under};
-ghost use Rattle.press_sink.specs.Sending.{Complete, HandsOut, WentOut};
+ghost use Rattle.press_sink.specs.Sending.{Complete, HandsOut};
 ghost use Rattle.press_stream.specs.Answers.{CarriesOrStops, ending_by, fault_of};
-ghost use Rattle.press_stream.specs.Printed.{Prints, PrintedTo, Printed};
+ghost use Rattle.press_stream.specs.Printed.{Prints, PrintedTo, Printed, TellsMeaning};
 ghost use Rattle.press_stream.specs.State.{IsOver, opened};
-ghost use Rattle.press_theorem.specs.AtEnd.{meaning_at_end};
-ghost use Rattle.press_theorem.specs.Calls.{bytes_of, StopsHanded, StopsRead};
+ghost use Rattle.press_stream.specs.Calls.{bytes_of, StopsHanded, StopsRead};
 
+use crate::fault::JobError;
+use crate::job::Job;
+use crate::laws;
 use press_devices::ReadDevice;
 use press_sink::{ReplySink, SheetSink};
-use press_stream::{Job, JobError, laws};
 use std::alloc::{AllocError, Global};
 
 /// A call of a job while its stream comes.
@@ -28,7 +29,7 @@ pub enum Call<'a> {
 
 /// Prints a stream whose pieces are pushed or fed, with steps between them in any order, from power on; and then the end of input is
 /// given. The job is handed back, and no step of it is left. Whatever the calls are, the sheets, the replies and the machine are those of
-/// the commands of the bytes, carried out one after another.
+/// what the bytes mean: their commands, carried out one after another, and one more universal exit.
 ///
 /// # Errors
 ///
@@ -46,12 +47,10 @@ pub fn print_calls<S: SheetSink, P: ReplySink>(
         (Prints (flat_map bytes_of calls.now) Complete job.machine)
         (under tag (logs (S.told sheets.old) (P.told replies.old))
         (logs (S.told sheets.new) (P.told replies.new)))) }
-    ensures machine { IfOk result (λ job.
-        job.machine ≡ Some (meaning_at_end (flat_map bytes_of calls.now)).machine) }
-    ensures told { OnOk result (WentOut tag
-        (meaning_at_end (flat_map bytes_of calls.now)).outputs Complete
-        (logs (S.told sheets.old) (P.told replies.old))
-        (logs (S.told sheets.new) (P.told replies.new))) }
+    ensures means { IfOk result (λ job.
+        TellsMeaning (flat_map bytes_of calls.now) job.machine
+        (under tag (logs (S.told sheets.old) (P.told replies.old))
+        (logs (S.told sheets.new) (P.told replies.new)))) }
     ensures over { IfOk result IsOver }
     ensures err { IfErr result (λ error. HandsOut (ending_by (Some error))
         (PrintedTo (Some error) (flat_map bytes_of calls.now) None)
@@ -76,8 +75,9 @@ pub struct PrintedStream {
 }
 
 /// Prints a stream from power on: first by any calls, and then what a reader has behind them, to its end. Whatever the calls are, and
-/// however the reader gives its bytes, the sheets, the replies and the machine are those of the commands of all bytes, carried out one
-/// after another, and one more universal exit. No step of the job is left then.
+/// however the reader gives its bytes, the sheets, the replies and the machine are those of what all bytes mean: their commands, carried
+/// out one after another, and one more universal exit. No step of the job is left then. Of a reader that tells its bytes these are all
+/// that it had; of another they are some.
 ///
 /// Where it stopped early, the job has failed, and answers 303 from then on: at `SinkFault` (301) and `ReplyFault` (302) a sink had a
 /// fault, at `ReadFault` (304) a read failed, or there were too many, or memory ran out. What went out by then is a prefix of what the
@@ -100,6 +100,11 @@ pub fn print_stream<R: ReadDevice, S: SheetSink, P: ReplySink>(
         (fault_of printed.result) printed.job.machine)
         (under tag (logs (S.told sheets.old) (P.told replies.old))
         (logs (S.told sheets.new) (P.told replies.new)))) }
+    ensures means { IfOk result (λ printed. OnOk printed.result
+        ((read : List ℕ) → R.remaining reader.old ≡ Some read
+        → TellsMeaning (flat_map bytes_of calls.now ++ read) printed.job.machine
+        (under tag (logs (S.told sheets.old) (P.told replies.old))
+        (logs (S.told sheets.new) (P.told replies.new))))) }
     ensures over { IfOk result (λ printed. OnOk printed.result (IsOver printed.job)) }
     ensures failed { IfOk result (λ printed. OnErr printed.result (printed.job.machine ≡ None)) }
     ensures listed { IfOk result (λ printed. IfErr printed.result StopsRead) }
@@ -129,6 +134,10 @@ fn run_calls<R: ReadDevice, S: SheetSink, P: ReplySink>(
         (fault_of result) job.new.machine)
         (under tag (logs (S.told sheets.old) (P.told replies.old))
         (logs (S.told sheets.new) (P.told replies.new))) }
+    ensures means { OnOk result ((read : List ℕ) → R.remaining reader.old ≡ Some read
+        → TellsMeaning (flat_map bytes_of calls.now ++ read) job.new.machine
+        (under tag (logs (S.told sheets.old) (P.told replies.old))
+        (logs (S.told sheets.new) (P.told replies.new)))) }
     ensures over { OnOk result (IsOver job.new) }
     ensures failed { OnErr result (job.new.machine ≡ None) }
     ensures listed { IfErr result StopsRead }

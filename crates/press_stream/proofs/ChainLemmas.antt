@@ -18,11 +18,12 @@ use Rattle.press_stream.specs.declared.step.Step.{Step}
 use Rattle.press_stream.specs.declared.step.Step.TheVariants as steps
 use Rattle.press_stream.specs.Chain.{PrintsAll}
 use Rattle.press_stream.specs.Meaning.{CarriesOn}
-use Rattle.press_stream.specs.Printed.{Prints, PrintedTo, Printed}
+use Rattle.press_stream.specs.Printed.{Prints, PrintedTo, Printed, TellsMeaning}
 use Rattle.press_stream.proofs.Faults.{Faults-then, Faults-now, CarriesOrStops-feeds, HandsOut-goes, HandsOut-nothing}
 use Rattle.press_stream.proofs.Going.{CarriesOn-after, CarriesOn-none, CarriesOn-push, Stops-memory, taken-ended}
+use Rattle.press_stream.proofs.MeaningLaws.{reader-means}
 use Rattle.press_stream.proofs.Refusals.{CarriesOrStops-lost}
-use Rattle.press_theorem.specs.Calls.{StopsHanded, StopsRead}
+use Rattle.press_stream.specs.Calls.{StopsHanded, StopsRead}
 
 -- the bytes of the first pieces, and of one more
 pub pieces-next : {A : Type 0} (f : A → List ℕ) (pieces : List A) (i : ℕ) (other : A) → i < length pieces → flat_map f (take (i + 1) pieces) ≡ flat_map f (take i pieces) ++ f (get_or pieces i other)
@@ -167,6 +168,15 @@ Printed-run prints bytes all had left tag result job new before middle after is 
     (Printed all had left (fault_of result) new.machine) before middle after
     (λ went others goes runs. subst (λ (handed : List ℕ). Printed handed had left (fault_of result) new.machine (went ++ others)) (sym is)
     (prints.runs_on bytes had left result job new went others goes going runs))
+
+-- where it ended, and its reader tells its bytes
+pub run-means : (front : List ℕ) (had left : Option (List ℕ)) (tag : ℕ) (result : Result (Unit {0}) JobError) (new : Option Machine) (before after : SinkLog)
+    → HandsOut (ending_by (fault_of result)) (Printed front had left (fault_of result) new) (under tag before after)
+    → OnOk result ((read : List ℕ) → had ≡ Some read → TellsMeaning (front ++ read) new (under tag before after))
+run-means front had left tag (Ok done) new before after prints = λ read is.
+    reader-means front read left new tag before after
+    (subst (λ (told : Option (List ℕ)). HandsOut Complete (Printed front told left None new) (under tag before after)) is prints)
+run-means front had left tag (Err error) new before after prints = tt
 
 -- a call stopped, and nothing was read
 PrintedTo-any : (error : JobError) (bytes : List ℕ) (one other : Option Machine) (went : List Output) → PrintedTo (Some error) bytes one went

@@ -4,8 +4,8 @@ use Rattle.press_sink.specs.SinkLog.{logs, HasFaultRoom, under}
 use Rattle.press_sink.specs.Sending.{Complete, HandsOut}
 use Rattle.press_stream.specs.State.{opened}
 use Rattle.press_stream.specs.Meaning.{CarriesOn}
-use Rattle.press_theorem.specs.Calls.{bytes_of}
-use Rattle.press_theorem.proofs.calls.run_calls.Given as goal
+use Rattle.press_stream.specs.Calls.{bytes_of}
+use Rattle.press_stream.proofs.calls.print_calls.Given as goal
 
 -- the job has gone on with the bytes so far
 abbrev pub invariant-loop-call : goal.invariant-loop-call

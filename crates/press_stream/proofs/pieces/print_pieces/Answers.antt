@@ -4,10 +4,11 @@ use Rattle.std.proofs.lemmas.List.{take_all}
 use Rattle.press_units.proofs.ExitLemmas.{exit-is}
 use Rattle.press_sink.proofs.SendingLemmas.{Took-has_fault_room}
 use Rattle.press_stream.specs.State.{opened}
+use Rattle.press_stream.proofs.MeaningLaws.{printed-means}
 use Rattle.press_stream.proofs.Going.{CarriesOn-to}
-use Rattle.press_theorem.proofs.ChainLemmas.{Faults-handed, stops-handed}
-use Rattle.press_theorem.proofs.ChainLemmas.{opened-going, pieces-next, HandsOut-opened, HandsOut-more, Prints-end, pieces-rest, PrintedTo-before, PrintedTo-none, PrintedTo-end, fed}
-use Rattle.press_theorem.proofs.pieces.print_pieces.Goals as goal
+use Rattle.press_stream.proofs.ChainLemmas.{Faults-handed, stops-handed}
+use Rattle.press_stream.proofs.ChainLemmas.{opened-going, pieces-next, HandsOut-opened, HandsOut-more, Prints-end, pieces-rest, PrintedTo-before, PrintedTo-none, PrintedTo-end, fed}
+use Rattle.press_stream.proofs.pieces.print_pieces.Goals as goal
 
 pub loop-piece-init : goal.loop-piece-init
 loop-piece-init g c = record {
@@ -38,6 +39,13 @@ returns-clause-ok g c =
     Prints-end c.chain.ensures.prints (flat_map (λ piece. piece.now) (take i pieces)) (flat_map (λ piece. piece.now) pieces) c.args.tag
     c.loop-piece.job c.finish.new.self _ _ _ (sym (ap (flat_map (λ piece. piece.now)) (take_all i pieces c.loop-piece-test.false)))
     c.loop-piece.invariant.goes (rw c.in_ok-finish.was at c.finish.ensures.finishes)
+
+pub returns-clause-over : goal.returns-clause-over
+returns-clause-over g c = (rw c.in_ok-finish.was at c.finish.ensures.finishes).is.1
+
+pub returns-clause-means : goal.returns-clause-means
+returns-clause-means g c =
+    printed-means (flat_map (λ piece. piece.now) c.args.pieces.now) c.finish.new.self.machine c.args.tag _ _ (returns-clause-ok g c)
 
 pub returns-in_err-job-clause-err : goal.returns-in_err-job-clause-err
 returns-in_err-job-clause-err g c =

@@ -2,8 +2,8 @@
 use Rattle.std.specs.Prelude.{ℕ, List, [], ⊤}
 use Rattle.press_stream.specs.declared.fault.JobError.{JobError}
 use Rattle.press_stream.specs.declared.fault.JobError.TheVariants as errors
-use Rattle.press_theorem.specs.declared.calls.Call.{Call}
-use Rattle.press_theorem.specs.declared.calls.Call.TheVariants.{Push, Feed, Step}
+use Rattle.press_stream.specs.declared.calls.Call.{Call}
+use Rattle.press_stream.specs.declared.calls.Call.TheVariants.{Push, Feed, Step}
 
 -- the bytes that a call hands in
 abbrev pub bytes_of : Call → List ℕ

@@ -2,8 +2,8 @@ use Rattle.std.proofs.Common.{[], Err}
 use Rattle.press_units.proofs.ExitLemmas.{exit-is}
 use Rattle.press_stream.proofs.Faults.{HandsOut-step, HandsOut-stopped}
 use Rattle.press_stream.proofs.Refusals.{CarriesOrStops-lost}
-use Rattle.press_theorem.proofs.ChainLemmas.{fed, fed-going, pushed, pushed-failed, pushed-going, stepped-going}
-use Rattle.press_theorem.proofs.calls.make.Goals as goal
+use Rattle.press_stream.proofs.ChainLemmas.{fed, fed-going, pushed, pushed-failed, pushed-going, stepped-going}
+use Rattle.press_stream.proofs.calls.make.Goals as goal
 
 pub returns-in-Push-clause-goes : goal.returns-in-Push-clause-goes
 returns-in-Push-clause-goes g c =

@@ -4,16 +4,19 @@ ghost use Rattle.std.specs.List.{flat_map};
 ghost use Rattle.press_sink.specs.SinkLog.{logs, HasFaultRoom, under};
 ghost use Rattle.press_sink.specs.Sending.{Complete, HandsOut};
 ghost use Rattle.press_stream.specs.Answers.{ending_by};
-ghost use Rattle.press_stream.specs.Printed.{Prints, PrintedTo};
-ghost use Rattle.press_theorem.specs.Calls.{StopsHanded};
+ghost use Rattle.press_stream.specs.Printed.{Prints, PrintedTo, TellsMeaning};
+ghost use Rattle.press_stream.specs.Calls.{StopsHanded};
+ghost use Rattle.press_stream.specs.State.{IsOver};
 
+use crate::fault::JobError;
+use crate::job::Job;
+use crate::laws;
 use press_sink::{ReplySink, SheetSink};
-use press_stream::{Job, JobError, laws};
 use std::alloc::Global;
 
 /// Prints a stream that comes in pieces, from power on: the pieces are fed one after another, and then the end of input is
-/// given. The job is handed back. In whatever pieces the bytes come, the sheets, the replies and the machine are those of
-/// their commands, carried out one after another.
+/// given. The job is handed back, and no step of it is left. In whatever pieces the bytes come, the sheets, the replies and the machine
+/// are those of what the bytes mean: their commands, carried out one after another, and one more universal exit.
 ///
 /// # Errors
 ///
@@ -31,6 +34,11 @@ pub fn print_pieces<S: SheetSink, P: ReplySink>(
         (Prints (flat_map (λ piece. piece.now) pieces.now) Complete job.machine)
         (under tag (logs (S.told sheets.old) (P.told replies.old))
         (logs (S.told sheets.new) (P.told replies.new)))) }
+    ensures means { IfOk result (λ job.
+        TellsMeaning (flat_map (λ piece. piece.now) pieces.now) job.machine
+        (under tag (logs (S.told sheets.old) (P.told replies.old))
+        (logs (S.told sheets.new) (P.told replies.new)))) }
+    ensures over { IfOk result IsOver }
     ensures err { IfErr result (λ error. HandsOut (ending_by (Some error))
         (PrintedTo (Some error) (flat_map (λ piece. piece.now) pieces.now) None)
         (under tag (logs (S.told sheets.old) (P.told replies.old))

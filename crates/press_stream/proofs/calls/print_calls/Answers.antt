@@ -3,14 +3,14 @@ use Rattle.std.specs.List.{flat_map}
 use Rattle.std.proofs.lemmas.List.{take_all}
 use Rattle.press_units.proofs.ExitLemmas.{exit-is}
 use Rattle.press_sink.proofs.SendingLemmas.{Took-has_fault_room}
-use Rattle.press_theorem.specs.declared.calls.Call.TheVariants.{Push}
-use Rattle.press_theorem.specs.Calls.{bytes_of}
-use Rattle.press_theorem.proofs.AtEndLemmas.{machine-means, told-means}
+use Rattle.press_stream.specs.declared.calls.Call.TheVariants.{Push}
+use Rattle.press_stream.specs.Calls.{bytes_of}
 use Rattle.press_stream.specs.State.{opened}
 use Rattle.press_stream.proofs.Going.{CarriesOn-to}
-use Rattle.press_theorem.proofs.ChainLemmas.{opened-going, pieces-next, HandsOut-opened, HandsOut-more, Prints-end, pieces-rest, PrintedTo-before, PrintedTo-none, PrintedTo-end}
-use Rattle.press_theorem.proofs.ChainLemmas.{Faults-handed, stops-handed}
-use Rattle.press_theorem.proofs.calls.print_calls.Goals as goal
+use Rattle.press_stream.proofs.MeaningLaws.{printed-means}
+use Rattle.press_stream.proofs.ChainLemmas.{opened-going, pieces-next, HandsOut-opened, HandsOut-more, Prints-end, pieces-rest, PrintedTo-before, PrintedTo-none, PrintedTo-end}
+use Rattle.press_stream.proofs.ChainLemmas.{Faults-handed, stops-handed}
+use Rattle.press_stream.proofs.calls.print_calls.Goals as goal
 
 pub loop-call-init : goal.loop-call-init
 loop-call-init g c = record {
@@ -40,13 +40,8 @@ returns-clause-ok g c =
     Prints-end c.chain.ensures.prints (flat_map bytes_of (take i calls)) (flat_map bytes_of calls) c.args.tag c.loop-call.job c.finish.new.self _ _ _
     (sym (ap (flat_map bytes_of) (take_all i calls c.loop-call-test.false))) c.loop-call.invariant.goes (rw c.in_ok-finish.was at c.finish.ensures.finishes)
 
-pub returns-clause-machine : goal.returns-clause-machine
-returns-clause-machine g c =
-    let prints = returns-clause-ok g c in
-    machine-means (flat_map bytes_of c.args.calls.now) c.finish.new.self.machine prints.went prints.is
-
-pub returns-clause-told : goal.returns-clause-told
-returns-clause-told g c = told-means (flat_map bytes_of c.args.calls.now) c.args.tag c.finish.new.self.machine _ _ (returns-clause-ok g c)
+pub returns-clause-means : goal.returns-clause-means
+returns-clause-means g c = printed-means (flat_map bytes_of c.args.calls.now) c.finish.new.self.machine c.args.tag _ _ (returns-clause-ok g c)
 
 pub returns-clause-over : goal.returns-clause-over
 returns-clause-over g c = (rw c.in_ok-finish.was at c.finish.ensures.finishes).is.1

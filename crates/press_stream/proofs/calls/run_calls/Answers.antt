@@ -3,17 +3,17 @@ use Rattle.std.specs.List.{flat_map}
 use Rattle.std.proofs.lemmas.List.{take_all}
 use Rattle.press_units.proofs.ExitLemmas.{exit-is}
 use Rattle.press_sink.proofs.SendingLemmas.{Took-has_fault_room}
-use Rattle.press_theorem.specs.declared.calls.Call.TheVariants.{Push}
-use Rattle.press_theorem.specs.Calls.{bytes_of}
+use Rattle.press_stream.specs.declared.calls.Call.TheVariants.{Push}
+use Rattle.press_stream.specs.Calls.{bytes_of}
 use Rattle.press_stream.specs.State.{opened}
 use Rattle.press_stream.proofs.Carries.{same_fault}
 use Rattle.press_stream.proofs.Faults.{no_read_fault}
 use Rattle.press_stream.proofs.Going.{CarriesOn-to}
 use Rattle.press_stream.proofs.Refusals.{RunsThrough-lost}
-use Rattle.press_theorem.proofs.ChainLemmas.{opened-going, pieces-next, HandsOut-opened, HandsOut-more, pieces-rest}
-use Rattle.press_theorem.proofs.ChainLemmas.{PrintedTo-before, Printed-stopped, Printed-run, read-over}
-use Rattle.press_theorem.proofs.ChainLemmas.{stops-handed, handed-read, run-read}
-use Rattle.press_theorem.proofs.calls.run_calls.Goals as goal
+use Rattle.press_stream.proofs.ChainLemmas.{opened-going, pieces-next, HandsOut-opened, HandsOut-more, pieces-rest}
+use Rattle.press_stream.proofs.ChainLemmas.{PrintedTo-before, Printed-stopped, Printed-run, read-over}
+use Rattle.press_stream.proofs.ChainLemmas.{stops-handed, handed-read, run-read, run-means}
+use Rattle.press_stream.proofs.calls.run_calls.Goals as goal
 
 pub loop-call-init : goal.loop-call-init
 loop-call-init g c = record {
@@ -67,6 +67,11 @@ returns-clause-prints g c =
     Printed-run c.chain.ensures.prints (flat_map bytes_of (take i calls)) (flat_map bytes_of calls) (g.R.ReadDevice.remaining c.args.reader.now)
     (g.R.ReadDevice.remaining c.run.new.reader) c.args.tag c.run.result c.loop-call.job c.run.new.self _ _ _
     (sym (ap (flat_map bytes_of) (take_all i calls c.loop-call-test.false))) c.loop-call.invariant.going c.loop-call.invariant.goes c.run.ensures.runs
+
+pub returns-clause-means : goal.returns-clause-means
+returns-clause-means g c =
+    run-means (flat_map bytes_of c.args.calls.now) (g.R.ReadDevice.remaining c.args.reader.now) (g.R.ReadDevice.remaining c.run.new.reader) c.args.tag
+    c.run.result c.run.new.self.machine _ _ (returns-clause-prints g c)
 
 pub returns-in_err-make-clause-cause : goal.returns-in_err-make-clause-cause
 returns-in_err-make-clause-cause g c =
