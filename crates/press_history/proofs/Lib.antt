@@ -9,4 +9,5 @@ mod MessageChanges
 mod RunLemmas
 mod Standings
 mod TurnChanges
+mod WhileLemmas
 mod worked

@@ -80,7 +80,7 @@ event-does law old (TurnOn engine most) Nothing handed next whole happens = absu
 event-does law old (Operator command) (Response bytes) handed next whole happens = absurd happens
 event-does law old (Operator command) (Turned result) handed next whole happens = absurd happens
 
-whole-next : (old : World) (event : Event) (answer : EventAnswer) (handed : List Delivery) (next : World) → IsWholeWorld old → EventDoes old event answer handed next
+pub whole-next : (old : World) (event : Event) (answer : EventAnswer) (handed : List Delivery) (next : World) → IsWholeWorld old → EventDoes old event answer handed next
     → IsWholeWorld next
 whole-next old event answer handed next whole does = record {
   numbers = record {
@@ -99,13 +99,13 @@ empty-proper : (n : ℕ) (given : Bool) → IsProper (standing_of given None Non
 empty-proper n true = tt
 empty-proper n false = tt
 
-new-whole : EachRowKeepsTheQueue → (engines : ℕ) → are_engines engines ≡ true → IsWholeWorld (new_world engines)
+pub new-whole : EachRowKeepsTheQueue → (engines : ℕ) → are_engines engines ≡ true → IsWholeWorld (new_world engines)
 new-whole law engines are = record {
   numbers = record { queue_is = law.new; proper = λ n. empty-proper n (nat_le n 0) };
   on_engines = on_engines-new engines are;
 }
 
-run-whole : EachRowKeepsTheQueue → (world : World) (happenings : List Transition) (last : World) → IsWholeWorld world → IsExecution world happenings last → IsWholeWorld last
+pub run-whole : EachRowKeepsTheQueue → (world : World) (happenings : List Transition) (last : World) → IsWholeWorld world → IsExecution world happenings last → IsWholeWorld last
 run-whole law world [] last whole leads = subst IsWholeWorld (sym leads) whole
 run-whole law world (h ∷ happenings) last whole (happens, leads) =
     run-whole law h.next happenings last (whole-next world h.event h.answer h.handed h.next whole (event-does law world h.event h.answer h.handed h.next whole happens)) leads

@@ -1,20 +1,24 @@
 -- The laws of jobs and of runs of events, as statements.
-use Rattle.std.specs.Prelude.{◌≡◌, ◌≤◌, ◌+◌, ℕ, List, [], length, false, true, IsSome, Some, None}
+use Rattle.std.specs.Prelude.{◌≡◌, ◌≢◌, ◌≤◌, ◌+◌, ◌++◌, ℕ, List, [], ◌∷◌, length, false, true, IsSome, IsTrue, Some, None}
 use Rattle.std.specs.List.{All}
 use Rattle.press_bits.specs.Page.{Page}
 use Rattle.press_engine.specs.Machine.{StepResult}
-use Rattle.press_queue.specs.Entries.{running_ones}
+use Rattle.press_queue.specs.declared.entry.Entry.{Entry}
+use Rattle.press_queue.specs.Entries.{entry_numbered, running_ones}
 use Rattle.press_queue.specs.EveryQueue.{IsQueue}
+use Rattle.press_queue.specs.Rows.{entry_runs}
+use Rattle.press_queue.specs.Status.{has_ended}
 use Rattle.press_ticket.specs.Pages.{page_order}
 use Rattle.press_ticket.specs.Ticket.{JobTicket}
 use Rattle.press_writer.specs.Fitting.{IsImage, refusal}
 use Rattle.press_writer.specs.Laws.{most_sheets}
 use Rattle.press_writer.specs.Left.{most_job_commands}
 use Rattle.press_writer.specs.Wanted.{image_of, wanted}
-use Rattle.press_core.specs.Engines.{RunsOnEngines}
-use Rattle.press_history.specs.Runs.{Transition, IsRun, IsExecution}
+use Rattle.press_core.specs.Engines.{RunsOnEngines, are_engines}
+use Rattle.press_core.specs.Events.{Event, TurnOn}
+use Rattle.press_history.specs.Runs.{Transition, IsRun, IsExecution, world_after}
 use Rattle.press_history.specs.History.{AreGiven, Seen, TakesInAll, entered_with, handed_under, last_seen, met_fault, seen_in, steps_in}
-use Rattle.press_core.specs.Turns.{IsJobOf, sheets_from}
+use Rattle.press_core.specs.Turns.{IsJobOf, at_turn, sheets_from}
 use Rattle.press_core.specs.Work.{Work, IsPrintable, new_work}
 use Rattle.press_core.specs.World.{World, is_listed, new_world}
 
@@ -63,6 +67,29 @@ pub record SheetsAreGiven : Type 0 where
   pub gone : (before after : List Transition) (mid last : World) (number : ℕ) → IsRun before mid → IsExecution mid after last
       → number ≤ mid.queue.last → is_listed number mid.queue ≡ false → StaysGone after last number
 
+-- An event in this world is a turn of this number: that of an engine which runs its entry, or on which that begins. It runs then.
+pub record IsTurnOf (number : ℕ) (world : World) (event : Event) : Type 0 where
+  pub engine : ℕ
+  pub most : ℕ
+  pub is : event ≡ TurnOn engine most
+  pub takes : (at_turn engine world).1 ≡ Some number
+  pub runs : entry_runs number (at_turn engine world).0 ≡ true
+
+-- When events from a world on hand something out under a number.
+-- only: only in turns of its entry, while that runs. never_again: not from a world on in which that has ended, completed or aborted.
+pub record DeliversWhileItRuns (first : World) (happenings : List Transition) (number : ℕ) : Type 0 where
+  pub only : (before after : List Transition) (happening : Transition) → happenings ≡ before ++ happening ∷ after
+      → handed_under number (happening ∷ []) ≢ [] → IsTurnOf number (world_after first before) happening.event
+  pub never_again : (before after : List Transition) (entry : Entry) → happenings ≡ before ++ after
+      → entry_numbered number (world_after first before).queue.entries ≡ Some entry → has_ended entry.status ≡ true
+      → handed_under number after ≡ []
+
+-- So it is in every run of events, under every number.
+abbrev pub EntriesDeliverWhileTheyRun : Type 0
+EntriesDeliverWhileTheyRun =
+    (happenings : List Transition) (last : World) (number : ℕ) → (run : IsRun happenings last)
+    → DeliversWhileItRuns (new_world run.engines) happenings number
+
 -- The law of no interference. Two entries of two runs have the same ticket and images. Neither met a fault in its own turns, and their
 -- turns took as many steps in all.
 -- alike: they were handed out alike, whatever else came in the two runs. sheets: that is the sheets of so many steps of the job.
@@ -87,3 +114,19 @@ pub record EntriesAreBounded : Type 0 where
   pub queue : (happenings : List Transition) (last : World) → IsRun happenings last → IsQueue last.queue
   pub once : (before after : List Transition) (mid last : World) (number : ℕ) → IsRun before mid → IsExecution mid after last
       → number ≤ mid.queue.last → is_listed number mid.queue ≡ false → is_listed number last.queue ≡ false
+
+-- By these happenings a new press of so many engines came to this world. Under each number was handed out what its entry says, as it was
+-- seen last, with the steps that its turns were answered; only in those turns, while it ran; and nothing more once it had ended. Each
+-- entry that runs is on an engine of its own, there are as many engines, and the queue is as every queue is.
+pub record ComesFromNew (engines : ℕ) (happenings : List Transition) (last : World) : Type 0 where
+  pub given : (number : ℕ) → GivenUnder (new_world engines) happenings last number
+  pub delivers : (number : ℕ) → DeliversWhileItRuns (new_world engines) happenings number
+  pub on_engines : RunsOnEngines last.queue last.engines
+  pub count : length last.engines ≡ engines
+  pub queue : IsQueue last.queue
+
+-- The law of new presses: so it is of every one of one to four engines, whatever happens.
+abbrev pub NewPressesComeSo : Type 0
+NewPressesComeSo =
+    (engines : ℕ) (happenings : List Transition) (last : World) → IsTrue (are_engines engines)
+    → IsExecution (new_world engines) happenings last → ComesFromNew engines happenings last

@@ -25,6 +25,11 @@ IsExecution world [] last = last ≡ world
 IsExecution world (happening ∷ happenings) last =
     Happens world happening.event happening.answer happening.handed happening.next × IsExecution happening.next happenings last
 
+-- the world after these events; the one before, where there is none
+abbrev pub world_after : World → List Transition → World
+world_after world [] = world
+world_after world (happening ∷ happenings) = world_after happening.next happenings
+
 -- A run of events begins with a press at its beginning, of one to four engines.
 pub record IsRun (happenings : List Transition) (last : World) : Type 0 where
   pub engines : ℕ

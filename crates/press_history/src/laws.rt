@@ -1,7 +1,7 @@
 //! The laws of a press: of its jobs, and of every run of events. Each is the contract of a function that does nothing but call those
 //! whose laws it takes.
 
-ghost use Rattle.press_history.specs.Laws.{JobsAreShort, JobsHandOutTheWantedSheets, SheetsAreGiven, EntriesDoNotInterfere, EntriesAreBounded};
+ghost use Rattle.press_history.specs.Laws.{JobsAreShort, JobsHandOutTheWantedSheets, SheetsAreGiven, EntriesDeliverWhileTheyRun, EntriesDoNotInterfere, EntriesAreBounded, NewPressesComeSo};
 
 use press_printing::laws::jobs_print_their_tickets;
 use press_queue::laws::each_row_keeps_the_queue;
@@ -35,6 +35,14 @@ pub fn sheets_are_given()
     each_row_keeps_the_queue();
 }
 
+/// In every run of events something is handed out under a number only in a turn of its entry, while that runs. So an entry that is
+/// suspended, held or waits delivers nothing, and one that was completed or aborted never delivers again.
+pub fn entries_deliver_while_they_run()
+    ensures { EntriesDeliverWhileTheyRun }
+{
+    each_row_keeps_the_queue();
+}
+
 /// Two entries, each of a run of its own, with the same ticket and images, that met no fault in their own turns and took as many
 /// steps in all, were handed out alike, whatever else came in the two runs: the sheets of the first so many steps of their job.
 pub fn entries_do_not_interfere()
@@ -51,4 +59,14 @@ pub fn entries_are_bounded()
     ensures { EntriesAreBounded }
 {
     each_row_keeps_the_queue();
+}
+
+/// Whatever happens to a new press of one to four engines, all of these laws hold of it: of what was handed out under each number, when,
+/// and of its engines and its queue.
+pub fn new_presses_come_so()
+    ensures { NewPressesComeSo }
+{
+    sheets_are_given();
+    entries_deliver_while_they_run();
+    entries_are_bounded();
 }

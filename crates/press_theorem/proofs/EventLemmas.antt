@@ -16,11 +16,11 @@ use Rattle.press_core.specs.declared.turn.TurnError.{TurnError}
 use Rattle.press_core.specs.declared.turn.TurnError.TheVariants.{NoMemory}
 use Rattle.press_core.specs.Engines.{are_engines}
 use Rattle.press_core.specs.Events.{Event, Message, TurnOn, Operator, EventAnswer, Response, Turned, Nothing, Happens, response_to}
-use Rattle.press_history.specs.Runs.{Transition, IsAnswered, IsRun, IsExecution}
-use Rattle.press_history.specs.Laws.{EntriesAreBounded, SheetsAreGiven}
+use Rattle.press_history.specs.Runs.{Transition, IsAnswered, IsExecution}
+use Rattle.press_history.specs.Laws.{ComesFromNew, NewPressesComeSo}
 use Rattle.press_core.specs.Turns.{FaultsAfter, WereHandedOut}
 use Rattle.press_core.specs.World.{World, new_world}
-use Rattle.press_theorem.specs.Events.{ComesFromNew, FaultLeaves, HappenAll, HappenUpTo, line_of, handing}
+use Rattle.press_theorem.specs.Events.{FaultLeaves, HappenAll, HappenUpTo, line_of, handing}
 
 -- the event of this happening has its answer
 abbrev has_answer : Transition → Type 0
@@ -230,31 +230,19 @@ HappenUpTo-behind error world middle last events others more all before between 
 
 -- ---- from a new press
 
--- a new press that came to a world is one that the laws of every run are about
-comes_from_new : SheetsAreGiven → EntriesAreBounded → (engines : ℕ) (happenings : List Transition) (last : World)
-    → are_engines engines ≡ true → IsExecution (new_world engines) happenings last → ComesFromNew engines happenings last
-comes_from_new given bounded engines happenings last are leads =
-    let run : IsRun happenings last = record { engines = engines; are = are; leads = leads } in
-    record {
-      given = λ number. given.under happenings last number run;
-      on_engines = bounded.on_engines happenings last run;
-      count = bounded.count happenings last run;
-      queue = bounded.queue happenings last run;
-    }
-
-pub from-new : SheetsAreGiven → EntriesAreBounded → (start : World) (engines : ℕ) (events : List Event) (last : World) (before after : SheetLog) (old new : List ℕ)
+pub from-new : NewPressesComeSo → (start : World) (engines : ℕ) (events : List Event) (last : World) (before after : SheetLog) (old new : List ℕ)
     → are_engines engines ≡ true → start ≡ new_world engines → HappenAll start events last (handing before after old new)
     → (happened : HappenAll (new_world engines) events last (handing before after old new)) × ComesFromNew engines happened.happenings last
-from-new given bounded start engines events last before after old new are is all =
+from-new come start engines events last before after old new are is all =
     let happened = subst (λ (w : World). HappenAll w events last (handing before after old new)) is all in
-    (happened, comes_from_new given bounded engines happened.happenings last are happened.leads)
+    (happened, come engines happened.happenings last are happened.leads)
 
-pub up-to-from-new : SheetsAreGiven → EntriesAreBounded → (start : World) (error : TurnError) (engines : ℕ) (events : List Event) (last : World) (before after : SheetLog) (old new : List ℕ)
+pub up-to-from-new : NewPressesComeSo → (start : World) (error : TurnError) (engines : ℕ) (events : List Event) (last : World) (before after : SheetLog) (old new : List ℕ)
     → are_engines engines ≡ true → start ≡ new_world engines → HappenUpTo error start events last (handing before after old new)
     → (happened : HappenUpTo error (new_world engines) events last (handing before after old new)) × ComesFromNew engines (happened.happened.happenings ++ happened.stopped ∷ []) last
-up-to-from-new given bounded start error engines events last before after old new are is all =
+up-to-from-new come start error engines events last before after old new are is all =
     let happened = subst (λ (w : World). HappenUpTo error w events last (handing before after old new)) is all in (
       happened,
-      comes_from_new given bounded engines (happened.happened.happenings ++ happened.stopped ∷ []) last are
+      come engines (happened.happened.happenings ++ happened.stopped ∷ []) last are
           (Leads-join (new_world engines) happened.between last happened.happened.happenings (happened.stopped ∷ []) happened.happened.leads happened.leads),
     )

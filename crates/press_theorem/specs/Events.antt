@@ -1,18 +1,15 @@
 -- What happens to a press, one event after another.
-use Rattle.std.specs.Prelude.{◌≡◌, ℕ, List, [], ◌∷◌, ◌++◌, length, Some, map, option_map, unwrap_or, Err}
+use Rattle.std.specs.Prelude.{◌≡◌, ℕ, List, [], ◌∷◌, ◌++◌, Some, map, option_map, unwrap_or, Err}
 use Rattle.std.specs.List.{All, flat_map}
 use Rattle.press_devices.specs.Writing.{AppendsPrefix}
-use Rattle.press_queue.specs.EveryQueue.{IsQueue}
 use Rattle.press_sink.specs.SinkLog.{SheetLog}
 use Rattle.press_core.specs.declared.turn.Turn.{Turn}
 use Rattle.press_core.specs.declared.turn.TurnError.{TurnError}
 use Rattle.press_core.specs.declared.turn.TurnError.TheVariants.{NoMemory}
-use Rattle.press_core.specs.Engines.{RunsOnEngines}
 use Rattle.press_core.specs.Events.{Event, Message, TurnOn, Operator, EventAnswer, Response, Turned, Nothing}
 use Rattle.press_history.specs.Runs.{Transition, IsAnswered, IsExecution}
-use Rattle.press_history.specs.Laws.{GivenUnder}
 use Rattle.press_core.specs.Turns.{WereHandedOut}
-use Rattle.press_core.specs.World.{World, new_world}
+use Rattle.press_core.specs.World.{World}
 use Rattle.press_theorem.specs.declared.events.PressEvent.{PressEvent}
 use Rattle.press_theorem.specs.declared.events.PressEvent.TheVariants as events
 
@@ -48,15 +45,6 @@ pub record HappenAll (world : World) (events : List Event) (last : World) (outpu
       ≡ option_map (λ all. all ++ flat_map (λ happening. happening.handed) happenings) outputs.before.delivered
   pub no_fault : outputs.after.faults ≡ outputs.before.faults
   pub responses : outputs.new ≡ outputs.old ++ flat_map (λ happening. line_of happening.answer) happenings
-
--- By these happenings a new press of so many engines came to this world. Under each number was handed out what its entry says, as it was
--- seen last, with the steps that its turns were answered. Each entry that runs is on an engine of its own, there are as many engines,
--- and the queue is as every queue is.
-pub record ComesFromNew (engines : ℕ) (happenings : List Transition) (last : World) : Type 0 where
-  pub given : (number : ℕ) → GivenUnder (new_world engines) happenings last number
-  pub on_engines : RunsOnEngines last.queue last.engines
-  pub count : length last.engines ≡ engines
-  pub queue : IsQueue last.queue
 
 -- What a fault leaves of the answer of its event, and of the responses. A turn is answered by it, and nothing is appended. At a message
 -- memory ran out, and a prefix of its response is appended, without a line feed; nothing where it has none. The operator meets no fault.

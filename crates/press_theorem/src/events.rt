@@ -4,7 +4,8 @@ ghost use Rattle.press_devices.specs.Writing.{AppendsPrefix};
 ghost use Rattle.press_sink.specs.SinkLog.{most_faults};
 ghost use Rattle.press_core.specs.Engines.{are_engines};
 ghost use Rattle.press_core.specs.World.{new_world};
-ghost use Rattle.press_theorem.specs.Events.{ComesFromNew, HappenAll, HappenUpTo, event_of, handing};
+ghost use Rattle.press_history.specs.Laws.{ComesFromNew};
+ghost use Rattle.press_theorem.specs.Events.{HappenAll, HappenUpTo, event_of, handing};
 
 use press_bits::Bitmap;
 use press_core::{OperatorCommand, Press, TurnError};
@@ -33,8 +34,10 @@ pub enum PressEvent<'a> {
 /// turns and commands of the operator come, the press goes from world to world as its rows say, and the sink takes the sheets
 /// that are handed out, each under the number of its entry, and nothing else.
 ///
-/// To a new press of one to four engines they happen by the laws of every run: each entry that runs is on an engine of its own; what was handed out under the number of an entry in flight are the sheets of
-/// the steps that were taken of its job, of a completed one all sheets that its ticket wants, of every other one a prefix of those.
+/// To a new press of one to four engines they happen by the laws of every run: each entry that runs is on an engine of its own; what was
+/// handed out under the number of an entry in flight are the sheets of the steps that were taken of its job, of a completed one all sheets
+/// that its ticket wants, of every other one a prefix of those. An entry delivers only in its turns, while it runs, and never again once
+/// it was completed or aborted.
 ///
 /// # Errors
 ///
@@ -64,8 +67,7 @@ pub fn carry_out_events<S: SheetSink>(
         (handing (S.told sheets.old) (S.told sheets.new) responses.old.items responses.new.items))
         × ComesFromNew engines (happened.happened.happenings ++ happened.stopped ∷ []) press.new) }
 {
-    laws::sheets_are_given();
-    laws::entries_are_bounded();
+    laws::new_presses_come_so();
     for event in events {
         carry_out(press, *event, sheets, responses)?;
     }

@@ -42,7 +42,7 @@ returns-clause-from_new g c = λ engines are new.
     let told = g.S.SheetSink.told in
     let events = c.args.events.now in
     let i = c.loop-event.event-index in
-    from-new c.sheets_are_given.ensures c.entries_are_bounded.ensures c.args.press.now engines (map event_of events) c.loop-event.press
+    from-new c.new_presses_come_so.ensures c.args.press.now engines (map event_of events) c.loop-event.press
     (told c.args.sheets.now) (told c.loop-event.sheets) c.args.responses.now.items c.loop-event.responses.items are new
     (subst (λ (some : _).
     HappenAll c.args.press.now (map event_of some) c.loop-event.press
@@ -70,7 +70,7 @@ returns-in_err-carry_out-clause-err_from_new g c =
     let event = c.event-item.result in
     rw (exit-is c.from_residual.ensures.1)
     (λ engines are new.
-    up-to-from-new c.sheets_are_given.ensures c.entries_are_bounded.ensures c.args.press.now c.in_err-carry_out.field-0.0 engines
+    up-to-from-new c.new_presses_come_so.ensures c.args.press.now c.in_err-carry_out.field-0.0 engines
     (map event_of events) c.carry_out.new.press (told c.args.sheets.now) (told c.carry_out.new.sheets) c.args.responses.now.items
     c.carry_out.new.responses.items are new
     (HappenUpTo-behind c.in_err-carry_out.field-0.0 c.args.press.now c.loop-event.press c.carry_out.new.press

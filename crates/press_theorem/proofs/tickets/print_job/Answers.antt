@@ -5,7 +5,7 @@ use Rattle.press_sink.specs.Sending.{Complete, HandsOut}
 use Rattle.press_stream.specs.Meaning.{CarriesOn}
 use Rattle.press_stream.specs.State.{opened}
 use Rattle.press_writer.specs.Left.{bytes_left}
-use Rattle.press_theorem.proofs.ChainLemmas.{HandsOut-more, HandsOut-opened, Prints-end, fed, opened-going}
+use Rattle.press_stream.proofs.ChainLemmas.{HandsOut-more, HandsOut-opened, Prints-end, fed, opened-going}
 use Rattle.press_theorem.proofs.TicketLemmas.{delivers-of, told_by}
 use Rattle.press_theorem.proofs.tickets.print_job.Goals as goal
 
