@@ -1,9 +1,7 @@
 -- The commands of a stream, listed one after another.
-use Rattle.std.proofs.Common.{◌≡◌, ◌∙◌, ℕ, List, [], ◌∷◌, ◌++◌, true, false, cond, refl, sym, ap, subst, arith, append_assoc}
-use Rattle.std.specs.Prelude.{Option, Some, None, Result, Ok, IfOk, IfNone}
+use Rattle.std.proofs.Common.{◌≡◌, ◌∙◌, ℕ, List, [], ◌∷◌, ◌++◌, ◌<◌, length, true, false, cond, refl, sym, ap, subst, arith, append_assoc, append-nil}
 use Rattle.std.specs.List.{list_all}
 use Rattle.std.specs.Str.{IsAscii, IsUtf8}
-use Rattle.std.specs.declared.alloc.AllocError.{AllocError}
 use Rattle.std.proofs.lemmas.Bool.{and_parts, ne_eqb}
 use Rattle.std.proofs.lemmas.Str.{IsAscii-append, IsUtf8-from_ascii}
 use Rattle.std.proofs.lemmas.Str.Ascii.{IsAscii-nil, IsAscii-cons}
@@ -11,71 +9,86 @@ use Rattle.press_units.specs.Ascii.{is_printable}
 use Rattle.press_cmd.specs.Token.{Token}
 use Rattle.press_cmd.specs.ParserState.{Exit}
 use Rattle.press_cmd.specs.Split.{Closed}
-use Rattle.press_cmd.specs.View.{token}
-use Rattle.press_cmd.specs.declared.command.Command.{Command}
 use Rattle.press_cmd.proofs.ByteTests.{range-true}
 use Rattle.press_scan.specs.ScannerState.{ScannerState}
-use Rattle.press_scan.specs.Gives.{Passes, IsDone, Leaves}
+use Rattle.press_scan.specs.Gives.{Passes}
+use Rattle.press_scan.specs.Passing.{PassesEach}
 use Rattle.press_scan.specs.Reached.{Reached, Remains}
 use Rattle.press_scan.proofs.ReachedLaws.{feeds_reach, end_reaches}
 use Rattle.press_asm.specs.Text.{is_feed, in_front, lines_of, all_bytes, LinesStand}
-use Rattle.press_asm.specs.Written.{written_line, text_of, IsWritten, AreWritten}
+use Rattle.press_asm.specs.Written.{written_line, text_of, AreWritten}
 use Rattle.press_asm.proofs.LineStands.{line_ascii}
-use Rattle.press_disasm.specs.Disassembly.{IsDisassembly, IsListed}
+use Rattle.press_disasm.specs.Disassembly.{IsDisassembly, IsListed, Lists, ListsAll, ListsNext}
 use Rattle.press_disasm.proofs.ReadAgain.{read_again}
 use Rattle.press_disasm.proofs.Standing.{stand_give, one_give}
 
--- ---- the scanner's answers
-
-pub leaves_some : (old new : ScannerState) (result : Result (Option Command) AllocError) (answer : Option Command) (command : Command) → Leaves old result new → result ≡ Ok answer
-    → answer ≡ Some command → Passes old (token command) new
-leaves_some old new result answer command leaves p q =
-    let P : Result (Option Command) AllocError → Type 0 = λ one. Leaves old one new in
-    subst P (p ∙ ap Ok q) leaves
-
-pub at_none : {X E : Type 0} (P : Type 0) (result : Result (Option X) E) (answer : Option X) → IfOk result (λ one. IfNone one P) → result ≡ Ok answer → answer ≡ None → P
-at_none {X} {E} P result answer h p q =
-    let Q : Result (Option X) E → Type 0 = λ one. IfOk one (λ two. IfNone two P) in
-    subst Q (p ∙ ap Ok q) h
-
 -- ---- commands listed so far
 
--- these commands were given, what is held remains, and the text lists them
-pub record IsListedSoFar (bytes : List ℕ) (held : ScannerState) (text : List ℕ) : Type 0 where
-  pub given : List Token
-  pub remains : Remains bytes given held
-  pub ended : held.ended ≡ true
-  pub written : AreWritten given
-  pub listed : text ≡ text_of given
+passes-then : (old middle new : ScannerState) (cs : List Token) (c : Token) → PassesEach old cs middle → Passes middle c new → PassesEach old (cs ++ c ∷ []) new
+passes-then old middle new [] c same passes = (new, subst (λ (held : ScannerState). Passes held c new) same passes, refl)
+passes-then old middle new (d ∷ cs) c (next, first, others) passes = (next, first, passes-then next middle new cs c others passes)
 
-pub begun : (bytes text : List ℕ) (new fed ended : ScannerState) → new.mode ≡ Exit → new.bytes ≡ [] → fed.mode ≡ new.mode → fed.bytes ≡ new.bytes ++ bytes
-    → ended ≡ record fed { ended = true } → text ≡ [] → IsListedSoFar bytes ended text
-begun bytes text new fed ended mode none same more is empty =
-    let reached : Reached ([] ++ bytes) [] fed = feeds_reach.feeds [] bytes [] new fed (feeds_reach.begins new mode none) same more in
-    let along : Reached bytes [] ended = subst (λ (h : ScannerState). Reached bytes [] h) (sym is) reached in
-    record { given = []; remains = end_reaches.ends bytes [] ended along; ended = ap (λ (h : ScannerState). h.ended) is; written = tt; listed = empty }
+pub written-append : (cs ds : List Token) → AreWritten cs → AreWritten ds → AreWritten (cs ++ ds)
+written-append [] ds h more = more
+written-append (c ∷ cs) ds h more = (h.0, written-append cs ds h.1 more)
 
-written-append : (cs : List Token) (c : Token) → AreWritten cs → IsWritten c → AreWritten (cs ++ (c ∷ []))
-written-append [] c h one = (one, tt)
-written-append (d ∷ cs) c h one = (h.0, written-append cs c h.1 one)
+pub text-append : (cs ds : List Token) → text_of (cs ++ ds) ≡ text_of cs ++ text_of ds
+text-append [] ds = refl
+text-append (c ∷ cs) ds = ap (λ x. written_line c ++ (10 ∷ x)) (text-append cs ds) ∙ sym (append_assoc (written_line c) (10 ∷ text_of cs) (text_of ds))
 
-text-append : (cs : List Token) (c : Token) → text_of (cs ++ (c ∷ [])) ≡ text_of cs ++ (written_line c ++ (10 ∷ []))
-text-append [] c = refl
-text-append (d ∷ cs) c =
-    ap (λ x. written_line d ++ (10 ∷ x)) (text-append cs c) ∙ sym (append_assoc (written_line d) (10 ∷ text_of cs) (written_line c ++ (10 ∷ [])))
-
-pub one_more : (bytes text more : List ℕ) (old new : ScannerState) (command : Token) → IsListedSoFar bytes old text → Passes old command new → IsWritten command
-    → more ≡ text ++ (written_line command ++ (10 ∷ [])) → IsListedSoFar bytes new more
-one_more bytes text more old new command s passes written listed = record {
-  given = s.given ++ (command ∷ []);
-  remains = end_reaches.passes bytes s.given command old new s.remains s.ended passes;
-  ended = passes.ended ∙ s.ended;
-  written = written-append s.given command s.written written;
-  listed = listed ∙ ap (λ x. x ++ (written_line command ++ (10 ∷ []))) s.listed ∙ sym (text-append s.given command);
+-- one command more
+pub one_listed : (old : ScannerState) (before : List ℕ) (middle : ScannerState) (lines : List ℕ) (new : ScannerState) (more : List ℕ)
+    → Lists old before middle lines → ListsNext middle lines true new more → Lists old before new more
+one_listed old before middle lines new more so_far (command, passes, written, line) = record {
+  commands = so_far.commands ++ command ∷ [];
+  each = passes-then old middle new so_far.commands command so_far.each passes;
+  written = written-append so_far.commands (command ∷ []) so_far.written (written, tt);
+  listed =
+      line
+      ∙ ap (λ x. x ++ (written_line command ++ 10 ∷ [])) so_far.listed
+      ∙ append_assoc before (text_of so_far.commands) (written_line command ++ 10 ∷ [])
+      ∙ ap (λ x. before ++ x) (sym (text-append so_far.commands (command ∷ [])));
 }
 
-pub all_listed : (bytes text : List ℕ) (held : ScannerState) → IsListedSoFar bytes held text → IsDone held → IsListed bytes text
-all_listed bytes text held s is_done = record { commands = s.given; closed = end_reaches.done bytes s.given held s.remains s.ended is_done; written = s.written; listed = s.listed }
+pub one_fewer : (old : ScannerState) (lines : List ℕ) (new : ScannerState) (more : List ℕ) → ListsNext old lines true new more → length new.bytes < length old.bytes
+one_fewer old lines new more (command, passes, written, line) = passes.used
+
+-- ---- commands that are passed one after another
+
+pub still-ended : (old new : ScannerState) (cs : List Token) → PassesEach old cs new → new.ended ≡ old.ended
+still-ended old new [] same = ap (λ (held : ScannerState). held.ended) same
+still-ended old new (c ∷ cs) (next, first, others) = still-ended next new cs others ∙ first.ended
+
+pub reached-each : (all : List ℕ) (given cs : List Token) (old new : ScannerState) → Reached all given old → old.ended ≡ false → PassesEach old cs new → Reached all (given ++ cs) new
+reached-each all given [] old new so_far going same =
+    subst (λ (held : ScannerState). Reached all (given ++ []) held) (sym same)
+    (subst (λ (these : List Token). Reached all these old) (sym (append-nil given)) so_far)
+reached-each all given (c ∷ cs) old new so_far going (next, first, others) =
+    subst (λ (these : List Token). Reached all these new) (append_assoc given (c ∷ []) cs)
+    (reached-each all (given ++ c ∷ []) cs next new (feeds_reach.passes all given c old next so_far going first) (first.ended ∙ going) others)
+
+pub remains-each : (all : List ℕ) (given cs : List Token) (old new : ScannerState) → Remains all given old → old.ended ≡ true → PassesEach old cs new → Remains all (given ++ cs) new
+remains-each all given [] old new so_far ended same =
+    subst (λ (held : ScannerState). Remains all (given ++ []) held) (sym same)
+    (subst (λ (these : List Token). Remains all these old) (sym (append-nil given)) so_far)
+remains-each all given (c ∷ cs) old new so_far ended (next, first, others) =
+    subst (λ (these : List Token). Remains all these new) (append_assoc given (c ∷ []) cs)
+    (remains-each all (given ++ c ∷ []) cs next new (end_reaches.passes all given c old next so_far ended first) (first.ended ∙ ended) others)
+
+-- the commands of a scanner that was handed the whole stream are those of the closed split
+pub all_listed : (bytes lines : List ℕ) (new fed ended last : ScannerState) → new.mode ≡ Exit → new.bytes ≡ [] → fed.mode ≡ new.mode → fed.bytes ≡ new.bytes ++ bytes
+    → ended ≡ record fed { ended = true } → ListsAll ended [] last lines → IsListed bytes lines
+all_listed bytes lines new fed ended last mode none same more is (lists, is_done) =
+    let reached : Reached ([] ++ bytes) [] fed = feeds_reach.feeds [] bytes [] new fed (feeds_reach.begins new mode none) same more in
+    let along : Reached bytes [] ended = subst (λ (held : ScannerState). Reached bytes [] held) (sym is) reached in
+    let at_end : ended.ended ≡ true = ap (λ (held : ScannerState). held.ended) is in
+    let remains = remains-each bytes [] lists.commands ended last (end_reaches.ends bytes [] ended along) at_end lists.each in
+    record {
+      commands = lists.commands;
+      closed = end_reaches.done bytes lists.commands last remains (still-ended ended last lists.commands lists.each ∙ at_end) is_done;
+      written = lists.written;
+      listed = lists.listed;
+    }
 
 -- ---- the lines of the list
 

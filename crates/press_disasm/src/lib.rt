@@ -4,4 +4,4 @@
 mod disassembler;
 pub mod laws;
 
-pub use disassembler::disassemble;
+pub use disassembler::{disassemble, write_lines};

@@ -1,3 +1,4 @@
 -- Lemmas on pages of streams.
+mod DisassemblyLemmas
 mod PagingLemmas
 mod TracedLemmas

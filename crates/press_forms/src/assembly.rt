@@ -1,16 +1,14 @@
-//! Assembly text to bytes, and back.
+//! Assembly text to bytes.
 ghost use Rattle.std.specs.Prelude.{◌≡◌, IfOk, IfErr, OnOk, false, true};
 ghost use Rattle.press_devices.specs.Reading.{ReadFails};
-ghost use Rattle.std.specs.String.{string_bytes};
-ghost use Rattle.press_forms.specs.Assembly.{Assembled, AssembledTo, TextRefused, StopsAssembling, Disassembled, DisassembledTo, StreamUnread, StopsDisassembling};
+ghost use Rattle.press_forms.specs.Assembly.{Assembled, AssembledTo, TextRefused, StopsAssembling};
 ghost use Rattle.press_forms.specs.Faults.{told_of_text};
 ghost use Rattle.press_forms.specs.Causes.{TextCause};
 ghost use Rattle.press_files.specs.Causes.{failures};
 ghost use Rattle.press_telling.specs.Telling.{Ended};
 
 use press_asm::{AssembleError, assemble};
-use press_devices::{ReadDevice, WriteDevice, write_flushed};
-use press_disasm::disassemble;
+use press_devices::{ReadDevice, ReadFailed, WriteDevice, write_flushed};
 use press_files::{InputError, read_all};
 use press_pbm::WRITE_FAULT;
 use press_telling::{NO_OUTPUT, Teller, report};
@@ -59,6 +57,18 @@ impl From<InputError> for TextError {
 
     fn from(fault: InputError) -> TextError {
         TextError::Input(fault)
+    }
+}
+
+impl From<ReadFailed> for TextError {
+    ghost use Rattle.std.specs.Prelude.{◌≡◌};
+    ghost use Rattle.press_files.specs.declared.inputs.InputError.TheVariants.{ReadFault};
+    ghost use Rattle.press_forms.specs.declared.assembly.TextError.TheVariants.{Input};
+
+    ghost from_gives = { λ _ error. error ≡ Input ReadFault };
+
+    fn from(_fault: ReadFailed) -> TextError {
+        TextError::Input(InputError::ReadFault)
     }
 }
 
@@ -128,61 +138,6 @@ pub fn asm_text<R: ReadDevice, W: WriteDevice, E: Teller>(
         ⊥ ⊥ (W.failed out.new ≡ true)) why) }
 {
     match assemble_to(alloc, reader, out) {
-        Ok(()) => 0,
-        Err(error) => report(&error, err),
-    }
-}
-
-/// The assembly text of the stream that a reader has.
-fn disassembled<R: ReadDevice>(alloc: Global, reader: &mut R) -> Result<String, TextError>
-    ensures ok { IfOk result (λ text.
-        Disassembled (R.remaining reader.old) (R.remaining reader.new) (string_bytes text)) }
-    ensures err { IfErr result StreamUnread }
-    ensures cause { IfErr result (TextCause
-        (failures (ReadFails (R.failed reader.new) (R.reads reader.new)) ⊥ ⊥ ⊥)) }
-{
-    let bytes = read_all(alloc, reader)?;
-    Ok(disassemble(alloc, &bytes)?)
-}
-
-/// Writes the assembly text of the stream that a reader has to `out`.
-fn disassemble_to<R: ReadDevice, W: WriteDevice>(
-    alloc: Global,
-    reader: &mut R,
-    out: &mut W,
-) -> Result<(), TextError>
-    ensures ok { OnOk result (DisassembledTo (R.remaining reader.old) (R.remaining reader.new)
-        (W.contents out.old) (W.contents out.new)) }
-    ensures err { IfErr result (λ why.
-        StopsDisassembling (R.remaining reader.old) (R.remaining reader.new)
-        (W.contents out.old) (W.contents out.new) why) }
-    ensures flushed { OnOk result (W.waiting out.new ≡ false) }
-    ensures cause { IfErr result (TextCause
-        (failures (ReadFails (R.failed reader.new) (R.reads reader.new))
-        ⊥ (W.failed out.new ≡ true) ⊥)) }
-{
-    let text = disassembled(alloc, reader)?;
-    write_flushed(out, text.as_bytes()).map_err(|_| TextError::NoOutput)
-}
-
-/// Writes the assembly text of the stream that a reader has to `out`, and a fault to `err`. Where the stream was not read to its
-/// end nothing is written. The answer is the status: 0, or 1 after a fault.
-pub fn disasm_bytes<R: ReadDevice, W: WriteDevice, E: Teller>(
-    alloc: Global,
-    reader: &mut R,
-    out: &mut W,
-    err: &mut E,
-) -> u8
-    ensures flushed { result ≡ 0 → W.waiting out.new ≡ false }
-    ensures ended { Ended result (E.said err.old) (E.said err.new) told_of_text
-        (DisassembledTo (R.remaining reader.old) (R.remaining reader.new)
-        (W.contents out.old) (W.contents out.new))
-        (λ why. StopsDisassembling (R.remaining reader.old) (R.remaining reader.new)
-        (W.contents out.old) (W.contents out.new) why
-        × TextCause (failures (ReadFails (R.failed reader.new) (R.reads reader.new))
-        ⊥ (W.failed out.new ≡ true) ⊥) why) }
-{
-    match disassemble_to(alloc, reader, out) {
         Ok(()) => 0,
         Err(error) => report(&error, err),
     }

@@ -2,9 +2,11 @@
 #![tactic(auto)]
 
 mod assembly;
+mod disassembly;
 mod paging;
 mod traced;
 
-pub use assembly::{TextError, asm_text, assembled, disasm_bytes};
+pub use assembly::{TextError, asm_text, assembled};
+pub use disassembly::disasm_bytes;
 pub use paging::{PagingError, page_file};
 pub use traced::{TracedError, tell_trace};

@@ -1,5 +1,5 @@
 //! The page that is open at a step of a stream, made an output.
-ghost use Rattle.std.specs.Prelude.{◌≡◌, true, IfOk, IfErr, IfSome};
+ghost use Rattle.std.specs.Prelude.{◌≡◌, true, IfOk, IfErr, IfSome, OnOk};
 ghost use Rattle.press_devices.specs.Reading.{ReadFails};
 ghost use Rattle.press_files.specs.Causes.{failures};
 ghost use Rattle.press_files.specs.Change.{change};
@@ -111,7 +111,8 @@ pub fn page_file<R: ReadDevice, O: NamedOutputs, E: Teller>(
     name: &str,
     err: &mut E,
 ) -> u8
-    ensures { Paging
+    ensures through { result ≡ 0 → O.waiting outputs.new ≡ O.waiting outputs.old }
+    ensures pages { Paging
         (failures (ReadFails (R.failed reader.new) (R.reads reader.new))
         ⊥ ⊥ (O.failed outputs.new ≡ true))
         steps name.now result
@@ -140,6 +141,7 @@ fn make_page<R: ReadDevice, O: NamedOutputs>(
 ) -> Result<u64, PagingError>
     ensures ok { IfOk result (PagedBehind steps name.now (R.remaining reader.old)
         (R.remaining reader.new) (O.made outputs.old) (O.made outputs.new)) }
+    ensures through { OnOk result (O.waiting outputs.new ≡ O.waiting outputs.old) }
     ensures err { IfErr result (λ why. StopsPaging steps name.now (R.remaining reader.old)
         (R.remaining reader.new)
         (change (O.made outputs.old) (O.made outputs.new)) why) }
@@ -189,6 +191,7 @@ fn write_open_page<O: NamedOutputs>(
     ensures makes { IfSome stepper.now.job.machine (λ machine.
         MakesPage (page_now machine.state) name.now result
         (O.made outputs.old) (O.made outputs.new)) }
+    ensures through { OnOk result (O.waiting outputs.new ≡ O.waiting outputs.old) }
     ensures cause { IfErr result (λ why.
         why ≡ PagingError.WriteFault → O.failed outputs.new ≡ true) }
 {

@@ -1,5 +1,6 @@
 -- The lemmas on the lines of a trace, and on pages that are rebuilt from them.
 pub mod FloatLemmas
+pub mod SpelledLemmas
 pub mod SeenLemmas
 pub mod SentLemmas
 pub mod PageLemmas

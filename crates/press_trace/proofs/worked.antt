@@ -1,3 +1,4 @@
 -- Worked rows.
 pub mod Lines
+pub mod Spelled
 pub mod Traces

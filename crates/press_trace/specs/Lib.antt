@@ -5,6 +5,7 @@ pub mod Faults
 pub mod Fields
 pub mod Seen
 pub mod Texts
+pub mod Spelled
 pub mod Sent
 pub mod Pages
 pub mod Plain

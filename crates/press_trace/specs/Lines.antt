@@ -15,6 +15,7 @@ use Rattle.press_trace.specs.declared.place.Place.{Place}
 use Rattle.press_trace.specs.Pages.{IsPageTold}
 use Rattle.press_trace.specs.Places.{Placed}
 use Rattle.press_trace.specs.Seen.{view_told, object_if, put_some}
+use Rattle.press_trace.specs.Spelled.{spelled}
 use Rattle.press_trace.specs.Texts.{kind_data, text_of}
 
 -- the kind of the command that a step took, and whether it was recorded
@@ -64,8 +65,9 @@ line_members place sheets replies before now opened page =
     (put_some (codes "last") (last_told now.last)
     (put_some (codes "delivered") (delivered_told sheets) (where_members place now no_members)))))))
 
+-- The line of members: their compact JSON, in which no character stands that a terminal takes as a control, and a line feed.
 abbrev pub line_text : Members → List ℕ
-line_text members = compact_text (object members) ++ 10 ∷ []
+line_text members = spelled (compact_text (object members)) ++ 10 ∷ []
 
 -- what can be seen of a machine, and of none
 abbrev pub IsViewOf : Machine → View → Type 0

@@ -10,6 +10,7 @@ mod page;
 mod place;
 mod seen;
 mod sent;
+mod spelled;
 mod text;
 mod told;
 mod tracer;

@@ -13,6 +13,7 @@ use crate::page::PageTold;
 use crate::place::Place;
 use crate::seen::{Seen, object_of, put_some, told_view};
 use crate::sent::WentOut;
+use crate::spelled::spelled;
 use crate::text::{kind_value, text_value};
 use press_cmd::LINE_FEED;
 use press_engine::{Last, View};
@@ -95,7 +96,7 @@ fn ended_line(alloc: Global, members: Members) -> Result<Vec<u8>, AllocError>
     requires { members_have_float (members_view members.entries) ≡ false }
     ensures { IfOk result (λ line. line.items ≡ line_text (members_view members.entries)) }
 {
-    let mut line = Value::Object(members).to_vec(alloc)?;
+    let mut line = spelled(alloc, Value::Object(members).to_vec(alloc)?)?;
     line.push(LINE_FEED)?;
     Ok(line)
 }

@@ -1,0 +1,23 @@
+-- Texts in which no character is to be escaped.
+use Rattle.std.proofs.Common.{◌≡◌, ◌∙◌, ◌++◌, ℕ, List, [], ◌∷◌, Bool, true, false, cond, refl, ap, arith}
+use Rattle.std.specs.Prelude.{◌&&◌, nat_le}
+use Rattle.std.specs.List.{list_all}
+use Rattle.std.proofs.lemmas.Bool.{and_parts, ltb-true, ne_eqb}
+use Rattle.press_trace.specs.Spelled.{escape_of, is_control, is_plain, spelled, spelled_byte}
+
+plain_byte : (byte : ℕ) → is_plain byte ≡ true → spelled_byte byte ≡ byte ∷ []
+plain_byte byte plain =
+    ap (λ (delete : Bool). cond delete (escape_of byte) (byte ∷ [])) (ne_eqb byte 127 (λ is. omega (arith, ltb-true byte 127 plain, is)))
+
+plain_first : (first second : ℕ) → is_plain first ≡ true → is_control first second ≡ false
+plain_first first second plain =
+    ap (λ (begins : Bool). begins && (nat_le 128 second && nat_le second 159)) (ne_eqb first 194 (λ is. omega (arith, ltb-true first 127 plain, is)))
+
+-- bytes that stand for themselves are spelled as they are
+pub spelled_plain : (text : List ℕ) → list_all is_plain text ≡ true → spelled text ≡ text
+spelled_plain [] plain = refl
+spelled_plain (byte ∷ []) plain = plain_byte byte (and_parts (is_plain byte) true plain).0
+spelled_plain (first ∷ second ∷ text) plain =
+    let parts = and_parts (is_plain first) (list_all is_plain (second ∷ text)) plain in
+    ap (λ (high : Bool). cond high (escape_of second ++ spelled text) (spelled_byte first ++ spelled (second ∷ text))) (plain_first first second parts.0)
+    ∙ (λ i. plain_byte first parts.0 i ++ spelled_plain (second ∷ text) parts.1 i)
