@@ -1,5 +1,5 @@
 -- What the words of the command line come to.
-use Rattle.std.proofs.Common.{false, ◌≡◌, ◌∙◌, ◌⊎◌, ◌<◌, List, [], ◌∷◌, length, Option, Some, None, option_map, Result, Ok, Err, IfOk, IfErr, IsErrAnd, refl, sym, ap, inl, inr, arith}
+use Rattle.std.proofs.Common.{false, ◌≡◌, ◌≢◌, ◌∙◌, ◌⊎◌, ◌<◌, List, [], ◌∷◌, length, Option, Some, None, option_map, Result, Ok, Err, IfOk, IfErr, IsErrAnd, refl, sym, ap, inl, inr, arith}
 use Rattle.std.specs.Prelude.{option_and_then, ok_or}
 use Rattle.clap.specs.Built.{AddsSubcommand}
 use Rattle.clap.specs.declared.builder.command.Command.{Command}
@@ -12,7 +12,7 @@ use Rattle.clap.specs.declared.parser.matches.Found.{Found}
 use Rattle.clap.proofs.WalkLemmas.{first_value-rows, raw_values-rows}
 use Rattle.press_words.specs.declared.words.Request.{Request}
 use Rattle.press_words.specs.declared.words.Refusal.{Refusal}
-use Rattle.press_words.specs.declared.words.Refusal.TheVariants.{Words}
+use Rattle.press_words.specs.declared.words.Refusal.TheVariants.{Words, NoName, NoDefault}
 use Rattle.press_words.specs.View.{AsksHelp, request_seen, IsForMemory, status_of, status_of_kind}
 use Rattle.press_words.specs.Words.{Arguments, arguments, arguments_by, arguments_without, press_app}
 
@@ -95,3 +95,21 @@ pub help-other : (words : List Text) (found : Option Request) (refusal : Refusal
     → result ≡ ok_or found refusal → status_of refusal ≡ 2 → IfErr result (λ refusal. status_of refusal ≡ 0 → AsksHelp words)
 help-other words None refusal result is other = rw is (λ none. absurd (omega (arith, none, other)))
 help-other words (Some request) refusal result is other = rw is tt
+
+-- a refusal that ends with status 2 is none for want of memory
+refused-not-memory : (refusal : Refusal) → status_of refusal ≡ 2 → IsForMemory refusal → ⊥
+refused-not-memory (Words error) two memory = omega (arith, two, ap status_of_kind memory)
+refused-not-memory NoName two memory = absurd memory
+refused-not-memory (NoDefault text) two memory = absurd memory
+
+-- The refusal as it is told is that of the words, too.
+pub told-refused : (words : List Text) (refusal told : Refusal) → (told ≡ refusal) ⊎ ((status_of refusal ≡ 2) × (status_of told ≢ 0))
+    → IsForMemory refusal ⊎ (arguments words ≡ None) → IsForMemory told ⊎ (arguments words ≡ None)
+told-refused words refusal told (inl is) why = rw is why
+told-refused words refusal told (inr other) (inl memory) = absurd (refused-not-memory refusal other.0 memory)
+told-refused words refusal told (inr other) (inr none) = inr none
+
+pub told-help : (words : List Text) (refusal told : Refusal) → (told ≡ refusal) ⊎ ((status_of refusal ≡ 2) × (status_of told ≢ 0))
+    → (status_of refusal ≡ 0 → AsksHelp words) → status_of told ≡ 0 → AsksHelp words
+told-help words refusal told (inl is) help zero = help (rw is at zero)
+told-help words refusal told (inr other) help zero = absurd (other.1 zero)

@@ -4,6 +4,7 @@
 
 mod defaults;
 mod lines;
+mod told_words;
 mod words;
 
 pub use lines::{WHAT, line_of, number_in, number_word, space_place, words_of};

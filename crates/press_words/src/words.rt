@@ -1,5 +1,5 @@
 //! The words of the command line, and what they ask for.
-ghost use Rattle.std.specs.Prelude.{◌≡◌, ◌⊎◌, IfOk, IfErr, Some, None, map, option_map, option_and_then, codes, false};
+ghost use Rattle.std.specs.Prelude.{◌≡◌, ◌≢◌, ◌⊎◌, IfOk, IfErr, Some, None, map, option_map, option_and_then, codes, false};
 ghost use Rattle.clap.specs.Words.{app_of, rule_of, new_rule, kind_of, rows_of, found_of, subcommand_of, subcommand_rows_of, fault_of, FailsBy};
 ghost use Rattle.clap.specs.declared.builder.command.Command.TheViews.{out-Command};
 ghost use Rattle.clap.specs.declared.error.kind.ErrorKind.TheVariants.{OutOfMemory};
@@ -8,6 +8,7 @@ ghost use Rattle.press_words.specs.View.{AsksHelp, source_seen, made_seen, reque
 
 use crate::defaults::{are_assignments, prefix_of};
 use crate::lines::number_word;
+use crate::told_words::{has_controls, told_word, told_words};
 use clap::error::ErrorKind;
 use clap::{Arg, ArgAction, ArgMatches, Command, Error};
 use press_pjl::is_assignment;
@@ -108,7 +109,7 @@ pub enum Refusal {
     /// A subcommand lacks what its words have to name: `print` a template, where no listing is asked for, `asm`, `page` and `write` a
     /// file to make, `page` a number of steps, `debug` a file, or `press` a number of engines.
     NoName,
-    /// This text is no `NAME=VALUE` of the job language.
+    /// A text is no `NAME=VALUE` of the job language: the text as it is told.
     NoDefault(String),
 }
 
@@ -768,8 +769,63 @@ fn request_in<'a>(alloc: Global, matches: &ArgMatches<'a>) -> Result<Option<Requ
 ///
 /// # Errors
 ///
-/// Where the words are refused or ask for help, or memory ran out.
+/// Where the words are refused or ask for help, or memory ran out. No control character of words that are refused is told as it is.
 pub fn request_of<'a>(alloc: Global, words: &'a [&'a str]) -> Result<Request<'a>, Refusal>
+    ensures ok { IfOk result (λ request.
+        arguments (map (λ word. word.now) words.entry.now) ≡ Some (request_seen request)) }
+    ensures refused { IfErr result (λ refusal. (IsForMemory refusal)
+        ⊎ (arguments (map (λ word. word.now) words.entry.now) ≡ None)) }
+    ensures help { IfErr result (λ refusal.
+        status_of refusal ≡ 0 → AsksHelp (map (λ word. word.now) words.entry.now)) }
+{
+    match asked_of(alloc, words) {
+        Ok(request) => Ok(request),
+        Err(refusal) => Err(as_told(alloc, words, refusal)),
+    }
+}
+
+/// The refusal of words as it is told: where the command line refuses words that have control characters, that of the words as they are
+/// told.
+fn as_told(alloc: Global, words: &[&str], refusal: Refusal) -> Refusal
+    ensures { (result ≡ refusal) ⊎ ((status_of refusal ≡ 2) × (status_of result ≢ 0)) }
+{
+    match refusal {
+        Refusal::Words(error) => refused_as_told(alloc, words, error),
+        other => other,
+    }
+}
+
+/// The same of an error of the command line.
+fn refused_as_told(alloc: Global, words: &[&str], error: Error) -> Refusal
+    ensures { (result ≡ Refusal.Words error)
+        ⊎ ((status_of (Refusal.Words error) ≡ 2) × (status_of result ≢ 0)) }
+{
+    let refusal = Refusal::Words(error);
+    if refusal.status() != REFUSED || !has_controls(words) {
+        return refusal;
+    }
+    if let Err(again) = parse_as_told(alloc, words) {
+        let told = Refusal::Words(again);
+        if told.status() != 0 {
+            return told;
+        }
+    }
+    Refusal::NoName
+}
+
+/// The command line's error of words as they are told, if it has one.
+fn parse_as_told(alloc: Global, words: &[&str]) -> Result<(), Error> {
+    let told = told_words(alloc, words)?;
+    let mut texts = Vec::new(alloc);
+    for word in &told {
+        texts.push(word.as_str())?;
+    }
+    parse(alloc, &texts)?;
+    Ok(())
+}
+
+/// What the words ask for, as [`request_of`] says, or their refusal as it is.
+fn asked_of<'a>(alloc: Global, words: &'a [&'a str]) -> Result<Request<'a>, Refusal>
     ensures ok { IfOk result (λ request.
         arguments (map (λ word. word.now) words.entry.now) ≡ Some (request_seen request)) }
     ensures refused { IfErr result (λ refusal. (IsForMemory refusal)
@@ -799,7 +855,7 @@ fn refusal_of(alloc: Global, matches: &ArgMatches<'_>) -> Result<Refusal, Error>
     {
         for text in defaults {
             if !is_assignment(text.as_bytes()) {
-                return Ok(Refusal::NoDefault(String::from_str(alloc, text)?));
+                return Ok(Refusal::NoDefault(told_word(alloc, text)?));
             }
         }
     }
