@@ -183,20 +183,20 @@ made_of parts sheets faults before after none makes =
         ∙ ap (λ (all : List MadeOutput). with_outputs all before) (append-nil (sheets_outputs parts 1 sheets))
 
 -- the files of a stream that had no fault
-pub makes_files : (template : List ℕ) (parts : NameParts) (status : ℕ) (fails : Failures) (said says known left old new : Option (List ℕ))
+pub makes_files : (template front : List ℕ) (parts : NameParts) (status : ℕ) (fails : Failures) (said says known left old new : Option (List ℕ))
     (before after : Option (List MadeOutput))
-    → IsTemplate template parts → PrintsBy parts status (around fails said says known left old new before after) → status ≡ 0
-    → IfSome known (λ bytes. MakesFiles template bytes before after)
-makes_files template parts status fails said says None left old new before after is_template prints zero_ = tt
-makes_files template parts status fails said says (Some bytes) left old new before after is_template prints zero_ =
+    → IsTemplate template parts → PrintsBy parts front status (around fails said says known left old new before after) → status ≡ 0
+    → IfSome known (λ bytes. MakesFiles template (front ++ bytes) before after)
+makes_files template front parts status fails said says None left old new before after is_template prints zero_ = tt
+makes_files template front parts status fails said says (Some bytes) left old new before after is_template prints zero_ =
     of_error prints.prints.error refl
   where
-    of_error : (error : Option JobError) → prints.prints.error ≡ error → MakesFiles template bytes before after
+    of_error : (error : Option JobError) → prints.prints.error ≡ error → MakesFiles template (front ++ bytes) before after
     of_error (Some error) is = absurd (omega (arith, zero_, prints.prints.answers, ap status_of_fault is))
     of_error None is =
         let P : Option JobError → Type 0 =
         λ error.
-        HandsOut (ending_by error) (Printed [] (Some bytes) left error prints.prints.machine)
+        HandsOut (ending_by error) (Printed front (Some bytes) left error prints.prints.machine)
         (under 0 (logs (files_told [] 0) (replies_written old 0))
         (logs (files_told prints.deliveries prints.faults) (replies_written new prints.prints.faults))) in
         let hands : P None = subst P is prints.prints.printed in
@@ -211,7 +211,7 @@ makes_files template parts status fails said says (Some bytes) left old new befo
           parts = parts;
           is_template = is_template;
           commands = commands;
-          closed = subst (λ all. Closed all commands) (read_all bytes left printed.bytes printed.read) printed.printed.closed;
+          closed = subst (λ all. Closed (front ++ all) commands) (read_all bytes left printed.bytes printed.read) printed.printed.closed;
           made =
               made_of parts (sheets_in prints.deliveries) prints.faults before after hands.took.sheet_faults prints.makes
               ∙ ap (λ (all : List PrintedSheet). with_outputs (sheets_outputs parts 1 all) before) all_sheets;
@@ -227,25 +227,25 @@ prints-no-files BadTemplate template status fails said says had left old new bef
 prints-no-files template_fault.NoMemory template status fails said says had left old new before after bad nothing = inr nothing
 
 -- where a stream ended at a sheet, its sink had one fault more
-sheet-fault : (had left : Option (List ℕ)) (error : Option JobError) (machine : Option Machine) (before after : SinkLog)
-    → HandsOut (ending_by error) (Printed [] had left error machine) (under 0 before after) → error ≡ Some errors.SinkFault
+sheet-fault : (front : List ℕ) (had left : Option (List ℕ)) (error : Option JobError) (machine : Option Machine) (before after : SinkLog)
+    → HandsOut (ending_by error) (Printed front had left error machine) (under 0 before after) → error ≡ Some errors.SinkFault
     → after.sheets.faults ≡ before.sheets.faults + 1
-sheet-fault had left error machine before after hands is =
+sheet-fault front had left error machine before after hands is =
     hands.took.sheet_faults ∙ ap (λ (one : Option JobError). sheet_faults_after (ending_by one) before.sheets.faults) is
 
 -- a stream that was printed to a sink of files, which took nothing before
-pub prints-by : (parts : NameParts) (status : ℕ) (Input Output Outputs Other : Type 0) (said says had left old new : Option (List ℕ))
+pub prints-by : (parts : NameParts) (front : List ℕ) (status : ℕ) (Input Output Outputs Other : Type 0) (said says had left old new : Option (List ℕ))
     (before after : Option (List MadeOutput)) (first taken : List Delivery) (begun faults : ℕ)
     → first ≡ [] → begun ≡ 0
-    → PrintsTo (failures Input ⊥ Output Other) status (change said says) (change had left)
+    → PrintsTo (failures Input ⊥ Output Other) status front (change said says) (change had left)
     (change (files_told first begun) (files_told taken faults)) (change old new)
     → ∥ MakesSheets parts (sheets_in taken) faults before after ∥₁ → (faults ≢ 0 → Outputs)
-    → PrintsBy parts status (around (failures Input ⊥ Output Outputs) said says had left old new before after)
-prints-by parts status Input Output Outputs Other said says had left old new _ _ first taken begun faults none sound prints makes cause =
+    → PrintsBy parts front status (around (failures Input ⊥ Output Outputs) said says had left old new before after)
+prints-by parts front status Input Output Outputs Other said says had left old new _ _ first taken begun faults none sound prints makes cause =
     let told : files_told first begun ≡ files_told [] 0 = cc (none, sound) in
     let P : SheetLog → Type 0 =
     λ start.
-    PrintsTo (failures Input ⊥ Output Other) status (change said says) (change had left) (change start (files_told taken faults))
+    PrintsTo (failures Input ⊥ Output Other) status front (change said says) (change had left) (change start (files_told taken faults))
     (change old new) in
     let all : P (files_told [] 0) = subst P told prints in
     record {
@@ -263,6 +263,6 @@ prints-by parts status Input Output Outputs Other said says had left old new _ _
       };
       makes = makes;
       outputs = λ is.
-          let faulted = sheet-fault had left all.error all.machine _ _ all.printed is in
+          let faulted = sheet-fault front had left all.error all.machine _ _ all.printed is in
           cause (λ zero. omega (arith, zero, faulted));
     }

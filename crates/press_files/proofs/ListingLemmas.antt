@@ -69,13 +69,13 @@ read_all bytes None read reads = absurd reads.lost
 read_all bytes (Some rest) read reads = sym (reads.lost ∙ ap (λ last. read ++ last) (reads.at_end refl) ∙ append-nil read)
 
 -- what the sinks took of a stream that was printed, where it had no fault and its listing was written
-pub lists-printed : (printed : Result JobState JobError) (written : Bool) (known left old new : Option (List ℕ))
-    → ListsPrinted printed written known left old new → status_of_listing (fault_of printed) written ≡ 0
-    → IfSome known (λ bytes. Lists bytes old new)
-lists-printed printed false known left old new stream zero = absurd cc
-lists-printed (Err error) true known left old new stream zero = absurd cc
-lists-printed (Ok job) true None left old new stream zero = tt
-lists-printed (Ok job) true (Some bytes) left old new stream zero =
+pub lists-printed : (front : List ℕ) (printed : Result JobState JobError) (written : Bool) (known left old new : Option (List ℕ))
+    → ListsPrinted front printed written known left old new → status_of_listing (fault_of printed) written ≡ 0
+    → IfSome known (λ bytes. Lists (front ++ bytes) old new)
+lists-printed front printed false known left old new stream zero = absurd cc
+lists-printed front (Err error) true known left old new stream zero = absurd cc
+lists-printed front (Ok job) true None left old new stream zero = tt
+lists-printed front (Ok job) true (Some bytes) left old new stream zero =
     let printed = stream.prints.is.printed in
     let took = stream.prints.took in
     let commands = printed.commands in
@@ -87,7 +87,7 @@ lists-printed (Ok job) true (Some bytes) left old new stream zero =
     let all_sheets : sheets_in stream.deliveries ≡ sheets = ap sheets_in told ∙ sheets_in-tagged 0 sheets in
     let all_replies : stream.replies ≡ reply_bytes_of outputs = took.replied ∙ ap reply_bytes_of printed.goes in
     let R : List ℕ → Type 0 = λ lines. Appends old new lines in
-    let S : List ℕ → Type 0 = λ all. Closed all commands in (
+    let S : List ℕ → Type 0 = λ all. Closed (front ++ all) commands in (
       commands,
       subst S (read_all bytes left stream.prints.is.bytes stream.prints.is.read) printed.closed,
       subst R (ap (λ (all : List PrintedSheet). lines_from 1 all ++ stream.replies) all_sheets
@@ -165,16 +165,16 @@ listed-cut true old new bytes listed is = absurd (true≢false is)
 listed-cut false old new bytes listed is = listed
 
 -- what the sinks tell, and what is listed of it
-pub lists-stream : (printed : Result JobState JobError) (written : Bool)
+pub lists-stream : (front : List ℕ) (printed : Result JobState JobError) (written : Bool)
     (had left old new : Option (List ℕ)) (first last : List Delivery) (nothing all replies : List ℕ)
     → first ≡ [] → nothing ≡ [] → all ≡ replies
-    → HandsOut (ending_by (fault_of printed)) (Printed [] had left (fault_of printed) (machine_of printed))
+    → HandsOut (ending_by (fault_of printed)) (Printed front had left (fault_of printed) (machine_of printed))
     (under 0 (took first nothing) (took last all))
-    → ∥ HasListed written old new (lines_from 1 (sheets_in last) ++ replies) ∥₁ → ListsPrinted printed written had left old new
-lists-stream printed written had left old new first last nothing all replies p q s prints listed =
+    → ∥ HasListed written old new (lines_from 1 (sheets_in last) ++ replies) ∥₁ → ListsPrinted front printed written had left old new
+lists-stream front printed written had left old new first last nothing all replies p q s prints listed =
     let P : SinkLog → SinkLog → Type 0 =
     λ before after.
-    HandsOut (ending_by (fault_of printed)) (Printed [] had left (fault_of printed) (machine_of printed)) (under 0 before after) in
+    HandsOut (ending_by (fault_of printed)) (Printed front had left (fault_of printed) (machine_of printed)) (under 0 before after) in
     let begun : took first nothing ≡ took [] [] = cc (p, q) in
     let ended : took last all ≡ took last replies = cc s in
     let fact = listed-fact written old new (lines_from 1 (sheets_in last) ++ replies) listed in

@@ -29,9 +29,9 @@ around fails said says had left old new before after = record {
   made = change before after;
 }
 
--- the same, where a reader of other bytes is read, and no input by its name
-abbrev pub reading_from : (had left : Option (List ℕ)) → Edge → Edge
-reading_from had left edge = record edge { fails = record edge.fails { file = ⊥ }; read = change had left }
+-- the same, where no input is read by its name
+abbrev pub without_files : Edge → Edge
+without_files edge = record edge { fails = record edge.fails { file = ⊥ } }
 
 -- the same, where an input that was opened by its name is read, which tells whether a read failed, and how many there were
 abbrev pub reading_file : (had left : Option (List ℕ)) → (failed : Bool) (reads : ℕ) → Edge → Edge

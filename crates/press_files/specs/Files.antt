@@ -35,14 +35,14 @@ delivery_code =
 abbrev pub replies_written : Option (List ℕ) → ℕ → ReplyLog
 replies_written contents faults = record { replied = contents; faults = faults }
 
--- A stream was printed to a sheet sink under tag 0, and its replies were written: so much of it went out, by the error that there was or
+-- A stream of these bytes and of what a reader had behind them was printed to a sheet sink under tag 0, and its replies were written: so much of it went out, by the error that there was or
 -- was not, and the status is 0 exactly where there was none. Then the writer took all the replies, and nothing else. The error is what was
 -- told. 304 comes only where the reader is not read on, and 302 where the writer failed.
-pub record PrintsTo (fails : Failures) (status : ℕ) (told read : Change (Option (List ℕ))) (sheets : Change SheetLog) (written : Change (Option (List ℕ))) : Type 0 where
+pub record PrintsTo (fails : Failures) (status : ℕ) (front : List ℕ) (told read : Change (Option (List ℕ))) (sheets : Change SheetLog) (written : Change (Option (List ℕ))) : Type 0 where
   pub error : Option JobError
   pub machine : Option Machine
   pub faults : ℕ
-  pub printed : HandsOut (ending_by error) (Printed [] read.before read.after error machine)
+  pub printed : HandsOut (ending_by error) (Printed front read.before read.after error machine)
       (under 0 (logs sheets.before (replies_written written.before 0)) (logs sheets.after (replies_written written.after faults)))
   pub answers : status ≡ status_of_fault error
   pub tells : TellsFault error told.before told.after
@@ -78,18 +78,18 @@ files_told deliveries faults = record { delivered = Some deliveries; faults = fa
 
 -- A stream was printed to files by a template of these parts: what went out of it is what the sink took, and that was made. 301 comes only
 -- where outputs failed.
-pub record PrintsBy (parts : NameParts) (status : ℕ) (edge : Edge) : Type 0 where
+pub record PrintsBy (parts : NameParts) (front : List ℕ) (status : ℕ) (edge : Edge) : Type 0 where
   pub deliveries : List Delivery
   pub faults : ℕ
-  pub prints : PrintsTo edge.fails status edge.told edge.read (change (files_told [] 0) (files_told deliveries faults)) edge.written
+  pub prints : PrintsTo edge.fails status front edge.told edge.read (change (files_told [] 0) (files_told deliveries faults)) edge.written
   pub makes : ∥ MakesSheets parts (sheets_in deliveries) faults edge.made.before edge.made.after ∥₁
   pub outputs : prints.error ≡ Some SinkFault → edge.fails.outputs
 
 -- The same by a text, which is a template.
-pub record PrintsFiles (template : List ℕ) (status : ℕ) (edge : Edge) : Type 0 where
+pub record PrintsFiles (template front : List ℕ) (status : ℕ) (edge : Edge) : Type 0 where
   pub parts : NameParts
   pub is_template : IsTemplate template parts
-  pub by_parts : PrintsBy parts status edge
+  pub by_parts : PrintsBy parts front status edge
 
 -- The files of a stream of these bytes were made by a template, and nothing else: the sides of the sheets that its meaning delivers,
 -- in order, each under the name with its number, and each the P4 file of its page.

@@ -63,12 +63,12 @@ HasListed false old new bytes = AppendsPrefix old new bytes
 abbrev pub took : List Delivery → List ℕ → SinkLog
 took deliveries replies = logs (record { delivered = Some deliveries; faults = 0 }) (record { replied = Some replies; faults = 0 })
 
--- A stream was printed, and what went out of it, by the fault that it had or had not, is listed, and nothing else is written; a prefix of
--- that where a write failed.
-pub record ListsPrinted (printed : Result JobState JobError) (written : Bool) (had left old new : Option (List ℕ)) : Type 0 where
+-- A stream of these bytes and of what a reader had behind them was printed, and what went out of it, by the fault that it had or had not, is
+-- listed, and nothing else is written; a prefix of that where a write failed.
+pub record ListsPrinted (front : List ℕ) (printed : Result JobState JobError) (written : Bool) (had left old new : Option (List ℕ)) : Type 0 where
   pub deliveries : List Delivery
   pub replies : List ℕ
-  pub prints : HandsOut (ending_by (fault_of printed)) (Printed [] had left (fault_of printed) (machine_of printed))
+  pub prints : HandsOut (ending_by (fault_of printed)) (Printed front had left (fault_of printed) (machine_of printed))
       (under 0 (took [] []) (took deliveries replies))
   pub lists : written ≡ true → Appends old new (lines_from 1 (sheets_in deliveries) ++ replies)
   pub cut : written ≡ false → AppendsPrefix old new (lines_from 1 (sheets_in deliveries) ++ replies)
@@ -85,10 +85,10 @@ TellsListing error false said says = (between : Option (List ℕ)) × TellsFault
 
 -- The same, with its status: 0 exactly where the stream had no fault and its listing was written; and what was told. 304 comes only where
 -- the reader is not read on, and the listing is cut only where the writer failed.
-pub record PrintsListing (fails : Failures) (status : ℕ) (told read output : Change (Option (List ℕ))) : Type 0 where
+pub record PrintsListing (fails : Failures) (status : ℕ) (front : List ℕ) (told read output : Change (Option (List ℕ))) : Type 0 where
   pub printed : Result JobState JobError
   pub written : Bool
-  pub stream : ListsPrinted printed written read.before read.after output.before output.after
+  pub stream : ListsPrinted front printed written read.before read.after output.before output.after
   pub answers : status ≡ status_of_listing (fault_of printed) written
   pub tells : TellsListing (fault_of printed) written told.before told.after
   pub reads : fault_of printed ≡ Some ReadFault → fails.input

@@ -1,5 +1,5 @@
 //! Streams that are printed to files.
-ghost use Rattle.std.specs.Prelude.{◌≡◌, ◌≤◌, ◌<◌, ◌⊎◌, true, false, IfSome, ⊤};
+ghost use Rattle.std.specs.Prelude.{◌≡◌, ◌≤◌, ◌<◌, ◌++◌, ◌⊎◌, true, false, IfSome, ⊤};
 ghost use Rattle.press_devices.specs.Reading.{ReadFails};
 ghost use Rattle.press_files.specs.Causes.{failures};
 ghost use Rattle.press_files.specs.Change.{around, change};
@@ -8,7 +8,7 @@ ghost use Rattle.press_sink.specs.SinkLog.{most_faults};
 ghost use Rattle.press_sink.specs.Template.{IsNoTemplate};
 ghost use Rattle.press_files.specs.Files.{MakesFiles, PrintsBy, PrintsFiles, PrintsNoFiles, PrintsTo};
 
-use crate::stream::{print_stream, told_status};
+use crate::stream::{print_behind, told_status};
 use crate::through_replies::ThroughReplies;
 use crate::told_folder::{Folder, ToldFolder};
 use press_devices::{ReadDevice, WriteDevice};
@@ -25,13 +25,14 @@ pub struct Finished<W, O> {
     pub outputs: O,
 }
 
-/// Prints the stream that a reader has to files: a P4 file for each side, whose name is the template with the number of the
-/// side, from 1 on, in place of `%d`. Replies go to `out`, each when it is asked for, and a fault stands on `err`. A text that
-/// is no template (121) is told before the stream is read. The status is 0, and nothing waits of a file or a reply that did not before,
-/// or 1 after a fault.
+/// Prints the stream of these bytes and of what a reader has behind them to files: a P4 file for each side, whose name is the
+/// template with the number of the side, from 1 on, in place of `%d`. Replies go to `out`, each when it is asked for, and a fault
+/// stands on `err`. A text that is no template (121) is told before the stream is read. The status is 0, and nothing waits of a file or
+/// a reply that did not before, or 1 after a fault.
 pub fn print_files<O: NamedOutputs + Drop, R: ReadDevice, W: WriteDevice + Drop, E: Teller>(
     alloc: Global,
     outputs: O,
+    front: &[u8],
     reader: &mut R,
     template: &str,
     out: W,
@@ -41,10 +42,10 @@ pub fn print_files<O: NamedOutputs + Drop, R: ReadDevice, W: WriteDevice + Drop,
     ensures fault { IsNoTemplate template.now → result.status ≡ 1 }
     ensures unread { IsNoTemplate template.now → R.remaining reader.new ≡ R.remaining reader.old }
     ensures files { result.status ≡ 0 → IfSome (R.remaining reader.old) (λ bytes.
-        MakesFiles template.now bytes (O.made outputs) (O.made result.outputs)) }
+        MakesFiles template.now (front.now ++ bytes) (O.made outputs) (O.made result.outputs)) }
     ensures flushed { result.status ≡ 0 → W.waiting out ≡ false → W.waiting result.out ≡ false }
     ensures through { result.status ≡ 0 → O.waiting result.outputs ≡ O.waiting outputs }
-    ensures prints { PrintsFiles template.now result.status
+    ensures prints { PrintsFiles template.now front.now result.status
         (around (failures (ReadFails (R.failed reader.new) (R.reads reader.new)) ⊥
         (W.failed result.out ≡ true) (O.failed result.outputs ≡ true))
         (E.said err.old) (E.said err.new) (R.remaining reader.old) (R.remaining reader.new)
@@ -57,7 +58,7 @@ pub fn print_files<O: NamedOutputs + Drop, R: ReadDevice, W: WriteDevice + Drop,
         (O.made result.outputs)) }
 {
     match FolderSink::open(alloc, outputs, template) {
-        Ok(sink) => print_by::<O, R, W, E, Brand>(alloc, sink, reader, out, err),
+        Ok(sink) => print_by::<O, R, W, E, Brand>(alloc, sink, front, reader, out, err),
         Err(unopened) => Finished {
             status: report(&unopened.error, err),
             out,
@@ -66,10 +67,11 @@ pub fn print_files<O: NamedOutputs + Drop, R: ReadDevice, W: WriteDevice + Drop,
     }
 }
 
-/// Prints the stream that a reader has by a folder sink. The call's proof says which folder it is.
+/// Prints such a stream by a folder sink. The call's proof says which folder it is.
 fn print_by<O: NamedOutputs + Drop, R: ReadDevice, W: WriteDevice + Drop, E: Teller, D: Folder>(
     alloc: Global,
     sink: FolderSink<O>,
+    front: &[u8],
     reader: &mut R,
     out: W,
     err: &mut E,
@@ -82,7 +84,7 @@ fn print_by<O: NamedOutputs + Drop, R: ReadDevice, W: WriteDevice + Drop, E: Tel
     requires faults { file_faults sink ≡ 0 }
     ensures flushed { result.status ≡ 0 → D.waited ≡ false → W.waiting result.out ≡ false }
     ensures through { result.status ≡ 0 → O.waiting result.outputs ≡ D.waits }
-    ensures prints { PrintsBy D.parts result.status
+    ensures prints { PrintsBy D.parts front.now result.status
         (around (failures (ReadFails (R.failed reader.new) (R.reads reader.new)) ⊥
         (W.failed result.out ≡ true) (O.failed result.outputs ≡ true))
         (E.said err.old) (E.said err.new) (R.remaining reader.old) (R.remaining reader.new)
@@ -91,6 +93,7 @@ fn print_by<O: NamedOutputs + Drop, R: ReadDevice, W: WriteDevice + Drop, E: Tel
     let mut sheets: ToldFolder<O, D> = ToldFolder::new(sink);
     let (status, out) = print_to::<R, ToldFolder<O, D>, W, E, D>(
         alloc,
+        front,
         reader,
         &mut sheets,
         out,
@@ -103,10 +106,11 @@ fn print_by<O: NamedOutputs + Drop, R: ReadDevice, W: WriteDevice + Drop, E: Tel
     }
 }
 
-/// Prints the stream that a reader has to a sheet sink, and writes each reply when it is asked for. A fault stands on `err`. The
+/// Prints such a stream to a sheet sink, and writes each reply when it is asked for. A fault stands on `err`. The
 /// answer has the status, and the writer of the replies.
 fn print_to<R: ReadDevice, S: SheetSink, W: WriteDevice + Drop, E: Teller, D: Folder>(
     alloc: Global,
+    front: &[u8],
     reader: &mut R,
     sheets: &mut S,
     out: W,
@@ -118,14 +122,14 @@ fn print_to<R: ReadDevice, S: SheetSink, W: WriteDevice + Drop, E: Teller, D: Fo
     ensures flushed { result.0 ≡ 0 → D.waited ≡ false → W.waiting result.1 ≡ false }
     ensures prints { PrintsTo
         (failures (ReadFails (R.failed reader.new) (R.reads reader.new))
-        ⊥ (W.failed result.1 ≡ true) ⊤) result.0
+        ⊥ (W.failed result.1 ≡ true) ⊤) result.0 front.now
         (change (E.said err.old) (E.said err.new))
         (change (R.remaining reader.old) (R.remaining reader.new))
         (change (S.told sheets.old) (S.told sheets.new))
         (change (W.contents out) (W.contents result.1)) }
 {
     let mut replies: ThroughReplies<W, D> = ThroughReplies::new(out);
-    let printed = print_stream(alloc, reader, 0, sheets, &mut replies);
+    let printed = print_behind(alloc, front, reader, 0, sheets, &mut replies);
     let status = told_status(&printed, err);
     (status, replies.into_inner())
 }

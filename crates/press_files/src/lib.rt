@@ -20,4 +20,3 @@ pub use files::{Finished, print_files};
 pub use inputs::{InputError, read_all};
 pub use listing::{Answered, list_delivered, print_list};
 pub use named_inputs::{NamedFile, NamedFiles, NamedInputs, open_named};
-pub use stream::print_stream;

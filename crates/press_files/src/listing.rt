@@ -1,5 +1,5 @@
 //! The listings of streams and of presses.
-ghost use Rattle.std.specs.Prelude.{◌≡◌, ◌≤◌, true, false, IfSome, OnErr, OnOk, IsErrOf};
+ghost use Rattle.std.specs.Prelude.{◌≡◌, ◌≤◌, ◌++◌, true, false, IfSome, OnErr, OnOk, IsErrOf};
 ghost use Rattle.press_files.specs.Change.{change};
 ghost use Rattle.press_devices.specs.Reading.{ReadFails};
 ghost use Rattle.press_devices.specs.Writing.{Writes};
@@ -13,7 +13,7 @@ use crate::held_replies::HeldReplies;
 use crate::listed_sheet::ListedSheet;
 use crate::listing_sink::{ListingSink, Unlisted};
 use crate::measures::Measures;
-use crate::stream::{print_stream, told_status};
+use crate::stream::{print_behind, told_status};
 use itoa::Buffer;
 use press_devices::{ReadDevice, WriteDevice, write_pieces};
 use press_stream::{Job, JobError};
@@ -29,28 +29,29 @@ pub struct Answered<W> {
     pub out: W,
 }
 
-/// Prints the stream that a reader has, and lists its sheets: a line for each side, and then the replies. In the line
-/// `sheet 1 front 2550x3300 black 6` stand the number of the sheet from 1, `front` or `back`, width and height in dots, and how
-/// many dots are black. A line is written when its sheet comes, and the replies are held until the end.
+/// Prints the stream of these bytes and of what a reader has behind them, and lists its sheets: a line for each side, and then the
+/// replies. In the line `sheet 1 front 2550x3300 black 6` stand the number of the sheet from 1, `front` or `back`, width and height in
+/// dots, and how many dots are black. A line is written when its sheet comes, and the replies are held until the end.
 /// After a fault the sheets before it are listed, and the fault stands on `err`. The status is 0, or 1 after a fault.
 pub fn print_list<R: ReadDevice, W: WriteDevice + Drop, E: Teller>(
     alloc: Global,
+    front: &[u8],
     reader: &mut R,
     out: W,
     err: &mut E,
 ) -> Answered<W>
     ensures status { result.status ≤ 1 }
     ensures lists { result.status ≡ 0 → IfSome (R.remaining reader.old) (λ bytes.
-        Lists bytes (W.contents out) (W.contents result.out)) }
+        Lists (front.now ++ bytes) (W.contents out) (W.contents result.out)) }
     ensures flushed { result.status ≡ 0 → W.waiting result.out ≡ false }
     ensures printed { PrintsListing
         (failures (ReadFails (R.failed reader.new) (R.reads reader.new))
-        ⊥ (W.failed result.out ≡ true) ⊥) result.status
+        ⊥ (W.failed result.out ≡ true) ⊥) result.status front.now
         (change (E.said err.old) (E.said err.new))
         (change (R.remaining reader.old) (R.remaining reader.new))
         (change (W.contents out) (W.contents result.out)) }
 {
-    let stream = list_stream::<R, W, Brand>(alloc, reader, out);
+    let stream = list_stream::<R, W, Brand>(alloc, front, reader, out);
     let status = told_status(&stream.printed, err);
     if stream.written {
         return Answered {
@@ -72,14 +73,15 @@ struct ListedStream<W> {
     out: W,
 }
 
-/// Prints the stream that a reader has, and lists what goes out of it, whatever fault it has. The call's proof says what the writer held.
+/// Prints such a stream, and lists what goes out of it, whatever fault it has. The call's proof says what the writer held.
 fn list_stream<R: ReadDevice, W: WriteDevice + Drop, D: Unlisted>(
     alloc: Global,
+    front: &[u8],
     reader: &mut R,
     out: W,
 ) -> ListedStream<W>
     requires { W.contents out ≡ D.begun }
-    ensures lists { ListsPrinted result.printed result.written (R.remaining reader.old)
+    ensures lists { ListsPrinted front.now result.printed result.written (R.remaining reader.old)
         (R.remaining reader.new) D.begun (W.contents result.out) }
     ensures flushed { result.written ≡ true → W.waiting result.out ≡ false }
     ensures reads { IsErrOf result.printed JobError.ReadFault
@@ -88,7 +90,7 @@ fn list_stream<R: ReadDevice, W: WriteDevice + Drop, D: Unlisted>(
 {
     let mut sheets: ListingSink<W, D> = ListingSink::new(out);
     let mut replies = HeldReplies::new(alloc);
-    let printed = print_stream(alloc, reader, 0, &mut sheets, &mut replies);
+    let printed = print_behind(alloc, front, reader, 0, &mut sheets, &mut replies);
     let ended = sheets.finish(replies.bytes());
     ListedStream {
         printed,

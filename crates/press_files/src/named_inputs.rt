@@ -1,5 +1,5 @@
 //! Inputs that are opened by their names.
-ghost use Rattle.std.specs.Prelude.{◌≡◌, ◌↔◌, ◌⊎◌, true, ℕ, List, Option, Bool, false, IfOk, IfErr};
+ghost use Rattle.std.specs.Prelude.{◌≡◌, ◌↔◌, ◌⊎◌, true, ℕ, List, Option, Bool, false, IfOk, IfErr, OnOk};
 ghost use Rattle.std.specs.Str.{IsUtf8};
 ghost use Rattle.press_devices.specs.Reading.{ReadFails};
 ghost use Rattle.press_files.specs.NamedFiles.{inputs_failed};
@@ -22,6 +22,9 @@ pub trait NamedInputs {
     /// That the input of this name may be one that cannot be opened.
     ghost missing: { Self → List ℕ → Type 0 };
 
+    /// That it may be one that can be opened.
+    ghost present: { Self → List ℕ → Type 0 };
+
     /// Whether an input that was closed was not read on; true also where that is not known.
     ghost failed: { Self → Bool };
 
@@ -35,7 +38,8 @@ pub trait NamedInputs {
     fn open(&self, name: &str) -> Result<Self::Input, InputError>
         ensures bytes { IfOk result (λ input.
             Self.Input.remaining input ≡ bytes self.now name.now) }
-        ensures missing { IfErr result (λ error. error ≡ ReadFault → missing self.now name.now) };
+        ensures missing { IfErr result (λ error. error ≡ ReadFault → missing self.now name.now) }
+        ensures present { OnOk result (present self.now name.now) };
 
     /// Closes an input.
     fn close(&mut self, input: Self::Input)
@@ -84,6 +88,8 @@ impl<F: Files> NamedInputs for NamedFiles<'_, F> {
     ghost bytes = { λ _ _. None };
 
     ghost missing = { λ _ _. ⊤ };
+
+    ghost present = { λ _ _. ⊤ };
 
     ghost failed = { inputs_failed };
 

@@ -1,5 +1,5 @@
 //! Streams that are printed from a reader to two sinks.
-ghost use Rattle.std.specs.Prelude.{◌≡◌, [], IsErrOf, true};
+ghost use Rattle.std.specs.Prelude.{◌≡◌, IsErrOf, true};
 ghost use Rattle.press_devices.specs.Reading.{ReadFails};
 ghost use Rattle.press_sink.specs.SinkLog.{logs, HasFaultRoom, under};
 ghost use Rattle.press_sink.specs.Sending.{HandsOut};
@@ -9,18 +9,20 @@ ghost use Rattle.press_files.specs.Printing.{machine_of, status_of_fault, TellsF
 
 use press_devices::ReadDevice;
 use press_sink::{ReplySink, SheetSink};
-use press_stream::{Job, JobError};
+use press_stream::{Call, Job, JobError, laws, print_stream};
 use press_telling::{Teller, report};
 use std::alloc::Global;
 
-/// Prints the stream that a reader has, from power on: its sheets are delivered under the tag, and the job is handed back.
+/// Prints the stream of these bytes and of what a reader has behind them, from power on: its sheets are delivered under the tag, and the
+/// job is handed back.
 ///
 /// # Errors
 ///
 /// `ReadFault` (304): a read failed, or there were more than 4,294,967,295; the commands that were whole by then were carried out.
 /// `SinkFault` (301) and `ReplyFault` (302): a sink had a fault, and nothing came after it. `NoMemory`.
-pub fn print_stream<R: ReadDevice, S: SheetSink, P: ReplySink>(
+pub(crate) fn print_behind<R: ReadDevice, S: SheetSink, P: ReplySink>(
     alloc: Global,
+    front: &[u8],
     reader: &mut R,
     tag: u64,
     sheets: &mut S,
@@ -28,17 +30,18 @@ pub fn print_stream<R: ReadDevice, S: SheetSink, P: ReplySink>(
 ) -> Result<Job, JobError>
     requires { HasFaultRoom (logs (S.told sheets.old) (P.told replies.old)) }
     ensures printed { HandsOut (ending_by (fault_of result))
-        (Printed [] (R.remaining reader.old) (R.remaining reader.new) (fault_of result)
+        (Printed front.now (R.remaining reader.old) (R.remaining reader.new) (fault_of result)
         (machine_of result))
         (under tag (logs (S.told sheets.old) (P.told replies.old))
         (logs (S.told sheets.new) (P.told replies.new))) }
     ensures cause { IsErrOf result JobError.ReadFault
         → ReadFails (R.failed reader.new) (R.reads reader.new) }
 {
-    press_stream::laws::chain();
-    let mut job = Job::open(alloc)?;
-    job.run(reader, tag, sheets, replies)?;
-    Ok(job)
+    laws::chain();
+    let calls = [Call::Feed(front)];
+    let printed = print_stream(alloc, &calls, reader, tag, sheets, replies)?;
+    printed.result?;
+    Ok(printed.job)
 }
 
 /// Tells the fault that printing a stream had, if it had one. The answer is the status: 0, or 1 after a fault.

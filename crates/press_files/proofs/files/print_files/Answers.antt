@@ -16,11 +16,11 @@ returns-in-Ok-clause-files g c = λ zero.
     (g.W.WriteDevice.failed c.print_by.result.out ≡ true) (g.O.NamedOutputs.failed c.print_by.result.outputs ≡ true) in
     let P : Option (List MadeOutput) → Type 0 =
     λ before.
-    PrintsBy (name_parts c.in-Ok.sink) c.print_by.result.status
+    PrintsBy (name_parts c.in-Ok.sink) c.args.front.now c.print_by.result.status
     (around fails (g.E.Teller.said c.args.err.now) (g.E.Teller.said c.print_by.new.err)
     (g.R.ReadDevice.remaining c.args.reader.now) (g.R.ReadDevice.remaining c.print_by.new.reader) (g.W.WriteDevice.contents c.args.out)
     (g.W.WriteDevice.contents c.print_by.result.out) before (g.O.NamedOutputs.made c.print_by.result.outputs)) in
-    makes_files c.args.template.now _ _ _ _ _ _ _ _ _ _ _ c.in-Ok.ensures.template (subst P begun c.print_by.ensures.prints) zero
+    makes_files c.args.template.now c.args.front.now _ _ _ _ _ _ _ _ _ _ _ c.in-Ok.ensures.template (subst P begun c.print_by.ensures.prints) zero
 
 pub returns-in-Ok-clause-prints : goal.returns-in-Ok-clause-prints
 returns-in-Ok-clause-prints g c =
@@ -30,7 +30,7 @@ returns-in-Ok-clause-prints g c =
     (g.W.WriteDevice.failed c.print_by.result.out ≡ true) (g.O.NamedOutputs.failed c.print_by.result.outputs ≡ true) in
     let P : Option (List MadeOutput) → Type 0 =
     λ before.
-    PrintsBy (name_parts c.in-Ok.sink) c.print_by.result.status
+    PrintsBy (name_parts c.in-Ok.sink) c.args.front.now c.print_by.result.status
     (around fails (g.E.Teller.said c.args.err.now) (g.E.Teller.said c.print_by.new.err)
     (g.R.ReadDevice.remaining c.args.reader.now) (g.R.ReadDevice.remaining c.print_by.new.reader) (g.W.WriteDevice.contents c.args.out)
     (g.W.WriteDevice.contents c.print_by.result.out) before (g.O.NamedOutputs.made c.print_by.result.outputs)) in

@@ -1,4 +1,4 @@
-use Rattle.std.proofs.Common.{◌≡◌, ◌≤◌, ◌⊎◌, ◌-◌, true, length}
+use Rattle.std.proofs.Common.{◌≤◌, ◌-◌}
 use Rattle.std.specs.Io.KnownBytes.{Consumes}
 use Rattle.press_devices.specs.Reading.{most_reads}
 use Rattle.press_files.proofs.inputs.read_all.Given as goal

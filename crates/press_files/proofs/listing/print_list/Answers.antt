@@ -5,7 +5,7 @@ use Rattle.press_files.proofs.listing.print_list.Goals as goal
 pub returns-then-stream-clause-lists : goal.returns-then-stream-clause-lists
 returns-then-stream-clause-lists g c = λ zero.
     let stream = c.list_stream-stream.result in
-    lists-printed stream.printed stream.written (g.R.ReadDevice.remaining c.args.reader.now) _ (g.W.WriteDevice.contents c.args.out)
+    lists-printed c.args.front.now stream.printed stream.written (g.R.ReadDevice.remaining c.args.reader.now) _ (g.W.WriteDevice.contents c.args.out)
     (g.W.WriteDevice.contents stream.out) c.list_stream-stream.ensures.lists
     (sym (status-written stream.printed stream.written c.told_status-status.result c.if-stream.true c.told_status-status.ensures.status)
     ∙ zero)
