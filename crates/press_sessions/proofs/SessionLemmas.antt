@@ -15,7 +15,7 @@ use Rattle.press_core.specs.declared.engines.BadEngines.{BadEngines}
 use Rattle.press_core.specs.Engines.{are_engines}
 use Rattle.press_core.specs.Events.{TurnOn, Turned, Happens}
 use Rattle.press_history.specs.Runs.{Transition, IsAnswered, IsExecution}
-use Rattle.press_history.specs.Laws.{SheetsAreGiven}
+use Rattle.press_history.specs.Laws.{NewPressesComeSo}
 use Rattle.press_core.specs.World.{World, new_world}
 use Rattle.press_jobs.specs.declared.jobs.JobFileError.TheVariants as fault
 use Rattle.press_sessions.specs.declared.sessions.SessionError.{SessionError}
@@ -168,9 +168,9 @@ module _ {S I : Type 0} (bytes : I → Inputs) (inputs : S → I) (world : S →
     at_start : stands first ≡ standing (new_world engines) []
     at_start = ap (λ (w : World). standing w (delivered first)) begins ∙ ap (λ (had : List Delivery). standing (new_world engines) had) none
 
-    pub Plays-listed : SheetsAreGiven → (all : AnswersAll plays first had left old between) (last : S) → all.last ≡ last
+    pub Plays-listed : NewPressesComeSo → (all : AnswersAll plays first had left old between) (last : S) → all.last ≡ last
         → Appends between new (entry_listing (delivered last)) → Plays engines (bytes (inputs first)) had left old new
-    Plays-listed given all last same listed =
+    Plays-listed come all last same listed =
         let played : PlaysToItsEnd (bytes (inputs first)) (stands first) had left old new =
         record {
           between = between;
@@ -181,10 +181,7 @@ module _ {S I : Type 0} (bytes : I → Inputs) (inputs : S → I) (world : S →
         record {
           are = are;
           played = played;
-          given =
-              λ number.
-              given.under (happenings_in played.answered.takes.happenings) played.answered.last.world number
-              (record { engines = engines; are = are; leads = played.answered.takes.leads });
+          comes = come engines (happenings_in played.answered.takes.happenings) played.answered.last.world are played.answered.takes.leads;
         }
 
     stops_playing : (fails : Failures) (why : SessionError)

@@ -9,7 +9,7 @@ use Rattle.press_core.specs.declared.engines.BadEngines.{BadEngines}
 use Rattle.press_core.specs.Engines.{are_engines}
 use Rattle.press_core.specs.Events.{Event, Message, TurnOn, Operator, Happens, EventAnswer, Response, Turned, Nothing}
 use Rattle.press_history.specs.Runs.{Transition, IsAnswered, IsExecution}
-use Rattle.press_history.specs.Laws.{GivenUnder}
+use Rattle.press_history.specs.Laws.{ComesFromNew}
 use Rattle.press_core.specs.World.{World, new_world}
 use Rattle.press_files.specs.Causes.{Failures, InputCause}
 use Rattle.press_files.specs.Change.{Change}
@@ -191,12 +191,12 @@ StopsPlaying inputs fails first read output why =
 abbrev pub delivered_by : Session → List Delivery
 delivered_by session = entry_deliveries_of (kept session.sheets)
 
--- A session was played, with a press of so many engines at its beginning: under each number was delivered what its entry says, as it
--- was seen last.
+-- A session was played, with a press of so many engines at its beginning, which came by the events of its lines to the world behind them:
+-- by the laws of every press, of what is delivered under each number, and when, of its engines and of its queue.
 pub record Plays (engines : ℕ) (inputs : Inputs) (bytes left old new : Option (List ℕ)) : Type 0 where
   pub are : IsTrue (are_engines engines)
   pub played : PlaysToItsEnd inputs (standing (new_world engines) []) bytes left old new
-  pub given : (number : ℕ) → GivenUnder (new_world engines) (happenings_in played.answered.takes.happenings) played.answered.last.world number
+  pub comes : ComesFromNew engines (happenings_in played.answered.takes.happenings) played.answered.last.world
 
 -- No press has so many engines, and nothing was read or written.
 abbrev pub DoesNotBegin : (bytes left old new : Option (List ℕ)) → SessionError → Type 0

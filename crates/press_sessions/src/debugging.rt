@@ -97,7 +97,7 @@ impl From<AllocError> for DebugError {
 
 /// Has a session with a debugger of the stream that `input` has: answers each line that a reader has, to `out`. The stream is
 /// read whole before the first line. A breakpoint that is refused is an answer; after a fault, which stands on `err`, no line is
-/// answered. The answer is the status: 0, or 1 after a fault.
+/// answered. The answer is the status: 0, and nothing waits in `out` if nothing did before, or 1 after a fault.
 pub fn debug_lines<I: ReadDevice, R: ReadDevice, W: WriteDevice, E: Teller>(
     alloc: Global,
     input: &mut I,
@@ -105,7 +105,8 @@ pub fn debug_lines<I: ReadDevice, R: ReadDevice, W: WriteDevice, E: Teller>(
     out: &mut W,
     err: &mut E,
 ) -> u8
-    ensures { Ended result (E.said err.old) (E.said err.new) told_of_debugger
+    ensures flushed { result ≡ 0 → W.waiting out.old ≡ false → W.waiting out.new ≡ false }
+    ensures ended { Ended result (E.said err.old) (E.said err.new) told_of_debugger
         (Debugs (I.remaining input.old) (I.remaining input.new)
         (R.remaining reader.old) (R.remaining reader.new)
         (W.contents out.old) (W.contents out.new))
@@ -131,6 +132,7 @@ fn debug<I: ReadDevice, R: ReadDevice, W: WriteDevice>(
     ensures ok { OnOk result (Debugs (I.remaining input.old) (I.remaining input.new)
         (R.remaining reader.old) (R.remaining reader.new)
         (W.contents out.old) (W.contents out.new)) }
+    ensures flushed { OnOk result (W.waiting out.old ≡ false → W.waiting out.new ≡ false) }
     ensures err { IfErr result (StopsDebugging ⊥
         (failures (ReadFails (R.failed reader.new) (R.reads reader.new))
         (ReadFails (I.failed input.new) (I.reads input.new)) (W.failed out.new ≡ true) ⊥)

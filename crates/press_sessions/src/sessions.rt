@@ -145,7 +145,8 @@ impl From<AllocError> for SessionError {
 /// message are opened by their names.
 ///
 /// In whatever order the events come, under the number of an entry in flight the sheets of the steps of its job were delivered. Of a
-/// completed one it is all that its ticket wants, of every other one a prefix of those. After a fault, which stands on `err`, no line
+/// completed one it is all that its ticket wants, of every other one a prefix of those. An entry delivers only in its turns, while it
+/// runs on an engine of its own, and never again once it was completed or aborted. After a fault, which stands on `err`, no line
 /// is carried out, and nothing is listed. The answer is the status: 0, and nothing waits in `out`, or 1 after a fault.
 pub fn press_lines<I: NamedInputs, R: ReadDevice, W: WriteDevice, E: Teller>(
     alloc: Global,
@@ -194,7 +195,7 @@ fn play<I: NamedInputs, R: ReadDevice, W: WriteDevice>(
         (change (W.contents out.old) (W.contents out.new))) }
     ensures flushed { OnOk result (W.waiting out.new ≡ false) }
 {
-    laws::sheets_are_given();
+    laws::new_presses_come_so();
     let session = Session::new(alloc, engines)?;
     let mut talk = SessionTalk { inputs, session };
     answer_lines(alloc, &mut talk, reader, out)?;

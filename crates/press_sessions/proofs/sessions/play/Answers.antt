@@ -32,7 +32,7 @@ returns-clause-ok g c =
     on_ok_weaker c.list.result
     (Plays-listed (λ inputs. named (SomeFails g.I.Input.ReadDevice.failed g.I.Input.ReadDevice.reads) (g.I.NamedInputs.bytes inputs.now) (g.I.NamedInputs.missing inputs.now))
     (λ talk. talk.inputs) (λ talk. talk.session.press) (λ talk. delivered_by talk.session) c.args.engines _ _ _ _ _ _
-    (sym c.in_ok-session.ensures.are) c.in_ok-session.ensures.press c.in_ok-session.ensures.delivered c.sheets_are_given.ensures all.0 _ all.1)
+    (sym c.in_ok-session.ensures.are) c.in_ok-session.ensures.press c.in_ok-session.ensures.delivered c.new_presses_come_so.ensures all.0 _ all.1)
     c.list.ensures.ok
 
 pub returns-clause-err : goal.returns-clause-err
