@@ -1,7 +1,7 @@
 -- What is done for words, and the inputs of names.
-use Rattle.std.proofs.Common.{Bor, ◌≡◌, ◌⊎◌, ℕ, zero, suc, Bool, List, Option, Some, None, refl, ap, subst, inl, inr}
+use Rattle.std.proofs.Common.{Bor, ◌≡◌, ◌⊎◌, ℕ, zero, suc, List, Option, Some, None, refl, ap, subst, inl, inr}
 use Rattle.press_files.specs.Causes.{Failures}
-use Rattle.press_files.specs.Change.{Change, Edge, answering, around, change}
+use Rattle.press_files.specs.Change.{Edge, answering, around, change}
 use Rattle.clap.specs.Words.{Text}
 use Rattle.press_sink.specs.Faults.{sink_number}
 use Rattle.press_sink.specs.Template.{IsSideName}
@@ -20,31 +20,41 @@ use Rattle.press_words.specs.View.{AsksHelp, IsForMemory, made_seen, request_see
 use Rattle.press_words.specs.declared.words.Refusal.{Refusal}
 use Rattle.press_words.specs.declared.words.Refusal.TheVariants as refusals
 use Rattle.press_words.specs.Defaults.{with_prefix}
-use Rattle.press_words.specs.Words.{Arguments, Made, Listed, FilesBy, Answered, AsText, DebuggedOf, TracedOf, PageTo, StreamTo, JobTo}
+use Rattle.press_words.specs.Words.{Source, Standard, FileNamed, Arguments, Made, Listed, FilesBy, Answered, AsText, DebuggedOf, TracedOf, PageTo, StreamTo, JobTo}
 use Rattle.press_sink.specs.Outputs.{MadeOutput}
 use Rattle.press_files.specs.Files.{DoesNothing}
 use Rattle.press_sessions.specs.Debugging.{IsUnopened}
 use Rattle.press_sessions.specs.declared.debugging.DebugError.{DebugError}
 use Rattle.press_sessions.specs.declared.debugging.DebugError.TheVariants as debugs
-use Rattle.press_main.specs.Program.{Debugging, BeginsNothing, Does, Makes, OpensNothing, PrintsAFile, Refuses, RefusesBy}
+use Rattle.press_main.specs.Program.{Debugging, BeginsNothing, Does, Makes, MakesOfFile, MakesSparing, OpensNothing, Performs, PrintsAFile, Refuses, RefusesBy}
 
 abbrev Bytes : Type 0
 Bytes = Option (List ℕ)
 
 -- nothing is done for want of memory
-pub runs-nothing : (words : List Text) (asked : Option Arguments) (inputs : Text → NamedInput) (status : ℕ)
+pub runs-nothing : (words : List Text) (asked : Option Arguments) (inputs : Text → NamedInput) (present : Text → Type 0) (status : ℕ)
     (fails : Failures) (said says had left old new : Bytes) (before after : Option (List MadeOutput))
     → DoesNothing None status (around fails said says had left old new before after)
-    → Does words asked inputs status (around fails said says had left old new before after)
-runs-nothing words None inputs status fails said says had left old new before after nothing = (inr (inl (nothing.answers, nothing.unwritten, nothing.told)), nothing.unread, nothing.unmade)
-runs-nothing words (Some asked) inputs status fails said says had left old new before after nothing = inr (inr nothing)
+    → Does words asked inputs present status (around fails said says had left old new before after)
+runs-nothing words None inputs present status fails said says had left old new before after nothing = (inr (inl (nothing.answers, nothing.unwritten, nothing.told)), nothing.unread, nothing.unmade)
+runs-nothing words (Some asked) inputs present status fails said says had left old new before after nothing = inr nothing
 
--- or since an output would replace the input
-pub runs-own : (words : List Text) (request : Arguments) (wants : Option Arguments) (inputs : Text → NamedInput)
-    (status : ℕ) (fails : Failures) (said says had left old new : Bytes) (before after : Option (List MadeOutput))
-    → wants ≡ Some request → BeginsNothing request status (around fails said says had left old new before after)
-    → Does words wants inputs status (around fails said says had left old new before after)
-runs-own words request wants inputs status fails said says had left old new before after is nothing = rw is (inr nothing)
+-- what words ask for is done
+pub runs-asked : (words : List Text) (request : Arguments) (wants : Option Arguments) (inputs : Text → NamedInput) (present : Text → Type 0)
+    (status : ℕ) (edge : Edge) → wants ≡ Some request → Performs request.source request inputs present status edge
+    → Does words wants inputs present status edge
+runs-asked words request wants inputs present status edge is performs = rw is (inl performs)
+
+-- of standard input
+pub performs-standard : (source : Source) (request : Arguments) (inputs : Text → NamedInput) (present : Text → Type 0) (status : ℕ) (edge : Edge)
+    → source ≡ Standard → MakesSparing request inputs status edge → Performs source request inputs present status edge
+performs-standard source request inputs present status edge is makes = rw is makes
+
+-- or of a file
+pub performs-file : (name : Text) (source : Source) (request : Arguments) (inputs : Text → NamedInput) (present : Text → Type 0) (status : ℕ)
+    (edge : Edge) → source ≡ FileNamed name → MakesOfFile name request inputs (present name) status edge
+    → Performs source request inputs present status edge
+performs-file name source request inputs present status edge is makes = rw is makes
 
 -- files of a stream that is a file with the name of a side
 pub prints-a-file : (request : Request) (name : Bor (List ℕ)) (prefix : Vec ℕ Global) (template : Bor (List ℕ))
@@ -113,7 +123,7 @@ Debugging-closed few missing file status stream edge more closed (rest, ended) =
 )
 
 -- what was made of a file, which is closed then
-pub Makes-closed : (made : Made) (inputs : Text → NamedInput) (file : Type 0) (status : ℕ) (edge : Edge) → (edge.fails.file → file)
+Makes-closed : (made : Made) (inputs : Text → NamedInput) (file : Type 0) (status : ℕ) (edge : Edge) → (edge.fails.file → file)
     → Makes made inputs status edge → Makes made inputs status (with_file file edge)
 Makes-closed (Listed prefix) inputs file status edge closed makes = makes
 Makes-closed (FilesBy prefix template) inputs file status edge closed makes = makes
@@ -126,6 +136,25 @@ Makes-closed (TracedOf prefix) inputs file status edge closed makes = makes
 Makes-closed (PageTo prefix steps name) inputs file status edge closed makes = makes
 Makes-closed (StreamTo name) inputs file status edge closed makes = makes
 Makes-closed (JobTo name images) inputs file status edge closed makes = makes
+
+nothing-closed : (number : Option ℕ) (file : Type 0) (status : ℕ) (edge : Edge) → DoesNothing number status edge
+    → DoesNothing number status (with_file file edge)
+nothing-closed number file status edge nothing = record {
+  answers = nothing.answers;
+  told = nothing.told;
+  unread = nothing.unread;
+  unwritten = nothing.unwritten;
+  unmade = nothing.unmade;
+}
+
+-- the same, or that nothing was begun
+pub MakesSparing-closed : (request : Arguments) (inputs : Text → NamedInput) (file : Type 0) (status : ℕ) (edge : Edge)
+    → (edge.fails.file → file) → MakesSparing request inputs status edge → MakesSparing request inputs status (with_file file edge)
+MakesSparing-closed request inputs file status edge closed (inl (spared, makes)) =
+    inl (spared, Makes-closed request.made inputs file status edge closed makes)
+MakesSparing-closed request inputs file status edge closed (inr (inl (own, nothing))) =
+    inr (inl (own, nothing-closed (sink_number SinkFault) file status edge nothing))
+MakesSparing-closed request inputs file status edge closed (inr (inr nothing)) = inr (inr (nothing-closed None file status edge nothing))
 
 -- ---- words that are refused
 
@@ -143,24 +172,24 @@ memory-status refusals.NoName is = absurd is
 memory-status (refusals.NoDefault text) is = absurd is
 
 -- memory ran out, whatever is asked for
-ran-out : (words : List Text) (asked : Option Arguments) (inputs : Text → NamedInput) (status : ℕ) (fails : Failures)
+ran-out : (words : List Text) (asked : Option Arguments) (inputs : Text → NamedInput) (present : Text → Type 0) (status : ℕ) (fails : Failures)
     (said says known old new : Bytes) (made : Option (List MadeOutput)) → RefusesBy 1 status (answering fails.output (change said says) (change old new))
-    → Does words asked inputs status (around fails said says known known old new made made)
-ran-out words asked inputs status fails said says known old new made by =
-    runs-nothing words asked inputs status fails said says known known old new made made
+    → Does words asked inputs present status (around fails said says known known old new made made)
+ran-out words asked inputs present status fails said says known old new made by =
+    runs-nothing words asked inputs present status fails said says known known old new made made
     (record { answers = by.0; told = by.2; unread = refl; unwritten = by.1; unmade = refl })
 
 -- words that are refused: nothing is read or made
-pub runs-refused : (words : List Text) (asked : Option Arguments) (inputs : Text → NamedInput) (status : ℕ) (fails : Failures)
+pub runs-refused : (words : List Text) (asked : Option Arguments) (inputs : Text → NamedInput) (present : Text → Type 0) (status : ℕ) (fails : Failures)
     (said says known old new : Bytes) (made : Option (List MadeOutput)) (refusal : Refusal)
     → IsForMemory refusal ⊎ (asked ≡ None) → (status_of refusal ≡ 0 → AsksHelp words)
     → RefusesBy (status_of refusal) status (answering fails.output (change said says) (change old new))
     ⊎ RefusesBy 1 status (answering fails.output (change said says) (change old new))
-    → Does words asked inputs status (around fails said says known known old new made made)
-runs-refused words asked inputs status fails said says known old new made refusal why help (inr by) =
-    ran-out words asked inputs status fails said says known old new made by
-runs-refused words asked inputs status fails said says known old new made refusal (inl memory) help (inl by) =
+    → Does words asked inputs present status (around fails said says known known old new made made)
+runs-refused words asked inputs present status fails said says known old new made refusal why help (inr by) =
+    ran-out words asked inputs present status fails said says known old new made by
+runs-refused words asked inputs present status fails said says known old new made refusal (inl memory) help (inl by) =
     let P : ℕ → Type 0 = λ wanted. RefusesBy wanted status (answering fails.output (change said says) (change old new)) in
-    ran-out words asked inputs status fails said says known old new made (subst P (memory-status refusal memory) by)
-runs-refused words asked inputs status fails said says known old new made refusal (inr none) help (inl by) =
+    ran-out words asked inputs present status fails said says known old new made (subst P (memory-status refusal memory) by)
+runs-refused words asked inputs present status fails said says known old new made refusal (inr none) help (inl by) =
     rw none (refuses-by words (status_of refusal) status fails said says known known old new made made help by, refl, refl)

@@ -1,5 +1,5 @@
 -- What the program does for what its words ask.
-use Rattle.std.specs.Prelude.{◌≡◌, ◌⊎◌, ℕ, zero, suc, Bool, true, List, Option, Some, None, map}
+use Rattle.std.specs.Prelude.{◌≡◌, ◌⊎◌, ℕ, zero, suc, Bool, List, Option, Some, None, map}
 use Rattle.std.specs.Io.KnownBytes.{Appends}
 use Rattle.clap.specs.Words.{Text}
 use Rattle.press_units.specs.Faults.{fault_text}
@@ -11,7 +11,7 @@ use Rattle.press_devices.specs.Faults.{read_fault}
 use Rattle.press_devices.specs.Reading.{ReadFails}
 use Rattle.press_devices.specs.Writing.{AppendsPrefix}
 use Rattle.press_files.specs.Causes.{Failures, making, writing}
-use Rattle.press_files.specs.Change.{Change, change, Edge, reading_file, reading_from}
+use Rattle.press_files.specs.Change.{Change, change, Edge, reading_file, without_files}
 use Rattle.press_forms.specs.Causes.{TextCause}
 use Rattle.press_forms.specs.Assembly.{AssembledInto, StopsMaking, DisassembledTo, StopsDisassembling}
 use Rattle.press_sessions.specs.Debugging.{Debugs, StopsDebugging}
@@ -89,11 +89,9 @@ OpensNothing missing status edge = (missing × DoesNothing (Some read_fault) sta
 -- Standard output takes nothing where an output is named, and no output is made where none is; the inputs are those of their names, and no
 -- output that is made is one of them.
 abbrev pub Makes : Made → (inputs : Text → NamedInput) → (status : ℕ) → Edge → Type 0
-Makes (Listed prefix) inputs status edge =
-    HoldsBehind prefix edge.read.before edge.read.after (λ had left. PrintsListing (writing edge.fails) status edge.told (change had left) edge.written) × MakesNothing edge
+Makes (Listed prefix) inputs status edge = PrintsListing (writing edge.fails) status prefix edge.told edge.read edge.written × MakesNothing edge
 Makes (FilesBy prefix template) inputs status edge =
-    HoldsBehind prefix edge.read.before edge.read.after
-    (λ had left. PrintsFiles template status (reading_from had left edge) ⊎ PrintsNoFiles template status (reading_from had left edge))
+    PrintsFiles template prefix status (without_files edge) ⊎ PrintsNoFiles template status (without_files edge)
 Makes (Answered engines) inputs status edge = Playing engines status inputs edge × MakesNothing edge
 Makes AsText inputs status edge = Disassembling edge.fails status edge.told edge.read edge.written × MakesNothing edge
 Makes (DebuggedOf prefix name) inputs status edge =
@@ -106,19 +104,6 @@ Makes (StreamTo name) inputs status edge = Assembling edge.fails name status edg
 Makes (JobTo name images) inputs status edge =
     Writing name status (map inputs images) edge × WritesNothing edge
 
--- What is asked for was made of the bytes of a file, and where this is not read on, the inputs say so; or it cannot be opened. Standard
--- input stays.
-abbrev pub MakesOfFile : Text → Made → (inputs : Text → NamedInput) → (status : ℕ) → Edge → Type 0
-MakesOfFile name made inputs status edge =
-    ((edge.read.after ≡ edge.read.before) × (rest : Option (List ℕ)) × (failed : Bool) × (reads : ℕ) × (ReadFails failed reads → edge.fails.file)
-    × Makes made inputs status (reading_file (inputs name).bytes rest failed reads edge))
-    ⊎ OpensNothing (inputs name).IsMissing status edge
-
--- What is asked for was done, of what standard input had or of a file.
-abbrev pub Performs : Source → Made → (inputs : Text → NamedInput) → (status : ℕ) → Edge → Type 0
-Performs Standard made inputs status edge = Makes made inputs status edge
-Performs (FileNamed name) made inputs status edge = MakesOfFile name made inputs status edge
-
 -- Files of a stream are asked for, and the stream is itself a file, which has the name of a side by their template.
 abbrev pub PrintsAFile : Arguments → Type 0
 PrintsAFile arguments =
@@ -129,6 +114,24 @@ PrintsAFile arguments =
 abbrev pub BeginsNothing : Arguments → (status : ℕ) → Edge → Type 0
 BeginsNothing arguments status edge =
     (PrintsAFile arguments × DoesNothing (sink_number SinkFault) status edge) ⊎ DoesNothing None status edge
+
+-- What is asked for was made of what a reader had, where no output would replace the input; or nothing was begun.
+abbrev pub MakesSparing : Arguments → (inputs : Text → NamedInput) → (status : ℕ) → Edge → Type 0
+MakesSparing arguments inputs status edge =
+    (¬ (PrintsAFile arguments) × Makes arguments.made inputs status edge) ⊎ BeginsNothing arguments status edge
+
+-- What is asked for was made of the bytes of a file that may be one that can be opened, and where this is not read on, the inputs say so;
+-- or it cannot be opened, and nothing else is told. Standard input stays.
+abbrev pub MakesOfFile : Text → Arguments → (inputs : Text → NamedInput) → (IsPresent : Type 0) → (status : ℕ) → Edge → Type 0
+MakesOfFile name arguments inputs IsPresent status edge =
+    (IsPresent × (edge.read.after ≡ edge.read.before) × (rest : Option (List ℕ)) × (failed : Bool) × (reads : ℕ) × (ReadFails failed reads → edge.fails.file)
+    × MakesSparing arguments inputs status (reading_file (inputs name).bytes rest failed reads edge))
+    ⊎ OpensNothing (inputs name).IsMissing status edge
+
+-- What is asked for was done, of what standard input had or of a file.
+abbrev pub Performs : Source → Arguments → (inputs : Text → NamedInput) → (present : Text → Type 0) → (status : ℕ) → Edge → Type 0
+Performs Standard arguments inputs present status edge = MakesSparing arguments inputs status edge
+Performs (FileNamed name) arguments inputs present status edge = MakesOfFile name arguments inputs (present name) status edge
 
 -- What became of a refusal, by the status that is wanted. 0, help: some text was written whole, and nothing was told; or a prefix of it,
 -- with status 1, and that it cannot be written was told, as the writer failed. 1, memory ran out: that was told, and nothing was written.
@@ -147,14 +150,14 @@ RefusesBy (suc (suc more)) status edge = (status ≡ 2) × WritesNothing edge ×
 abbrev pub Refuses : List Text → (status : ℕ) → Edge → Type 0
 Refuses words status edge = RefusesBy 2 status edge ⊎ RefusesBy 1 status edge ⊎ (AsksHelp words × RefusesBy 0 status edge)
 
--- What was done for words that ask for this, or for nothing, when nothing is read or made. No stream that is a file is printed to a side
--- that has its name.
-abbrev pub Does : List Text → Option Arguments → (inputs : Text → NamedInput) → (status : ℕ) → Edge → Type 0
-Does words None inputs status edge =
+-- What was done for words that ask for this, or for nothing, when nothing is read or made; or memory ran out. No stream that is a file is
+-- printed to a side that has its name.
+abbrev pub Does : List Text → Option Arguments → (inputs : Text → NamedInput) → (present : Text → Type 0) → (status : ℕ) → Edge → Type 0
+Does words None inputs present status edge =
     Refuses words status edge × (edge.read.after ≡ edge.read.before) × MakesNothing edge
-Does words (Some arguments) inputs status edge =
-    (¬ (PrintsAFile arguments) × Performs arguments.source arguments.made inputs status edge) ⊎ BeginsNothing arguments status edge
+Does words (Some arguments) inputs present status edge =
+    Performs arguments.source arguments inputs present status edge ⊎ DoesNothing None status edge
 
 -- What was done for words: what they ask for, or nothing, and why.
-abbrev pub Runs : List Text → (inputs : Text → NamedInput) → (status : ℕ) → Edge → Type 0
-Runs words inputs status edge = Does words (arguments words) inputs status edge
+abbrev pub Runs : List Text → (inputs : Text → NamedInput) → (present : Text → Type 0) → (status : ℕ) → Edge → Type 0
+Runs words inputs present status edge = Does words (arguments words) inputs present status edge

@@ -10,7 +10,7 @@ mod sparing;
 
 pub use making::{asm_file, job_file};
 pub use press_files::{
-    Finished, InputError, NamedFile, NamedFiles, NamedInputs, print_files, print_list, print_stream,
+    Finished, InputError, NamedFile, NamedFiles, NamedInputs, print_files, print_list,
 };
 pub use press_forms::{PagingError, TracedError, asm_text, disasm_bytes, page_file, tell_trace};
 pub use press_jobs::write_files;

@@ -6,11 +6,9 @@ ghost use Rattle.press_files.specs.Change.{answering, around, change};
 ghost use Rattle.std.specs.Str.{IsUtf8};
 ghost use Rattle.std.specs.String.{string_bytes};
 ghost use Rattle.press_words.specs.Defaults.{HoldsBehind, with_prefix};
-ghost use Rattle.press_files.specs.Files.{PrintsFiles, PrintsNoFiles};
-ghost use Rattle.press_files.specs.Listing.{PrintsListing};
 ghost use Rattle.press_files.specs.NamedInputs.{named};
 ghost use Rattle.press_forms.specs.Paging.{Paging};
-ghost use Rattle.press_main.specs.Program.{Debugging, Makes, Performs, RefusesBy, Runs, Writing};
+ghost use Rattle.press_main.specs.Program.{Debugging, Makes, MakesSparing, Performs, RefusesBy, Runs, Writing};
 ghost use Rattle.press_forms.specs.Traced.{Tracing};
 ghost use Rattle.press_words.specs.View.{made_seen, request_seen, status_of};
 
@@ -38,7 +36,7 @@ pub struct Performed<R, W, O> {
 
 /// Does what the words ask for, the program's name among them. Inputs are opened by their names in `inputs`, and files are made in
 /// `outputs`, none of which is an input. The answer has the status, and hands standard input, standard output and the
-/// outputs back.
+/// outputs back. With status 0 nothing waits in standard output, if nothing did before, and no byte of a file that is made.
 pub fn run_words<
     I: NamedInputs,
     O: NamedOutputs + Drop,
@@ -48,15 +46,17 @@ pub fn run_words<
 >(
     alloc: Global,
     inputs: &mut I,
-    mut outputs: O,
+    outputs: O,
     words: &[String],
     input: S,
     mut out: W,
     err: &mut E,
 ) -> Performed<S, W, O>
-    ensures { Runs (map string_bytes words.now)
+    ensures flushed { result.status ≡ 0 → W.waiting out ≡ false → W.waiting result.out ≡ false }
+    ensures through { result.status ≡ 0 → O.waiting result.outputs ≡ O.waiting outputs }
+    ensures runs { Runs (map string_bytes words.now)
         (named (SomeFails I.Input.failed I.Input.reads) (I.bytes inputs.old) (I.missing inputs.old))
-        result.status
+        (I.present inputs.old) result.status
         (around (failures (ReadFails (S.failed result.input) (S.reads result.input))
         (I.failed inputs.new ≡ true)
         (W.failed result.out ≡ true) (O.failed result.outputs ≡ true))
@@ -72,15 +72,7 @@ pub fn run_words<
         };
     };
     match request_of(alloc, &texts) {
-        Ok(request) => match spare_inputs(&mut outputs, &request) {
-            Ok(()) => perform(alloc, inputs, outputs, &request, input, out, err),
-            Err(error) => Performed {
-                status: report(&error, err),
-                input,
-                out,
-                outputs,
-            },
-        },
+        Ok(request) => perform(alloc, inputs, outputs, &request, input, out, err),
         Err(refusal) => Performed {
             status: refuse(alloc, &refusal, &mut out, err),
             input,
@@ -151,7 +143,7 @@ fn write_help<W: WriteDevice, E: Teller>(
     }
 }
 
-/// Opens the input of a request, and makes of it what is asked for.
+/// Opens the input of a request, and then makes of it what is asked for.
 fn perform<
     I: NamedInputs,
     O: NamedOutputs + Drop,
@@ -167,21 +159,22 @@ fn perform<
     out: W,
     err: &mut E,
 ) -> Performed<S, W, O>
-    ensures { Performs (request_seen request.now).source (request_seen request.now).made
+    ensures flushed { result.status ≡ 0 → W.waiting out ≡ false → W.waiting result.out ≡ false }
+    ensures through { result.status ≡ 0 → O.waiting result.outputs ≡ O.waiting outputs }
+    ensures performs { Performs (request_seen request.now).source (request_seen request.now)
         (named (SomeFails I.Input.failed I.Input.reads) (I.bytes inputs.old) (I.missing inputs.old))
-        result.status
+        (I.present inputs.old) result.status
         (around (failures (ReadFails (S.failed result.input) (S.reads result.input))
         (I.failed inputs.new ≡ true)
         (W.failed result.out ≡ true) (O.failed result.outputs ≡ true))
         (E.said err.old) (E.said err.new) (S.remaining input) (S.remaining result.input)
         (W.contents out) (W.contents result.out) (O.made outputs) (O.made result.outputs)) }
 {
-    let output = &request.output;
     match request.input {
-        Input::Standard => make(alloc, inputs, outputs, input, output, out, err),
+        Input::Standard => make_sparing(alloc, inputs, outputs, input, request, out, err),
         Input::File(name) => match inputs.open(name) {
             Ok(file) => {
-                let made = make(alloc, inputs, outputs, file, output, out, err);
+                let made = make_sparing(alloc, inputs, outputs, file, request, out, err);
                 inputs.close(made.input);
                 Performed {
                     status: made.status,
@@ -196,6 +189,44 @@ fn perform<
                 out,
                 outputs,
             },
+        },
+    }
+}
+
+/// Makes what is asked for of what a reader has. The inputs of the request are noted before, so that no output replaces one of them.
+fn make_sparing<
+    I: NamedInputs,
+    O: NamedOutputs + Drop,
+    R: ReadDevice + Drop,
+    W: WriteDevice + Drop,
+    E: Teller,
+>(
+    alloc: Global,
+    inputs: &mut I,
+    mut outputs: O,
+    reader: R,
+    request: &Request<'_>,
+    out: W,
+    err: &mut E,
+) -> Performed<R, W, O>
+    ensures flushed { result.status ≡ 0 → W.waiting out ≡ false → W.waiting result.out ≡ false }
+    ensures through { result.status ≡ 0 → O.waiting result.outputs ≡ O.waiting outputs }
+    ensures makes { MakesSparing (request_seen request.now)
+        (named (SomeFails I.Input.failed I.Input.reads) (I.bytes inputs.old) (I.missing inputs.old))
+        result.status
+        (around (failures (ReadFails (R.failed result.input) (R.reads result.input))
+        (I.failed inputs.new ≡ true)
+        (W.failed result.out ≡ true) (O.failed result.outputs ≡ true))
+        (E.said err.old) (E.said err.new) (R.remaining reader) (R.remaining result.input)
+        (W.contents out) (W.contents result.out) (O.made outputs) (O.made result.outputs)) }
+{
+    match spare_inputs(&mut outputs, request) {
+        Ok(()) => make(alloc, inputs, outputs, reader, &request.output, out, err),
+        Err(error) => Performed {
+            status: report(&error, err),
+            input: reader,
+            out,
+            outputs,
         },
     }
 }
@@ -216,7 +247,9 @@ fn make<
     mut out: W,
     err: &mut E,
 ) -> Performed<R, W, O>
-    ensures { Makes (made_seen output.now)
+    ensures flushed { result.status ≡ 0 → W.waiting out ≡ false → W.waiting result.out ≡ false }
+    ensures through { result.status ≡ 0 → O.waiting result.outputs ≡ O.waiting outputs }
+    ensures makes { Makes (made_seen output.now)
         (named (SomeFails I.Input.failed I.Input.reads) (I.bytes inputs.old) (I.missing inputs.old))
         result.status
         (around (failures (ReadFails (R.failed result.input) (R.reads result.input))
@@ -226,9 +259,23 @@ fn make<
         (W.contents out) (W.contents result.out) (O.made outputs) (O.made result.outputs)) }
 {
     match output {
-        Output::Listing(prefix) => list_behind(alloc, outputs, prefix, reader, out, err),
+        Output::Listing(prefix) => {
+            let listed = print_list(alloc, prefix, &mut reader, out, err);
+            Performed {
+                status: listed.status,
+                input: reader,
+                out: listed.out,
+                outputs,
+            }
+        }
         Output::Files(prefix, template) => {
-            print_behind(alloc, outputs, prefix, reader, template, out, err)
+            let printed = print_files(alloc, outputs, prefix, &mut reader, template, out, err);
+            Performed {
+                status: printed.status,
+                input: reader,
+                out: printed.out,
+                outputs: printed.outputs,
+            }
         }
         Output::Session(engines) => Performed {
             status: press_lines(alloc, inputs, *engines, &mut reader, &mut out, err),
@@ -289,45 +336,6 @@ fn make<
     }
 }
 
-/// Lists the sheets of the stream of these bytes and those that a reader has behind them. No output is made.
-fn list_behind<O: NamedOutputs + Drop, R: ReadDevice + Drop, W: WriteDevice + Drop, E: Teller>(
-    alloc: Global,
-    outputs: O,
-    prefix: &[u8],
-    mut reader: R,
-    out: W,
-    err: &mut E,
-) -> Performed<R, W, O>
-    ensures lists { HoldsBehind prefix.now (R.remaining reader) (R.remaining result.input)
-        (λ had left. PrintsListing
-        (failures (ReadFails (R.failed result.input) (R.reads result.input))
-        ⊥ (W.failed result.out ≡ true) ⊥) result.status
-        (change (E.said err.old) (E.said err.new)) (change had left)
-        (change (W.contents out) (W.contents result.out))) }
-    ensures outputs { result.outputs ≡ outputs }
-{
-    if prefix.is_empty() {
-        let ended = print_list(alloc, &mut reader, out, err);
-        return Performed {
-            status: ended.status,
-            input: reader,
-            out: ended.out,
-            outputs,
-        };
-    }
-    let mut listed = Behind {
-        bytes: prefix,
-        reader,
-    };
-    let ended = print_list(alloc, &mut listed, out, err);
-    Performed {
-        status: ended.status,
-        input: listed.reader,
-        out: ended.out,
-        outputs,
-    }
-}
-
 /// Tells the trace of the stream of these bytes and those that a reader has behind them.
 fn trace_behind<R: ReadDevice + Drop, W: WriteDevice, E: Teller>(
     alloc: Global,
@@ -336,7 +344,8 @@ fn trace_behind<R: ReadDevice + Drop, W: WriteDevice, E: Teller>(
     out: &mut W,
     err: &mut E,
 ) -> (u8, R)
-    ensures { HoldsBehind prefix.now (R.remaining reader) (R.remaining result.1)
+    ensures flushed { result.0 ≡ 0 → W.waiting out.new ≡ false }
+    ensures traces { HoldsBehind prefix.now (R.remaining reader) (R.remaining result.1)
         (λ had left. Tracing
         (failures (ReadFails (R.failed result.1) (R.reads result.1))
         ⊥ (W.failed out.new ≡ true) ⊥) result.0
@@ -366,7 +375,8 @@ fn page_behind<R: ReadDevice + Drop, O: NamedOutputs, E: Teller>(
     name: &str,
     err: &mut E,
 ) -> (u8, R)
-    ensures { HoldsBehind prefix.now (R.remaining reader) (R.remaining result.1)
+    ensures through { result.0 ≡ 0 → O.waiting outputs.new ≡ O.waiting outputs.old }
+    ensures pages { HoldsBehind prefix.now (R.remaining reader) (R.remaining result.1)
         (λ had left. Paging
         (failures (ReadFails (R.failed result.1) (R.reads result.1))
         ⊥ ⊥ (O.failed outputs.new ≡ true))
@@ -386,52 +396,6 @@ fn page_behind<R: ReadDevice + Drop, O: NamedOutputs, E: Teller>(
     (status, stream.reader)
 }
 
-/// Prints the stream of these bytes and those that a reader has behind them to files by a template.
-fn print_behind<O: NamedOutputs + Drop, R: ReadDevice + Drop, W: WriteDevice + Drop, E: Teller>(
-    alloc: Global,
-    outputs: O,
-    prefix: &[u8],
-    mut reader: R,
-    template: &str,
-    out: W,
-    err: &mut E,
-) -> Performed<R, W, O>
-    ensures flushed { result.status ≡ 0 → W.waiting out ≡ false → W.waiting result.out ≡ false }
-    ensures through { result.status ≡ 0 → O.waiting result.outputs ≡ O.waiting outputs }
-    ensures prints { HoldsBehind prefix.now (R.remaining reader) (R.remaining result.input)
-        (λ had left. PrintsFiles template.now result.status
-        (around (failures (ReadFails (R.failed result.input) (R.reads result.input)) ⊥
-        (W.failed result.out ≡ true) (O.failed result.outputs ≡ true))
-        (E.said err.old) (E.said err.new) had left (W.contents out)
-        (W.contents result.out) (O.made outputs) (O.made result.outputs))
-        ⊎ PrintsNoFiles template.now result.status
-        (around (failures (ReadFails (R.failed result.input) (R.reads result.input)) ⊥
-        (W.failed result.out ≡ true) (O.failed result.outputs ≡ true))
-        (E.said err.old) (E.said err.new) had left (W.contents out)
-        (W.contents result.out) (O.made outputs) (O.made result.outputs))) }
-{
-    if prefix.is_empty() {
-        let printed = print_files(alloc, outputs, &mut reader, template, out, err);
-        return Performed {
-            status: printed.status,
-            input: reader,
-            out: printed.out,
-            outputs: printed.outputs,
-        };
-    }
-    let mut stream = Behind {
-        bytes: prefix,
-        reader,
-    };
-    let printed = print_files(alloc, outputs, &mut stream, template, out, err);
-    Performed {
-        status: printed.status,
-        input: stream.reader,
-        out: printed.out,
-        outputs: printed.outputs,
-    }
-}
-
 /// Has a session with a debugger of the stream of these bytes and those of the input of this name behind them, by the lines that a
 /// reader has.
 fn debug_file<I: NamedInputs, R: ReadDevice, W: WriteDevice, E: Teller>(
@@ -443,7 +407,8 @@ fn debug_file<I: NamedInputs, R: ReadDevice, W: WriteDevice, E: Teller>(
     out: &mut W,
     err: &mut E,
 ) -> u8
-    ensures { Debugging (IsUtf8 name.now → I.missing inputs.old name.now) result
+    ensures flushed { result ≡ 0 → W.waiting out.old ≡ false → W.waiting out.new ≡ false }
+    ensures debugs { Debugging (IsUtf8 name.now → I.missing inputs.old name.now) result
         (with_prefix prefix.now (I.bytes inputs.old name.now))
         (around (failures (ReadFails (R.failed reader.new) (R.reads reader.new))
         (I.failed inputs.new ≡ true)
@@ -470,7 +435,8 @@ fn debug_behind<I: ReadDevice + Drop, R: ReadDevice, W: WriteDevice, E: Teller>(
     out: &mut W,
     err: &mut E,
 ) -> (u8, I)
-    ensures { Debugging ⊥ result.0 (with_prefix prefix.now (I.remaining input))
+    ensures flushed { result.0 ≡ 0 → W.waiting out.old ≡ false → W.waiting out.new ≡ false }
+    ensures debugs { Debugging ⊥ result.0 (with_prefix prefix.now (I.remaining input))
         (around (failures (ReadFails (R.failed reader.new) (R.reads reader.new))
         (ReadFails (I.failed result.1) (I.reads result.1))
         (W.failed out.new ≡ true) ⊥)

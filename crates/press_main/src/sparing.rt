@@ -17,6 +17,7 @@ pub(crate) fn spare_inputs<O: NamedOutputs>(
     request: &Request<'_>,
 ) -> Result<(), SinkError>
     ensures made { O.made outputs.new ≡ O.made outputs.old }
+    ensures through { O.waiting outputs.new ≡ O.waiting outputs.old }
     ensures own { IfErr result (λ error.
         error ≡ SinkFault → PrintsAFile (request_seen request.now)) }
     ensures spared { OnOk result (¬ (PrintsAFile (request_seen request.now))) }
@@ -40,6 +41,7 @@ pub(crate) fn spare_inputs<O: NamedOutputs>(
 /// Notes inputs by their names.
 fn spare<O: NamedOutputs>(outputs: &mut O, names: &[&str]) -> Result<(), SinkError>
     ensures made { O.made outputs.new ≡ O.made outputs.old }
+    ensures through { O.waiting outputs.new ≡ O.waiting outputs.old }
     ensures memory { IfErr result (λ error. error ≡ NoMemory) }
 {
     for name in names {

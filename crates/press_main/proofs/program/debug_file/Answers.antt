@@ -6,8 +6,8 @@ use Rattle.press_sessions.specs.declared.debugging.DebugError.TheVariants.{Input
 use Rattle.press_main.proofs.ProgramLemmas.{Debugging-closed, unopened}
 use Rattle.press_main.proofs.program.debug_file.Goals as goal
 
-pub returns-in-Ok : goal.returns-in-Ok
-returns-in-Ok g c =
+pub returns-in-Ok-clause-debugs : goal.returns-in-Ok-clause-debugs
+returns-in-Ok-clause-debugs g c =
     let input = c.debug_behind-status.result.1 in
     let reader = c.debug_behind-status.new.reader in
     let fails =
@@ -19,10 +19,10 @@ returns-in-Ok g c =
     (g.W.WriteDevice.contents c.args.out.now) (g.W.WriteDevice.contents c.debug_behind-status.new.out) None None in
     Debugging-closed ⊥ _ (g.I.NamedInputs.failed c.close.new.self ≡ true) _ _ edge (λ none. absurd none)
     (λ fails. c.close.ensures.1 (inr fails))
-    (rw c.in-Ok.ensures.bytes at c.debug_behind-status.ensures)
+    (rw c.in-Ok.ensures.bytes at c.debug_behind-status.ensures.debugs)
 
-pub returns-in-Err : goal.returns-in-Err
-returns-in-Err g c = (
+pub returns-in-Err-clause-debugs : goal.returns-in-Err-clause-debugs
+returns-in-Err-clause-debugs g c = (
   None,
   record {
     done = λ zero. absurd (omega (arith, c.report.ensures.status, zero));

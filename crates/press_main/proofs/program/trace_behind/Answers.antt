@@ -6,8 +6,8 @@ use Rattle.press_forms.specs.Traced.{Tracing}
 use Rattle.press_words.proofs.DefaultsLemmas.{holds-behind}
 use Rattle.press_main.proofs.program.trace_behind.Goals as goal
 
-pub returns : goal.returns
-returns g c =
+pub returns-clause-traces : goal.returns-clause-traces
+returns-clause-traces g c =
     let reader = c.tell_trace-status-2.new.reader.reader in
     let fails = failures (ReadFails (g.R.ReadDevice.failed reader) (g.R.ReadDevice.reads reader)) ⊥ (g.W.WriteDevice.failed c.tell_trace-status-2.new.out ≡ true) ⊥ in
     let told = change (g.E.Teller.said c.args.err.now) (g.E.Teller.said c.tell_trace-status-2.new.err) in

@@ -1,7 +1,5 @@
-use Rattle.std.proofs.Common.{◌≡◌, ◌≤◌, ◌⊎◌, ◌++◌, ℕ, [], List, Some, take, drop, length, ap, sym, subst, ◌∙◌, ◌-◌, arith}
+use Rattle.std.proofs.Common.{◌≡◌, ◌≤◌, ◌++◌, take, drop, length, ap, ◌∙◌, ◌-◌, arith}
 use Rattle.std.proofs.lemmas.List.{take_rest, length-drop, length-append, length-take-le}
-use Rattle.std.specs.Fmt.{option_append}
-use Rattle.std.specs.Io.KnownBytes.{Consumes, IsAtEnd}
 use borrow.Rule.Slice.PartMut.{put_mid}
 use Rattle.press_main.proofs.BehindLemmas.{gives-behind, at_end-behind, end_put, either}
 use Rattle.press_main.proofs.behind.BehindReadDevice.read_some.Goals as goal
