@@ -1,6 +1,6 @@
 //! Worked streams that are read byte by byte and printed, with a reader and sinks that fail at each of their calls in turn.
 use crate::program_devices::Reluctant;
-use crate::worked::{COPIES, JOBS, MARKS, Notes, PAGES, Row, note};
+use crate::worked::{COPIES, JOBS, MARKS, Notes, PAGES, Row, THREE_TOLD, note};
 use press_pbm::FuseRead;
 use press_sink::{FuseReplies, FuseSink, ListReplies, ListSink};
 use press_stream::{Job, JobError};
@@ -214,8 +214,16 @@ fn each_delivery_may_fail(rt: HostRuntime) -> Result<(), Fail> {
     fail_each_row(&rt, Device::Sheets)
 }
 
+/// Whether a second reply of which five bytes are taken leaves the two sheets before it, and 28 bytes of replies.
+fn leaves_two_sheets(alloc: Global) -> Result<bool, Fail> {
+    let outcome = run(alloc, THREE_TOLD.0, &Device::Replies.failing_after(1))?;
+    let answered = outcome.numbers.as_slice() == [302, 303].as_slice();
+    Ok(answered && outcome.sheets.len() == 2 && outcome.replies.len() == 28)
+}
+
 #[test]
 fn each_reply_may_fail(rt: HostRuntime) -> Result<(), Fail> {
+    assert!(rt; leaves_two_sheets(rt.alloc())?);
     fail_each_row(&rt, Device::Replies)
 }
 

@@ -62,7 +62,7 @@ fn the_listing_is_flushed(rt: HostRuntime) -> Result<(), Fail> {
             fails,
         };
         let mut err = Vec::new(rt.alloc());
-        let listed = print_list(rt.alloc(), &mut reader, out, &mut err);
+        let listed = print_list(rt.alloc(), b"", &mut reader, out, &mut err);
         let wanted: (u8, usize, &[u8]) = if fails {
             (1, 0, b"fault output\n")
         } else {

@@ -27,11 +27,13 @@ struct OneImage {
 }
 
 impl NamedInputs for OneImage {
-    ghost use Rattle.std.specs.Prelude.{Some, true};
+    ghost use Rattle.std.specs.Prelude.{Some, true, ⊤};
 
     ghost bytes = { λ image _. Some image.file.now };
 
     ghost missing = { λ _ _. ⊥ };
+
+    ghost present = { λ _ _. ⊤ };
 
     ghost failed = { λ _. true };
 
@@ -65,6 +67,7 @@ fn a_side_is_made_as_an_output(rt: HostRuntime) -> Result<(), Fail> {
     let made = print_files(
         alloc,
         outputs,
+        b"",
         &mut reader,
         "p%d",
         Vec::new(alloc),

@@ -13,6 +13,8 @@ impl NamedInputs for NoInputs {
 
     ghost missing = { λ _ _. ⊤ };
 
+    ghost present = { λ _ _. ⊥ };
+
     ghost failed = { λ _. true };
 
     type Input = &'static [u8];

@@ -2,7 +2,7 @@
 use crate::devices::{Outcome, SOUND, run};
 use crate::worked::{FIRST, JOBS, MARKS, PAGES, Row};
 use press_sink::{ListReplies, ListSink};
-use press_theorem::{Call, print_calls, print_pieces};
+use press_stream::{Call, print_calls, print_pieces};
 use std::alloc::Global;
 use std::process::Abort;
 use std::test::Fail;

@@ -130,6 +130,13 @@ pub const COPIES: Row = (
       @PJL USTATUS PAGE\r\n4\r\n\x0C@PJL USTATUS PAGE\r\n5\r\n\x0C",
 );
 
+/// Three copies of a page, each told when it is delivered.
+pub const THREE_TOLD: Row = (
+    b"\x1B%-12345X@PJL USTATUS PAGE=ON\n\x1B&l3X\x0C",
+    &[BLANK; 3],
+    b"@PJL USTATUS PAGE\r\n1\r\n\x0C@PJL USTATUS PAGE\r\n2\r\n\x0C@PJL USTATUS PAGE\r\n3\r\n\x0C",
+);
+
 /// Streams with lines of the job language.
 pub const JOBS: [Row; 11] = [
     COPIES,
@@ -143,11 +150,7 @@ pub const JOBS: [Row; 11] = [
         &[BLANK],
         b"@PJL USTATUS PAGE\r\n1\r\n\x0C",
     ),
-    (
-        b"\x1B%-12345X@PJL USTATUS PAGE=ON\n\x1B&l3X\x0C",
-        &[BLANK; 3],
-        b"@PJL USTATUS PAGE\r\n1\r\n\x0C@PJL USTATUS PAGE\r\n2\r\n\x0C@PJL USTATUS PAGE\r\n3\r\n\x0C",
-    ),
+    THREE_TOLD,
     (
         b"\x1B%-12345X@PJL COMMENT x\n@PJL INQUIRE PAPER\n",
         &[],
